@@ -1,5 +1,5 @@
 -- The abstract run's config, in the words of the machine's account: what is kept, what is now, and the logs of threads.
-use Rattle.std.proofs.Common.{◌≡◌, ◌≢◌, ◌++◌, ap, ap₂, sym, ◌∙◌, true}
+use Rattle.std.proofs.Common.{◌≡◌, ℕ, ◌≢◌, ◌++◌, ap, ap₂, sym, ◌∙◌, true}
 use Rattle.std.specs.List.{Contains}
 use Rattle.std.proofs.lemmas.Bool.{true≢false}
 use Rattle.ido_base.specs.Locks.{holds_none}
@@ -31,7 +31,8 @@ as_source y s b =
     let r = resumed y s b in
     graph_stands (flat_of y) b.origin b.config b.schedule s.plan.formed r.resumed.invariant r.resumed.kept
 
-module _ (y : System) (s : IsSystem y) (w : World) (steps : Steps) (resumes : SimulatesCounted y s (first_beginning y) w steps) where
+module _ (y : System) (s : IsSystem y) (w : World) (steps : Steps) {r : ℕ → ℕ}
+    (resumes : SimulatesCounted y s (first_beginning y) w steps r) where
   abbrev abstract : AbstractRun y
   abstract = resumes.stands.before_commit.abstract
 

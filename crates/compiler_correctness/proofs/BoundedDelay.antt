@@ -1,44 +1,34 @@
--- Each hart of a compiled program soon begins the next step of its thread.
-use Rattle.std.proofs.Common.{◌≡◌, ◌≢◌, ◌⊎◌, inl, inr, refl, ℕ, ◌<◌, ◌≤◌, List, [], ◌∷◌, ◌++◌, length, ap, arith, sym, ◌∙◌, subst, Option, Some, None}
-use Rattle.std.proofs.Common.{Bool, true, false}
-use Rattle.std.specs.Prelude.{slice_get, ◌==◌, ◌&&◌, not, if◌then◌else◌}
-use Rattle.std.proofs.lemmas.Bool.{true≢false, cases_lt}
-use Rattle.std.proofs.lemmas.Option.{same_Some, slice_get_within}
+-- Each hart of a compiled program soon begins the next step of its thread: what the simulation says is ahead of it falls with each of its active steps.
+use Rattle.std.proofs.Common.{◌≡◌, ◌≢◌, ◌⊎◌, inl, inr, refl, ℕ, ◌<◌, ◌≤◌, List, [], ◌∷◌, ◌++◌, length, ap, arith, sym, ◌∙◌, subst, Option}
+use Rattle.std.proofs.Common.{Some, None, Bool, true, false}
+use Rattle.std.specs.Prelude.{slice_get, ◌==◌, ◌&&◌, ◌-◌, not}
+use Rattle.std.proofs.lemmas.Bool.{cases_eq, cases_Bool, cases_lt, ne_eqb, true≢false}
+use Rattle.std.proofs.lemmas.Option.{none-some, same_Some, slice_get_within}
 use Rattle.ido_base.specs.declared.event.Event.{Event}
 use Rattle.ido_base.specs.declared.event.Event.TheVariants.{Step, Evict, Crash}
+use Rattle.ido_base.specs.declared.event.Reply.TheVariants.{Waits}
 use Rattle.rv64_isa.specs.declared.object.Slot.{Slot}
 use Rattle.rv64_isa.specs.declared.phase.Phase.{Phase}
 use Rattle.rv64_isa.specs.declared.phase.Phase.TheVariants.{Take, Wait, Resume, Run, Done, Ended}
 use Rattle.rv64_isa.specs.Executables.{first_world}
-use Rattle.rv64_isa.specs.Programs.{code_of}
-use Rattle.rv64_isa.specs.Machine.{Hart, World, after_event, after_events, reply_to, durable_point, phase_after_crash}
-use Rattle.rv64_isa.specs.Frames.{IsWellFormedWorld}
-use Rattle.rv64_isa.specs.Schedule.{Steps, steps_along, steps_after, passes_mark, is_mark, is_running, has_moved, first_steps}
-use Rattle.rv64_isa.proofs.Public.{queues_stand}
-use Rattle.hart_runs.specs.Laws.{ForwardCounts}
-use Rattle.hart_runs.proofs.Public.{crashes_step}
-use Rattle.thread_runs.specs.Laws.{MarksPass, FragmentsGoOn}
-use Rattle.code_runs.specs.CodeTraces.{Program}
-use Rattle.flow_graph.specs.Nodes.{Graph}
-use Rattle.flow_graph.proofs.Public.{get_cases}
+use Rattle.rv64_isa.specs.Machine.{Hart, World, Outcome, after_event, after_events, reply_to, happens}
+use Rattle.rv64_isa.specs.Schedule.{Steps, steps_along, steps_after, passes_mark, is_running, first_steps}
+use Rattle.flow_graph.proofs.Public.{get_cases, no_more}
 use Rattle.hart_runs.specs.Calls.{IsInPhase}
-use Rattle.recovered_threads.specs.RecordDescriptions.{Code}
-use Rattle.crash_simulation.specs.Systems.{System, IsSystem, flat_of, thread_count}
+use Rattle.thread_runs.specs.Laws.{FragmentsGoOn}
+use Rattle.crash_simulation.specs.Systems.{System, IsSystem, thread_count}
+use Rattle.crash_simulation.specs.StepsToMark.{most_ahead}
+use Rattle.crash_simulation.specs.ThreadGhosts.{IsRunningThread, InPhase, on_fragment, at_core}
 use Rattle.crash_simulation.specs.SimulationRelation.{Simulates}
 use Rattle.crash_simulation.specs.Laws.{EventsStand}
-use Rattle.crash_simulation.specs.InstructionSteps.{FragmentsStep, CoresStep}
-use Rattle.crash_simulation.proofs.Public.{start_simulates}
+use Rattle.crash_simulation.specs.InstructionSteps.{FragmentsStep, CoresStep, Nears, begins_step, waits, is_nearer, halts}
+use Rattle.crash_simulation.proofs.Public.{calls_step, runs_ready, start_simulates, phase_of, GoesOn, event_goes_on}
 use Rattle.compiler_correctness.specs.Translations.{HaveNoCrash}
 use Rattle.compiler_correctness.specs.Compilation.{has_stopped}
-use Rattle.compiler_correctness.specs.Delays.{active_steps, has_waited, begun_by, IsStopped, delay}
+use Rattle.compiler_correctness.specs.Delays.{is_active_step, active_steps, has_waited, begun_by, IsStopped, delay}
 use Rattle.compiler_correctness.specs.Laws.{DelaysAreBounded, translation_of}
-use Rattle.compiler_correctness.proofs.OwnStores.{stands_along}
+use Rattle.compiler_correctness.proofs.OwnStores.{is_run, stands_along}
 use Rattle.compiler_correctness.proofs.MarksReached as nearing
-use Rattle.compiler_correctness.proofs.LegToMark.{most, begins_anew}
-use Rattle.compiler_correctness.proofs.HartEntries as entries
-use Rattle.compiler_correctness.proofs.DistanceToMarkFalls as falling
-use Rattle.compiler_correctness.proofs.DistanceToMarkFalls.{Near, IsNear, on_leg, at_mark, rests}
-use Rattle.compiler_correctness.proofs.NoSelfLoops.{part_begins}
 
 -- ---- Along two lists of events
 
@@ -53,211 +43,193 @@ steps_join marks program [] more w s = refl
 steps_join marks program (event ∷ events) more w s =
     steps_join marks program events more (after_event program w event) (steps_after marks program w event s)
 
--- ---- After a crash no hart executes instructions
+-- ---- Steps that aren't active
 
-crashed_off : (point : ℕ) → is_running (phase_after_crash point) ≡ false
-crashed_off point = by (point == 0)
-  where
-    by : (b : Bool) → is_running (if b then Done else Take) ≡ false
-    by true = refl
-    by false = refl
+step_of : (g h : ℕ) → Step g ≡ Step h → g ≡ h
+step_of g h e = cc
 
-stopped_off : (phase : Phase) → has_stopped phase ≡ true → is_running phase ≡ false
-stopped_off Done e = refl
-stopped_off Ended e = refl
-stopped_off Run e = absurd (true≢false (sym e))
-stopped_off Take e = absurd (true≢false (sym e))
-stopped_off Wait e = absurd (true≢false (sym e))
-stopped_off Resume e = absurd (true≢false (sym e))
+not_running : (w : World) (h : ℕ) (hart : Hart) → slice_get w.harts h ≡ Some hart → is_running hart.phase ≡ false → IsInPhase w h Run → ⊥
+not_running w h hart here off i =
+    true≢false (sym (ap is_running (ap (λ (x : Hart). x.phase) (same_Some hart i.hart (sym here ∙ i.here)) ∙ i.phase_is)) ∙ off)
 
-module _ (marks : MarksPass) (law : FragmentsGoOn) (counts : ForwardCounts) (stand : EventsStand) (fragments_step : FragmentsStep) (cores_step : CoresStep)
-    (y : System) (s : IsSystem y) (h : ℕ) (below : h < thread_count y) where
-  abbrev code : Code y.plan
-  code = s.codes.each h below
-
-  abbrev n : ℕ
-  n = code.thread.number
-
-  abbrev NearMost : World → Type 0
-  NearMost w = Near y s h below w (most y s h below)
-
-  resumes : (w : World) → Simulates y s w → IsInPhase w h Resume → IsNear y s h below (after_event y.runs.program w (Step n)) (most y s h below)
-  resumes w stands i = on_leg (entries.resumes y s h below w stands i)
-
-  nearer : (w : World) (event : Event) (left : ℕ) → event ≢ Crash → Near y s h below w left →
-      nearing.GetsNearer y.runs.marks y.runs.program n (Near y s h below) w event left
-  nearer = falling.falls y s h below fragments_step cores_step marks law counts stand resumes
-
-  -- ---- At each moment so many steps are left at most
-
-  -- a hart that executes no instructions passes no mark
-  passes_none : (w : World) → ((hart : Hart) → slice_get w.harts n ≡ Some hart → is_running hart.phase ≡ false) →
-      passes_mark y.runs.marks y.runs.program w n ≡ false
-  passes_none w off = elim (get_cases w.harts n) [
-    | inl missing ↦ ap of missing
-    | inr there ↦ ap of there.1 ∙ ap (λ (b : Bool). to (if b && has_moved (reply_to y.runs.program w (Step n)) then Some there.0 else None))
-        (off there.0 there.1)
+module _ (program : List (List Slot)) (w : World) (h : ℕ) where
+  abbrev active : Option Hart → Bool
+  active o = elim o [
+    | None ↦ false
+    | Some x ↦ is_running x.phase && not (has_waited (reply_to program w (Step h)))
   ]
+
+  never : (b : Bool) → (b && false) ≡ false
+  never true = refl
+  never false = refl
+
+  none_active : (g : ℕ) → active (slice_get w.harts h) ≡ false → is_active_step program w (Step g) h ≡ false
+  none_active g e = ap (λ (b : Bool). (g == h) && b) e ∙ never (g == h)
+
+  other_active : (g : ℕ) → (g == h) ≡ false → is_active_step program w (Step g) h ≡ false
+  other_active g e = ap (λ (b : Bool). b && active (slice_get w.harts h)) e
+
+  stopped_by : (hart : Hart) → slice_get w.harts h ≡ Some hart → (phase : Phase) → hart.phase ≡ phase → has_stopped phase ≡ true → IsStopped w h
+  stopped_by hart here phase is stopped = record { hart = hart; here = here; stopped = ap has_stopped is ∙ stopped }
+
+module _ (fragments_step : FragmentsStep) (cores_step : CoresStep) (law : FragmentsGoOn) (y : System) (s : IsSystem y) (h : ℕ) where
+  abbrev ahead : (w : World) → Simulates y s w → ℕ
+  ahead w stands = (stands.before_commit.ghosts h).before_mark
+
+  -- no more than the most is ahead of a hart that hasn't stopped
+  most_by : (w : World) (stands : Simulates y s w) (below : h < thread_count y) (hart : Hart) → slice_get w.harts h ≡ Some hart → (phase : Phase) →
+      hart.phase ≡ phase → IsStopped w h ⊎ (ahead w stands ≤ most_ahead y h)
+  most_by w stands below hart here phase is = by phase is
     where
-      to : Option Hart → Bool
-      to o = elim o [
-        | Some hart ↦ is_mark y.runs.marks n hart.pc
-        | None ↦ false
+      number : most_ahead y (s.codes.each h below).thread.number ≡ most_ahead y h
+      number = ap (most_ahead y) (s.codes.number h below)
+
+      of : (p : Phase) → hart.phase ≡ p → InPhase y w stands.before_commit.abstract (s.codes.each h below) (stands.before_commit.ghosts h) hart
+          (stands.before_commit.each h below).graph_thread p
+      of p e = phase_of y s w h stands p (record { hart = hart; here = here; phase_is = e }) below
+
+      rested : ahead w stands ≡ most_ahead y (s.codes.each h below).thread.number → ahead w stands ≤ most_ahead y h
+      rested whole = let same = number in omega (arith, whole, same)
+
+      running : IsRunningThread y w stands.before_commit.abstract (s.codes.each h below) (stands.before_commit.ghosts h) hart
+          (stands.before_commit.each h below).graph_thread → ahead w stands ≤ most_ahead y h
+      running (on_fragment o) = let most = o.soon.1 in let same = number in omega (arith, most, same)
+      running (at_core o) = let most = o.soon.1 in let same = number in omega (arith, most, same)
+
+      by : (p : Phase) → hart.phase ≡ p → IsStopped w h ⊎ (ahead w stands ≤ most_ahead y h)
+      by Take e = inr (rested (of Take e).whole)
+      by Wait e = inr (rested (of Wait e).whole)
+      by Resume e = inr (rested (of Resume e).whole)
+      by Run e = inr (running (of Run e))
+      by Done e = inl (stopped_by y.runs.program w h hart here Done e refl)
+      by Ended e = inl (stopped_by y.runs.program w h hart here Ended e refl)
+
+  -- ---- What is ahead falls
+
+  -- of a hart that is there no more than so much is ahead
+  record IsNear (w : World) (left : ℕ) : Type 0 where
+    stands : Simulates y s w
+    soon : h < thread_count y → ahead w stands ≤ left
+
+  abbrev Nearer : World → Event → (left : ℕ) → Type 0
+  Nearer w event left = nearing.GetsNearer y.runs.marks y.runs.program h IsNear w event left
+
+  module _ (w : World) (left : ℕ) (near : IsNear w left) where
+    abbrev then_near : (event : Event) → GoesOn y s w event near.stands
+    then_near event = event_goes_on runs_ready fragments_step cores_step calls_step law y s w event near.stands
+
+    -- where as much is ahead as before
+    stays : (event : Event) → event ≢ Crash → (event ≡ Step h → IsInPhase w h Run → ⊥) → is_active_step y.runs.program w event h ≡ false → Nearer w event left
+    stays event no_crash other idle =
+        let same = ((then_near event).on no_crash).stays h other in
+        nearing.idles idle (record { stands = (then_near event).next; soon = λ below. let soon = near.soon below in omega (arith, soon, same) })
+
+    waits_idle : (mutex holder : ℕ) → happens y.runs.program w (Step h) ≡ (w, Waits mutex holder) → is_active_step y.runs.program w (Step h) h ≡ false
+    waits_idle mutex holder does = none_active y.runs.program w h h (by (slice_get w.harts h))
+      where
+        idle : (runs : Bool) → (runs && not (has_waited (reply_to y.runs.program w (Step h)))) ≡ false
+        idle true = ap (λ (o : Outcome). not (has_waited o.1)) does
+        idle false = refl
+
+        by : (o : Option Hart) → active y.runs.program w h o ≡ false
+        by None = refl
+        by (Some x) = idle (is_running x.phase)
+
+    runs : IsInPhase w h Run → Nearer w (Step h) left
+    runs i = by (((then_near (Step h)).on (λ e. cc)).nears h refl i)
+      where
+        below : h < thread_count y
+        below =
+            let inside = slice_get_within w.harts h i.hart i.here in
+            let count = near.stands.before_commit.count in
+            omega (arith, inside, count)
+
+        by : Nears y w h (passes_mark y.runs.marks y.runs.program w h) (ahead w near.stands)
+            (ahead (after_event y.runs.program w (Step h)) (then_near (Step h)).next)
+            → Nearer w (Step h) left
+        by (begins_step passes) = nearing.begins refl passes
+        by (waits mutex holder does same) =
+            nearing.idles (waits_idle mutex holder does) (record {
+              stands = (then_near (Step h)).next;
+              soon = λ there. let soon = near.soon there in omega (arith, soon, same);
+            })
+        by (is_nearer one) =
+            let soon = near.soon below in
+            nearing.nears (left - 1) (omega (arith, soon, one)) (record { stands = (then_near (Step h)).next; soon = λ there. omega (arith, soon, one) })
+        by (halts hart here stopped) =
+            nearing.stops (elim stopped [
+              | inl done ↦ stopped_by y.runs.program (after_event y.runs.program w (Step h)) h hart here Done done refl
+              | inr ended ↦ stopped_by y.runs.program (after_event y.runs.program w (Step h)) h hart here Ended ended refl
+            ])
+
+    own : Nearer w (Step h) left
+    own = elim (get_cases w.harts h) [
+      | inl missing ↦
+          stays (Step h) (λ e. cc) (λ is i. none-some i.hart (sym missing ∙ i.here))
+          (none_active y.runs.program w h h (ap (active y.runs.program w h) missing))
+      | inr there ↦ elim (cases_Bool (is_running there.0.phase)) [
+        | inl on ↦ runs (record { hart = there.0; here = there.1; phase_is = is_run there.0.phase on })
+        | inr off ↦
+            stays (Step h) (λ e. cc) (λ is i. not_running w h there.0 there.1 off i)
+            (none_active y.runs.program w h h (ap (active y.runs.program w h) there.1
+            ∙ ap (λ (b : Bool). b && not (has_waited (reply_to y.runs.program w (Step h)))) off))
       ]
+    ]
 
-      of : Option Hart → Bool
-      of o = to (elim o [
-        | Some hart ↦ if is_running hart.phase && has_moved (reply_to y.runs.program w (Step n)) then Some hart else None
-        | None ↦ None
-      ])
+    falls : (event : Event) → event ≢ Crash → Nearer w event left
+    falls (Step g) no_crash = elim (cases_eq g h) [
+      | inl is ↦ subst (λ (k : ℕ). Nearer w (Step k) left) (sym is) own
+      | inr other ↦ stays (Step g) (λ e. cc) (λ is i. other (step_of g h is)) (other_active y.runs.program w h g (ne_eqb g h other))
+    ]
+    falls (Evict line mask) no_crash = stays (Evict line mask) no_crash (λ is i. cc) refl
+    falls Crash no_crash = absurd (no_crash refl)
 
-  begun_at : (w : World) → Simulates y s w → passes_mark y.runs.marks y.runs.program w n ≡ true → IsInPhase w h Run →
-      IsNear y s h below (after_event y.runs.program w (Step n)) (most y s h below)
-  begun_at w stands passes i =
-      let p = falling.where_it_is y s h below fragments_step cores_step marks law counts stand resumes w stands i in
-      on_leg (begins_anew y s h below marks law w p.stands passes p.held p.ready)
+  -- by the later events the hart begins one step more, or has stopped, where the machine begins with that world and that account
+  abbrev pub GetsOnAfter : (v : World) → (first : Steps) → (events more : List Event) → Type 0
+  GetsOnAfter v first events more =
+      (begun_by (steps_along y.runs.marks y.runs.program v events first) h
+      < begun_by (steps_along y.runs.marks y.runs.program v (events ++ more) first) h) ⊎ IsStopped (after_events y.runs.program v (events ++ more)) h
 
-  begins_next : (w : World) (left : ℕ) → Simulates y s w → passes_mark y.runs.marks y.runs.program w n ≡ true → IsNear y s h below w left →
-      IsNear y s h below (after_event y.runs.program w (Step n)) (most y s h below)
-  begins_next w left stands passes (on_leg g) = begun_at w stands passes (falling.goes_running y s h below fragments_step cores_step w left g)
-  begins_next w left stands passes (at_mark m) = begun_at w stands passes (falling.mark_running y s h below fragments_step cores_step w left m)
-  begins_next w left stands passes (rests none long) = absurd (true≢false (sym passes ∙ passes_none w none))
+  module _ (stand : EventsStand) (v : World) (first : Steps) (begin : Simulates y s v) (events more : List Event) where
+    abbrev w : World
+    w = after_events y.runs.program v events
 
-  after : (w : World) (event : Event) → NearMost w → nearing.GetsNearer y.runs.marks y.runs.program n (Near y s h below) w event (most y s h below) →
-      IsNear y s h below (after_event y.runs.program w event) (most y s h below)
-  after w event near (nearing.idles idle next) = next.near
-  after w event near (nearing.nears less is next) =
-      falling.fewer y s h below fragments_step cores_step marks law counts stand resumes _ less (most y s h below) (omega (arith, is)) next.near
-  after w event near (nearing.begins is passes) =
-      subst (λ (x : Event). IsNear y s h below (after_event y.runs.program w x) (most y s h below)) (sym is)
-      (begins_next w (most y s h below) near.stands passes near.near)
-  after w event near (nearing.stops stopped) =
-      rests (λ hart here. ap (λ (x : Hart). is_running x.phase) (same_Some hart stopped.hart (sym here ∙ stopped.here))
-      ∙ stopped_off stopped.hart.phase stopped.stopped) (omega arith)
+    abbrev steps : Steps
+    steps = steps_along y.runs.marks y.runs.program v events first
 
-  crashed : (w : World) → IsNear y s h below (after_event y.runs.program w Crash) (most y s h below)
-  crashed w = rests (λ hart here.
-      let count = s.count in
-      let number : n ≡ h = s.codes.number h below in
-      let there = (crashes_step y.runs.program w).harts n (omega (arith, below, count, number)) in
-      ap (λ (x : Hart). is_running x.phase) (same_Some hart _ (sym here ∙ there)) ∙ crashed_off (durable_point w.words n)) (omega arith)
+    stands : Simulates y s w
+    stands = stands_along stand y s events v begin
 
-  stays_near : (w : World) (event : Event) → NearMost w → NearMost (after_event y.runs.program w event)
-  stays_near w (Step g) near =
-      record { stands = stand y s w (Step g) near.stands; near = after w (Step g) near (nearer w (Step g) (most y s h below) (λ e. cc) near) }
-  stays_near w (Evict line mask) near = record {
-    stands = stand y s w (Evict line mask) near.stands;
-    near = after w (Evict line mask) near (nearer w (Evict line mask) (most y s h below) (λ e. cc) near);
-  }
-  stays_near w Crash near = record { stands = stand y s w Crash near.stands; near = crashed w }
+    told : nearing.GetsOn y.runs.marks y.runs.program h w steps more → GetsOnAfter v first events more
+    told (inl more_begun) =
+        inl (subst (λ (z : Steps). begun_by steps h < begun_by z h) (sym (steps_join y.runs.marks y.runs.program events more v first)) more_begun)
+    told (inr stopped) = inr (subst (λ (z : World). IsStopped z h) (sym (worlds_join y.runs.program events more v)) stopped)
 
-  near_along : (events : List Event) (w : World) → NearMost w → NearMost (after_events y.runs.program w events)
-  near_along [] w near = near
-  near_along (event ∷ events) w near = near_along events (after_event y.runs.program w event) (stays_near w event near)
-
-  near_first : NearMost (first_world y.runs)
-  near_first =
-      let stands = start_simulates y s in
-      let there = part_begins (flat_of y) n code.thread.part
-      (subst (λ (g : Graph). slice_get g.threads n ≡ Some code.thread.part) s.plan.lowered code.of.nodes) in
-      record {
+    -- the hart has stopped, or no more than the most is ahead of it, if it is there
+    begins_near : IsStopped w h ⊎ IsNear w (most_ahead y h)
+    begins_near = elim (get_cases w.harts h) [
+      | inl missing ↦ inr (record {
         stands = stands;
-        near = on_leg (entries.starts y s h below stands.before_commit.count (record { from_first = omega arith; below_end = there }));
-      }
+        soon = λ below. absurd (let long = no_more w.harts h missing in let count = stands.before_commit.count in omega (arith, below, long, count));
+      })
+      | inr there ↦ elim (cases_lt h (thread_count y)) [
+        | inl below ↦ elim (most_by w stands below there.0 there.1 there.0.phase refl) [
+          | inl stopped ↦ inl stopped
+          | inr most ↦ inr (record { stands = stands; soon = λ inside. most })
+        ]
+        | inr above ↦ inr (record { stands = stands; soon = λ below. absurd (omega (arith, below, above)) })
+      ]
+    ]
 
-  -- where power has just returned
-  near_recovered : (w : World) → Simulates y s (after_event y.runs.program w Crash) → NearMost (after_event y.runs.program w Crash)
-  near_recovered w stands = record { stands = stands; near = crashed w }
+    pub delays : HaveNoCrash more → delay (translation_of y) h ≤ active_steps y.runs.program w more h → GetsOnAfter v first events more
+    delays none many = told (elim begins_near [
+      | inl stopped ↦
+          inr (nearing.stays_along y.runs.marks y.runs.program h more w (s.count ∙ sym stands.before_commit.count) stands.before_commit.sound none stopped)
+      | inr near ↦
+          nearing.gets_on y.runs.marks y.runs.program h IsNear (λ u event left no_crash there. falls u left there event no_crash) more w steps (most_ahead y h)
+          (s.count ∙ sym stands.before_commit.count) stands.before_commit.sound none near (omega (arith, many))
+    ])
 
-  own_delay : (v : World) (first : Steps) → NearMost v → (events more : List Event) → HaveNoCrash more →
-      delay (translation_of y) n ≤ active_steps y.runs.program (after_events y.runs.program v events) more n →
-      nearing.GetsOn y.runs.marks y.runs.program n (after_events y.runs.program v events) (steps_along y.runs.marks y.runs.program v events first) more
-  own_delay v first near_there events more none many =
-      let near = near_along events v near_there in
-      let words : length code.program.code ≡ length (code_of y.runs.program n) = ap (λ (p : Program). length p.code) (s.own h below).program in
-      nearing.gets_on y.runs.marks y.runs.program n (Near y s h below) nearer more (after_events y.runs.program v events)
-      (steps_along y.runs.marks y.runs.program v events first)
-      (most y s h below)
-      (s.count ∙ sym near.stands.before_commit.count) near.stands.before_commit.sound none near (omega (arith, many, words))
-
--- ---- A hart that isn't there
-
-module _ (y : System) (s : IsSystem y) (h : ℕ) (above : thread_count y ≤ h) where
-  record IsAbsent (w : World) (left : ℕ) : Type 0 where
-    count : length w.harts ≡ thread_count y
-    sound : IsWellFormedWorld w
-
-  missing : (w : World) → length w.harts ≡ thread_count y → slice_get w.harts h ≡ None
-  missing w count = elim (get_cases w.harts h) [
-    | inl none ↦ none
-    | inr there ↦ absurd (let inside = slice_get_within w.harts h there.0 there.1 in omega (arith, above, count, inside))
-  ]
-
-  stays_absent : (w : World) (event : Event) (left : ℕ) → IsAbsent w left → IsAbsent (after_event y.runs.program w event) left
-  stays_absent w event left a =
-      let next = queues_stand y.runs.program w event (s.count ∙ sym a.count) a.sound in
-      record { count = next.1 ∙ a.count; sound = next.0 }
-
-  absent : (w : World) (event : Event) (left : ℕ) → event ≢ Crash → IsAbsent w left → nearing.GetsNearer y.runs.marks y.runs.program h IsAbsent w event left
-  absent w (Step g) left other a =
-      nearing.idles (ap (λ (o : Option Hart). (g == h) && elim o [
-        | None ↦ false
-        | Some x ↦ is_running x.phase && not (has_waited (reply_to y.runs.program w (Step h)))
-      ]) (missing w a.count) ∙ never (g == h)) (stays_absent w (Step g) left a)
-    where
-      never : (b : Bool) → (b && false) ≡ false
-      never true = refl
-      never false = refl
-  absent w (Evict line mask) left other a = nearing.idles refl (stays_absent w (Evict line mask) left a)
-  absent w Crash left other a = absurd (other refl)
-
--- ---- Any hart
-
--- by the later events the hart begins one step more, or has stopped, where the machine begins with that world and that account
-abbrev pub GetsOnAfter : (y : System) → (v : World) → (first : Steps) → (events more : List Event) → (h : ℕ) → Type 0
-GetsOnAfter y v first events more h =
-    (begun_by (steps_along y.runs.marks y.runs.program v events first) h < begun_by (steps_along y.runs.marks y.runs.program v (events ++ more) first) h)
-    ⊎ IsStopped (after_events y.runs.program v (events ++ more)) h
-
-told : (y : System) (v : World) (first : Steps) (events more : List Event) (h : ℕ) →
-    nearing.GetsOn y.runs.marks y.runs.program h (after_events y.runs.program v events) (steps_along y.runs.marks y.runs.program v events first) more →
-    GetsOnAfter y v first events more h
-told y v first events more h (inl more_begun) =
-    inl (subst (λ (z : Steps). begun_by (steps_along y.runs.marks y.runs.program v events first) h < begun_by z h)
-    (sym (steps_join y.runs.marks y.runs.program events more v first)) more_begun)
-told y v first events more h (inr stopped) = inr (subst (λ (w : World). IsStopped w h) (sym (worlds_join y.runs.program events more v)) stopped)
-
-module _ (marks : MarksPass) (law : FragmentsGoOn) (counts : ForwardCounts) (stand : EventsStand) (fragments_step : FragmentsStep) (cores_step : CoresStep)
-    (y : System) (s : IsSystem y) where
-  -- a machine that simulates an abstract run, and each hart is near its next mark
-  delays_from : (v : World) (first : Steps) → Simulates y s v → ((h : ℕ) (below : h < thread_count y) →
-      NearMost marks law counts stand fragments_step cores_step y s h below v) → (events more : List Event) (h : ℕ) → HaveNoCrash more →
-      delay (translation_of y) h ≤ active_steps y.runs.program (after_events y.runs.program v events) more h → GetsOnAfter y v first events more h
-  delays_from v first begin near events more h none many = elim (cases_lt h (thread_count y)) [
-    | inl below ↦
-        let number = s.codes.number h below in
-        subst (λ (k : ℕ). delay (translation_of y) k ≤ active_steps y.runs.program (after_events y.runs.program v events) more k →
-        GetsOnAfter y v first events more k) number
-        (λ enough. told y v first events more _
-        (own_delay marks law counts stand fragments_step cores_step y s h below v first (near h below) events more none enough)) many
-    | inr above ↦
-        let stands = stands_along stand y s events v begin in
-        told y v first events more h
-        (nearing.gets_on y.runs.marks y.runs.program h (IsAbsent y s h above) (absent y s h above) more (after_events y.runs.program v events)
-        (steps_along y.runs.marks y.runs.program v events first) 0 (s.count ∙ sym stands.before_commit.count) stands.before_commit.sound none
-        (record { count = stands.before_commit.count; sound = stands.before_commit.sound }) (omega (arith, many)))
-  ]
-
-  -- where power has just returned
-  pub recovered_delays : (w : World) (first : Steps) → Simulates y s (after_event y.runs.program w Crash) → (events more : List Event) (h : ℕ) →
-      HaveNoCrash more →
-      delay (translation_of y) h ≤ active_steps y.runs.program (after_events y.runs.program (after_event y.runs.program w Crash) events) more h →
-      GetsOnAfter y (after_event y.runs.program w Crash) first events more h
-  recovered_delays w first begin =
-      delays_from (after_event y.runs.program w Crash) first begin
-      (λ h below. near_recovered marks law counts stand fragments_step cores_step y s h below w begin)
-
-pub delays_are_bounded : MarksPass → FragmentsGoOn → ForwardCounts → EventsStand → FragmentsStep → CoresStep → DelaysAreBounded
-delays_are_bounded marks law counts stand fragments_step cores_step y s events more h none many =
-    delays_from marks law counts stand fragments_step cores_step y s (first_world y.runs) (first_steps (length y.runs.program) []) (start_simulates y s)
-    (λ h below. near_first marks law counts stand fragments_step cores_step y s h below) events more h none many
+pub delays_are_bounded : EventsStand → FragmentsStep → CoresStep → FragmentsGoOn → DelaysAreBounded
+delays_are_bounded stand fragments_step cores_step law y s events more h none many =
+    delays fragments_step cores_step law y s h stand (first_world y.runs) (first_steps (length y.runs.program) []) (start_simulates y s) events more none many

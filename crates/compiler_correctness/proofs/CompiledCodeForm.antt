@@ -289,18 +289,18 @@ module _ (locked : ChosenAreLocked) (y : System) (s : IsSystem y) (t : Thread) (
   abbrev seeing : List ℤ → Seen
   seeing locals = record { locals = locals; pending = None; variables = [] }
 
-  enters : (node bank : ℕ) (locals : List ℤ) (x : List ℕ) →
-      HoldLocals (translation_of y) t.number of.text t.part held t.registers node bank locals x → Enters p t node (seeing locals) bank x
-  enters node bank locals x has = record {
-    at_bank = has.at_bank;
+  enters : (node side : ℕ) (locals : List ℤ) (x : List ℕ) →
+      HoldLocals (translation_of y) t.number of.text t.part held t.registers node side locals x → Enters p t node (seeing locals) side x
+  enters node side locals x has = record {
+    at_side = has.at_side;
     count = has.count ∙ ap (λ (ks : List Kind). length ks) (sym of.kinds);
     locals = λ local k there live.
         has.live local k (kind_is local ∙ there) (subst (λ (g : Graph). IsLive g local node) graph_is live);
     pending = λ is at. nothing_owed is.action (seeing locals) x refl;
   }
 
-  abbrev entrance : MarkedEnvironment → (node bank : ℕ) (locals : List ℤ) (x : List ℕ) → Entrance
-  entrance z node bank locals x = record { environment = z; node = node; seen = seeing locals; bank = bank; registers = x }
+  abbrev entrance : MarkedEnvironment → (node side : ℕ) (locals : List ℤ) (x : List ℕ) → Entrance
+  entrance z node side locals x = record { environment = z; node = node; seen = seeing locals; side = side; registers = x }
 
   met : (z : MarkedEnvironment) → Meets (program_in y t.number) z → Meets code.places.program z
   met z meets = subst (λ (q : Program). Meets q z) (sym code.of_program) meets
@@ -321,9 +321,9 @@ module _ (locked : ChosenAreLocked) (y : System) (s : IsSystem y) (t : Thread) (
       record {
         live = code.places.live node;
         are_live = are_live node own;
-        leads = λ z meets bank locals x has.
-            let goes = it.chosen chosen (entrance z node bank locals x) refl
-            (record { meets = met z meets; own = own; enters = enters node bank locals x has }) in
+        leads = λ z meets side locals x has.
+            let goes = it.chosen chosen (entrance z node side locals x) refl
+            (record { meets = met z meets; own = own; enters = enters node side locals x has }) in
             (goes.steps, goes.registers, goes.walks);
       }
 
@@ -335,8 +335,8 @@ module _ (locked : ChosenAreLocked) (y : System) (s : IsSystem y) (t : Thread) (
       record {
         live = code.places.live next;
         are_live = are_live next own_it;
-        leads = λ z meets bank locals x has.
-            let goes = calls.2 (entrance z node bank locals x) (met z meets) refl (enters next bank locals x has) in
+        leads = λ z meets side locals x has.
+            let goes = calls.2 (entrance z node side locals x) (met z meets) refl (enters next side locals x has) in
             (goes.steps, goes.registers, goes.walks);
       }
 
@@ -348,9 +348,9 @@ module _ (locked : ChosenAreLocked) (y : System) (s : IsSystem y) (t : Thread) (
       record {
         live = code.places.live next;
         are_live = are_live next own_it;
-        leads = λ z meets bank locals x has.
-            let m = entrance z node bank locals x in
-            let goes = it.performs m (Gives mutex next) refl (record { meets = met z meets; own = own; enters = enters node bank locals x has })
+        leads = λ z meets side locals x has.
+            let m = entrance z node side locals x in
+            let goes = it.performs m (Gives mutex next) refl (record { meets = met z meets; own = own; enters = enters node side locals x has })
             (subst (λ (a : Action). IsAnswered (source_of p t m.seen) z.around.loads a) (sym does) tt) (ap (λ (a : Action). effect_of a m.seen) does) in
             (goes.steps, goes.registers, goes.walks);
       }

@@ -3,11 +3,9 @@ mod KeptSchedulePrefix
 mod Sections
 mod AbstractRunAccount
 mod Points
-mod RunOrCall
 mod LockCalls
 mod Records
 mod NoPointBetweenSections
-mod NoStuckHarts
 mod MachineLockstep
 mod CompiledCodeForm
 mod ImagesAsCrashes
@@ -15,14 +13,5 @@ mod OwnStores
 mod PaddingUnwritten
 mod ImageWords
 mod MarksReached
-mod NoSelfLoops
-mod StepsBetweenMarks
-mod LegBounds
-mod BoundaryCleanCount
-mod GuardedReadsStay
-mod LegToMark
-mod CallAndMarkSteps
-mod DistanceToMarkFalls
-mod HartEntries
 mod BoundedDelay
 mod RecoveredRuns

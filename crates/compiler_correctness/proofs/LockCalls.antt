@@ -24,7 +24,7 @@ use Rattle.crash_simulation.specs.SimulationRelation.{AreHeld, IsGiving, Simulat
 use Rattle.crash_simulation.specs.InstructionSteps as moving
 use Rattle.crash_simulation.specs.InstructionSteps.{OnFragmentNow, thread_of}
 use Rattle.crash_simulation.proofs.Public.{fragment, lock, locks_it, runs_held, runs_ready}
-use Rattle.compiler_correctness.proofs.RunOrCall.{RunsOn, IsWhere, on_run, at_call, is_where}
+use Rattle.crash_simulation.proofs.Public.{RunsOn, IsWhere, on_run, at_call, is_where}
 
 -- no instruction on a run is a call
 pub no_pass : (around : _) (m to : LocalConfig) (instr : Instr) → instr ≡ Ecall → passed around m (row instr m.registers m.pc) ≡ Some to → ⊥
@@ -121,4 +121,4 @@ takes_as marks y s w h stands a =
     r.stands.before_commit.locks).1 in
     let takes = subst (λ (k : ℕ). Takes y w r.stands.before_commit.abstract k) (s.codes.number h r.below)
     (where_takes y s w h r.stands r.below held (is_where y s w h r.stands r.below marks r.ready)) in
-    subst (λ (b : AbstractRun y). TakesAs y w b h a) r.abstract (takes a)
+    subst (λ (b : AbstractRun y). TakesAs y w b h a) r.similar.abstract (takes a)

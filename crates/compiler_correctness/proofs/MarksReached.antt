@@ -119,7 +119,7 @@ module _ (marks : List (List ℕ)) (program : List (List Slot)) (h : ℕ) where
   no_crash (Evict line mask) events none = ((λ e. cc), none)
   no_crash Crash events none = absurd none
 
-  stays_along : (events : List Event) (w : World) → length program ≡ length w.harts → IsWellFormedWorld w → HaveNoCrash events → IsStopped w h →
+  pub stays_along : (events : List Event) (w : World) → length program ≡ length w.harts → IsWellFormedWorld w → HaveNoCrash events → IsStopped w h →
       IsStopped (after_events program w events) h
   stays_along [] w count sound none s = s
   stays_along (event ∷ events) w count sound none s =

@@ -1,5 +1,5 @@
 -- Machines of compiled programs along events, and what their harts store.
-use Rattle.std.proofs.Common.{◌≡◌, refl, ℕ, ◌<◌, List, [], ◌∷◌, ap, sym, subst, Option, None, true}
+use Rattle.std.proofs.Common.{◌≡◌, refl, ℕ, List, [], ◌∷◌, ap, sym, subst, Option, None, true}
 use Rattle.std.specs.Prelude.{slice_get}
 use Rattle.std.proofs.lemmas.Bool.{true≢false}
 use Rattle.ido_base.specs.declared.event.Event.{Event}
@@ -11,13 +11,12 @@ use Rattle.rv64_isa.specs.Machine.{Hart, World, after_event, after_events, happe
 use Rattle.rv64_isa.specs.Schedule.{is_running}
 use Rattle.hart_runs.specs.Calls.{IsInPhase}
 use Rattle.log_states.specs.Machines.{IsNext}
-use Rattle.crash_simulation.specs.Systems.{System, IsSystem, thread_count}
+use Rattle.crash_simulation.specs.Systems.{System, IsSystem}
 use Rattle.crash_simulation.specs.AbstractRuns.{AbstractRun}
 use Rattle.crash_simulation.specs.SimulationRelation.{Simulates}
 use Rattle.crash_simulation.specs.Laws.{EventsStand}
-use Rattle.crash_simulation.specs.InstructionSteps as moving
-use Rattle.crash_simulation.specs.InstructionSteps.{MayStore, OwnStep, FragmentsStep, CoresStep}
-use Rattle.crash_simulation.proofs.Public.{calls_step, runs_ready}
+use Rattle.crash_simulation.specs.InstructionSteps.{MayStore, FragmentsStep, CoresStep}
+use Rattle.crash_simulation.proofs.Public.{calls_step, own_by, runs_ready}
 
 -- a hart that isn't there stays away
 pub none_there : (y : System) (w : World) (g : ℕ) → slice_get w.harts g ≡ None → after_event y.runs.program w (Step g) ≡ w
@@ -29,7 +28,7 @@ pub stands_along : EventsStand → (y : System) (s : IsSystem y) (events : List 
 stands_along stand y s [] w stands = stands
 stands_along stand y s (event ∷ events) w stands = stands_along stand y s events (after_event y.runs.program w event) (stand y s w event stands)
 
-is_run : (phase : Phase) → is_running phase ≡ true → phase ≡ Run
+pub is_run : (phase : Phase) → is_running phase ≡ true → phase ≡ Run
 is_run Run e = refl
 is_run Take e = absurd (true≢false (sym e))
 is_run Wait e = absurd (true≢false (sym e))
@@ -38,15 +37,11 @@ is_run Done e = absurd (true≢false (sym e))
 is_run Ended e = absurd (true≢false (sym e))
 
 module _ (fragments_step : FragmentsStep) (cores_step : CoresStep) (y : System) (s : IsSystem y) (w : World) (g : ℕ) where
-  own_step : (stands : Simulates y s w) (there : g < thread_count y) → IsInPhase w g Run → moving.IsReadyToStep y s w g stands there → OwnStep y s w g stands
-  own_step stands there i (moving.on_fragment o steps is) = fragments_step y s w g stands there i o steps is
-  own_step stands there i (moving.calls o zero_left calling) = calls_step y s w g stands there i o zero_left calling
-  own_step stands there i (moving.at_core core free) = cores_step y s w g stands there i core free
-
   -- a hart stores what its thread may
   pub stores_own : (stands : Simulates y s w) (hart : Hart) (effect : Effect) → IsNext y.runs.program w g hart effect →
       MayStore y stands.before_commit.abstract g effect
   stores_own stands hart effect is =
       let i : IsInPhase w g Run = record { hart = hart; here = is.here; phase_is = is_run hart.phase is.runs } in
       let r = runs_ready y s w g stands i in
-      subst (λ (b : AbstractRun y). MayStore y b g effect) r.abstract ((own_step r.stands r.below i r.ready).stores_own hart effect is)
+      subst (λ (b : AbstractRun y). MayStore y b g effect) r.similar.abstract
+      ((own_by runs_ready fragments_step cores_step calls_step y s w g r.stands r.below i r.ready).stores_own hart effect is)

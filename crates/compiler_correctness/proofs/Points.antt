@@ -2,16 +2,15 @@
 use Rattle.std.proofs.Common.{◌≡◌, ◌≢◌, ◌⊎◌, inl, inr, ℕ, ◌<◌, List, [], ap, sym, ◌∙◌, subst, Bool, false}
 use Rattle.std.specs.Prelude.{slice_index_or, if◌then◌else◌}
 use Rattle.std.specs.List.{Contains}
-use Rattle.std.proofs.lemmas.Bool.{cases_Bool, cond-true}
+use Rattle.std.proofs.lemmas.Bool.{cases_Bool}
 use Rattle.ido_base.specs.Layout.{point_at}
-use Rattle.ido_base.specs.Words.{live_value}
 use Rattle.code_runs.specs.CodeTraces.{Program}
 use Rattle.rv64_isa.specs.Machine.{World, durable_point, live_at, resume_of}
 use Rattle.flow_graph.specs.Actions.{FlowState}
-use Rattle.log_states.specs.Logs.{Record, point_in, IsRecorded}
-use Rattle.log_states.specs.Stages.{LogConfig, LogIs, Stage, Writing, Written, Pointed, PointQueued, Over, is_committed}
+use Rattle.log_states.specs.Logs.{Record}
+use Rattle.log_states.specs.Stages.{is_committed}
 use Rattle.log_states.specs.Machines.{config_of}
-use Rattle.log_states.proofs.Public.{durable_is, log_facts}
+use Rattle.log_states.proofs.Public.{live_is}
 use Rattle.recovered_threads.specs.RecordDescriptions.{Code, Describes}
 use Rattle.crash_simulation.specs.Systems.{System, IsSystem, thread_count}
 use Rattle.crash_simulation.specs.AbstractRuns.{kept_of, now_of}
@@ -19,34 +18,6 @@ use Rattle.crash_simulation.specs.ThreadGhosts.{ThreadGhost}
 use Rattle.crash_simulation.specs.SimulationRelation.{Simulates}
 use Rattle.crash_simulation.proofs.Public.{left, left_describes, left_point, log_of}
 use Rattle.compiler_correctness.proofs.AbstractRunAccount.{points_name}
-
--- ---- A log on its way from the one record to the other
-
--- the live point is the new record's, or the old one's where that isn't committed
-abbrev pub LiveIs : (thread : ℕ) (old new : Record) (m : LogConfig) → Type 0
-LiveIs thread old new m =
-    (live_value (point_in m.words thread) ≡ new.point) ⊎ ((live_value (point_in m.words thread) ≡ old.point) × (is_committed thread m ≡ false))
-
-module _ (thread : ℕ) (old new : Record) (m : LogConfig) (l : LogIs thread old new m) where
-  from_old : IsRecorded thread old m.words → LiveIs thread old new m
-  from_old h = elim (cases_Bool (is_committed thread m)) [
-    | inl committed ↦
-        let durable : durable_point m.words thread ≡ old.point = durable_is (point_in m.words thread) old.point h.point in
-        let new_is : durable_point m.words thread ≡ new.point =
-        log_facts.record_follows_locks.point thread old new m l ∙ ap (λ (r : Record). r.point) (cond-true (is_committed thread m) new old committed) in
-        inl (h.point.live ∙ (sym durable ∙ new_is))
-    | inr not_yet ↦ inr (h.point.live, not_yet)
-  ]
-
-  by_stage : Stage thread old new m → LiveIs thread old new m
-  by_stage (Writing slots lines writing h) = from_old h
-  by_stage (Written rest h bank) = from_old h
-  by_stage (Pointed rest h) = inl h.last
-  by_stage (PointQueued rest h r) = inl h.last
-  by_stage (Over rest h) = inl h.point.live
-
-  pub live_is : LiveIs thread old new m
-  live_is = by_stage l.stage
 
 -- ---- In a machine that simulates an abstract run
 

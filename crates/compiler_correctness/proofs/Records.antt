@@ -84,7 +84,8 @@ module _ (y : System) (s : IsSystem y) (w : World) (stands : Simulates y s w) wh
     pub are_held : IsOn hart → AreHeld w stands.before_commit.ghosts (now_of y b)
     are_held is = held_by is stands.before_commit.locks
 
-module _ (y : System) (s : IsSystem y) (w : World) (steps : Steps) (resumes : SimulatesCounted y s (first_beginning y) w steps) (h : ℕ) (hart : Hart)
+module _ (y : System) (s : IsSystem y) (w : World) (steps : Steps) {r : ℕ → ℕ}
+    (resumes : SimulatesCounted y s (first_beginning y) w steps r) (h : ℕ) (hart : Hart)
     (there : slice_get w.harts h ≡ Some hart) where
   abbrev stands : Simulates y s w
   stands = resumes.stands

@@ -52,7 +52,8 @@ module _ (y : System) (s : IsSystem y) (w : World) (stands : Simulates y s w) (s
       durable_are_memory (flat_of y).variables w.words (well_formed_placed (flat_of y) s.plan.formed).room
       ∙ (settled_is_kept y s w stands zeros).durable
 
-module _ (y : System) (s : IsSystem y) (w : World) (steps : Steps) (resumes : SimulatesCounted y s (first_beginning y) w steps) where
+module _ (y : System) (s : IsSystem y) (w : World) (steps : Steps) {r : ℕ → ℕ}
+    (resumes : SimulatesCounted y s (first_beginning y) w steps r) where
   -- the kept steps are those of the abstract run, and lead to what is kept there
   pub kept_runs : IsRunnable (translation_of y) steps.kept
   kept_runs =

@@ -1,5 +1,6 @@
 -- What a compiled program is held to, after whatever events: steps of all harts, evictions and crashes in any order.
-use Rattle.std.specs.Prelude.{◌≡◌, ◌≢◌, ◌⊎◌, ◌↔◌, ℕ, ◌+◌, ◌<◌, ◌≤◌, List, [], ◌++◌, length, Contains, slice_get, Some, None, Bool, true, false}
+use Rattle.std.specs.Prelude.{◌≡◌, ◌≢◌, ◌⊎◌, ◌↔◌, ℕ, ◌+◌, ◌<◌, ◌≤◌, List, [], ◌∷◌, ◌++◌, length, Contains, slice_get, Some, None, Bool, true, false}
+use Rattle.std.specs.Prelude.{not, ◌&&◌, ◌==◌, if◌then◌else◌}
 use Rattle.ido_base.specs.declared.event.Event.{Event}
 use Rattle.ido_base.specs.declared.event.Event.TheVariants.{Step}
 use Rattle.ido_base.specs.declared.event.Reply.TheVariants.{Moved, Stuck}
@@ -12,7 +13,7 @@ use Rattle.source_machine.specs.Mutexes.{locks}
 use Rattle.rv64_isa.specs.declared.phase.Phase.{Phase}
 use Rattle.rv64_isa.specs.declared.phase.Phase.TheVariants.{Take, Wait, Resume, Run, Done, Ended}
 use Rattle.rv64_isa.specs.Executables.{first_world}
-use Rattle.rv64_isa.specs.Machine.{World, Hart, reply_to, live_at, durable_point, resume_of, record_of}
+use Rattle.rv64_isa.specs.Machine.{World, Hart, after_event, reply_to, live_at, durable_point, resume_of, record_of}
 use Rattle.rv64_isa.specs.Schedule.{is_settled, released_count}
 use Rattle.hart_runs.specs.Calls.{IsAtCall, lock_asked}
 use Rattle.recovery_semantics.specs.Laws.{LastUnlocks}
@@ -48,10 +49,17 @@ sections_kept c events thread = m.ended_from (m.start c.flat) (steps c events).k
 abbrev pub sections_released : Translation → List Event → (hart : ℕ) → ℕ
 sections_released c events hart = released_count c.runs.program (first_world c.runs) events hart
 
--- each section that a hart has left is kept, and at most one more of its thread
+-- the event after those makes the durable point of the hart 0, which it wasn't
+abbrev pub ends_at_point : Translation → List Event → Event → (hart : ℕ) → Bool
+ends_at_point c events event hart =
+    not (durable_point (world c events).words hart == 0) && (durable_point (after_event c.runs.program (world c events) event).words hart == 0)
+
+-- each section that a hart has left is kept, and at most one more of its thread; a section is kept by the event that makes its hart's durable point 0
 pub record AreSectionsKept (c : Translation) (events : List Event) : Type 0 where
   pub no_less : (h : ℕ) → sections_released c events h ≤ sections_kept c events h
   pub no_more : (h : ℕ) → sections_kept c events h ≤ sections_released c events h + 1
+  pub by_points : (event : Event) (h : ℕ) → h < length c.runs.program →
+      sections_kept c (events ++ event ∷ []) h ≡ sections_kept c events h + (if ends_at_point c events event h then 1 else 0)
 
 -- ---- Locks of a hart and of its thread
 

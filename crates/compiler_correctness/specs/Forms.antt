@@ -16,7 +16,7 @@ use Rattle.memory_layout.specs.declared.roles.TheConstants.{LOCALS}
 use Rattle.memory_layout.specs.Roles.{pending_address, pending_value}
 use Rattle.memory_layout.specs.Variables.{AreInitial}
 use Rattle.operator_code.specs.ComputingCode.{Carries}
-use Rattle.boundary_code.specs.Boundaries.{AtBank}
+use Rattle.boundary_code.specs.Boundaries.{IsOnSide}
 use Rattle.node_code.specs.Pieces.{boundary_observations}
 use Rattle.code_runs.specs.ComputingRuns.{config}
 use Rattle.code_runs.specs.CodeTraces.{MarkedEnvironment, Meets, Mark, Observation, Trace}
@@ -80,24 +80,24 @@ module _ (c : Translation) (thread : ℕ) (text : f.Thread) (part : Part) (held 
     of_address : IsStoreNode (lowered c.flat) node → IsLiveRegister node pending_address
     of_value : IsStoreNode (lowered c.flat) node → IsLiveRegister node pending_value
 
-  -- what registers hold at the entry of a node, where the thread's locals have these numbers and its point names this bank
-  pub record HoldLocals (node bank : ℕ) (locals : List ℤ) (values : List ℕ) : Type 0 where
-    pub at_bank : AtBank bank values
+  -- what registers hold at the entry of a node, where the thread's locals have these numbers and its point names this side
+  pub record HoldLocals (node side : ℕ) (locals : List ℤ) (values : List ℕ) : Type 0 where
+    pub at_side : IsOnSide side values
     pub count : length locals ≡ length text.locals
     pub live : (local : ℕ) (k : Kind) → slice_get text.locals local ≡ Some k → IsLive (lowered c.flat) local node →
         Carries values (slice_index registers local) (typed k (slice_index_or locals local (pos 0)))
 
   -- From the one address to the other stands the boundary after which the thread is at a node, where it may be resumed at an address. Whatever its locals are,
-  -- the code leads from the one to the other, and what is seen of that is the boundary: the bank that the point doesn't name gets the mutexes held before the
-  -- node and the live registers, all is cleaned, a FENCE, the point gets the address and the number of that bank and is cleaned, a FENCE. Where no mutex is
-  -- held the point gets 0, and no bank anything.
+  -- the code leads from the one to the other, and what is seen of that is the boundary: the side that the point doesn't name gets the mutexes held before the
+  -- node and the live registers, all is cleaned, a FENCE, the point gets the address and the number of that side and is cleaned, a FENCE. Where no mutex is
+  -- held the point gets 0, and no side anything.
   pub record StandsBoundary (entered node from to resume : ℕ) (first : List Observation) : Type 0 where
     pub live : List ℕ
     pub are_live : (register : ℕ) → Contains live register ↔ IsLiveRegister node register
     pub leads : (s : MarkedEnvironment) → Meets (program_at c.runs.program thread (marks_of c thread) (resumes_of c thread)) s →
-        (bank : ℕ) (locals : List ℤ) (x : List ℕ) → HoldLocals entered bank locals x →
+        (side : ℕ) (locals : List ℤ) (x : List ℕ) → HoldLocals entered side locals x →
         (steps : ℕ) × (y : List ℕ) × Trace s steps (config x from) (first ++ boundary_observations
-        (record { thread = thread; locks = locks_held (slice_index_or held (node - part.first) []); live = live; resume = pos 0 }) bank resume x) (config y to)
+        (record { thread = thread; locks = locks_held (slice_index_or held (node - part.first) []); live = live; resume = pos 0 }) side resume x) (config y to)
 
   -- the boundaries of a node
   pub record HasBoundaries (s : Sites) (node : ℕ) : Type 0 where

@@ -7,8 +7,8 @@ ghost use Rattle.compiler_correctness.specs.Laws.{SystemsAreCompilations, WordsB
 use crash_simulation::laws::{
     cores_step, events_stand, fragments_step, machines_resume, none_is_stuck as simulating_is_free,
     recovered_are_counted, recovered_words_simulate, sections_are_kept as ended_sections_are_kept,
+    sections_end_at_points,
 };
-use hart_runs::laws::{none_is_stuck, steps_are_counted};
 use region_cutter::laws::chosen_boundaries_are_locked;
 use thread_runs::laws::{fragments_go_on, marks_pass};
 
@@ -25,11 +25,13 @@ pub fn kept_steps_grow()
     ensures { KeptStepsGrow }
 {}
 
-/// The kept steps hold each section that a hart has left, and at most one more of its thread.
+/// The kept steps hold each section that a hart has left, and at most one more of its thread. By each event a section of a thread is kept exactly where the
+/// durable point of its hart, which was not 0, becomes 0.
 pub fn sections_are_kept()
     ensures { SectionsAreKept }
 {
     ended_sections_are_kept();
+    sections_end_at_points();
 }
 
 /// The source can be stepped by all kept steps, and after them by those begun since. A hart's record is the set of locks that its thread holds after the
@@ -54,8 +56,7 @@ pub fn harts_never_stick()
     ensures { HartsNeverStick }
 {
     machines_resume();
-    marks_pass();
-    none_is_stuck();
+    simulating_is_free();
 }
 
 /// A hart that executes instructions soon begins the next step of its thread: by as many of its steps that wait for no lock as twice the words of its code, and
@@ -65,8 +66,6 @@ pub fn delays_are_bounded()
 {
     cores_step();
     events_stand();
-    marks_pass();
-    steps_are_counted();
     fragments_go_on();
     fragments_step();
 }
@@ -114,11 +113,9 @@ pub fn recovered_words_run_on()
 {
     cores_step();
     events_stand();
-    marks_pass();
+    fragments_go_on();
     simulating_is_free();
     recovered_words_simulate();
-    steps_are_counted();
-    fragments_go_on();
     fragments_step();
 }
 

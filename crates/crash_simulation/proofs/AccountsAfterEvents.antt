@@ -10,10 +10,9 @@ use Rattle.rv64_isa.specs.declared.phase.Phase.{Phase}
 use Rattle.rv64_isa.specs.declared.phase.Phase.TheVariants.{Take, Wait, Resume, Run, Done, Ended}
 use Rattle.rv64_isa.specs.Executables.{first_world}
 use Rattle.rv64_isa.specs.Machine.{Hart, World, stepped, happens, after_event, after_events}
-use Rattle.rv64_isa.specs.Schedule.{Steps, hart_steps, is_running, passes_mark, stores_point, with_step, with_all_kept, steps_after, steps_along}
+use Rattle.rv64_isa.specs.Schedule.{Steps, is_running, passes_mark, stores_point, with_step, with_all_kept, steps_after, steps_along}
 use Rattle.rv64_isa.specs.Schedule.{releases_last, released_count}
 use Rattle.recovery_semantics.specs.Configs.{now}
-use Rattle.recovery_semantics.specs.Events.{steps_begun}
 use Rattle.log_states.specs.Logs.{point_in}
 use Rattle.code_runs.specs.CodeTraces.{Program}
 use Rattle.hart_runs.specs.Calls.{IsInPhase}
@@ -26,17 +25,16 @@ use Rattle.crash_simulation.specs.AbstractRuns.{AbstractRun, now_of}
 use Rattle.crash_simulation.specs.ThreadGhosts.{ThreadGhost, ExitInv, ThreadInv}
 use Rattle.crash_simulation.specs.SimulationRelation.{SimulatesBeforeCommit, Simulates}
 use Rattle.crash_simulation.specs.InstructionSteps.{is_bound, is_leaving, begins, IsUnlocked, was_unlocked, OnFragmentNow, IsCalling, asks, gives, ends}
-use Rattle.crash_simulation.specs.InstructionSteps.{IsReadyToStep, on_fragment, calls, at_core, OwnStep, SimulatesReady}
-use Rattle.crash_simulation.specs.InstructionSteps.{RunsReady, FragmentsStep, CoresStep, CallsStep}
-use Rattle.crash_simulation.specs.AccountRelation.{IsCountedOf, AreCounted, SimulatesCounted, MachinesResume, Beginning}
+use Rattle.crash_simulation.specs.InstructionSteps.{AreSimilar, IsReadyToStep, on_fragment, calls, at_core, OwnStep}
+use Rattle.crash_simulation.specs.InstructionSteps.{RunsReady, FragmentsStep, CoresStep, CallsStep, Nears, begins_step, waits, is_nearer, halts}
+use Rattle.crash_simulation.specs.AccountRelation.{AreCounted, SimulatesCounted, MachinesResume, Beginning}
 use Rattle.crash_simulation.specs.RecoveredWords.{RecoveredAreCounted}
 use Rattle.crash_simulation.specs.ReleasedSections.{one_if, sections_kept, IsReleasedOf, in_step, cut_off}
-use Rattle.crash_simulation.specs.ReleasedSections.{AreReleased, IsCarried, ended_in_machine, SectionsAreKept}
+use Rattle.crash_simulation.specs.ReleasedSections.{ended_in_machine, SectionsAreKept}
+use Rattle.crash_simulation.proofs.SectionsAfterEvents.{none_more, released_by, none_released, stays_done, phase_releases, kept_crashed}
 use Rattle.crash_simulation.proofs.LastReleases.{holders_stay_none}
-use Rattle.crash_simulation.proofs.SectionsAfterEvents.{none_more, released_by, phase_releases, still_released, ready_released}
-use Rattle.crash_simulation.proofs.SectionsAfterEvents.{own_step_released, evicted_released, crash_released}
 use Rattle.recovered_threads.proofs.Public.{same_or_other}
-use Rattle.c_tree.specs.Source.{State, ended_from}
+use Rattle.c_tree.specs.Source.{State, after_from, runs_from, ended_from}
 use Rattle.rv64_isa.specs.declared.object.Slot.{Slot}
 use Rattle.crash_simulation.specs.Laws.{EventsStand, RunsSimulate}
 use Rattle.crash_simulation.proofs.LoadFreeEnvironment.{none_ahead}
@@ -45,15 +43,16 @@ use Rattle.crash_simulation.proofs.RecordsAfterCrash.{caught_is_over}
 use Rattle.crash_simulation.proofs.SimulationInRecovery.{SimulatesStill, takes_still, waits_still, stopped_still}
 use Rattle.crash_simulation.proofs.SimulationAfterResume.{resumes_still}
 use Rattle.crash_simulation.proofs.SimulationAfterCrash as crashing
-use Rattle.crash_simulation.proofs.SimulationAfterCrash.{crash_simulates}
 use Rattle.crash_simulation.proofs.StepSimulation.{simulates_after, evicted_simulates}
 use Rattle.crash_simulation.proofs.LongestAttempts.{AreFurthest, led_furthest}
-use Rattle.crash_simulation.proofs.CommitSimulation.{commit_stutters, commits_count}
-use Rattle.crash_simulation.proofs.AccountUpdates.{count_same}
+use Rattle.crash_simulation.proofs.CommitSimulation.{all_caught_up}
+use Rattle.crash_simulation.proofs.EndedSections.{AreSameSections, EndAsLeft, led_sections, same_end, same_then_end}
+use Rattle.crash_simulation.proofs.AccountUpdates.{begun_by, count_same}
 use Rattle.crash_simulation.proofs.LocksAfterStep.{own_ghost, other_ghost}
 use Rattle.crash_simulation.proofs.PointPositions.{none_there_counted, none_running_counted, none_there_begins, none_running_begins}
-use Rattle.crash_simulation.proofs.AccountsBeforeCommit.{none_bound, recovered_carried, start_carried, crash_counted}
-use Rattle.crash_simulation.proofs.AccountsBeforeCommit.{still_are_counted, evicted_counted, own_step_counted}
+use Rattle.crash_simulation.proofs.AccountsBeforeCommit.{none_bound, recovered_counted, start_counted, crash_counted}
+use Rattle.crash_simulation.proofs.AccountsBeforeCommit.{evicted_counted, own_step_counted, similar_counted, GoesOnBy, led_now}
+use Rattle.std.proofs.lemmas.Option.{none-some, same_Some}
 
 -- ---- Where steps are bound, no step is begun
 
@@ -79,7 +78,7 @@ module _ (law : FragmentsGoOn) (y : System) (s : IsSystem y) (w : World) (h : �
   fragment_passes_none : (o : OnFragmentNow y s w h stands below) (steps : ℕ) → o.steps ≡ suc steps → PassesNone
   fragment_passes_none o steps is bound =
       let number : code.thread.number ≡ h = s.codes.number h below in
-      let stage : Stage = record { exit = o.exit; node = t.graph_thread.at; seen = seen_by (now_of y b) t.graph_thread; bank = o.bank } in
+      let stage : Stage = record { exit = o.exit; node = t.graph_thread.at; seen = seen_by (now_of y b) t.graph_thread; side = o.side } in
       let fragment =
       subst (λ (n : ℕ). IsOnFragment y.plan code.thread code.is.places (on_machine y.runs.program w code.thread.number o.environment) stage n
       (c.cleans ++ c.rest))
@@ -99,7 +98,7 @@ module _ (law : FragmentsGoOn) (y : System) (s : IsSystem y) (w : World) (h : �
   passes_none : IsReadyToStep y s w h stands below → PassesNone
   passes_none (on_fragment o steps is) = fragment_passes_none o steps is
   passes_none (calls o none is) =
-      let stage : Stage = record { exit = o.exit; node = t.graph_thread.at; seen = seen_by (now_of y b) t.graph_thread; bank = o.bank } in
+      let stage : Stage = record { exit = o.exit; node = t.graph_thread.at; seen = seen_by (now_of y b) t.graph_thread; side = o.side } in
       let fragment =
       subst (λ (n : ℕ). IsOnFragment y.plan code.thread code.is.places (on_machine y.runs.program w code.thread.number o.environment) stage n
       (c.cleans ++ c.rest))
@@ -107,31 +106,89 @@ module _ (law : FragmentsGoOn) (y : System) (s : IsSystem y) (w : World) (h : �
       call_passes_none o.exit is o.fits (right_empty c.cleans c.rest (none_ahead y s w h below o.environment _ (c.cleans ++ c.rest) fragment))
   passes_none (at_core o free) = never_bound o.goes.goes.committed
 
--- ---- The machine that is taken to be ready is counted as before
+-- ---- Harts and their marks
 
-module _ (y : System) (s : IsSystem y) (w : World) (h : ℕ) (old : Simulates y s w) (ready : SimulatesReady y s w h old) (steps : Steps)
-    {g : Beginning} (counted : AreCounted y s g w old.before_commit steps) where
-  each_ready : (n : ℕ) → n < thread_count y → IsCountedOf y w ready.stands.before_commit.abstract n (ready.stands.before_commit.ghosts n) (hart_steps steps n)
-  each_ready n below =
-      let one = counted.each n below in
-      let same = ready.bound n in
-      let begun : steps_begun old.before_commit.abstract.config n ≡ steps_begun ready.stands.before_commit.abstract.config n =
-      ap (λ (b : AbstractRun y). steps_begun b.config n) (sym ready.abstract) in
-      record {
-        free = λ e. let o = one.free (sym same ∙ e) in (o.0 ∙ begun, o.1);
-        bound = λ e.
-            let o = one.bound (sym same ∙ e) in
-            (o.0, o.1 ∙ (λ i. record { position = last_position (point_in w.words n); steps = begun i } ∷ []));
-      }
+step_of : (h n : ℕ) → Step h ≡ Step n → h ≡ n
+step_of h n e = cc
 
-  ready_counted : AreCounted y s g w ready.stands.before_commit steps
-  ready_counted = record {
-    begins = ap (λ (b : AbstractRun y). b.origin.source) ready.abstract ∙ counted.begins;
-    kept = counted.kept ∙ ap (λ (b : AbstractRun y). g.kept ++ b.schedule) (sym ready.abstract);
-    pending = counted.pending ∙ ap (λ (b : AbstractRun y). b.config.uncommitted) (sym ready.abstract);
-    count = counted.count;
-    each = each_ready;
-  }
+-- of the same counts
+nears_by : (y : System) (w : World) (h : ℕ) {begun marked : Bool} {old other new later : ℕ} → marked ≡ begun → old ≡ other → later ≡ new →
+    Nears y w h begun old new → Nears y w h marked other later
+nears_by y w h marks before after (begins_step e) = begins_step (marks ∙ e)
+nears_by y w h marks before after (waits mutex holder does same) = waits mutex holder does (after ∙ (same ∙ before))
+nears_by y w h marks before after (is_nearer e) = is_nearer (sym before ∙ (e ∙ ap suc (sym after)))
+nears_by y w h marks before after (halts hart here stopped) = halts hart here stopped
+
+not_running : (w : World) (h : ℕ) (hart : Hart) → slice_get w.harts h ≡ Some hart → (phase : Phase) → hart.phase ≡ phase → is_running phase ≡ false →
+    ¬ (IsInPhase w h Run)
+not_running w h hart here phase is off i =
+    true≢false (sym (ap is_running (ap (λ (x : Hart). x.phase) (same_Some hart i.hart (sym here ∙ i.here)) ∙ i.phase_is)) ∙ (ap is_running is ∙ off))
+
+-- ---- What an event does
+
+-- the steps of the source that it begins
+abbrev pub begun_in : System → World → Event → List ℕ
+begun_in y w (Step h) = begun_by (passes_mark y.runs.marks y.runs.program w h) h []
+begun_in y w (Evict line mask) = []
+begun_in y w Crash = []
+
+-- while power stays on, the source goes on by these steps, and each attempt comes as far as any before; a thread has to give back what it had, or what its
+-- step unlocks; and a hart that executes instructions is one step nearer to its next mark by its own steps
+pub record Continues (y : System) (s : IsSystem y) (w : World) (event : Event) (old : Simulates y s w)
+    (new : SimulatesBeforeCommit y s (after_event y.runs.program w event)) : Type 0 where
+  pub source : now new.abstract.config ≡ after_from (now old.before_commit.abstract.config) (begun_in y w event)
+  pub runs : runs_from (now old.before_commit.abstract.config) (begun_in y w event) ≡ true
+  pub tried : AreFurthest old.before_commit.abstract.config → AreFurthest new.abstract.config
+  pub unlocked : (n mutex : ℕ) → event ≡ Step n → (new.ghosts n).giving ≡ Some mutex →
+      IsUnlocked (now old.before_commit.abstract.config) n (passes_mark y.runs.marks y.runs.program w n) (old.before_commit.ghosts n).giving mutex
+  pub others : (n : ℕ) → event ≢ Step n → (new.ghosts n).giving ≡ (old.before_commit.ghosts n).giving
+  pub stays : (n : ℕ) → (event ≡ Step n → IsInPhase w n Run → ⊥) → (new.ghosts n).before_mark ≡ (old.before_commit.ghosts n).before_mark
+  pub nears : (n : ℕ) → event ≡ Step n → IsInPhase w n Run →
+      Nears y w n (passes_mark y.runs.marks y.runs.program w n) (old.before_commit.ghosts n).before_mark (new.ghosts n).before_mark
+
+-- the machine simulates before commit, with that account of the steps then, and with what it released; sections are kept as they were
+record Moves (y : System) (s : IsSystem y) (w : World) (event : Event) (old : Simulates y s w) (account : Steps → Steps) : Type 0 where
+  before_commit : SimulatesBeforeCommit y s (after_event y.runs.program w event)
+  counted : (g : Beginning) (steps : Steps) (r : ℕ → ℕ) → AreCounted y s g w old.before_commit steps r →
+      AreCounted y s g (after_event y.runs.program w event) before_commit (account steps) (released_by y.runs.program w event r)
+  sections : (n : ℕ) → AreSameSections y old.before_commit.abstract before_commit.abstract n
+  on : Continues y s w event old before_commit
+
+-- the machine simulates an abstract run then, with its account and its releases, and sections of each thread end as it has left them
+pub record GoesOn (y : System) (s : IsSystem y) (w : World) (event : Event) (old : Simulates y s w) : Type 0 where
+  pub next : Simulates y s (after_event y.runs.program w event)
+  pub counted : (g : Beginning) (steps : Steps) (r : ℕ → ℕ) → AreCounted y s g w old.before_commit steps r →
+      AreCounted y s g (after_event y.runs.program w event) next.before_commit (steps_after y.runs.marks y.runs.program w event steps)
+      (released_by y.runs.program w event r)
+  pub ends : (n : ℕ) → n < thread_count y → EndAsLeft y old.before_commit.abstract next.before_commit.abstract n
+  pub on : event ≢ Crash → Continues y s w event old next.before_commit
+
+-- what is committed then is taken so
+commits_move : (y : System) (s : IsSystem y) (w : World) (event : Event) (old : Simulates y s w) (account : Steps → Steps) →
+    Moves y s w event old account →
+    ((steps : Steps) → with_all_kept (after_event y.runs.program w event).words (length (account steps).harts) (account steps)
+    ≡ steps_after y.runs.marks y.runs.program w event steps) → GoesOn y s w event old
+commits_move y s w event old account m is =
+    let after : World = after_event y.runs.program w event in
+    let c = all_caught_up y s after m.before_commit in
+    record {
+      next = c.stands;
+      counted = λ g steps r counted.
+          subst (λ (z : Steps). AreCounted y s g after c.stands.before_commit z (released_by y.runs.program w event r)) (is steps)
+          (c.counted g (account steps) (released_by y.runs.program w event r) (m.counted g steps r counted));
+      ends = λ n below.
+          same_then_end y old.before_commit.abstract m.before_commit.abstract n c.stands.before_commit.abstract (m.sections n) (c.ends n below);
+      on = λ no_crash. record {
+        source = c.source ∙ m.on.source;
+        runs = m.on.runs;
+        tried = λ furthest. c.tried (m.on.tried furthest);
+        unlocked = λ n mutex own gives. m.on.unlocked n mutex own (sym (c.giving n) ∙ gives);
+        others = λ n other. c.giving n ∙ m.on.others n other;
+        stays = λ n other. c.ahead n ∙ m.on.stays n other;
+        nears = λ n own i.
+            subst (Nears y w n (passes_mark y.runs.marks y.runs.program w n) (old.before_commit.ghosts n).before_mark) (sym (c.ahead n)) (m.on.nears n own i);
+      };
+    }
 
 -- ---- Whatever happens
 
@@ -140,152 +197,188 @@ unfolding happens
 not_there y w h none = sym (ap (λ (o : Option Hart). (stepped y.runs.program w h o).0) none)
 
 module _ (ready : RunsReady) (fragments_step : FragmentsStep) (cores_step : CoresStep) (calls_step : CallsStep) where
-  own_by : (y : System) (s : IsSystem y) (w : World) (h : ℕ) (stands : Simulates y s w) (below : h < thread_count y) → IsInPhase w h Run →
+  pub own_by : (y : System) (s : IsSystem y) (w : World) (h : ℕ) (stands : Simulates y s w) (below : h < thread_count y) → IsInPhase w h Run →
       IsReadyToStep y s w h stands below → OwnStep y s w h stands
   own_by y s w h stands below i (on_fragment o steps is) = fragments_step y s w h stands below i o steps is
   own_by y s w h stands below i (calls o none is) = calls_step y s w h stands below i o none is
   own_by y s w h stands below i (at_core o free) = cores_step y s w h stands below i o free
-
-  -- ---- The machine simulates before commit
 
   pub runs_simulate : RunsSimulate
   runs_simulate y s w h stands i =
       let r = ready y s w h stands i in
       simulates_after y s w h r.stands i (own_by y s w h r.stands r.below i r.ready)
 
-  in_phase_stands : (y : System) (s : IsSystem y) (w : World) (h : ℕ) (stands : Simulates y s w) (phase : Phase) → IsInPhase w h phase →
-      Simulates y s (after_event y.runs.program w (Step h))
-  in_phase_stands y s w h stands Take i = (takes_still y s w h stands i).stands
-  in_phase_stands y s w h stands Wait i = (waits_still y s w h stands i).stands
-  in_phase_stands y s w h stands Resume i = (resumes_still y s w h stands i).stands
-  in_phase_stands y s w h stands Run i = commit_stutters y s (after_event y.runs.program w (Step h)) (runs_simulate y s w h stands i)
-  in_phase_stands y s w h stands Done i = (stopped_still y s w h Done stands (inl refl) i).stands
-  in_phase_stands y s w h stands Ended i = (stopped_still y s w h Ended stands (inr refl) i).stands
-
-  step_stands : (y : System) (s : IsSystem y) (w : World) (h : ℕ) (stands : Simulates y s w) (o : Option Hart) → slice_get w.harts h ≡ o →
-      Simulates y s (after_event y.runs.program w (Step h))
-  step_stands y s w h stands None none = subst (λ (v : World). Simulates y s v) (not_there y w h none) stands
-  step_stands y s w h stands (Some hart) here =
-      in_phase_stands y s w h stands hart.phase (record { hart = hart; here = here; phase_is = refl })
-
-  pub events_stand : EventsStand
-  events_stand y s w (Step h) stands = step_stands y s w h stands (slice_get w.harts h) refl
-  events_stand y s w (Evict line mask) stands =
-      commit_stutters y s (after_event y.runs.program w (Evict line mask)) (evicted_simulates y s w line mask stands)
-  events_stand y s w Crash stands = crash_simulates y s w stands
-
-  -- ---- Its steps are counted
-
   module _ (law : FragmentsGoOn) where
-    module _ (y : System) (s : IsSystem y) {g : Beginning} (w : World) (h : ℕ) (steps : Steps) (r : ℕ → ℕ) (carried : IsCarried y s g w steps r) where
-      abbrev is : SimulatesCounted y s g w steps
-      is = carried.resumed
+    -- ---- A step
 
+    module _ (y : System) (s : IsSystem y) (w : World) (h : ℕ) (old : Simulates y s w) where
       abbrev after : World
       after = after_event y.runs.program w (Step h)
 
-      abbrev then_released : ℕ → ℕ
-      then_released = released_by y.runs.program w (Step h) r
+      abbrev marked : Bool
+      marked = passes_mark y.runs.marks y.runs.program w h
 
-      -- a simulation before commit that is counted with these steps, after these releases
-      pub record SimulatesWith (counts : Steps) : Type 0 where
-        pub before_commit : SimulatesBeforeCommit y s after
-        pub counted : AreCounted y s g after before_commit counts
-        pub released : AreReleased y s after before_commit then_released
-        pub tried : AreFurthest is.stands.before_commit.abstract.config → AreFurthest before_commit.abstract.config
-        -- what the hart's thread has still to give back, and that each other has the same
-        pub unlocked : (mutex : ℕ) → (before_commit.ghosts h).giving ≡ Some mutex →
-            IsUnlocked (now is.stands.before_commit.abstract.config) h (passes_mark y.runs.marks y.runs.program w h)
-            (is.stands.before_commit.ghosts h).giving mutex
-        pub others : (n : ℕ) → n ≢ h → (before_commit.ghosts n).giving ≡ (is.stands.before_commit.ghosts n).giving
+      abbrev StepMoves : Type 0
+      StepMoves = Moves y s w (Step h) old (with_step y.runs.marks y.runs.program w h)
 
-      abbrev then_steps : Steps
-      then_steps = with_step y.runs.marks y.runs.program w h steps
-
-      still_with : SimulatesStill y s w after is.stands → then_steps ≡ steps → passes_mark y.runs.marks y.runs.program w h ≡ false →
-          releases_last y.runs.program w (Step h) h ≡ false → SimulatesWith then_steps
-      still_with still none unmarked releases =
-          subst SimulatesWith (sym none) (record {
-            before_commit = still.stands.before_commit;
-            counted = still_are_counted y s w after is.stands still steps is.counted;
-            released = still_released y s w h is.stands still releases r carried.released;
-            tried = subst (λ (b : AbstractRun y). AreFurthest b.config) (sym still.abstract);
-            unlocked = λ mutex gives. was_unlocked unmarked (ap (λ (c : ThreadGhost). c.giving) (sym (still.ghosts h)) ∙ gives);
-            others = λ n other. ap (λ (c : ThreadGhost). c.giving) (still.ghosts n);
-          })
-
-      runs_with : IsInPhase w h Run → SimulatesWith then_steps
-      runs_with i =
-          let ready_then = ready y s w h is.stands i in
-          let o = own_by y s w h ready_then.stands ready_then.below i ready_then.ready in
+      -- one that counts nothing, releases nothing and leaves the abstract run
+      still_moves : SimulatesStill y s w after old → ((steps : Steps) → with_step y.runs.marks y.runs.program w h steps ≡ steps) → marked ≡ false →
+          releases_last y.runs.program w (Step h) h ≡ false → ¬ (IsInPhase w h Run) → StepMoves
+      still_moves still none unmarked releases off =
+          let begun : begun_in y w (Step h) ≡ [] = ap (λ (b : Bool). begun_by b h []) unmarked in
+          let similar : AreSimilar y s old still.stands = record {
+            abstract = still.abstract;
+            same = λ n. record {
+              bound = ap is_bound (still.ghosts n);
+              leaving = ap is_leaving (still.ghosts n);
+              giving = ap (λ (c : ThreadGhost). c.giving) (still.ghosts n);
+              ahead = ap (λ (c : ThreadGhost). c.before_mark) (still.ghosts n);
+            };
+          } in
+          let state : State = now old.before_commit.abstract.config in
           record {
-            before_commit = simulates_after y s w h ready_then.stands i o;
-            counted = own_step_counted y s w h ready_then.stands i o steps (ready_counted y s w h is.stands ready_then steps is.counted)
-                (passes_none law y s w h ready_then.stands ready_then.below ready_then.ready);
-            released = own_step_released y s w h ready_then.stands i o r (ready_released y s w h is.stands ready_then r carried.released);
-            tried = λ furthest. led_furthest y ready_then.stands.before_commit.abstract h o.next o.led
-                (subst (λ (b : AbstractRun y). AreFurthest b.config) (sym ready_then.abstract) furthest);
-            unlocked = λ mutex gives.
-                let ghosts = ready_then.stands.before_commit.ghosts in
-                let unlocked = o.counted.unlocked mutex (ap (λ (c : ThreadGhost). c.giving) (sym (own_ghost ghosts h o.ghost)) ∙ gives) in
-                let marks : begins o.led ≡ passes_mark y.runs.marks y.runs.program w h = sym o.counted.marks in
-                coe 0 1 (i. IsUnlocked (now (ready_then.abstract i).config) h (marks i) (ready_then.giving h i) mutex) unlocked;
-            others = λ n other.
-                ap (λ (c : ThreadGhost). c.giving) (other_ghost ready_then.stands.before_commit.ghosts h o.ghost n other) ∙ ready_then.giving n;
+            before_commit = still.stands.before_commit;
+            counted = λ g steps r counted.
+                subst (λ (z : Steps). AreCounted y s g after still.stands.before_commit z (released_by y.runs.program w (Step h) r)) (sym (none steps))
+                (similar_counted y s w after old still.stands similar still.words (stays_done y.runs.program w h old.before_commit.sound) steps r
+                (released_by y.runs.program w (Step h) r) (none_released y.runs.program w h releases r) counted);
+            sections = λ n.
+                subst (λ (b : AbstractRun y). AreSameSections y old.before_commit.abstract b n) (sym still.abstract)
+                (record { sections = refl; between = refl });
+            on = record {
+              source = ap (λ (b : AbstractRun y). now b.config) still.abstract ∙ ap (after_from state) (sym begun);
+              runs = ap (runs_from state) begun;
+              tried = subst (λ (b : AbstractRun y). AreFurthest b.config) (sym still.abstract);
+              unlocked = λ n mutex is gives.
+                  was_unlocked (subst (λ (k : ℕ). passes_mark y.runs.marks y.runs.program w k ≡ false) (step_of h n is) unmarked)
+                  (sym ((similar.same n).giving) ∙ gives);
+              others = λ n other. (similar.same n).giving;
+              stays = λ n other. (similar.same n).ahead;
+              nears = λ n is i. absurd (off (subst (λ (k : ℕ). IsInPhase w k Run) (sym (step_of h n is)) i));
+            };
           }
 
-      stops : (phase : Phase) → is_running phase ≡ false → IsInPhase w h phase → then_steps ≡ steps
-      stops phase none i = none_running_counted y.runs.marks y.runs.program w h steps i.hart phase i.here i.phase_is none
+      runs_move : IsInPhase w h Run → StepMoves
+      runs_move i =
+          let r = ready y s w h old i in
+          let o = own_by y s w h r.stands r.below i r.ready in
+          let ghosts = r.stands.before_commit.ghosts in
+          let then : SimulatesBeforeCommit y s after = simulates_after y s w h r.stands i o in
+          let marks : begins o.led ≡ marked = sym o.counted.marks in
+          let on =
+          coe 0 1 (j. GoesOnBy (now (r.similar.abstract j).config) (now o.next.config) (begun_by (marks j) h []))
+          (led_now y s r.stands.before_commit.abstract h o.next o.led) in
+          record {
+            before_commit = then;
+            counted = λ g steps releases counted.
+                own_step_counted y s w h r.stands i o steps releases (similar_counted y s w w old r.stands r.similar refl (λ n d. d) steps releases
+                releases (λ n. refl) counted)
+                (passes_none law y s w h r.stands r.below r.ready);
+            sections = λ n.
+                subst (λ (b : AbstractRun y). AreSameSections y b o.next n) r.similar.abstract
+                (led_sections y r.stands.before_commit.abstract h o.next o.led n);
+            on = record {
+              source = on.0;
+              runs = on.1;
+              tried = λ furthest. led_furthest y r.stands.before_commit.abstract h o.next o.led
+                  (subst (λ (b : AbstractRun y). AreFurthest b.config) (sym r.similar.abstract) furthest);
+              unlocked = λ n mutex is.
+                  subst (λ (k : ℕ). (then.ghosts k).giving ≡ Some mutex → IsUnlocked (now old.before_commit.abstract.config) k
+                  (passes_mark y.runs.marks y.runs.program w k) (old.before_commit.ghosts k).giving mutex) (step_of h n is)
+                  (λ gives. coe 0 1 (j. IsUnlocked (now (r.similar.abstract j).config) h (marks j) ((r.similar.same h).giving j) mutex)
+                  (o.counted.unlocked mutex (ap (λ (c : ThreadGhost). c.giving) (sym (own_ghost ghosts h o.ghost)) ∙ gives)));
+              others = λ n other.
+                  ap (λ (c : ThreadGhost). c.giving) (other_ghost ghosts h o.ghost n (λ same. other (ap Step (sym same)))) ∙ (r.similar.same n).giving;
+              stays = λ n other.
+                  ap (λ (c : ThreadGhost). c.before_mark) (other_ghost ghosts h o.ghost n
+                  (λ same. other (ap Step (sym same)) (subst (λ (k : ℕ). IsInPhase w k Run) (sym same) i))) ∙ (r.similar.same n).ahead;
+              nears = λ n is running.
+                  subst (λ (k : ℕ). Nears y w k (passes_mark y.runs.marks y.runs.program w k) (old.before_commit.ghosts k).before_mark
+                  (then.ghosts k).before_mark) (step_of h n is)
+                  (nears_by y w h o.counted.marks ((r.similar.same h).ahead) (ap (λ (c : ThreadGhost). c.before_mark) (own_ghost ghosts h o.ghost))
+                  o.counted.nears);
+            };
+          }
 
-      unmarked : (phase : Phase) → is_running phase ≡ false → IsInPhase w h phase → passes_mark y.runs.marks y.runs.program w h ≡ false
-      unmarked phase none i = none_running_begins y.runs.marks y.runs.program w h i.hart phase i.here i.phase_is none
+      idle_moves : (phase : Phase) → is_running phase ≡ false → IsInPhase w h phase → SimulatesStill y s w after old → StepMoves
+      idle_moves phase off i still =
+          still_moves still (λ steps. none_running_counted y.runs.marks y.runs.program w h steps i.hart phase i.here i.phase_is off)
+          (none_running_begins y.runs.marks y.runs.program w h i.hart phase i.here i.phase_is off) (phase_releases y.runs.program w h phase off i)
+          (not_running w h i.hart i.here phase i.phase_is off)
 
-      in_phase_with : (phase : Phase) → IsInPhase w h phase → SimulatesWith then_steps
-      in_phase_with Take i = still_with (takes_still y s w h is.stands i) (stops Take refl i) (unmarked Take refl i)
-          (phase_releases y.runs.program w h Take refl i)
-      in_phase_with Wait i = still_with (waits_still y s w h is.stands i) (stops Wait refl i) (unmarked Wait refl i)
-          (phase_releases y.runs.program w h Wait refl i)
-      in_phase_with Resume i =
-          still_with (resumes_still y s w h is.stands i) (stops Resume refl i) (unmarked Resume refl i) (phase_releases y.runs.program w h Resume refl i)
-      in_phase_with Run i = runs_with i
-      in_phase_with Done i =
-          still_with (stopped_still y s w h Done is.stands (inl refl) i) (stops Done refl i) (unmarked Done refl i)
-          (phase_releases y.runs.program w h Done refl i)
-      in_phase_with Ended i =
-          still_with (stopped_still y s w h Ended is.stands (inr refl) i) (stops Ended refl i) (unmarked Ended refl i)
-          (phase_releases y.runs.program w h Ended refl i)
+      in_phase_moves : (phase : Phase) → IsInPhase w h phase → StepMoves
+      in_phase_moves Take i = idle_moves Take refl i (takes_still y s w h old i)
+      in_phase_moves Wait i = idle_moves Wait refl i (waits_still y s w h old i)
+      in_phase_moves Resume i = idle_moves Resume refl i (resumes_still y s w h old i)
+      in_phase_moves Run i = runs_move i
+      in_phase_moves Done i = idle_moves Done refl i (stopped_still y s w h Done old (inl refl) i)
+      in_phase_moves Ended i = idle_moves Ended refl i (stopped_still y s w h Ended old (inr refl) i)
 
-      pub step_with : (o : Option Hart) → slice_get w.harts h ≡ o → SimulatesWith then_steps
-      step_with None none =
-          still_with (subst (λ (v : World). SimulatesStill y s w v is.stands) (not_there y w h none)
-          (record { stands = is.stands; abstract = refl; ghosts = λ n. refl; words = refl }))
-          (none_there_counted y.runs.marks y.runs.program w h steps none) (none_there_begins y.runs.marks y.runs.program w h none)
+      step_moves : (o : Option Hart) → slice_get w.harts h ≡ o → StepMoves
+      step_moves None none =
+          still_moves (subst (λ (v : World). SimulatesStill y s w v old) (not_there y w h none)
+          (record { stands = old; abstract = refl; ghosts = λ n. refl; words = refl }))
+          (λ steps. none_there_counted y.runs.marks y.runs.program w h steps none) (none_there_begins y.runs.marks y.runs.program w h none)
           (holders_stay_none y.runs.program w h (ap (λ (v : World). v.holders) (sym (not_there y w h none))))
-      step_with (Some hart) here = in_phase_with hart.phase (record { hart = hart; here = here; phase_is = refl })
+          (λ i. none-some i.hart (sym none ∙ i.here))
+      step_moves (Some hart) here = in_phase_moves hart.phase (record { hart = hart; here = here; phase_is = refl })
 
-      step_carried : IsCarried y s g after (steps_after y.runs.marks y.runs.program w (Step h) steps) then_released
+      step_counts : (steps : Steps) →
+          with_all_kept after.words (length (with_step y.runs.marks y.runs.program w h steps).harts) (with_step y.runs.marks y.runs.program w h steps)
+          ≡ steps_after y.runs.marks y.runs.program w (Step h) steps
       unfolding steps_after
-      step_carried =
-          let t = step_with (slice_get w.harts h) refl in
-          let count : length then_steps.harts ≡ length steps.harts =
-          count_same (passes_mark y.runs.marks y.runs.program w h) (stores_point y.runs.program w (Step h) h) h
-          (last_position (point_in after.words h)) steps in
-          subst (λ (n : ℕ). IsCarried y s g after (with_all_kept after.words n then_steps) then_released) count
-          (commits_count y s after t.before_commit then_steps then_released t.counted t.released)
+      step_counts steps =
+          ap (λ (n : ℕ). with_all_kept after.words n (with_step y.runs.marks y.runs.program w h steps))
+          (count_same marked (stores_point y.runs.program w (Step h) h) h (last_position (point_in after.words h)) steps)
 
-    event_carried : (y : System) (s : IsSystem y) {g : Beginning} (w : World) (event : Event) (steps : Steps) (r : ℕ → ℕ) → IsCarried y s g w steps r →
-        IsCarried y s g (after_event y.runs.program w event) (steps_after y.runs.marks y.runs.program w event steps) (released_by y.runs.program w event r)
+    -- ---- Whatever happens
+
+    eviction_moves : (y : System) (s : IsSystem y) (w : World) (line mask : ℕ) (old : Simulates y s w) → Moves y s w (Evict line mask) old (λ steps. steps)
+    eviction_moves y s w line mask old = record {
+      before_commit = evicted_simulates y s w line mask old;
+      counted = λ g steps r counted. evicted_counted y s w line mask old steps r counted;
+      sections = λ n. record { sections = refl; between = refl };
+      on = record {
+        source = refl;
+        runs = refl;
+        tried = λ furthest. furthest;
+        unlocked = λ n mutex is gives. cc;
+        others = λ n other. refl;
+        stays = λ n other. refl;
+        nears = λ n is i. cc;
+      };
+    }
+
+    evict_counts : (y : System) (w : World) (line mask : ℕ) (steps : Steps) →
+        with_all_kept (after_event y.runs.program w (Evict line mask)).words (length steps.harts) steps
+        ≡ steps_after y.runs.marks y.runs.program w (Evict line mask) steps
     unfolding steps_after
-    event_carried y s w (Step h) steps r is = step_carried y s w h steps r is
-    event_carried y s w (Evict line mask) steps r is =
-        commits_count y s (after_event y.runs.program w (Evict line mask)) (evicted_simulates y s w line mask is.resumed.stands) steps
-        (released_by y.runs.program w (Evict line mask) r) (evicted_counted y s w line mask is.resumed.stands steps is.resumed.counted)
-        (evicted_released y s w line mask is.resumed.stands r is.released)
-    event_carried y s w Crash steps r is =
-        record {
-          resumed = record { stands = crashing.stands_after y s w is.resumed.stands; counted = crash_counted y s w is.resumed.stands steps is.resumed.counted };
-          released = crash_released y s w is.resumed.stands r is.released;
-        }
+    evict_counts y w line mask steps = refl
+
+    pub event_goes_on : (y : System) (s : IsSystem y) (w : World) (event : Event) (old : Simulates y s w) → GoesOn y s w event old
+    event_goes_on y s w (Step h) old =
+        commits_move y s w (Step h) old (with_step y.runs.marks y.runs.program w h) (step_moves y s w h old (slice_get w.harts h) refl)
+        (step_counts y s w h old)
+    event_goes_on y s w (Evict line mask) old =
+        commits_move y s w (Evict line mask) old (λ steps. steps) (eviction_moves y s w line mask old) (evict_counts y w line mask)
+    event_goes_on y s w Crash old = record {
+      next = crashing.stands_after y s w old;
+      counted = λ g steps r counted. crash_counted y s w old steps r counted;
+      ends = λ n below.
+          same_end y old.before_commit.abstract (crashing.stands_after y s w old).before_commit.abstract n
+          (record { sections = kept_crashed y s w old n; between = refl });
+      on = λ none. absurd (none refl);
+    }
+
+    pub events_stand : EventsStand
+    events_stand y s w event old = (event_goes_on y s w event old).next
+
+    abbrev pub event_carried : (y : System) (s : IsSystem y) {g : Beginning} (w : World) (event : Event) (steps : Steps) (r : ℕ → ℕ) →
+        SimulatesCounted y s g w steps r →
+        SimulatesCounted y s g (after_event y.runs.program w event) (steps_after y.runs.marks y.runs.program w event steps)
+        (released_by y.runs.program w event r)
+    event_carried y s {g} w event steps r is =
+        let o = event_goes_on y s w event is.stands in record { stands = o.next; counted = o.counted g steps r is.counted }
 
     -- the releases after events, one by one
     all_released : (program : List (List Slot)) (w : World) (event : Event) (events : List Event) (r : ℕ → ℕ) (n : ℕ) →
@@ -293,22 +386,34 @@ module _ (ready : RunsReady) (fragments_step : FragmentsStep) (cores_step : Core
     all_released program w event events r n = omega arith
 
     events_carried : (y : System) (s : IsSystem y) {g : Beginning} (events : List Event) (w : World) (steps : Steps) (r : ℕ → ℕ) →
-        IsCarried y s g w steps r →
-        IsCarried y s g (after_events y.runs.program w events) (steps_along y.runs.marks y.runs.program w events steps)
+        SimulatesCounted y s g w steps r →
+        SimulatesCounted y s g (after_events y.runs.program w events) (steps_along y.runs.marks y.runs.program w events steps)
         (λ n. r n + released_count y.runs.program w events n)
-    events_carried y s {g} [] w steps r is = subst (IsCarried y s g w steps) (λ i n. none_more (r n) i) is
+    events_carried y s {g} [] w steps r is = subst (SimulatesCounted y s g w steps) (λ i n. none_more (r n) i) is
     events_carried y s {g} (event ∷ events) w steps r is =
-        subst (IsCarried y s g (after_events y.runs.program w (event ∷ events)) (steps_along y.runs.marks y.runs.program w (event ∷ events) steps))
+        subst (SimulatesCounted y s g (after_events y.runs.program w (event ∷ events)) (steps_along y.runs.marks y.runs.program w (event ∷ events) steps))
         (λ i n. all_released y.runs.program w event events r n i)
         (events_carried y s events (after_event y.runs.program w event) (steps_after y.runs.marks y.runs.program w event steps)
         (released_by y.runs.program w event r)
         (event_carried y s w event steps r is))
 
+    -- from a world at which nothing was released yet
+    none_first : (n : ℕ) → 0 + n ≡ n
+    none_first n = omega arith
+
+    pub all_counted : (y : System) (s : IsSystem y) {g : Beginning} (events : List Event) (w : World) (steps : Steps) →
+        SimulatesCounted y s g w steps (λ n. 0) →
+        SimulatesCounted y s g (after_events y.runs.program w events) (steps_along y.runs.marks y.runs.program w events steps)
+        (released_count y.runs.program w events)
+    all_counted y s {g} events w steps is =
+        subst (SimulatesCounted y s g (after_events y.runs.program w events) (steps_along y.runs.marks y.runs.program w events steps))
+        (λ i n. none_first (released_count y.runs.program w events n) i) (events_carried y s events w steps (λ n. 0) is)
+
     pub machines_resume : MachinesResume
-    machines_resume y s events = (events_carried y s events _ _ (λ n. 0) (start_carried y s)).resumed
+    machines_resume y s events = all_counted y s events _ _ (start_counted y s)
 
     pub recovered_are_counted : RecoveredAreCounted
-    recovered_are_counted y s o words kept is events = (events_carried y s events _ _ (λ n. 0) (recovered_carried y s o words kept is)).resumed
+    recovered_are_counted y s o words kept is events = all_counted y s events _ _ (recovered_counted y s o words kept is)
 
     -- ---- Its sections are kept
 
@@ -330,25 +435,25 @@ module _ (ready : RunsReady) (fragments_step : FragmentsStep) (cores_step : Core
     IsNear : (released kept : ℕ) → Type 0
     IsNear released kept = (released ≤ kept) × (kept ≤ released + 1)
 
-    near_of : (y : System) (w : World) (b : AbstractRun y) (n : ℕ) (c : ThreadGhost) (released : ℕ) → IsReleasedOf y w b n c (0 + released) →
+    near_of : (y : System) (w : World) (b : AbstractRun y) (n : ℕ) (c : ThreadGhost) (released : ℕ) → IsReleasedOf y w b n c released →
         IsNear released (sections_kept y b n)
     unfolding IsNear
     near_of y w b n c released (in_step e) = let one = at_most_one (is_leaving c) in (omega (arith, e, one), omega (arith, e, one))
     near_of y w b n c released (cut_off i e) = (omega (arith, e), omega (arith, e))
 
-    near_beyond : (released kept : ℕ) → kept ≡ 0 + released → IsNear released kept
+    near_beyond : (released kept : ℕ) → kept ≡ released → IsNear released kept
     unfolding IsNear
     near_beyond released kept e = (omega (arith, e), omega (arith, e))
 
     pub sections_are_kept : SectionsAreKept
     unfolding IsNear
     sections_are_kept y s events h =
-        let z = events_carried y s events _ _ (λ n. 0) (start_carried y s) in
-        let t = z.resumed.stands.before_commit in
+        let z = machines_resume y s events in
+        let t = z.stands.before_commit in
         let w : World = after_events y.runs.program (first_world y.runs) events in
         let near : IsNear (ended_in_machine y events h) (sections_kept y t.abstract h) = elim (below_or_not h (thread_count y)) [
-          | inl below ↦ near_of y w t.abstract h (t.ghosts h) (ended_in_machine y events h) (z.released.each h below)
-          | inr outside ↦ near_beyond (ended_in_machine y events h) (sections_kept y t.abstract h) (z.released.beyond h outside)
+          | inl below ↦ near_of y w t.abstract h (t.ghosts h) (ended_in_machine y events h) (z.counted.each h below).released
+          | inr outside ↦ near_beyond (ended_in_machine y events h) (sections_kept y t.abstract h) (z.counted.beyond h outside)
         ] in
         subst (IsNear (ended_in_machine y events h))
-        (ap₂ (λ (from : State) (us : List ℕ). ended_from from us h) z.resumed.counted.begins (sym z.resumed.counted.kept)) near
+        (ap₂ (λ (from : State) (us : List ℕ). ended_from from us h) z.counted.begins (sym z.counted.kept)) near

@@ -7,7 +7,7 @@ use Rattle.std.proofs.lemmas.List.{append-nil, set-get_or, get_or-set_same, get_
 use Rattle.ido_base.specs.Words.{Word, last_position}
 use Rattle.rv64_isa.specs.Machine.{World}
 use Rattle.rv64_isa.specs.Schedule as machine
-use Rattle.rv64_isa.specs.Schedule.{Bound, HartSteps, Steps, no_steps, hart_steps, durable_steps, with_kept}
+use Rattle.rv64_isa.specs.Schedule.{Bound, Steps, no_steps, hart_steps, durable_steps, with_kept}
 use Rattle.source_machine.specs.StepExchanges.{without_first, without}
 use Rattle.recovery_semantics.specs.Events.{steps_begun}
 use Rattle.log_states.specs.Logs.{point_in}

@@ -25,6 +25,7 @@ use Rattle.rv64_isa.specs.Programs.{code_base, code_start, code_of}
 use Rattle.rv64_link.specs.LinkedCode.{IsInstructionAt}
 use Rattle.operator_code.specs.ComputingCode.{Carries}
 use Rattle.boundary_code.specs.Boundaries.{Boundary}
+use Rattle.boundary_code.proofs.Public.{on_side_small, stays_on_side}
 use Rattle.code_runs.specs.ComputingRuns.{LocalConfig, config}
 use Rattle.code_runs.specs.CodeTraces.{Program, MarkedEnvironment, Meets, Trace}
 use Rattle.hart_runs.specs.HartsOnRuns.{Agrees, instr_of, instr_at}
@@ -134,9 +135,9 @@ module _ (y : System) (s : IsSystem y) (n : ℕ) (below : n < thread_count y) wh
   fetched_in address instr h =
       by (nat_le (code_start y.runs.program code.thread.number) address && (address % 4 == 0)) refl h
     where
-      slot_of : (o : Option Slot) → instr_of o ≡ Some instr → (slot : Slot) × (o ≡ Some slot)
-      slot_of None e = absurd (none-some instr e)
-      slot_of (Some slot) e = (slot, refl)
+      found_of : (o : Option Slot) → instr_of o ≡ Some instr → (found : Slot) × (o ≡ Some found)
+      found_of None e = absurd (none-some instr e)
+      found_of (Some found) e = (found, refl)
 
       by : (test : Bool) → (nat_le (code_start y.runs.program code.thread.number) address && (address % 4 == 0)) ≡ test →
           instr_of (if test then slice_get (code_of y.runs.program code.thread.number) ((address - code_start y.runs.program code.thread.number) / 4) else None)
@@ -144,9 +145,9 @@ module _ (y : System) (s : IsSystem y) (n : ℕ) (below : n < thread_count y) wh
           IsAddress address
       by false e there = absurd (none-some instr there)
       by true e there =
-          let slot = slot_of _ there in
+          let found = found_of _ there in
           let within = slice_get_within (code_of y.runs.program code.thread.number) ((address - code_start y.runs.program code.thread.number) / 4)
-          slot.0 slot.1 in
+          found.0 found.1 in
           let parts = and_parts (nat_le (code_start y.runs.program code.thread.number) address) (address % 4 == 0) e in
           let from = leb-true (code_start y.runs.program code.thread.number) address parts.0 in
           let four = eqb-true (address % 4) 0 parts.1 in
@@ -160,12 +161,12 @@ module _ (y : System) (s : IsSystem y) (n : ℕ) (below : n < thread_count y) wh
           subst (λ (a : ℕ). IsAddress a) at (in_code i (omega (arith, within, size, same)))
 
   -- where a thread is resumed after a lock: the code leads from there to the entry of the next node
-  pub after_lock_in : (w : World) (environment : MarkedEnvironment) (bank : ℕ) (seen : Seen) (x : List ℕ) (from mutex next : ℕ) → Meets c.program environment →
+  pub after_lock_in : (w : World) (environment : MarkedEnvironment) (side : ℕ) (seen : Seen) (x : List ℕ) (from mutex next : ℕ) → Meets c.program environment →
       Agrees y.runs.program w code.thread.number environment → IsLockOf y.plan code.thread from mutex next → IsNodeOf code.thread next →
-      Enters y.plan code.thread next seen bank x → IsAddress (c.after from)
-  after_lock_in w environment bank seen x from mutex next meets agrees l own enters =
+      Enters y.plan code.thread next seen side x → IsAddress (c.after from)
+  after_lock_in w environment side seen x from mutex next meets agrees l own enters =
       let calls = subst (λ (a : Action). IsCalling y.plan code.thread c a from) l.locks (code.is.code from l.is l.own l.at).calls in
-      let goes = calls.1.on (record { environment = environment; node = from; seen = seen; bank = bank; registers = x }) meets refl enters in
+      let goes = calls.1.on (record { environment = environment; node = from; seen = seen; side = side; registers = x }) meets refl enters in
       by goes.steps goes.registers goes.walks
     where
       by : (steps : ℕ) (z : List ℕ) → Trace environment steps (config x (c.after from)) [] (config z (c.entry next)) → IsAddress (c.after from)
@@ -207,7 +208,7 @@ module _ (p : Plan) (code : Code p) (plan : IsPlan p) (s : FlowState) (good : Go
       let owed = owes_at _ is.action th.thread.left th.thread.pending (record { variable = variable; kind = kind; next = next; is = stores_there }) th.does in
       (owed.0, th.match.pending ∙ owed.1)
 
-  module _ (bank : ℕ) (x : List ℕ) (enters : Enters p code.thread graph_thread.at (seen_by s graph_thread) bank x) where
+  module _ (side : ℕ) (x : List ℕ) (enters : Enters p code.thread graph_thread.at (seen_by s graph_thread) side x) where
     pending_there : (is : Node) (variable : ℕ) (kind : Kind) (next : ℕ) → NodeAt p.graph graph_thread.at is → is.action ≡ Store variable kind next →
         (store : Pending) → graph_thread.pending ≡ Some store → HasPending p store variable kind x
     pending_there is variable kind next at stores_there store owes =
@@ -270,17 +271,13 @@ module _ (p : Plan) (code : Code p) (plan : IsPlan p) (s : FlowState) (good : Go
     cut_pending is at (Unlock mutex next) e = tt
     cut_pending is at End e = tt
 
-    pub cut_enters : Enters p code.thread graph_thread.at (seen_by s graph_thread) bank cut
+    pub cut_enters : Enters p code.thread graph_thread.at (seen_by s graph_thread) side cut
     cut_enters =
-        let bank_there = enters.at_bank.exists in
-        let offset = enters.at_bank.offset in
+        let on = enters.at_side in
         record {
-          at_bank = record {
-            count = length-map x (λ (k : ℕ). k % 2 ^ 64) ∙ enters.at_bank.count;
-            zero_is = cut_same 0 (let e = enters.at_bank.zero_is in omega (arith, e)) ∙ enters.at_bank.zero_is;
-            offset = cut_same _ (omega (arith, offset, bank_there)) ∙ offset;
-            exists = bank_there;
-          };
+          at_side = stays_on_side side x cut on (length-map x (λ (k : ℕ). k % 2 ^ 64) ∙ on.count)
+              (cut_same 0 (let e = on.zero_is in omega (arith, e)) ∙ on.zero_is)
+              (cut_same _ (on_side_small side x on));
           locals = λ local k found live. cut_carries _ _ (enters.locals local k found live);
           pending = λ is at. cut_pending is at is.action refl;
           count = enters.count;
@@ -292,43 +289,43 @@ module _ (p : Plan) (code : Code p) (plan : IsPlan p) (s : FlowState) (good : Go
 -- ---- A boundary begins
 
 -- a thread stands at a node in a state, and x are registers with which it enters that; it may be resumed at the address
-pub record IsBeginning (p : Plan) (code : Code p) (s : FlowState) (bank resume : ℕ) (x : List ℕ) : Type 0 where
+pub record IsBeginning (p : Plan) (code : Code p) (s : FlowState) (side resume : ℕ) (x : List ℕ) : Type 0 where
   pub graph_thread : GraphThread
   pub there : slice_get s.graph_threads code.thread.number ≡ Some graph_thread
   pub goes_on : graph_thread.ended ≡ false
   pub own : IsNodeOf code.thread graph_thread.at
   pub resumes : locks_before p code.thread graph_thread.at ≢ [] → ResumesAt p code graph_thread.at resume
-  pub enters : Enters p code.thread graph_thread.at (seen_by s graph_thread) bank x
+  pub enters : Enters p code.thread graph_thread.at (seen_by s graph_thread) side x
   pub address : IsAddress resume
 
 -- the boundary at a node can be recovered from, and the record describes that state
-pub record BoundaryIsRecoverable (p : Plan) (code : Code p) (s : FlowState) (node bank resume : ℕ) (x : List ℕ) : Type 0 where
+pub record BoundaryIsRecoverable (p : Plan) (code : Code p) (s : FlowState) (node side resume : ℕ) (x : List ℕ) : Type 0 where
   pub recoverable : IsRecoverable (keeping p code.thread code.is.places node) resume x
-  pub describes : Describes p code s (recorded_by (keeping p code.thread code.is.places node) (1 - bank) resume x)
+  pub describes : Describes p code s (recorded_by (keeping p code.thread code.is.places node) side resume x)
 
-module _ (p : Plan) (code : Code p) (s : FlowState) (bank resume : ℕ) (x : List ℕ) (plan : IsPlan p) (orderly : IsOrderly p s) (good : Good p.flat s)
-    (k : IsBeginning p code s bank resume x) where
+module _ (p : Plan) (code : Code p) (s : FlowState) (side resume : ℕ) (x : List ℕ) (plan : IsPlan p) (orderly : IsOrderly p s) (good : Good p.flat s)
+    (k : IsBeginning p code s side resume x) where
   abbrev boundary : Boundary
   boundary = keeping p code.thread code.is.places k.graph_thread.at
 
   abbrev cut_x : List ℕ
-  cut_x = cut p code plan s good k.graph_thread k.there bank x k.enters
+  cut_x = cut p code plan s good k.graph_thread k.there side x k.enters
 
-  abbrev at_boundary : AtBoundary p code s bank resume cut_x
+  abbrev at_boundary : AtBoundary p code s side resume cut_x
   at_boundary = record {
     graph_thread = k.graph_thread;
     there = k.there;
     goes_on = k.goes_on;
     own = k.own;
     resumes = k.resumes;
-    enters = cut_enters p code plan s good k.graph_thread k.there bank x k.enters;
+    enters = cut_enters p code plan s good k.graph_thread k.there side x k.enters;
     aligned = k.address.aligned;
     somewhere = k.address.somewhere;
     below = k.address.below;
-    registers = cut_small p code plan s good k.graph_thread k.there bank x k.enters;
+    registers = cut_small p code plan s good k.graph_thread k.there side x k.enters;
   }
 
-  retold : Describes p code s (recorded_by boundary (1 - bank) resume cut_x) → Describes p code s (recorded_by boundary (1 - bank) resume x)
+  retold : Describes p code s (recorded_by boundary side resume cut_x) → Describes p code s (recorded_by boundary side resume x)
   retold (between none point) = between none point
   retold (inside some i) = inside some (record {
     graph_thread = i.graph_thread;
@@ -339,23 +336,23 @@ module _ (p : Plan) (code : Code p) (s : FlowState) (bank resume : ℕ) (x : Lis
     resumes = i.resumes;
     locks = i.locks;
     live = i.live;
-    bank = bank;
-    enters = subst (λ (v : GraphThread). Enters p code.thread v.at (seen_by s v) bank x)
+    side = side;
+    enters = subst (λ (v : GraphThread). Enters p code.thread v.at (seen_by s v) side x)
         (same_there (slice_get s.graph_threads code.thread.number) k.graph_thread i.graph_thread k.there i.there) k.enters;
   })
 
-  pub boundaries_begin : BoundaryIsRecoverable p code s k.graph_thread.at bank resume x
+  pub boundaries_begin : BoundaryIsRecoverable p code s k.graph_thread.at side resume x
   boundaries_begin =
-      let r = boundaries_recover p code s bank resume cut_x plan orderly at_boundary in
+      let r = boundaries_recover p code s side resume cut_x plan orderly at_boundary in
       record {
         recoverable = record {
           locks = r.locks;
           live = r.live;
-          registers = λ register has. kept_small p code plan s good k.graph_thread k.there bank x k.enters register
+          registers = λ register has. kept_small p code plan s good k.graph_thread k.there side x k.enters register
               ((code.is.kept k.graph_thread.at k.own register).0 has);
           aligned = r.aligned;
           somewhere = r.somewhere;
           below = r.below;
         };
-        describes = retold (commits_describe p code s bank resume cut_x plan orderly at_boundary);
+        describes = retold (commits_describe p code s side resume cut_x plan orderly at_boundary);
       }

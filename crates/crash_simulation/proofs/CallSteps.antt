@@ -1,7 +1,7 @@
 -- A step of a hart at its call: it takes a mutex or waits, gives one back, or ends.
 use Rattle.std.proofs.Common.{◌≡◌, ◌≢◌, ◌⊎◌, inl, inr, ⊎_elim, refl, ℕ, ◌<◌, List, [], ◌++◌, ap, sym, ◌∙◌, subst, arith}
-use Rattle.std.proofs.Common.{Option, Some, None, Bool, true, false, slice_set}
-use Rattle.std.specs.Prelude.{slice_get, is_none, is_some, ◌&&◌, ◌==◌}
+use Rattle.std.proofs.Common.{Option, Some, None, Bool, true, false, slice_set, suc, length, ◌+◌}
+use Rattle.std.specs.Prelude.{slice_get, is_none, is_some, ◌&&◌, ◌==◌, if◌then◌else◌, ◌-◌}
 use Rattle.std.proofs.lemmas.Bool.{true≢false, cond-true, cond-false, cases_Bool, and_parts}
 use Rattle.std.proofs.lemmas.Option.{none-some, same_Some}
 use Rattle.ido_base.specs.declared.event.Event.TheVariants.{Step}
@@ -40,17 +40,21 @@ use Rattle.crash_simulation.specs.ThreadGhosts.{ThreadGhost, InFragment, on_frag
 use Rattle.crash_simulation.specs.SimulationRelation.{AreHeld, IsGiving, Simulates}
 use Rattle.crash_simulation.specs.InstructionSteps as moving
 use Rattle.crash_simulation.specs.InstructionSteps.{stays, is_bound, is_leaving, was_unlocked, Releases, nothing_released, last_released}
-use Rattle.crash_simulation.specs.InstructionSteps.{OnFragmentNow, thread_of, CallsStep}
+use Rattle.crash_simulation.specs.InstructionSteps.{OnFragmentNow, thread_of, CallsStep, halts, is_nearer}
 use Rattle.crash_simulation.proofs.LastReleases.{holds_some, no_release, holders_stay_none, is_release, none_leaving, describes_test}
 use Rattle.crash_simulation.proofs.StatesMatchSource.{kept_matches}
 use Rattle.crash_simulation.proofs.UnchangedMemory.{phase_moves}
 use Rattle.crash_simulation.proofs.LoadFreeEnvironment.{bare, bare_answers, placed, none_ahead}
 use Rattle.crash_simulation.proofs.LocksAfterStep.{GoneOn, runs_held, locked_after, held_same, held_given}
 use Rattle.crash_simulation.proofs.LocksAtCalls.{not_held, ends_free}
+use Rattle.crash_simulation.specs.StepsToMark.{entry_ahead, beyond, most_ahead, IsSoon}
+use Rattle.crash_simulation.proofs.StepsAfterMarks.{less_soon, one_less}
 use Rattle.crash_simulation.proofs.FragmentSteps.{not_twice}
 use Rattle.crash_simulation.proofs.LockCallSteps.{none_from, Called, point_none, same, invariant, placed_here, own_giving, exists_now, now_holders}
 use Rattle.crash_simulation.proofs.LockCallSteps.{coming_on, kept_held, fragment, rest_over, whole, fits, hart_is, committed_over, call_stores, points_none}
 use Rattle.crash_simulation.proofs.LockCallSteps.{words_after, holders_after, there_after, memory_after, count_after, mutexes_after, describes_new, asks_step}
+use Rattle.hart_runs.specs.RunSteps.{cleans_in, steps_left}
+use Rattle.code_runs.specs.CodeTraces.{seen_effects}
 
 -- ---- A thread at its call
 
@@ -84,7 +88,7 @@ module _ (y : System) (s : IsSystem y) (w : World) (h : ℕ) (stands : Simulates
 
   module _ (from mutex : ℕ) (o : OnFragmentNow y s w h stands below) (zero_left : o.steps ≡ 0) (exit_is : o.exit ≡ Gives from mutex) where
     abbrev pub giving : IsOnFragment y.plan code.thread places (on_machine y.runs.program w thread (bare y s w h below))
-        (record { exit = Gives from mutex; node = t.graph_thread.at; seen = seen_by (now_of y b) t.graph_thread; bank = o.bank }) 0 []
+        (record { exit = Gives from mutex; node = t.graph_thread.at; seen = seen_by (now_of y b) t.graph_thread; side = o.side }) 0 []
     giving = fragment y s w h stands below held (Gives from mutex) o zero_left exit_is
 
     bounded : courses.IsBounded y b code c t.graph_thread (Some mutex) (HasUnlocked b.config thread mutex)
@@ -121,10 +125,10 @@ module _ (y : System) (s : IsSystem y) (w : World) (h : ℕ) (stands : Simulates
     owns = held.giving mutex thread (exists_now y s w h stands below held) gives_it
 
     given : GivesMutex y.plan code.thread places (on_machine y.runs.program w thread (bare y s w h below)) from mutex
-        (record { exit = Gives from mutex; node = t.graph_thread.at; seen = seen_by (now_of y b) t.graph_thread; bank = o.bank }) giving.on.hart
+        (record { exit = Gives from mutex; node = t.graph_thread.at; seen = seen_by (now_of y b) t.graph_thread; side = o.side }) giving.on.hart
         giving.registers
     given = unlocks_give calls_count y.plan code.thread y.runs.program code.program code.is w thread (bare y s w h below) from mutex t.graph_thread.at
-        (seen_by (now_of y b) t.graph_thread) o.bank [] (placed_here y s w h stands below held) giving owns
+        (seen_by (now_of y b) t.graph_thread) o.side [] (placed_here y s w h stands below held) giving owns
 
     abbrev left_holders : List (Option ℕ)
     left_holders = slice_set w.holders mutex None
@@ -144,8 +148,11 @@ module _ (y : System) (s : IsSystem y) (w : World) (h : ℕ) (stands : Simulates
     not_now : slice_get (now_of y b).holders mutex ≢ Some (Some thread)
     not_now = not_held y s b code t.graph_thread t.walks from mutex unlock
 
+    abbrev is_over : Bool
+    is_over = w.recovering && holds_none left_holders thread
+
     abbrev given_ghost : ThreadGhost
-    given_ghost = record c { giving = None }
+    given_ghost = record c { giving = None; before_mark = if is_over then most_ahead y thread else c.before_mark - 1 }
 
     -- where the hart is left with no lock, the thread has none in what is kept
     kept_none : holds_none left_holders thread ≡ true → holds_none (kept_of y b).holders thread ≡ true
@@ -157,25 +164,34 @@ module _ (y : System) (s : IsSystem y) (w : World) (h : ℕ) (stands : Simulates
               holds_none_is thread left_holders lock none (get-set_other w.holders mutex lock None other ∙ held.holds lock thread has)
         ])
 
-    is_settled : courses.Rests y b code given_ghost
-    is_settled = record {
+    is_settled : is_over ≡ true → courses.Rests y b code given_ghost
+    is_settled over = record {
       begun = none_begun;
       done = none_done;
       rest = rest_over y s w h stands below held (Gives from mutex) o zero_left exit_is;
       cleans = bounded.cleans;
       giving = refl;
       committed = is_committed;
+      whole = cond-true is_over (most_ahead y thread) (c.before_mark - 1) over;
     }
 
     none_left : c.cleans ++ c.rest ≡ []
     none_left = none_ahead y s w h below o.environment
-        (record { exit = Gives from mutex; node = t.graph_thread.at; seen = seen_by (now_of y b) t.graph_thread; bank = o.bank }) (c.cleans ++ c.rest)
+        (record { exit = Gives from mutex; node = t.graph_thread.at; seen = seen_by (now_of y b) t.graph_thread; side = o.side }) (c.cleans ++ c.rest)
         (whole y s w h stands below held (Gives from mutex) o zero_left exit_is)
 
-    goes_on_running : phase_after w thread left_holders ≡ Run → InFragment y after b code given_ghost given_hart t.graph_thread
-    goes_on_running run =
+    -- one step less is ahead
+    nearer : (c.before_mark ≡ suc (c.before_mark - 1)) × IsSoon y thread (c.before_mark - 1)
+        (length t.log.hart.queue + (places.words from + entry_ahead y.plan places t.graph_thread.at))
+    nearer =
+        let last : beyond y.plan places o.exit t.graph_thread.at ≡ suc (places.words from + entry_ahead y.plan places t.graph_thread.at) =
+        ap (λ (x : ExitPoint). beyond y.plan places x t.graph_thread.at) exit_is in
+        one_less y thread c.before_mark _ _ o.soon (omega (arith, last))
+
+    goes_on_running : is_over ≡ false → phase_after w thread left_holders ≡ Run → InFragment y after b code given_ghost given_hart t.graph_thread
+    goes_on_running more run =
         let on = unlocks_go_on y.plan code.thread from mutex t.graph_thread.at unlock y.runs.program code.program code.is after thread (bare y s w h below)
-        (seen_by (now_of y b) t.graph_thread) o.bank giving.registers
+        (seen_by (now_of y b) t.graph_thread) o.side giving.registers
         (placed y s after h below (count_after y s w h stands below held (Gives from mutex) o zero_left exit_is (with_holder w mutex None) given_hart
         given.does refl refl))
         giving.meets given.agrees (given.at run) given.enters in
@@ -183,11 +199,11 @@ module _ (y : System) (s : IsSystem y) (w : World) (h : ℕ) (stands : Simulates
           environment = bare y s w h below;
           answers = bare_answers y s w h below b given_ghost;
           exit = Arrives;
-          bank = o.bank;
-          at_bank = o.at_bank;
+          side = o.side;
+          at_side = o.at_side;
           steps = on.steps;
           fragment = subst (λ (es : List Effect). IsOnFragment y.plan code.thread places (on_machine y.runs.program after thread (bare y s w h below))
-              (record { exit = Arrives; node = t.graph_thread.at; seen = seen_by (now_of y b) t.graph_thread; bank = o.bank }) on.steps es)
+              (record { exit = Arrives; node = t.graph_thread.at; seen = seen_by (now_of y b) t.graph_thread; side = o.side }) on.steps es)
               (sym none_left) on.on;
           fits = (
             record {
@@ -198,10 +214,14 @@ module _ (y : System) (s : IsSystem y) (w : World) (h : ℕ) (stands : Simulates
             },
             bounded.execution,
           );
+          soon =
+              let short = on.short in
+              let queue : length given_hart.queue ≡ length t.log.hart.queue = ap (λ (q : List Entry). length q) given_queue in
+              let no_cleans : cleans_in (seen_effects (c.cleans ++ c.rest)) ≡ 0 = ap (λ (es : List Effect). cleans_in (seen_effects es)) none_left in
+              subst (λ (k : ℕ). IsSoon y thread k (steps_left on.steps (seen_effects (c.cleans ++ c.rest)) given_hart.queue
+              + entry_ahead y.plan places t.graph_thread.at)) (sym (cond-false is_over (most_ahead y thread) (c.before_mark - 1) more))
+              (less_soon y thread (c.before_mark - 1) _ _ nearer.1 (omega (arith, short, queue, no_cleans)));
         }
-
-    abbrev is_over : Bool
-    is_over = w.recovering && holds_none left_holders thread
 
     given_phase : InPhase y after b code given_ghost given_hart t.graph_thread given_hart.phase × GoneOn given_hart.phase
     given_phase = elim (cases_Bool is_over) [
@@ -209,12 +229,12 @@ module _ (y : System) (s : IsSystem y) (w : World) (h : ℕ) (stands : Simulates
           let done : Done ≡ given_hart.phase = sym (cond-true is_over Done Run over) in
           let point = point_none y code (kept_of y b) c.new (describes_new y s w h stands below held is_committed)
           (kept_none (and_parts w.recovering (holds_none left_holders thread) over).1) in (
-            subst (λ (p : Phase). InPhase y after b code given_ghost given_hart t.graph_thread p) done (is_settled, point),
+            subst (λ (p : Phase). InPhase y after b code given_ghost given_hart t.graph_thread p) done (is_settled over, point),
             subst (λ (p : Phase). GoneOn p) done tt,
           )
       | inr more ↦
           let run : given_hart.phase ≡ Run = cond-false is_over Done Run more in (
-            subst (λ (p : Phase). InPhase y after b code given_ghost given_hart t.graph_thread p) (sym run) (on_fragment (goes_on_running run)),
+            subst (λ (p : Phase). InPhase y after b code given_ghost given_hart t.graph_thread p) (sym run) (on_fragment (goes_on_running more run)),
             subst (λ (p : Phase). GoneOn p) (sym run) tt,
           )
     ]
@@ -321,6 +341,10 @@ module _ (y : System) (s : IsSystem y) (w : World) (h : ℕ) (stands : Simulates
         unlocked = λ lock gives. absurd (none-some lock gives);
         points = given.counts.0 ∙ not_twice (is_bound c);
         bound = λ e. e;
+        nears = elim (cases_Bool is_over) [
+          | inl over ↦ halts given_hart given_here (inl (cond-true is_over Done Run over))
+          | inr more ↦ is_nearer (nearer.0 ∙ ap suc (sym (cond-false is_over (most_ahead y thread) (c.before_mark - 1) more)))
+        ];
       };
       released = given_released;
     }
@@ -329,7 +353,7 @@ module _ (y : System) (s : IsSystem y) (w : World) (h : ℕ) (stands : Simulates
 
   module _ (o : OnFragmentNow y s w h stands below) (zero_left : o.steps ≡ 0) (exit_is : o.exit ≡ Ends) where
     abbrev pub ending : IsOnFragment y.plan code.thread places (on_machine y.runs.program w thread (bare y s w h below))
-        (record { exit = Ends; node = t.graph_thread.at; seen = seen_by (now_of y b) t.graph_thread; bank = o.bank }) 0 []
+        (record { exit = Ends; node = t.graph_thread.at; seen = seen_by (now_of y b) t.graph_thread; side = o.side }) 0 []
     ending = fragment y s w h stands below held Ends o zero_left exit_is
 
     ends_clean : courses.GoesClean y b code c true t.graph_thread
@@ -360,7 +384,7 @@ module _ (y : System) (s : IsSystem y) (w : World) (h : ℕ) (stands : Simulates
     ended : (happens y.runs.program w (Step thread) ≡ moved w thread (record (gone_on ending.on.hart) { phase = Ended })) ×
         ((marks : List (List ℕ)) → runs.AreMarksOf marks thread (bare y s w h below) → passes_mark marks y.runs.program w thread ≡ false)
     ended = ends_end calls_count y.plan code.thread y.runs.program code.program code.is w thread (bare y s w h below) t.graph_thread.at
-        (seen_by (now_of y b) t.graph_thread) o.bank [] ending (none_from thread 0 w.holders none_here)
+        (seen_by (now_of y b) t.graph_thread) o.side [] ending (none_from thread 0 w.holders none_here)
 
     abbrev ended_hart : Hart
     ended_hart = record (gone_on ending.on.hart) { phase = Ended }
@@ -394,6 +418,7 @@ module _ (y : System) (s : IsSystem y) (w : World) (h : ℕ) (stands : Simulates
         unlocked = λ lock gives. was_unlocked refl gives;
         points = points_none y s w h stands below held Ends o zero_left exit_is ends at_end ∙ not_twice (is_bound c);
         bound = λ e. e;
+        nears = halts ended_hart ended_here (inr refl);
       };
       released =
           nothing_released (holders_stay_none y.runs.program w thread

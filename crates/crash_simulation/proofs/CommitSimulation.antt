@@ -38,8 +38,8 @@ use Rattle.crash_simulation.specs.AbstractRuns.{AbstractRun, kept_of, now_of}
 use Rattle.crash_simulation.specs.ThreadGhosts.{ThreadGhost, ExitInv, on_fragment, at_core, IsRunningThread, Rests, InPhase, ThreadInv, committed}
 use Rattle.crash_simulation.specs.SimulationRelation.{AreHeld, AreLocked, gathering, gathered, SimulatesBeforeCommit, Simulates}
 use Rattle.crash_simulation.specs.InstructionSteps.{is_bound}
-use Rattle.crash_simulation.specs.AccountRelation.{IsCountedOf, AreCounted, Beginning, first_beginning}
-use Rattle.crash_simulation.specs.ReleasedSections.{one_if, sections_kept, IsReleasedOf, in_step, cut_off, AreReleased, IsCarried}
+use Rattle.crash_simulation.specs.AccountRelation.{IsCountedOf, IsAccountedOf, AreCounted, Beginning}
+use Rattle.crash_simulation.specs.ReleasedSections.{one_if, sections_kept, IsReleasedOf, in_step, cut_off}
 use Rattle.crash_simulation.specs.Laws.{CommitStutters}
 use Rattle.crash_simulation.proofs.AccountsAtCommit.{not_kept, kept_is, pending_is, count_same, own_is, other_is}
 use Rattle.crash_simulation.proofs.StatesMatchSource.{resumed}
@@ -47,8 +47,10 @@ use Rattle.crash_simulation.proofs.ThreadCommits.{is_emptied, invariant, kept_by
 use Rattle.crash_simulation.proofs.ThreadCommits.{now_same, source_same, own_begun, own_done, own_describes}
 use Rattle.crash_simulation.proofs.ThreadCommits.{begun_same, unlock_kept}
 use Rattle.crash_simulation.proofs.LongestAttempts.{AreFurthest, settled_furthest}
+use Rattle.crash_simulation.proofs.LocksAfterStep.{held_alike}
 use Rattle.crash_simulation.proofs.LastReleases.{uncommitted_leaving}
 use Rattle.crash_simulation.proofs.Sections.{leaves, kept_more, kept_others}
+use Rattle.crash_simulation.proofs.EndedSections.{AreSameSections, EndAsLeft, same_end, both_same, end_then_same, same_then_end, own_end, others_same}
 use Rattle.crash_simulation.proofs.ThreadsAtCommit.{taken, own_stands, other_stands}
 
 -- ---- What a thread has done before a boundary that is committed
@@ -166,7 +168,7 @@ module _ (y : System) (s : IsSystem y) (w : World) (before_commit : SimulatesBef
 abbrev seen : World → ThreadGhost → LogConfig
 seen w c = record { words = w.words; queue = []; rest = c.rest }
 
-module _ (y : System) (s : IsSystem y) (w : World) (g : Beginning) where
+module _ (y : System) (s : IsSystem y) (w : World) where
   abbrev HasCommitted : SimulatesBeforeCommit y s w → (thread : ℕ) → Type 0
   HasCommitted before_commit n = is_committed n (seen w (before_commit.ghosts n)) ≡ (before_commit.ghosts n).committed
 
@@ -194,9 +196,13 @@ module _ (y : System) (s : IsSystem y) (w : World) (g : Beginning) where
     source : now after.abstract.config ≡ now before_commit.abstract.config
     tried : AreFurthest before_commit.abstract.config → AreFurthest after.abstract.config
     giving : (n : ℕ) → (after.ghosts n).giving ≡ (before_commit.ghosts n).giving
+    ahead : (n : ℕ) → (after.ghosts n).before_mark ≡ (before_commit.ghosts n).before_mark
     -- as the machine's account has it
-    counted : (steps : Steps) → AreCounted y s g w before_commit steps → AreCounted y s g w after (with_kept w.words thread steps)
-    released : (r : ℕ → ℕ) → AreReleased y s w before_commit r → AreReleased y s w after r
+    counted : (g : Beginning) (steps : Steps) (r : ℕ → ℕ) → AreCounted y s g w before_commit steps r →
+        AreCounted y s g w after (with_kept w.words thread steps) r
+    -- the thread's sections that are kept then, and those of others
+    ends : EndAsLeft y before_commit.abstract after.abstract thread
+    same_others : (n : ℕ) → n ≢ thread → AreSameSections y before_commit.abstract after.abstract n
 
   module _ (before_commit : SimulatesBeforeCommit y s w) (k : ℕ) where
     abbrev b : AbstractRun y
@@ -296,20 +302,11 @@ module _ (y : System) (s : IsSystem y) (w : World) (g : Beginning) where
         | inr apart ↦ one.others n below apart (if n == k then true else (before_commit.ghosts n).committed) (other_taken n apart)
       ]
 
-      held_on : (states : FlowState) → AreHeld w before_commit.ghosts states → AreHeld w ghosts states
-      held_on states held = record {
-        held = λ lock thread there. elim (held.held lock thread there) [
-          | inl has ↦ inl has
-          | inr gives ↦ inr (record { exists = gives.exists; free = gives.free; gives = gives.gives })
-        ];
-        holds = held.holds;
-        giving = held.giving;
-      }
-
       locked : AreLocked y w b before_commit.ghosts → AreLocked y w one.next ghosts
       locked (gathering none gathers) = gathering (one.pending ∙ ap (λ (us : List ℕ). without (steps_of k us) k us) none) gathers
       locked (gathered gathers held) =
-          gathered gathers (subst (λ (z : FlowState). AreHeld w ghosts z) (sym one.states) (held_on (now_of y b) held))
+          gathered gathers (subst (λ (z : FlowState). AreHeld w ghosts z) (sym one.states)
+          (held_alike w w before_commit.ghosts ghosts (now_of y b) refl (λ n. refl) held))
 
       after : SimulatesBeforeCommit y s w
       after = record {
@@ -326,10 +323,11 @@ module _ (y : System) (s : IsSystem y) (w : World) (g : Beginning) where
 
       -- ---- The account
 
-      module _ (below : k < thread_count y) (steps : Steps) (counted : AreCounted y s g w before_commit steps) (bound : is_bound c ≡ true)
+      module _ (below : k < thread_count y) (not_yet : c.committed ≡ false) (g : Beginning) (steps : Steps) (r : ℕ → ℕ)
+          (counted : AreCounted y s g w before_commit steps r) (bound : is_bound c ≡ true)
           (reached : nat_le (last_position (point_in w.words k)) (point_in w.words k).durable ≡ true) where
         abbrev mine_counted : IsCountedOf y w b k c (hart_steps steps k)
-        mine_counted = counted.each k below
+        mine_counted = (counted.each k below).counted
 
         own_counted : IsCountedOf y w one.next k (ghosts k) (hart_steps (with_kept w.words k steps) k)
         own_counted =
@@ -341,7 +339,7 @@ module _ (y : System) (s : IsSystem y) (w : World) (g : Beginning) where
 
         other_counted : (n : ℕ) → n < thread_count y → n ≢ k → IsCountedOf y w one.next n (ghosts n) (hart_steps (with_kept w.words k steps) n)
         other_counted n inside apart =
-            let old = counted.each n inside in
+            let old = (counted.each n inside).counted in
             let same : is_bound (ghosts n) ≡ is_bound (before_commit.ghosts n) =
             ap (λ (z : Bool). not z && not (list_any is_store (before_commit.ghosts n).rest)) (other_taken n apart) in
             let begun : steps_begun one.next.config n ≡ steps_begun b.config n = one.others_begun n apart in
@@ -354,26 +352,8 @@ module _ (y : System) (s : IsSystem y) (w : World) (g : Beginning) where
                   );
             })
 
-        counted_after : AreCounted y s g w after (with_kept w.words k steps)
-        unfolding after
-        counted_after = record {
-          begins = ap (λ (o : Origin (flat_of y)). o.source) one.origin ∙ counted.begins;
-          kept = kept_is y w b k c steps mine_counted bound reached
-              ∙ (ap (λ (us : List ℕ). us ++ replicate (steps_begun b.config k) k) counted.kept
-              ∙ (append_assoc g.kept b.schedule (replicate (steps_begun b.config k) k) ∙ ap (λ (us : List ℕ). g.kept ++ us) (sym one.schedule)));
-          pending = pending_is y w b k c steps mine_counted bound reached
-              ∙ (ap (without (steps_begun b.config k) k) counted.pending ∙ sym one.pending);
-          count = count_same y w b k c steps mine_counted bound reached ∙ counted.count;
-          each = λ n inside. elim (same_or_other n k) [
-            | inl same ↦
-                subst (λ (j : ℕ). IsCountedOf y w one.next j (ghosts j) (hart_steps (with_kept w.words k steps) j)) (sym same) own_counted
-            | inr apart ↦ other_counted n inside apart
-          ];
-        }
+        -- ---- Its releases
 
-      -- ---- Its releases
-
-      module _ (below : k < thread_count y) (not_yet : c.committed ≡ false) (r : ℕ → ℕ) (released : AreReleased y s w before_commit r) where
         kept_own : sections_kept y one.next k ≡ sections_kept y b k + one_if (is_some c.giving && (c.new.point == 0))
         kept_own =
             let code = s.codes.each k below in
@@ -396,18 +376,26 @@ module _ (y : System) (s : IsSystem y) (w : World) (g : Beginning) where
             + one_if (z && (is_some (before_commit.ghosts n).giving && ((before_commit.ghosts n).new.point == 0)))) (sym (other_taken n apart))))
         other_released_by n apart (cut_off i e) = cut_off i (kept_others y s b one.next k one.origin one.schedule n apart ∙ e)
 
-        own_released : IsReleasedOf y w one.next k (ghosts k) (r k)
-        own_released = own_released_by (released.each k below)
+        -- ---- Both
 
-        released_after : AreReleased y s w after r
+        counted_after : AreCounted y s g w after (with_kept w.words k steps) r
         unfolding after
-        released_after = record {
+        counted_after = record {
+          begins = ap (λ (o : Origin (flat_of y)). o.source) one.origin ∙ counted.begins;
+          kept = kept_is y w b k c steps mine_counted bound reached
+              ∙ (ap (λ (us : List ℕ). us ++ replicate (steps_begun b.config k) k) counted.kept
+              ∙ (append_assoc g.kept b.schedule (replicate (steps_begun b.config k) k) ∙ ap (λ (us : List ℕ). g.kept ++ us) (sym one.schedule)));
+          pending = pending_is y w b k c steps mine_counted bound reached
+              ∙ (ap (without (steps_begun b.config k) k) counted.pending ∙ sym one.pending);
+          count = count_same y w b k c steps mine_counted bound reached ∙ counted.count;
           each = λ n inside. elim (same_or_other n k) [
-            | inl same ↦ subst (λ (j : ℕ). IsReleasedOf y w one.next j (ghosts j) (r j)) (sym same) own_released
-            | inr apart ↦ other_released_by n apart (released.each n inside)
+            | inl same ↦
+                subst (λ (j : ℕ). IsAccountedOf y w one.next j (ghosts j) (hart_steps (with_kept w.words k steps) j) (r j)) (sym same)
+                (record { counted = own_counted; released = own_released_by (counted.each k below).released })
+            | inr apart ↦ record { counted = other_counted n inside apart; released = other_released_by n apart (counted.each n inside).released }
           ];
           beyond = λ n outside.
-              kept_others y s b one.next k one.origin one.schedule n (λ e. omega (arith, outside, below, e)) ∙ released.beyond n outside;
+              kept_others y s b one.next k one.origin one.schedule n (λ e. omega (arith, outside, below, e)) ∙ counted.beyond n outside;
         }
 
       catches : k < thread_count y → c.committed ≡ false → is_committed k (seen w c) ≡ true → is_bound c ≡ true →
@@ -420,8 +408,10 @@ module _ (y : System) (s : IsSystem y) (w : World) (g : Beginning) where
         source = one.source;
         tried = one.tried;
         giving = λ n. refl;
-        counted = λ steps counted. counted_after below steps counted bound reached;
-        released = λ r released. released_after below not_yet r released;
+        ahead = λ n. refl;
+        counted = λ g steps r counted. counted_after below not_yet g steps r counted bound reached;
+        ends = own_end y s b one.next k one.origin one.schedule;
+        same_others = others_same y s b one.next k one.origin one.schedule;
       }
 
     -- ---- Whether it is committed
@@ -438,9 +428,11 @@ module _ (y : System) (s : IsSystem y) (w : World) (g : Beginning) where
       source = refl;
       tried = λ furthest. furthest;
       giving = λ n. refl;
-      counted = λ steps counted.
-          subst (AreCounted y s g w before_commit) (sym (not_kept y w b k c steps (counted.each k below) bound)) counted;
-      released = λ r released. released;
+      ahead = λ n. refl;
+      counted = λ g steps r counted.
+          subst (λ (z : Steps). AreCounted y s g w before_commit z r) (sym (not_kept y w b k c steps (counted.each k below).counted bound)) counted;
+      ends = same_end y b b k (record { sections = refl; between = refl });
+      same_others = λ n apart. record { sections = refl; between = refl };
     }
 
     no_sooner : k < thread_count y → c.committed ≡ true → is_committed k (seen w c) ≡ true
@@ -480,8 +472,20 @@ module _ (y : System) (s : IsSystem y) (w : World) (g : Beginning) where
       source : now before_commit.abstract.config ≡ now first.abstract.config
       tried : AreFurthest first.abstract.config → AreFurthest before_commit.abstract.config
       giving : (n : ℕ) → (before_commit.ghosts n).giving ≡ (first.ghosts n).giving
-      counted : (steps : Steps) → AreCounted y s g w first steps → AreCounted y s g w before_commit (with_all_kept w.words count steps)
-      released : (r : ℕ → ℕ) → AreReleased y s w first r → AreReleased y s w before_commit r
+      ahead : (n : ℕ) → (before_commit.ghosts n).before_mark ≡ (first.ghosts n).before_mark
+      counted : (g : Beginning) (steps : Steps) (r : ℕ → ℕ) → AreCounted y s g w first steps r →
+          AreCounted y s g w before_commit (with_all_kept w.words count steps) r
+      -- sections that are kept since
+      ends : (n : ℕ) → n < count → EndAsLeft y first.abstract before_commit.abstract n
+      same_later : (n : ℕ) → count ≤ n → AreSameSections y first.abstract before_commit.abstract n
+
+    ends_by : (k n : ℕ) → n < suc k → (h : HaveCommittedAll k) (one : CatchesUp h.before_commit k) → (n ≡ k) ⊎ (n ≢ k) →
+        EndAsLeft y first.abstract one.after.abstract n
+    ends_by k n below h one (inl same) =
+        subst (EndAsLeft y first.abstract one.after.abstract) (sym same)
+        (same_then_end y first.abstract h.before_commit.abstract k one.after.abstract (h.same_later k (omega arith)) one.ends)
+    ends_by k n below h one (inr apart) =
+        end_then_same y first.abstract h.before_commit.abstract n one.after.abstract (h.ends n (omega (arith, below, apart))) (one.same_others n apart)
 
     caught_by : (k n : ℕ) → n < suc k → (h : HaveCommittedAll k) (one : CatchesUp h.before_commit k) → (n ≡ k) ⊎ (n ≢ k) → HasCommitted one.after n
     caught_by k n below h one (inl same) = subst (HasCommitted one.after) (sym same) one.own
@@ -494,8 +498,10 @@ module _ (y : System) (s : IsSystem y) (w : World) (g : Beginning) where
       source = refl;
       tried = λ furthest. furthest;
       giving = λ n. refl;
-      counted = λ steps counted. counted;
-      released = λ r released. released;
+      ahead = λ n. refl;
+      counted = λ g steps r counted. counted;
+      ends = λ n below. absurd (omega (arith, below));
+      same_later = λ n later. record { sections = refl; between = refl };
     }
     all_catch_up (suc k) within =
         let h = all_catch_up k (omega (arith, within)) in
@@ -506,70 +512,42 @@ module _ (y : System) (s : IsSystem y) (w : World) (g : Beginning) where
           source = one.source ∙ h.source;
           tried = λ furthest. one.tried (h.tried furthest);
           giving = λ n. one.giving n ∙ h.giving n;
-          counted = λ steps counted. one.counted (with_all_kept w.words k steps) (h.counted steps counted);
-          released = λ r released. one.released r (h.released r released);
+          ahead = λ n. one.ahead n ∙ h.ahead n;
+          counted = λ g steps r counted. one.counted g (with_all_kept w.words k steps) r (h.counted g steps r counted);
+          ends = λ n below. ends_by k n below h one (same_or_other n k);
+          same_later = λ n later.
+              both_same y first.abstract h.before_commit.abstract n one.after.abstract (h.same_later n (omega (arith, later)))
+              (one.same_others n (λ e. omega (arith, later, e)));
         }
 
-    all_have : HaveCommittedAll (thread_count y)
-    all_have = all_catch_up (thread_count y) (omega arith)
+-- all that is committed is taken so: the state now is the same, what each thread has still to give back, and how near its hart is to its next mark; where
+-- each attempt has come as far as any before, so it has then; and the machine has kept the steps that are bound to durable points
+pub record CatchesUpAll (y : System) (s : IsSystem y) (w : World) (first : SimulatesBeforeCommit y s w) : Type 0 where
+  pub stands : Simulates y s w
+  pub source : now stands.before_commit.abstract.config ≡ now first.abstract.config
+  pub tried : AreFurthest first.abstract.config → AreFurthest stands.before_commit.abstract.config
+  pub giving : (n : ℕ) → (stands.before_commit.ghosts n).giving ≡ (first.ghosts n).giving
+  pub ahead : (n : ℕ) → (stands.before_commit.ghosts n).before_mark ≡ (first.ghosts n).before_mark
+  pub counted : (g : Beginning) (steps : Steps) (r : ℕ → ℕ) → AreCounted y s g w first steps r →
+      AreCounted y s g w stands.before_commit (with_all_kept w.words (length steps.harts) steps) r
+  pub ends : (n : ℕ) → n < thread_count y → EndAsLeft y first.abstract stands.before_commit.abstract n
 
-    stands : Simulates y s w
-    stands =
-        let h = all_have in
-        record {
-          before_commit = h.before_commit;
-          caught_up = λ n below. ap (λ (k : ℕ). is_committed k (seen w (h.before_commit.ghosts n))) (s.codes.number n below) ∙ h.caught n below;
-        }
-
-    -- the state now is the same, and where each attempt has come as far as any before, so it has then
-    stands_now : now stands.before_commit.abstract.config ≡ now first.abstract.config
-    unfolding stands
-    stands_now = all_have.source
-
-    stands_furthest : AreFurthest first.abstract.config → AreFurthest stands.before_commit.abstract.config
-    unfolding stands
-    stands_furthest = all_have.tried
-
-    stands_giving : (n : ℕ) → (stands.before_commit.ghosts n).giving ≡ (first.ghosts n).giving
-    unfolding stands
-    stands_giving = all_have.giving
-
-    -- the machine has kept the steps that are bound to durable points
-    resumed_by : (steps : Steps) (r : ℕ → ℕ) → AreCounted y s g w first steps → AreReleased y s w first r →
-        IsCarried y s g w (with_all_kept w.words (length steps.harts) steps) r
-    unfolding stands
-    resumed_by steps r counted released = record {
-      resumed = record {
-        stands = stands;
-        counted =
-            subst (λ (n : ℕ). AreCounted y s g w all_have.before_commit (with_all_kept w.words n steps)) (sym counted.count) (all_have.counted steps counted);
+pub all_caught_up : (y : System) (s : IsSystem y) (w : World) (first : SimulatesBeforeCommit y s w) → CatchesUpAll y s w first
+all_caught_up y s w first =
+    let h = all_catch_up y s w first (thread_count y) (omega arith) in
+    record {
+      stands = record {
+        before_commit = h.before_commit;
+        caught_up = λ n below. ap (λ (k : ℕ). is_committed k (seen w (h.before_commit.ghosts n))) (s.codes.number n below) ∙ h.caught n below;
       };
-      released = all_have.released r released;
+      source = h.source;
+      tried = h.tried;
+      giving = h.giving;
+      ahead = h.ahead;
+      counted = λ g steps r counted.
+          subst (λ (n : ℕ). AreCounted y s g w h.before_commit (with_all_kept w.words n steps) r) (sym counted.count) (h.counted g steps r counted);
+      ends = h.ends;
     }
 
 pub commit_stutters : CommitStutters
-commit_stutters y s w before_commit = stands y s w (first_beginning y) before_commit
-
-pub commits_count : (y : System) (s : IsSystem y) {g : Beginning} (w : World) (before_commit : SimulatesBeforeCommit y s w) (steps : Steps) (r : ℕ → ℕ) →
-    AreCounted y s g w before_commit steps →
-    AreReleased y s w before_commit r → IsCarried y s g w (with_all_kept w.words (length steps.harts) steps) r
-commits_count y s {g} w before_commit steps r counted released = resumed_by y s w g before_commit steps r counted released
-
--- the state now is the same then, and what each thread has still to give back; and where each attempt has come as far as any before, so it has
-pub record CatchesUpNow (y : System) (s : IsSystem y) (g : Beginning) (w : World) (before_commit : SimulatesBeforeCommit y s w) (steps : Steps) (r : ℕ → ℕ) :
-    Type 0 where
-  pub carried : IsCarried y s g w (with_all_kept w.words (length steps.harts) steps) r
-  pub source : now carried.resumed.stands.before_commit.abstract.config ≡ now before_commit.abstract.config
-  pub tried : AreFurthest before_commit.abstract.config → AreFurthest carried.resumed.stands.before_commit.abstract.config
-  pub giving : (n : ℕ) → (carried.resumed.stands.before_commit.ghosts n).giving ≡ (before_commit.ghosts n).giving
-
-pub commits_go_on : (y : System) (s : IsSystem y) {g : Beginning} (w : World) (before_commit : SimulatesBeforeCommit y s w) (steps : Steps) (r : ℕ → ℕ) →
-    AreCounted y s g w before_commit steps →
-    AreReleased y s w before_commit r → CatchesUpNow y s g w before_commit steps r
-unfolding resumed_by
-commits_go_on y s {g} w before_commit steps r counted released = record {
-  carried = resumed_by y s w g before_commit steps r counted released;
-  source = stands_now y s w g before_commit;
-  tried = stands_furthest y s w g before_commit;
-  giving = stands_giving y s w g before_commit;
-}
+commit_stutters y s w before_commit = (all_caught_up y s w before_commit).stands

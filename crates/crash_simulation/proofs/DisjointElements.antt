@@ -1,5 +1,5 @@
--- Elements of different variables have no byte in common, and no element has one with a log.
-use Rattle.std.proofs.Common.{◌≡◌, ◌≢◌, ◌⊎◌, inl, inr, ℕ, ◌+◌, ◌-◌, ◌/◌, ◌<◌, ◌≤◌, List, map, sym, arith, Some, ⊎_elim}
+-- Different elements have no byte in common, and no element has one with a log.
+use Rattle.std.proofs.Common.{◌≡◌, ◌⊎◌, inl, inr, ℕ, ◌+◌, ◌-◌, ◌/◌, ◌<◌, ◌≤◌, List, map, sym, arith, Some, ⊎_elim}
 use Rattle.std.specs.Prelude.{slice_get, nat_lt}
 use Rattle.std.proofs.lemmas.Bool.{cond_both, ltb-false}
 use Rattle.ido_base.specs.declared.limits.TheConstants.{MOST_VARIABLE_BYTES, VARIABLE_WORDS}
@@ -25,7 +25,7 @@ module _ (vs : List Variable) (room : HaveRoom (map shape_of vs)) where
   element_below v e is there within = omega (arith, element_ends v e is there within, some_bytes is.kind)
 
   pub elements_apart : (v e i j : ℕ) (is other : Variable) → slice_get vs v ≡ Some is → e < elements_in is.length → slice_get vs i ≡ Some other →
-      j < elements_in other.length → i ≢ v →
+      j < elements_in other.length → (i ≡ v → j ≡ e → ⊥) →
       (variable_at (map shape_of vs) v e + bytes_of is.kind ≤ variable_at (map shape_of vs) i j) ⊎
       (variable_at (map shape_of vs) i j + bytes_of other.kind ≤ variable_at (map shape_of vs) v e)
   elements_apart v e i j is other there within there_too within_too differs =
@@ -38,7 +38,7 @@ module _ (vs : List Variable) (room : HaveRoom (map shape_of vs)) where
       ⊎_elim
       (λ l. inr (omega (arith, l, first, second, from, to)))
       (λ l. inl (omega (arith, l, first, second, from, to)))
-      ((variables_apart vs VARIABLE_WORDS room (omega arith)).apart v e i j is.kind other.kind _ _ one.at two.at (λ same equal. differs (sym same)))
+      ((variables_apart vs VARIABLE_WORDS room (omega arith)).apart v e i j is.kind other.kind _ _ one.at two.at (λ same equal. differs (sym same) (sym equal)))
 
 -- a byte of a log stands after the variables
 pub log_after : (address thread i : ℕ) → byte_number address / 8 ≡ log_word thread i → variables_end ≤ address

@@ -47,7 +47,7 @@ width_of (Cleans address) = 0
 width_of Fences = 0
 width_of Calls = 0
 
--- the effect of a slot's instruction
+-- the effect of an instruction that was fetched
 abbrev effect_in : Hart → Option Slot → Option Effect
 effect_in hart o = elim o [
   | Some (Row instr) ↦ Some (row instr hart.registers hart.pc)
@@ -92,7 +92,7 @@ module _ (y : System) (s : IsSystem y) (w : World) (h : ℕ) (b : AbstractRun y)
 
   -- ---- What others read
 
-  -- an access of an element of a variable that the hart doesn't guard
+  -- an access of an element that the hart doesn't guard
   pub record IsUnguarded (address bytes : ℕ) : Type 0 where
     pub variable : ℕ
     pub element : ℕ
@@ -101,7 +101,7 @@ module _ (y : System) (s : IsSystem y) (w : World) (h : ℕ) (b : AbstractRun y)
     pub within : element < elements_in is.length
     pub address_is : address ≡ variable_at (shapes_of y) variable element
     pub bytes_are : bytes ≡ bytes_of is.kind
-    pub apart : (v : ℕ) → Guards (flat_of y) (now b.config) h v → v ≢ variable
+    pub apart : (v e : ℕ) → Guards (flat_of y) (now b.config) h v e → v ≡ variable → e ≡ element → ⊥
 
   -- a store of a width that there is, beside all that the environment answers
   record IsAbstractAll (z : MarkedEnvironment) (address bytes : ℕ) : Type 0 where
@@ -143,7 +143,7 @@ module _ (y : System) (s : IsSystem y) (w : World) (h : ℕ) (b : AbstractRun y)
                 (λ l. inl (omega (arith, l, place, at_is, count_is)))
                 (λ l. inr (omega (arith, l, place, size, at_is)))
                 (elements_apart (flat_of y).variables room g.variable g.element variable number g.is is g.there g.within there within
-                (g.apart variable guards));
+                (g.apart variable number guards));
           }
 
     module _ (sound : IsWellFormedWorld w) (agrees : Agrees y.runs.program w n z) where
@@ -173,7 +173,7 @@ module _ (y : System) (s : IsSystem y) (w : World) (h : ℕ) (b : AbstractRun y)
       pub agrees_beside : (hart : Hart) → slice_get w.harts h ≡ Some hart → Agrees y.runs.program after n z
       agrees_beside hart here = let does = steps_work y.runs.program w h hart here in worked_on hart does.after.queue here does.work
 
-  -- two threads guard no variable both, and so memory goes on to agree with what another thread reads
+  -- two threads guard no element both, and so memory goes on to agree with what another thread reads
   pub agrees_after : (code : Code y.plan) (c : ThreadGhost) → h ≢ code.thread.number → (z : MarkedEnvironment) → AnswersGuarded y b code c z →
       IsWellFormedWorld w → Agrees y.runs.program w code.thread.number z → (hart : Hart) → slice_get w.harts h ≡ Some hart →
       Agrees y.runs.program after code.thread.number z
@@ -187,7 +187,8 @@ module _ (y : System) (s : IsSystem y) (w : World) (h : ℕ) (b : AbstractRun y)
         within = g.within;
         address_is = g.address_is;
         bytes_are = g.bytes_are;
-        apart = λ v own same.
-            let mine : Guards (flat_of y) (now b.config) h g.variable = subst (λ (x : ℕ). Guards (flat_of y) (now b.config) h x) same own in
+        apart = λ v e own same equal.
+            let mine : Guards (flat_of y) (now b.config) h g.variable g.element = subst (λ (x : ℕ). Guards (flat_of y) (now b.config) h x g.element) same
+            (subst (λ (k : ℕ). Guards (flat_of y) (now b.config) h v k) equal own) in
             other (same_Some h code.thread.number (same_Some (Some h) (Some code.thread.number) (sym mine ∙ g.guards)));
       })

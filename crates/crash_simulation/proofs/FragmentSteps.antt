@@ -10,7 +10,7 @@ use Rattle.ido_base.specs.declared.event.Reply.{Reply}
 use Rattle.ido_base.specs.Words.{Word, Entry, word_at, last_position, stored, drained}
 use Rattle.ido_base.specs.Layout.{byte_number, variable_at, log_of, log_lines, logs_base, variables_base}
 use Rattle.ido_base.specs.Growth as growth
-use Rattle.ido_base.specs.Growth.{PersistsThrough, AreEntries, IsEntry}
+use Rattle.ido_base.specs.Growth.{PersistsThrough, AreEntries}
 use Rattle.ido_base.proofs.Public.{are_persisted_refl, write_backs_raise}
 use Rattle.rv64_isa.specs.declared.phase.Phase.{Phase}
 use Rattle.rv64_isa.specs.declared.phase.Phase.TheVariants.{Run}
@@ -22,7 +22,9 @@ use Rattle.flow_graph.specs.Actions.{GraphThread, seen_by}
 use Rattle.code_runs.specs.ComputingRuns.{config}
 use Rattle.code_runs.specs.CodeTraces.{Program, seen_effects}
 use Rattle.hart_runs.specs.RunSteps as steps
-use Rattle.hart_runs.specs.RunSteps.{Contents, Changes, GoesForward, Drains, is_clean}
+use Rattle.hart_runs.specs.RunSteps.{Contents, Changes, is_clean, steps_left}
+use Rattle.crash_simulation.specs.StepsToMark.{beyond, IsSoon}
+use Rattle.crash_simulation.proofs.StepsAfterMarks.{one_less}
 use Rattle.hart_runs.specs.HartsOnRuns.{OnRun}
 use Rattle.hart_runs.proofs.Public.{forward_reaches, drains_reach, cleans_reach_now, fences_settle}
 use Rattle.thread_runs.specs.CodeFragments.{ExitPoint, Arrives, Keeps, Asks, Took, Gives, Ends, Stage}
@@ -51,10 +53,10 @@ use Rattle.recovered_threads.proofs.Public.{same_there}
 use Rattle.crash_simulation.specs.Systems.{System, IsSystem, IsOwnCode, flat_of, shapes_of, places_of}
 use Rattle.crash_simulation.specs.AbstractRuns.{AbstractRun, kept_of, now_of, attempts_of}
 use Rattle.crash_simulation.specs.ThreadGhosts as courses
-use Rattle.crash_simulation.specs.ThreadGhosts.{ThreadGhost, IsGuarded, AnswersGuarded, ExitInv, InFragment, IsRunningThread}
+use Rattle.crash_simulation.specs.ThreadGhosts.{ThreadGhost, IsGuarded, ExitInv, InFragment}
 use Rattle.crash_simulation.specs.ThreadGhosts.{on_fragment, InPhase, IsComing, is_reached, is_ahead, IsFlushed, ThreadInv}
 use Rattle.crash_simulation.specs.InstructionSteps.{StepsOrStutters, goes, abstract_next, MayStore, nothing, in_log, begins, is_bound, is_leaving}
-use Rattle.crash_simulation.specs.InstructionSteps.{IsCounted, was_unlocked, nothing_released, thread_of, FragmentsStep}
+use Rattle.crash_simulation.specs.InstructionSteps.{is_nearer, IsCounted, was_unlocked, nothing_released, thread_of, FragmentsStep}
 use Rattle.crash_simulation.proofs.LastReleases.{holders_stay_none}
 use Rattle.crash_simulation.proofs.UncommittedSteps.{leads_on}
 use Rattle.crash_simulation.proofs.StatesMatchSource.{cuts, resumed}
@@ -171,11 +173,11 @@ module _ (y : System) (s : IsSystem y) (w : World) (b : AbstractRun y) (memory_i
       (moves : Moves number (config_of w t.log.hart c.rest) (config_of after hart rest))
       (all_cleans : (effect : Effect) → Contains cleans effect → is_clean effect ≡ true)
       (coming : (v e position : ℕ) → position < length (history_at b.config.memory v e).values → IsComing y w b code c t.log.hart v e position →
-      IsComing y after abstract_persisting code (record c { rest = rest; cleans = cleans }) hart v e position)
+      IsComing y after abstract_persisting code (record c { rest = rest; cleans = cleans; before_mark = c.before_mark - 1 }) hart v e position)
       (settled : (v e : ℕ) → c.committed ≡ false → fences_ahead rest < 2 → (f : IsFlushed y w b code c t.log.hart v e) →
       f.position ≤ (history_at (memory_in (places_of y) after.words) v e).durable) where
     abbrev pub ghost : ThreadGhost
-    ghost = record c { rest = rest; cleans = cleans }
+    ghost = record c { rest = rest; cleans = cleans; before_mark = c.before_mark - 1 }
 
     flushed_on : (v e : ℕ) → IsFlushed y w b code c t.log.hart v e → IsFlushed y after abstract_persisting code ghost hart v e
     flushed_on v e f = record {
@@ -294,7 +296,7 @@ module _ (y : System) (s : IsSystem y) (w : World) (b : AbstractRun y) (memory_i
   after = after_event y.runs.program w (Step thread)
 
   abbrev stage : Stage
-  stage = record { exit = o.exit; node = t.graph_thread.at; seen = seen_by (now_of y b) t.graph_thread; bank = o.bank }
+  stage = record { exit = o.exit; node = t.graph_thread.at; seen = seen_by (now_of y b) t.graph_thread; side = o.side }
 
   fragment : IsOnFragment y.plan code.thread code.is.places (on_machine y.runs.program w thread o.environment) stage (suc left) (c.cleans ++ c.rest)
   fragment =
@@ -317,6 +319,8 @@ module _ (y : System) (s : IsSystem y) (w : World) (b : AbstractRun y) (memory_i
 
   module _ (persisted : ArePersisted (memory_in (places_of y) w.words) (memory_in (places_of y) after.words)) (rest cleans : List Effect) (more : ℕ)
       (on : IsOnFragment y.plan code.thread code.is.places (on_machine y.runs.program after thread o.environment) stage more (cleans ++ rest))
+      (less : suc (steps_left more (seen_effects (cleans ++ rest)) on.on.hart.queue) ≡
+      steps_left (suc left) (seen_effects (c.cleans ++ c.rest)) fragment.on.hart.queue)
       (move : MovesTo thread w fragment.on.hart c.rest after rest)
       (reach : (j position : ℕ) → PersistsThrough w.words fragment.on.hart.queue j position → PersistsThrough after.words on.on.hart.queue j position)
       (ahead : (address : ℕ) → Contains c.cleans (Cleans address) → Contains cleans (Cleans address) ⊎ ((k : ℕ) → k < 8 →
@@ -327,13 +331,14 @@ module _ (y : System) (s : IsSystem y) (w : World) (b : AbstractRun y) (memory_i
       f.position ≤ (history_at (memory_in (places_of y) after.words) v e).durable)
       (may : (hart : Hart) (effect : Effect) → IsNext y.runs.program w thread hart effect → MayStore y b thread effect)
       (same_holders : after.holders ≡ w.holders)
-      (points : stores_point y.runs.program w (Step thread) thread ≡ (not (is_bound c) && is_bound (record c { rest = rest; cleans = cleans })))
-      (bound : is_bound c ≡ true → is_bound (record c { rest = rest; cleans = cleans }) ≡ true) where
+      (points : stores_point y.runs.program w (Step thread) thread
+      ≡ (not (is_bound c) && is_bound (record c { rest = rest; cleans = cleans; before_mark = c.before_mark - 1 })))
+      (bound : is_bound c ≡ true → is_bound (record c { rest = rest; cleans = cleans; before_mark = c.before_mark - 1 }) ≡ true) where
     abbrev then_abstract : AbstractRun y
     then_abstract = abstract_persisting y s w b memory_is code c t after persisted
 
     abbrev then_ghost : ThreadGhost
-    then_ghost = record c { rest = rest; cleans = cleans }
+    then_ghost = record c { rest = rest; cleans = cleans; before_mark = c.before_mark - 1 }
 
     abbrev new : Hart
     new = on.on.hart
@@ -370,19 +375,26 @@ module _ (y : System) (s : IsSystem y) (w : World) (b : AbstractRun y) (memory_i
     then_thread phase =
         thread_persisting y s w b memory_is code c t after persisted rest cleans new on.on.here moves all_cleans coming settled phase
 
+    nearer : (c.before_mark ≡ suc (c.before_mark - 1)) × IsSoon y thread (c.before_mark - 1)
+        (steps_left more (seen_effects (cleans ++ rest)) new.queue + beyond y.plan code.is.places o.exit t.graph_thread.at)
+    nearer =
+        let queue : length t.log.hart.queue ≡ length fragment.on.hart.queue = ap (λ (x : Hart). length x.queue) hart_is in
+        one_less y thread c.before_mark _ _ o.soon (omega (arith, queue, less, is))
+
     goes_its_fragment : InFragment y after then_abstract code then_ghost new t.graph_thread
     goes_its_fragment = record {
       environment = o.environment;
       answers = λ address bytes value e. guarded_on y s w b memory_is code c t after persisted then_ghost address bytes (o.answers address bytes value e);
       exit = o.exit;
-      bank = o.bank;
-      at_bank = o.at_bank;
+      side = o.side;
+      at_side = o.at_side;
       steps = more;
       fragment = on;
       fits =
           fits_on y s w b memory_is code c t after persisted rest cleans new on.on.here moves all_cleans coming settled less_rest less_cleans
           t.graph_thread o.exit
           o.fits;
+      soon = nearer.1;
     }
 
     phase_after : InPhase y after then_abstract code then_ghost new t.graph_thread new.phase
@@ -403,7 +415,7 @@ module _ (y : System) (s : IsSystem y) (w : World) (b : AbstractRun y) (memory_i
       now = refl;
       giving = refl;
       leaving = refl;
-      counted = record { marks = no_mark; unlocked = λ mutex gives. was_unlocked refl gives; points = points; bound = bound };
+      counted = record { marks = no_mark; unlocked = λ mutex gives. was_unlocked refl gives; points = points; bound = bound; nears = is_nearer nearer.0 };
     }
 
   -- ---- Memory
@@ -442,7 +454,7 @@ module _ (y : System) (s : IsSystem y) (w : World) (b : AbstractRun y) (memory_i
       let persisted : ArePersisted (memory_in (places_of y) w.words) (memory_in (places_of y) after.words) =
       memory_persisted (places_of y) w.words after.words
       (subst (λ (ws : List Word). growth.ArePersisted w.words ws) (sym words) (write_backs_raise w.words d.entry entries.0)) in
-      step_made persisted c.rest c.cleans (suc left) u.on
+      step_made persisted c.rest c.cleans (suc left) u.on u.less
       (steps_move y.runs.program w thread thread fragment.on.hart c.rest sound fragment.on.here
       (stores_nothing y.runs.program w thread thread fragment.on.hart d.effect (next_is d.effect d.effect_is) none))
       (λ j position r. subst (λ (x : Hart). PersistsThrough after.words x.queue j position) (sym u.same)
@@ -489,11 +501,17 @@ module _ (y : System) (s : IsSystem y) (w : World) (b : AbstractRun y) (memory_i
       has = g.on.has;
     }
 
+    less_with : (es : List Effect) → g.later ≡ es →
+        suc (steps_left left (seen_effects es) g.on.on.hart.queue) ≡ steps_left (suc left) (seen_effects (c.cleans ++ c.rest)) fragment.on.hart.queue
+    less_with es same =
+        subst (λ (x : List Effect). suc (steps_left left (seen_effects x) g.on.on.hart.queue) ≡
+        steps_left (suc left) (seen_effects (c.cleans ++ c.rest)) fragment.on.hart.queue) same g.less
+
     -- nothing of memory
     makes_nothing : is_store effect ≡ false → g.later ≡ c.cleans ++ c.rest → Stepped y w b code c thread
     makes_nothing none later =
         let words : after.words ≡ w.words = words_are ∙ words_same effect old g.forward.contents none g.forward.changes in
-        step_made (same_persisted words) c.rest c.cleans left (fragment_with (c.cleans ++ c.rest) later)
+        step_made (same_persisted words) c.rest c.cleans left (fragment_with (c.cleans ++ c.rest) later) (less_with (c.cleans ++ c.rest) later)
         (steps_move y.runs.program w thread thread fragment.on.hart c.rest sound fragment.on.here
         (stores_nothing y.runs.program w thread thread fragment.on.hart effect one none))
         forward_on (λ address found. inl found) t.cleans (λ e. e) (λ e. e) (settled_still (same_persisted words) c.rest refl)
@@ -505,7 +523,7 @@ module _ (y : System) (s : IsSystem y) (w : World) (b : AbstractRun y) (memory_i
     makes_clean address others is_that cleans later =
         let none : is_store effect ≡ false = ap is_store is_that in
         let words : after.words ≡ w.words = words_are ∙ words_same effect old g.forward.contents none g.forward.changes in
-        step_made (same_persisted words) c.rest others left (fragment_with (others ++ c.rest) later)
+        step_made (same_persisted words) c.rest others left (fragment_with (others ++ c.rest) later) (less_with (others ++ c.rest) later)
         (steps_move y.runs.program w thread thread fragment.on.hart c.rest sound fragment.on.here
         (stores_nothing y.runs.program w thread thread fragment.on.hart effect one none))
         forward_on (λ place found. ahead place (subst (λ (es : List Effect). Contains es (Cleans place)) cleans found))
@@ -591,7 +609,7 @@ module _ (y : System) (s : IsSystem y) (w : World) (b : AbstractRun y) (memory_i
 
       -- a store of the point binds the steps, and no other effect does
       abbrev then_bound : ThreadGhost
-      then_bound = record c { rest = g.later; cleans = c.cleans }
+      then_bound = record c { rest = g.later; cleans = c.cleans; before_mark = c.before_mark - 1 }
 
       makes_bound : (persisted : ArePersisted (memory_in (places_of y) w.words) (memory_in (places_of y) after.words)) →
           ((v e : ℕ) → c.committed ≡ false → fences_ahead g.later < 2 → (f : IsFlushed y w b code c t.log.hart v e) →
@@ -599,7 +617,8 @@ module _ (y : System) (s : IsSystem y) (w : World) (b : AbstractRun y) (memory_i
           MayStore y b thread effect → stores_point y.runs.program w (Step thread) thread ≡ (not (is_bound c) && is_bound then_bound) →
           (is_bound c ≡ true → is_bound then_bound ≡ true) → Stepped y w b code c thread
       makes_bound persisted settled may points bound =
-          step_made persisted g.later c.cleans left (fragment_with (c.cleans ++ g.later) later_is) moves_log forward_on (λ address found. inl found) t.cleans
+          step_made persisted g.later c.cleans left (fragment_with (c.cleans ++ g.later) later_is)
+          (less_with (c.cleans ++ g.later) later_is) moves_log forward_on (λ address found. inl found) t.cleans
           (λ none. absurd (some_rest none)) (λ e. e) settled (may_by effect one may) holders_are points bound
 
       fences_same : (e : Effect) → effect ≡ e → fences_ahead (e ∷ g.later) ≡ fences_ahead g.later → fences_ahead g.later ≡ fences_ahead c.rest

@@ -9,7 +9,7 @@ use Rattle.flow_graph.specs.Lowering.{lowered}
 use Rattle.flow_graph.specs.Liveness.{NodeAt}
 use Rattle.flow_graph.specs.IdempotentCuts.{IsChosen, IsUnlock, unlocks}
 use Rattle.flow_graph.specs.Actions as a
-use Rattle.flow_graph.specs.Actions.{GraphThread, FlowState, Effect, Seen, seen_by, effect_of, graph_step}
+use Rattle.flow_graph.specs.Actions.{GraphThread, FlowState, Effect, seen_by, effect_of}
 use Rattle.flow_graph.proofs.Public.{moved, set_same}
 use Rattle.recovery_semantics.specs.Configs.{Config, attempt_of}
 use Rattle.recovery_semantics.specs.Events.{ConfigStep, IsGoing, steps_begun}

@@ -1,5 +1,8 @@
 pub mod Public
 mod StatesMatchSource
+mod NoSelfLoops
+mod StepsBetweenMarks
+mod StepsAfterMarks
 mod RecordsAfterCrash
 mod Boundaries
 mod LoadFreeEnvironment
@@ -37,13 +40,16 @@ mod LocalNodeSteps
 mod StoreNodeSteps
 mod UnlockNodeSteps
 mod NodeCodeSteps
+mod RunOrCall
 mod UnmovedThreads
 mod DisjointElements
 mod DisjointStores
+mod KeptThreads
 mod OtherEventsKeepThreads
 mod StepSimulation
 mod ThreadCommits
 mod Sections
+mod EndedSections
 mod ThreadsAtCommit
 mod PendingUnlocks
 mod LongestAttempts
@@ -54,4 +60,5 @@ mod PointPositions
 mod AccountsBeforeCommit
 mod SectionsAfterEvents
 mod AccountsAfterEvents
+mod PointSections
 mod NoStuckHarts

@@ -1,6 +1,6 @@
 -- A hart at its call, and at one that asks for a mutex: it takes it, or waits.
-use Rattle.std.proofs.Common.{◌≡◌, ◌≢◌, inl, inr, ⊎_elim, refl, ℕ, suc, ◌+◌, ◌-◌, ◌/◌, ◌<◌, List, [], ◌∷◌, ◌++◌, length, ap, sym, ◌∙◌, subst, arith}
-use Rattle.std.proofs.Common.{Option, Some, None, Bool, true, false, slice_set, ℤ}
+use Rattle.std.proofs.Common.{◌≡◌, ◌≢◌, inl, inr, ⊎_elim, refl, ℕ, suc, ◌+◌, ◌/◌, ◌<◌, List, [], ◌∷◌, ◌++◌, length, ap, sym, ◌∙◌, subst, arith}
+use Rattle.std.proofs.Common.{Option, Some, None, Bool, true, false, slice_set, ℤ, ◌≤◌}
 use Rattle.std.specs.Prelude.{slice_get, Contains, not, is_none, ◌&&◌, ◌==◌, if◌then◌else◌}
 use Rattle.std.specs.List.{list_any}
 use Rattle.std.proofs.lemmas.Bool.{true≢false, cond-false}
@@ -17,16 +17,16 @@ use Rattle.rv64_isa.specs.Rows.{Effect, Cleans, Calls, row}
 use Rattle.rv64_isa.specs.Machine.{Hart, World, Outcome, with_holder, moved, gone_on, happens, after_event}
 use Rattle.rv64_isa.specs.Schedule.{is_running, stores_point}
 use Rattle.rv64_isa.proofs.Public.{steps_touch, get-set_same}
-use Rattle.boundary_code.specs.Boundaries.{Boundary, boundary_effects}
-use Rattle.node_code.specs.Pieces.{bank_after, takes}
-use Rattle.flow_graph.specs.Nodes.{Action, Lock}
+use Rattle.boundary_code.specs.Boundaries.{Boundary, boundary_effects, side_after}
+use Rattle.node_code.specs.Pieces.{takes}
+use Rattle.flow_graph.specs.Nodes.{Action, Lock, End, successors}
 use Rattle.flow_graph.specs.Lowering.{lowered}
 use Rattle.flow_graph.specs.Actions.{GraphThread, FlowState, seen_by, graph_step}
 use Rattle.flow_graph.proofs.Public.{set_same, get_cases, no_more}
 use Rattle.source_machine.specs.Mutexes.{locks}
 use Rattle.source_machine.proofs.Public.{locks_same}
 use Rattle.hart_runs.specs.Calls.{IsAtCall}
-use Rattle.hart_runs.proofs.Public.{calls_count, effect_is}
+use Rattle.hart_runs.proofs.Public.{calls_count, effect_is, queues_stay_short}
 use Rattle.recovery_semantics.specs.Attempts.{solo}
 use Rattle.recovery_semantics.specs.Configs.{Config, Invariant, now, attempt_of}
 use Rattle.recovery_semantics.specs.Events.{ConfigStep, synchronises, Synchronises, begun}
@@ -41,13 +41,13 @@ use Rattle.log_states.specs.Stages.{LogIs, is_store}
 use Rattle.log_states.specs.Machines.{config_of, IsNext, IsElsewhere}
 use Rattle.log_states.specs.Laws.{recorded_by, IsAtRecord}
 use Rattle.log_states.specs.LogInvariant.{LogInv}
-use Rattle.log_states.proofs.Public.{stores_nothing, one_effect, offset_follows, contains_none, boundaries_fence, begins_standing, steps_keep}
+use Rattle.log_states.proofs.Public.{stores_nothing, one_effect, side_follows, contains_none, boundaries_fence, begins_standing, steps_keep}
 use Rattle.thread_code.specs.RegistersAtNodes.{Enters}
 use Rattle.thread_code.specs.NodeCodeEffects.{Places, keeping}
 use Rattle.thread_code.specs.Programs.{IsCalling}
 use Rattle.thread_runs.specs.CodeFragments.{ExitPoint, Asks, Took, Stage, IsOnFragment, IsPlaced, IsLockOf, on_machine}
 use Rattle.thread_runs.specs.Laws.{TakesMutex}
-use Rattle.thread_runs.proofs.Public.{call_there, fragments_see_all, locks_take, locks_wait}
+use Rattle.thread_runs.proofs.Public.{call_there, fragments_see_all, locks_take, locks_wait, few_cleans}
 use Rattle.recovered_threads.specs.RecordDescriptions.{Code, past_lock, Describes, between, inside}
 use Rattle.recovered_threads.proofs.Public.{same_there, holds_none_is}
 use Rattle.crash_simulation.specs.Systems.{System, IsSystem, flat_of, shapes_of, places_of, thread_count}
@@ -55,8 +55,10 @@ use Rattle.crash_simulation.specs.AbstractRuns.{AbstractRun, kept_of, now_of, at
 use Rattle.crash_simulation.specs.ThreadGhosts as courses
 use Rattle.crash_simulation.specs.ThreadGhosts.{ThreadGhost, ExitInv, InFragment, on_fragment, InPhase, IsComing, is_reached, is_ahead, IsFlushed, ThreadInv}
 use Rattle.crash_simulation.specs.SimulationRelation.{AreHeld, Simulates}
+use Rattle.crash_simulation.specs.InstructionSteps as moving
 use Rattle.crash_simulation.specs.InstructionSteps.{StepsOrStutters, stays, goes, abstract_next, MayStore, nothing, with_ghost}
 use Rattle.crash_simulation.specs.InstructionSteps.{begins, is_bound, was_unlocked, IsCounted, Releases, nothing_released, OnFragmentNow, thread_of}
+use Rattle.crash_simulation.specs.InstructionSteps.{begins_step}
 use Rattle.crash_simulation.proofs.LastReleases.{no_release, holders_stay_none, none_leaving}
 use Rattle.crash_simulation.proofs.UncommittedSteps.{leads_on}
 use Rattle.crash_simulation.proofs.StatesMatchSource.{resumed, kept_matches, orderly, now_orderly, now_good}
@@ -68,6 +70,8 @@ use Rattle.crash_simulation.proofs.LocksAtCalls.{locks_it, mutex_there, taken, t
 use Rattle.crash_simulation.proofs.PendingReleases.{giving_of}
 use Rattle.crash_simulation.proofs.FragmentSteps.{and_false, not_twice}
 use Rattle.log_states.proofs.Public.{boundary_stores}
+use Rattle.crash_simulation.specs.StepsToMark.{most_ahead}
+use Rattle.crash_simulation.proofs.StepsAfterMarks.{fits_by, most_is}
 
 -- ---- Lists
 
@@ -97,6 +101,9 @@ pub record Called (y : System) (w : World) (b : AbstractRun y) (code : Code y.pl
   pub mutexes : length (after_event y.runs.program w (Step h)).holders ≡ length w.holders
   pub counted : IsCounted y w b h (begins led) c ghost
   pub released : Releases y w h c ghost
+
+lock_or_end : (mutex next : ℕ) → Lock mutex next ≡ End → ⊥
+lock_or_end mutex next e = cc
 
 -- what a record says of a thread that holds nothing
 pub point_none : (y : System) (code : Code y.plan) (kept : FlowState) (r : Record) → Describes y.plan code kept r →
@@ -180,14 +187,14 @@ module _ (y : System) (s : IsSystem y) (w : World) (h : ℕ) (stands : Simulates
 
   module _ (exit : ExitPoint) (o : OnFragmentNow y s w h stands below) (zero_left : o.steps ≡ 0) (exit_is : o.exit ≡ exit) where
     abbrev stage : Stage
-    stage = record { exit = exit; node = t.graph_thread.at; seen = seen_by (now_of y b) t.graph_thread; bank = o.bank }
+    stage = record { exit = exit; node = t.graph_thread.at; seen = seen_by (now_of y b) t.graph_thread; side = o.side }
 
     pub whole : IsOnFragment y.plan code.thread places (on_machine y.runs.program w thread o.environment) stage 0 (c.cleans ++ c.rest)
     whole =
         subst (λ (a : ExitPoint). IsOnFragment y.plan code.thread places (on_machine y.runs.program w thread o.environment)
-        (record { exit = a; node = t.graph_thread.at; seen = seen_by (now_of y b) t.graph_thread; bank = o.bank }) 0 (c.cleans ++ c.rest)) exit_is
+        (record { exit = a; node = t.graph_thread.at; seen = seen_by (now_of y b) t.graph_thread; side = o.side }) 0 (c.cleans ++ c.rest)) exit_is
         (subst (λ (n : ℕ). IsOnFragment y.plan code.thread places (on_machine y.runs.program w thread o.environment)
-        (record { exit = o.exit; node = t.graph_thread.at; seen = seen_by (now_of y b) t.graph_thread; bank = o.bank }) n (c.cleans ++ c.rest))
+        (record { exit = o.exit; node = t.graph_thread.at; seen = seen_by (now_of y b) t.graph_thread; side = o.side }) n (c.cleans ++ c.rest))
         zero_left o.fragment)
 
     pub fragment : IsOnFragment y.plan code.thread places (on_machine y.runs.program w thread (bare y s w h below)) stage 0 []
@@ -252,7 +259,7 @@ module _ (y : System) (s : IsSystem y) (w : World) (h : ℕ) (stands : Simulates
 
   module _ (mutex next : ℕ) (o : OnFragmentNow y s w h stands below) (zero_left : o.steps ≡ 0) (exit_is : o.exit ≡ Asks mutex next) where
     abbrev pub asks : IsOnFragment y.plan code.thread places (on_machine y.runs.program w thread (bare y s w h below))
-        (record { exit = Asks mutex next; node = t.graph_thread.at; seen = seen_by (now_of y b) t.graph_thread; bank = o.bank }) 0 []
+        (record { exit = Asks mutex next; node = t.graph_thread.at; seen = seen_by (now_of y b) t.graph_thread; side = o.side }) 0 []
     asks = fragment (Asks mutex next) o zero_left exit_is
 
     goes_clean : courses.GoesClean y b code c false t.graph_thread
@@ -275,7 +282,7 @@ module _ (y : System) (s : IsSystem y) (w : World) (h : ℕ) (stands : Simulates
     waits : (holder : ℕ) → slice_get w.holders mutex ≡ Some (Some holder) → Result
     waits holder has =
         let l = locks_wait calls_count y.plan code.thread y.runs.program code.program code.is w thread (bare y s w h below) t.graph_thread.at mutex next
-        (seen_by (now_of y b) t.graph_thread) o.bank [] holder asks has in
+        (seen_by (now_of y b) t.graph_thread) o.side [] holder asks has in
         let still : after ≡ w = ap (λ (x : Outcome). x.0) l.0 in
         let goes_on : (u : ThreadInv y w b code c) × GoneOn u.log.hart.phase = (
           t,
@@ -299,6 +306,7 @@ module _ (y : System) (s : IsSystem y) (w : World) (h : ℕ) (stands : Simulates
             unlocked = λ lock gives. was_unlocked refl gives;
             points = points_none (Asks mutex next) o zero_left exit_is takes at_lock ∙ not_twice (is_bound c);
             bound = λ e. e;
+            nears = moving.waits mutex holder l.0 refl;
           };
           released = nothing_released (holders_stay_none y.runs.program w thread (ap (λ (v : World). v.holders) still)) refl;
         }
@@ -306,9 +314,9 @@ module _ (y : System) (s : IsSystem y) (w : World) (h : ℕ) (stands : Simulates
     -- the mutex is free
     module _ (free : slice_get w.holders mutex ≡ Some None) where
       it : TakesMutex y.plan code.thread places (on_machine y.runs.program w thread (bare y s w h below)) mutex next
-          (record { exit = Asks mutex next; node = t.graph_thread.at; seen = seen_by (now_of y b) t.graph_thread; bank = o.bank }) asks.on.hart asks.registers
+          (record { exit = Asks mutex next; node = t.graph_thread.at; seen = seen_by (now_of y b) t.graph_thread; side = o.side }) asks.on.hart asks.registers
       it = locks_take calls_count y.plan code.thread y.runs.program code.program code.is w thread (bare y s w h below) t.graph_thread.at mutex next
-          (seen_by (now_of y b) t.graph_thread) o.bank [] placed_here (bare_reads y s w h below) asks free
+          (seen_by (now_of y b) t.graph_thread) o.side [] placed_here (bare_reads y s w h below) asks free
 
       abbrev b_next : Boundary
       b_next = keeping y.plan code.thread places next
@@ -403,13 +411,13 @@ module _ (y : System) (s : IsSystem y) (w : World) (h : ℕ) (stands : Simulates
 
       -- ---- The boundary after the lock begins
 
-      enters_then : Enters y.plan code.thread next (seen_by (now_of y then_abstract) graph_thread) o.bank asks.registers
+      enters_then : Enters y.plan code.thread next (seen_by (now_of y then_abstract) graph_thread) o.side asks.registers
       enters_then =
           subst (λ (vs : List (List ℤ)). Enters y.plan code.thread next
-          (record { locals = t.graph_thread.locals; pending = t.graph_thread.pending; variables = vs }) o.bank asks.registers)
+          (record { locals = t.graph_thread.locals; pending = t.graph_thread.pending; variables = vs }) o.side asks.registers)
           (sym variables_same) asks.has.enters
 
-      beginning : IsBeginning y.plan code (now_of y then_abstract) o.bank (places.after t.graph_thread.at) asks.registers
+      beginning : IsBeginning y.plan code (now_of y then_abstract) o.side (places.after t.graph_thread.at) asks.registers
       beginning = record {
         graph_thread = graph_thread;
         there = walks;
@@ -418,36 +426,37 @@ module _ (y : System) (s : IsSystem y) (w : World) (h : ℕ) (stands : Simulates
         resumes = λ some. past_lock t.graph_thread.at mutex lock.is lock.own lock.at lock.locks;
         enters = enters_then;
         address =
-            after_lock_in y s h below w (bare y s w h below) o.bank (seen_by (now_of y b) t.graph_thread) asks.registers t.graph_thread.at mutex next asks.meets
+            after_lock_in y s h below w (bare y s w h below) o.side (seen_by (now_of y b) t.graph_thread) asks.registers t.graph_thread.at mutex next asks.meets
             asks.agrees lock it.on.on.own asks.has.enters;
       }
 
-      begins_there : BoundaryIsRecoverable y.plan code (now_of y then_abstract) next o.bank (places.after t.graph_thread.at) asks.registers
+      begins_there : BoundaryIsRecoverable y.plan code (now_of y then_abstract) next o.side (places.after t.graph_thread.at) asks.registers
       unfolding beginning
       begins_there =
-          boundaries_begin y.plan code (now_of y then_abstract) o.bank (places.after t.graph_thread.at) asks.registers s.plan (now_orderly y s then_abstract)
+          boundaries_begin y.plan code (now_of y then_abstract) o.side (places.after t.graph_thread.at) asks.registers s.plan (now_orderly y s then_abstract)
           (now_good y s then_abstract) beginning
 
       abbrev new_record : Record
-      new_record = recorded_by b_next (1 - o.bank) (places.after t.graph_thread.at) asks.registers
+      new_record = recorded_by b_next o.side (places.after t.graph_thread.at) asks.registers
 
       abbrev then_ghost : ThreadGhost
       then_ghost = record {
         old = c.new;
         new = new_record;
-        rest = boundary_effects b_next (1 - o.bank) (places.after t.graph_thread.at) asks.registers;
+        rest = boundary_effects b_next o.side (places.after t.graph_thread.at) asks.registers;
         committed = false;
         cleans = [];
         giving = None;
+        before_mark = most_ahead y thread;
       }
 
-      at_record : IsAtRecord c.new o.bank asks.registers
-      at_record = record { registers = asks.has.enters.at_bank; is = o.at_bank }
+      at_record : IsAtRecord c.new o.side asks.registers
+      at_record = record { registers = asks.has.enters.at_side; is = o.at_side }
 
       log_then : LogInv thread c.new new_record after then_ghost.rest
       log_then =
           steps_keep y.runs.program thread thread c.new new_record w then_ghost.rest stands.before_commit.sound
-          (begins_standing b_next c.old c.new o.bank (places.after t.graph_thread.at) asks.registers w
+          (begins_standing b_next c.old c.new o.side (places.after t.graph_thread.at) asks.registers w
           (log_over (Asks mutex next) o zero_left exit_is) at_record
           begins_there.recoverable)
           (call_elsewhere (Asks mutex next) o zero_left exit_is takes at_lock)
@@ -497,14 +506,23 @@ module _ (y : System) (s : IsSystem y) (w : World) (h : ℕ) (stands : Simulates
         environment = bare y s w h below;
         answers = bare_answers y s w h below then_abstract then_ghost;
         exit = Took t.graph_thread.at;
-        bank = bank_after b_next o.bank;
-        at_bank = (offset_follows b_next o.bank (places.after t.graph_thread.at) asks.registers it.on.on.registers begins_there.recoverable
-            asks.has.enters.at_bank.exists it.on.on.has.at_bank.count it.on.on.has.at_bank.zero_is it.on.on.has.at_bank.offset).is;
+        side = side_after b_next o.side;
+        at_side = side_follows b_next o.side (places.after t.graph_thread.at) asks.registers begins_there.recoverable;
         steps = it.on.steps;
         fragment = fragments_see_all y.plan code.thread places y.runs.program after thread (bare y s w h below)
-            (record { exit = Took t.graph_thread.at; node = next; seen = seen_by (now_of y b) t.graph_thread; bank = bank_after b_next o.bank }) it.on.steps
+            (record { exit = Took t.graph_thread.at; node = next; seen = seen_by (now_of y b) t.graph_thread; side = side_after b_next o.side }) it.on.steps
             then_ghost.rest (now_of y then_abstract).variables it.on.on;
         fits = then_fits;
+        soon =
+            let short = it.on.short in
+            let few = few_cleans b_next o.side (places.after t.graph_thread.at) asks.registers in
+            let queue : length new.queue ≤ 16 =
+            queues_stay_short y.runs.program w (Step thread) stands.before_commit.short thread new it.on.on.on.here in
+            let fit = fits_by y s h below t.graph_thread.at lock.is lock.own lock.at next it.on.on.own
+            (subst (λ (z : Action). Contains (successors z) next) (sym lock.locks) (0, omega arith, refl))
+            (λ ends. lock_or_end mutex next (sym lock.locks ∙ ends)) in
+            let is = most_is y s h below in
+            (omega (arith, short, few, queue, fit, is), omega arith);
       }
 
       since_back : (first steps line : ℕ) → CleansSince (attempts_of y then_abstract) thread first steps line →
@@ -534,7 +552,7 @@ module _ (y : System) (s : IsSystem y) (w : World) (h : ℕ) (stands : Simulates
         comes = λ k. coming_on then_abstract then_ghost new words_then queue_then goes_clean.cleans v e f.position
             (f.comes (since_back f.before (attempt_of b.config thread).done (line_of (shapes_of y) v e) k));
         fenced = λ un few.
-            let two = boundaries_fence b_next (1 - o.bank) (places.after t.graph_thread.at) asks.registers in
+            let two = boundaries_fence b_next o.side (places.after t.graph_thread.at) asks.registers in
             absurd (omega (arith, two, few));
       }
 
@@ -556,7 +574,7 @@ module _ (y : System) (s : IsSystem y) (w : World) (h : ℕ) (stands : Simulates
       unbound = ap (λ (yes : Bool). not yes && not (list_any is_store c.rest)) goes_clean.goes.committed
 
       then_unbound : is_bound then_ghost ≡ false
-      then_unbound = ap not (boundary_stores b_next (1 - o.bank) (places.after t.graph_thread.at) asks.registers)
+      then_unbound = ap not (boundary_stores b_next o.side (places.after t.graph_thread.at) asks.registers)
 
       takes_mutex : Result
       unfolding thread_then
@@ -578,6 +596,7 @@ module _ (y : System) (s : IsSystem y) (w : World) (h : ℕ) (stands : Simulates
           unlocked = λ lock gives. absurd (none-some lock gives);
           points = it.counts.0 ∙ sym (ap (λ (x : Bool). not (is_bound c) && x) then_unbound ∙ and_false (not (is_bound c)));
           bound = λ was. absurd (true≢false (sym was ∙ unbound));
+          nears = begins_step refl;
         };
         released = nothing_released (no_release y.runs.program w thread (λ none. absurd (holds_none_is thread after.holders mutex none
             (ap (λ (hs : List (Option ℕ)). slice_get hs mutex) holders_then ∙ get-set_same w.holders mutex (Some thread) None free))))

@@ -24,6 +24,18 @@ use Rattle.crash_simulation.specs.SimulationRelation.{IsGiving, AreHeld, AreLock
 use Rattle.crash_simulation.specs.InstructionSteps.{MayStore, with_ghost}
 use Rattle.crash_simulation.proofs.DisjointStores.{elsewhere}
 
+-- where the same harts hold mutexes, and the same is being given back
+pub held_alike : (w v : World) (old new : ℕ → ThreadGhost) (z : FlowState) → v.holders ≡ w.holders → ((n : ℕ) → (new n).giving ≡ (old n).giving) →
+    AreHeld w old z → AreHeld v new z
+held_alike w v old new z holders giving held = record {
+  held = λ lock n there. elim (held.held lock n (ap (λ (hs : List (Option ℕ)). slice_get hs lock) (sym holders) ∙ there)) [
+    | inl has ↦ inl has
+    | inr g ↦ inr (record { exists = g.exists; free = g.free; gives = giving n ∙ g.gives })
+  ];
+  holds = λ lock n there. ap (λ (hs : List (Option ℕ)). slice_get hs lock) holders ∙ held.holds lock n there;
+  giving = λ lock n exists gives. ap (λ (hs : List (Option ℕ)). slice_get hs lock) holders ∙ held.giving lock n exists (sym (giving n) ∙ gives);
+}
+
 -- ---- Another thread's ghost state
 
 pub own_ghost : (ghosts : ℕ → ThreadGhost) (thread : ℕ) (ghost : ThreadGhost) → with_ghost ghosts thread ghost thread ≡ ghost

@@ -11,7 +11,7 @@ use Rattle.flow_graph.specs.Nodes.{Node, Graph}
 use Rattle.flow_graph.specs.Lowering.{lowered}
 use Rattle.flow_graph.specs.Liveness.{NodeAt}
 use Rattle.flow_graph.specs.Actions as a
-use Rattle.flow_graph.specs.Actions.{GraphThread, Seen, effect_of, seen_by}
+use Rattle.flow_graph.specs.Actions.{Seen, effect_of, seen_by}
 use Rattle.hart_runs.specs.RunSteps.{Contents, Changes}
 use Rattle.log_states.specs.Stages.{is_store}
 use Rattle.thread_code.specs.Plans.{Plan, Thread}
@@ -22,23 +22,21 @@ use Rattle.thread_runs.specs.Laws.{IsAtSomeMark, Performing}
 use Rattle.thread_runs.proofs.Public.{nodes_begin}
 use Rattle.crash_simulation.specs.Systems.{System, IsSystem, flat_of, thread_count}
 use Rattle.crash_simulation.specs.AbstractRuns.{now_of}
-use Rattle.crash_simulation.specs.SimulationRelation.{Simulates}
-use Rattle.crash_simulation.specs.InstructionSteps.{AtCoreNow, thread_of}
 use Rattle.crash_simulation.proofs.GraphAfterBegin.{takes_none}
 use Rattle.crash_simulation.proofs.NodeEffects.{is_quiet}
 use Rattle.crash_simulation.proofs.NodeEnvironments.{environment_with, meets_here, agrees_here, placed_here}
-use Rattle.crash_simulation.proofs.OwnHartSteps.{code, number, abstract, same_number}
+use Rattle.crash_simulation.proofs.OwnHartSteps.{code, number, abstract, same_number, AtNode, own_thread}
 
-mark_of : (p : Plan) (t : Thread) (c : Places) (program : List (List Slot)) (w : World) (h : ℕ) (s : MarkedEnvironment) (node : ℕ) (seen : Seen) (bank : ℕ)
-    (registers : List ℕ) (e : a.Effect) → takes_none e ≡ true → Performing p t c (on_machine program w h s) node seen bank registers e →
-    IsAtSomeMark p t c (on_machine program w h s) node seen bank registers e
-mark_of p t c program w h s node seen bank registers (a.Sets local value next) free m = m
-mark_of p t c program w h s node seen bank registers (a.Owes store next) free m = m
-mark_of p t c program w h s node seen bank registers (a.Makes store next) free m = m
-mark_of p t c program w h s node seen bank registers (a.Goes next) free m = m
-mark_of p t c program w h s node seen bank registers (a.Takes mutex next) free m = cc
-mark_of p t c program w h s node seen bank registers (a.Gives mutex next) free m = m
-mark_of p t c program w h s node seen bank registers a.Ends free m = m
+mark_of : (p : Plan) (t : Thread) (c : Places) (program : List (List Slot)) (w : World) (h : ℕ) (s : MarkedEnvironment) (node : ℕ) (seen : Seen) (side : ℕ)
+    (registers : List ℕ) (e : a.Effect) → takes_none e ≡ true → Performing p t c (on_machine program w h s) node seen side registers e →
+    IsAtSomeMark p t c (on_machine program w h s) node seen side registers e
+mark_of p t c program w h s node seen side registers (a.Sets local value next) free m = m
+mark_of p t c program w h s node seen side registers (a.Owes store next) free m = m
+mark_of p t c program w h s node seen side registers (a.Makes store next) free m = m
+mark_of p t c program w h s node seen side registers (a.Goes next) free m = m
+mark_of p t c program w h s node seen side registers (a.Takes mutex next) free m = cc
+mark_of p t c program w h s node seen side registers (a.Gives mutex next) free m = m
+mark_of p t c program w h s node seen side registers a.Ends free m = m
 
 -- ---- Quiet effects
 
@@ -51,15 +49,15 @@ quiet_may p t c threads s (a.Takes mutex next) quiet = cc
 quiet_may p t c threads s (a.Gives mutex next) quiet = cc
 quiet_may p t c threads s a.Ends quiet = tt
 
-pub quiet_seen : (p : Plan) (t : Thread) (c : Places) (node bank : ℕ) (registers : List ℕ) (e : a.Effect) (effects : List Effect) → is_quiet e ≡ true →
-    AreSeen p t c node bank registers e effects → effects ≡ []
-quiet_seen p t c node bank registers (a.Sets local value next) effects quiet seen = seen
-quiet_seen p t c node bank registers (a.Owes store next) effects quiet seen = seen
-quiet_seen p t c node bank registers (a.Makes store next) effects quiet seen = cc
-quiet_seen p t c node bank registers (a.Goes next) effects quiet seen = seen
-quiet_seen p t c node bank registers (a.Takes mutex next) effects quiet seen = cc
-quiet_seen p t c node bank registers (a.Gives mutex next) effects quiet seen = cc
-quiet_seen p t c node bank registers a.Ends effects quiet seen = seen
+pub quiet_seen : (p : Plan) (t : Thread) (c : Places) (node side : ℕ) (registers : List ℕ) (e : a.Effect) (effects : List Effect) → is_quiet e ≡ true →
+    AreSeen p t c node side registers e effects → effects ≡ []
+quiet_seen p t c node side registers (a.Sets local value next) effects quiet seen = seen
+quiet_seen p t c node side registers (a.Owes store next) effects quiet seen = seen
+quiet_seen p t c node side registers (a.Makes store next) effects quiet seen = cc
+quiet_seen p t c node side registers (a.Goes next) effects quiet seen = seen
+quiet_seen p t c node side registers (a.Takes mutex next) effects quiet seen = cc
+quiet_seen p t c node side registers (a.Gives mutex next) effects quiet seen = cc
+quiet_seen p t c node side registers a.Ends effects quiet seen = seen
 
 pub quiet_free : (e : a.Effect) → is_quiet e ≡ true → takes_none e ≡ true
 quiet_free (a.Sets local value next) quiet = refl
@@ -91,33 +89,35 @@ unseen n r.Calls later effects none is =
 
 -- ---- The mark
 
-module _ (y : System) (s : IsSystem y) (w : World) (h : ℕ) (stands : Simulates y s w) (below : h < thread_count y) (core : AtCoreNow y s w h stands below)
-    (node : Node) (at : NodeAt (lowered (flat_of y)) (thread_of y s w h stands below).graph_thread.at node) (reads : ℕ → ℕ → Bool) where
-  pub inside : number y s w h stands below < thread_count y
-  inside = subst (λ (k : ℕ). k < thread_count y) (sym (same_number y s w h stands below)) below
+module _ {y : System} {s : IsSystem y} {w : World} {h : ℕ} (site : AtNode y s w h)
+    (node : Node) (at : NodeAt (lowered (flat_of y)) (own_thread site).graph_thread.at node) (reads : ℕ → ℕ → Bool) where
+  pub inside : number site < thread_count y
+  inside = subst (λ (k : ℕ). k < thread_count y) (sym (same_number site)) site.below
 
   abbrev pub environment : MarkedEnvironment
-  environment = environment_with y s w (abstract y s w h stands below) (code y s w h stands below) (s.own h below) stands.before_commit.count inside reads
+  environment = environment_with y s w (abstract site) (code site) (s.own h site.below) site.stands.before_commit.count inside reads
 
   pub at_some_mark : (e : a.Effect) → takes_none e ≡ true →
-      effect_of node.action (seen_by (now_of y (abstract y s w h stands below)) (thread_of y s w h stands below).graph_thread) ≡ Some e →
+      effect_of node.action (seen_by (now_of y (abstract site)) (own_thread site).graph_thread) ≡ Some e →
       ReadsVariables environment →
-      IsAnswered (source_of y.plan (code y s w h stands below).thread
-      (seen_by (now_of y (abstract y s w h stands below)) (thread_of y s w h stands below).graph_thread)) environment.around.loads node.action →
-      MayDo y.plan (code y s w h stands below).thread (code y s w h stands below).is.places (length w.harts) environment e →
-      IsAtSomeMark y.plan (code y s w h stands below).thread (code y s w h stands below).is.places
-      (on_machine y.runs.program w (number y s w h stands below) environment)
-      (thread_of y s w h stands below).graph_thread.at
-      (seen_by (now_of y (abstract y s w h stands below)) (thread_of y s w h stands below).graph_thread) core.bank
-      core.registers e
+      IsAnswered (source_of y.plan (code site).thread
+      (seen_by (now_of y (abstract site)) (own_thread site).graph_thread)) environment.around.loads node.action →
+      MayDo y.plan (code site).thread (code site).is.places (length w.harts) environment e →
+      IsAtSomeMark y.plan (code site).thread (code site).is.places
+      (on_machine y.runs.program w (number site) environment)
+      (own_thread site).graph_thread.at
+      (seen_by (now_of y (abstract site)) (own_thread site).graph_thread) site.core.side
+      site.core.registers e
   at_some_mark e free does reading answered may =
-      let c = code y s w h stands below in
-      let b = abstract y s w h stands below in
-      let graph_thread = (thread_of y s w h stands below).graph_thread in
+      let c = code site in
+      let b = abstract site in
+      let graph_thread = (own_thread site).graph_thread in
       let there : NodeAt y.plan.graph graph_thread.at node = subst (λ (g : Graph). NodeAt g graph_thread.at node) (sym s.plan.lowered) at in
-      mark_of y.plan c.thread c.is.places y.runs.program w c.thread.number environment graph_thread.at (seen_by (now_of y b) graph_thread) core.bank
-      core.registers e free
-      (nodes_begin y.plan c.thread y.runs.program c.program c.is w c.thread.number environment graph_thread.at (seen_by (now_of y b) graph_thread) core.bank
-      core.registers node e
-      (placed_here y s w b c (s.own h below) stands.before_commit.count inside) (meets_here y s w b c (s.own h below) stands.before_commit.count inside reads)
-      (agrees_here y s w b c (s.own h below) stands.before_commit.count inside reads) reading there does answered may core.core)
+      mark_of y.plan c.thread c.is.places y.runs.program w c.thread.number environment graph_thread.at (seen_by (now_of y b) graph_thread) site.core.side
+      site.core.registers e free
+      (nodes_begin y.plan c.thread y.runs.program c.program c.is w c.thread.number environment graph_thread.at
+      (seen_by (now_of y b) graph_thread) site.core.side
+      site.core.registers node e
+      (placed_here y s w b c (s.own h site.below) site.stands.before_commit.count inside)
+      (meets_here y s w b c (s.own h site.below) site.stands.before_commit.count inside reads)
+      (agrees_here y s w b c (s.own h site.below) site.stands.before_commit.count inside reads) reading there does answered may site.core.core)

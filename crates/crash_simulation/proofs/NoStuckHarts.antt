@@ -1,32 +1,24 @@
 -- No hart is stuck, and none waits for a lock of its record.
-use Rattle.std.proofs.Common.{◌≡◌, ◌≢◌, inl, inr, refl, ℕ, suc, ◌<◌, [], ◌++◌, ap, sym, ◌∙◌, subst, arith, Option, Some, None, true}
+use Rattle.std.proofs.Common.{◌≡◌, ◌≢◌, inl, inr, refl, ℕ, ◌<◌, [], ap, sym, ◌∙◌, subst, arith, Option, Some, None}
 use Rattle.std.specs.Prelude.{slice_get}
 use Rattle.ido_base.specs.declared.event.Event.TheVariants.{Step}
 use Rattle.ido_base.specs.declared.event.Reply.TheVariants.{Moved, Still, Stuck}
 use Rattle.ido_base.specs.declared.event.Cause.{Cause}
-use Rattle.c_tree.specs.Exprs as e
 use Rattle.rv64_isa.specs.declared.phase.Phase.{Phase}
 use Rattle.rv64_isa.specs.declared.phase.Phase.TheVariants.{Take, Wait, Resume, Run, Done, Ended}
 use Rattle.rv64_isa.specs.Machine.{Hart, World, stepped, happens, reply_to}
-use Rattle.code_runs.specs.CodeTraces.{MarkedEnvironment}
-use Rattle.flow_graph.specs.Nodes.{Action, Eval, Store, Test, Lock, Unlock, End, Node, Graph}
-use Rattle.flow_graph.specs.Lowering.{lowered}
-use Rattle.flow_graph.specs.Liveness.{NodeAt}
-use Rattle.flow_graph.specs.Actions as a
-use Rattle.flow_graph.specs.Actions.{Seen, effect_of, seen_by}
+use Rattle.flow_graph.specs.Actions.{Seen, seen_by}
 use Rattle.flow_graph.proofs.Public.{get_cases, no_more}
 use Rattle.hart_runs.specs.Calls.{IsInPhase}
 use Rattle.hart_runs.specs.Calls as harts
 use Rattle.hart_runs.proofs.Public as harts_well
-use Rattle.recovery_semantics.specs.Configs.{now}
-use Rattle.thread_code.specs.NodeCodeEffects.{Places}
-use Rattle.thread_runs.specs.CodeFragments.{ExitPoint, Asks, Gives, Ends, IsOnFragment, stage_after, on_machine}
-use Rattle.thread_runs.specs.Laws.{IsAtSomeMark, MarksPass}
-use Rattle.thread_runs.proofs.Public.{fragments_are_well, marks_are_well, locks_are_well, unlocks_are_well, ends_are_well}
+use Rattle.thread_runs.specs.CodeFragments.{ExitPoint, Asks, Gives, Ends}
+use Rattle.thread_runs.specs.Laws.{MarksPass}
+use Rattle.thread_runs.proofs.Public.{locks_are_well, unlocks_are_well, ends_are_well}
 use Rattle.recovered_threads.specs.RecordDescriptions.{Code}
 use Rattle.recovered_threads.specs.RecoveryStates.{HasGathered}
 use Rattle.recovered_threads.proofs.Public.{takes_never_wait}
-use Rattle.crash_simulation.specs.Systems.{System, IsSystem, flat_of, thread_count}
+use Rattle.crash_simulation.specs.Systems.{System, IsSystem, thread_count}
 use Rattle.crash_simulation.specs.AbstractRuns.{AbstractRun, now_of}
 use Rattle.crash_simulation.specs.ThreadGhosts.{ThreadGhost, ThreadInv}
 use Rattle.crash_simulation.specs.SimulationRelation.{AreHeld, AreLocked, gathering, gathered, records_of, Simulates}
@@ -38,14 +30,9 @@ use Rattle.crash_simulation.proofs.LocksAfterStep.{runs_held}
 use Rattle.crash_simulation.proofs.LocksAtCalls.{mutex_there}
 use Rattle.crash_simulation.proofs.LockCallSteps as at_calls
 use Rattle.crash_simulation.proofs.CallSteps as calls
-use Rattle.crash_simulation.proofs.NodeEffects.{is_quiet, owes_here}
-use Rattle.crash_simulation.proofs.LocalNodeSteps as quietly
-use Rattle.crash_simulation.proofs.LocalNodeSteps.{matches_now}
-use Rattle.crash_simulation.proofs.StoreNodeSteps as making
-use Rattle.crash_simulation.proofs.UnlockNodeSteps as unlocking
-use Rattle.crash_simulation.proofs.NodeCodeSteps.{found}
 use Rattle.crash_simulation.proofs.ReadyHarts.{runs_ready}
 use Rattle.crash_simulation.proofs.SimulationInRecovery as recovering
+use Rattle.crash_simulation.proofs.RunOrCall.{IsWhere, on_run, at_call, is_where}
 
 -- hart h is not stuck
 abbrev IsFree : System → World → (h : ℕ) → Type 0
@@ -69,19 +56,8 @@ module _ (y : System) (s : IsSystem y) (w : World) (h : ℕ) (stands : Simulates
   abbrev thread : ℕ
   thread = code.thread.number
 
-  abbrev places : Places
-  places = code.is.places
-
   abbrev seen : Seen
   seen = seen_by (now_of y b) t.graph_thread
-
-  -- before a fragment's end
-  on_fragment : (o : OnFragmentNow y s w h stands below) (steps : ℕ) → o.steps ≡ suc steps → IsFree y w thread
-  on_fragment o steps is =
-      fragments_are_well harts_well.none_is_stuck y.plan code.thread places y.runs.program w thread o.environment
-      (record { exit = o.exit; node = t.graph_thread.at; seen = seen; bank = o.bank }) steps (c.cleans ++ c.rest)
-      (subst (λ (n : ℕ). IsOnFragment y.plan code.thread places (on_machine y.runs.program w thread o.environment)
-      (record { exit = o.exit; node = t.graph_thread.at; seen = seen; bank = o.bank }) n (c.cleans ++ c.rest)) is o.fragment)
 
   -- at its end, where the thread makes a call
   module _ (held : AreHeld w stands.before_commit.ghosts (now_of y b)) (o : OnFragmentNow y s w h stands below) (over : o.steps ≡ 0) where
@@ -95,65 +71,30 @@ module _ (y : System) (s : IsSystem y) (w : World) (h : ℕ) (stands : Simulates
           | inr there ↦
               locks_are_well harts_well.none_is_stuck y.plan code.thread y.runs.program code.program code.is w thread (bare y s w h below)
               t.graph_thread.at mutex next
-              seen o.bank [] there.0 fragment there.1
+              seen o.side [] there.0 fragment there.1
         ]
 
     gives : (from mutex : ℕ) → o.exit ≡ Gives from mutex → IsFree y w thread
     gives from mutex is =
         unlocks_are_well harts_well.none_is_stuck y.plan code.thread y.runs.program code.program code.is w thread (bare y s w h below) from mutex
         t.graph_thread.at seen
-        o.bank [] (calls.giving y s w h stands below held from mutex o over is) (calls.owns y s w h stands below held from mutex o over is)
+        o.side [] (calls.giving y s w h stands below held from mutex o over is) (calls.owns y s w h stands below held from mutex o over is)
 
     ends : o.exit ≡ Ends → IsFree y w thread
     ends is =
         ends_are_well harts_well.none_is_stuck y.plan code.thread y.runs.program code.program code.is w thread (bare y s w h below)
-        t.graph_thread.at seen o.bank []
+        t.graph_thread.at seen o.side []
         (calls.ending y s w h stands below held o over is)
         (at_calls.none_from thread 0 w.holders (calls.none_here y s w h stands below held o over is))
 
-    at_call : (exit : ExitPoint) → moving.IsCalling y s w h stands below exit → o.exit ≡ exit → IsFree y w thread
-    at_call _ (moving.asks mutex next) is = asks mutex next is
-    at_call _ (moving.gives from mutex) is = gives from mutex is
-    at_call _ moving.ends is = ends is
+    by_call : (exit : ExitPoint) → moving.IsCalling y s w h stands below exit → o.exit ≡ exit → IsFree y w thread
+    by_call _ (moving.asks mutex next) is = asks mutex next is
+    by_call _ (moving.gives from mutex) is = gives from mutex is
+    by_call _ moving.ends is = ends is
 
-  -- at the code of a node that takes no mutex
-  module _ (marks : MarksPass) (core : AtCoreNow y s w h stands below)
-      (none : (is : Node) (mutex next : ℕ) → NodeAt y.plan.graph t.graph_thread.at is → is.action ≢ Lock mutex next) where
-    node : (is : Node) × NodeAt (lowered (flat_of y)) t.graph_thread.at is
-    node = found y s w h stands below core marks none
-
-    at_mark : (environment : MarkedEnvironment) (effect : a.Effect) →
-        IsAtSomeMark y.plan code.thread places (on_machine y.runs.program w thread environment) t.graph_thread.at seen core.bank core.registers effect →
-        IsFree y w thread
-    at_mark environment effect m =
-        marks_are_well harts_well.none_is_stuck y.plan code.thread places y.runs.program w thread environment effect
-        (stage_after y.plan code.thread places t.graph_thread.at seen core.bank effect) m.steps m.effects m.at
-
-    at_quiet : (z : Action) → node.0.action ≡ z → (effect : a.Effect) → effect_of z seen ≡ Some effect → is_quiet effect ≡ true → IsFree y w thread
-    at_quiet z is effect does quiet =
-        at_mark _ effect (quietly.mark y s w h stands below core marks node.0 node.1 effect (ap (λ (x : Action). effect_of x seen) is ∙ does) quiet)
-
-    by_action : (z : Action) → node.0.action ≡ z → IsFree y w thread
-    by_action (Eval (e.ToLocal local kind) value next) is = at_quiet _ is _ refl refl
-    by_action (Eval (e.ToVariable place variable kind) value next) is = at_quiet _ is _ refl refl
-    by_action (Eval (e.ToElement place variable kind index) value next) is = at_quiet _ is _ refl refl
-    by_action (Store variable kind next) is =
-        let owed = owes_here (flat_of y) s.plan.formed (now_of y b) (now b.config) thread (matches_now y s b) t.graph_thread t.walks node.0 node.1
-        (record { variable = variable; kind = kind; next = next; is = is }) in
-        at_mark _ _ (making.mark y s w h stands below core marks node.0 node.1 variable kind next is owed.0 owed.1)
-    by_action (Test condition holds fails) is = at_quiet _ is _ refl refl
-    by_action (Lock mutex next) is =
-        absurd (none node.0 mutex next (subst (λ (g : Graph). NodeAt g t.graph_thread.at node.0) (sym s.plan.lowered) node.1) is)
-    by_action (Unlock mutex next) is = at_mark _ _ (unlocking.mark y s w h stands below core marks node.0 node.1 mutex next is)
-    by_action End is = at_quiet _ is _ refl refl
-
-    at_core : IsFree y w thread
-    at_core = by_action node.0.action refl
-
-  when_ready : MarksPass → AreHeld w stands.before_commit.ghosts (now_of y b) → IsReadyToStep y s w h stands below → IsFree y w thread
-  when_ready marks held (moving.on_fragment o steps is) = on_fragment o steps is
-  when_ready marks held (moving.calls o over calling) = at_call held o over o.exit calling refl
-  when_ready marks held (moving.at_core core none) = at_core marks core none
+  by_where : AreHeld w stands.before_commit.ghosts (now_of y b) → IsWhere y s w h stands below → IsFree y w thread
+  by_where held (on_run r) = harts_well.none_is_stuck y.runs.program w thread (harts.on_run r.run r.agrees)
+  by_where held (at_call o over calling) = by_call held o over o.exit calling refl
 
 -- ---- Whichever hart
 
@@ -163,7 +104,7 @@ module _ (marks : MarksPass) (y : System) (s : IsSystem y) (w : World) (stands :
       let r = runs_ready y s w h stands i in
       let before_commit = r.stands.before_commit in
       let held = (runs_held y s w before_commit.abstract before_commit.ghosts h before_commit.sound i before_commit.locks).1 in
-      subst (λ (n : ℕ). IsFree y w n) (s.codes.number h r.below) (when_ready y s w h r.stands r.below marks held r.ready)
+      subst (λ (n : ℕ). IsFree y w n) (s.codes.number h r.below) (by_where y s w h r.stands r.below held (is_where y s w h r.stands r.below marks r.ready))
 
   by_phase : (phase : Phase) → IsInPhase w h phase → IsFree y w h
   by_phase Take i = harts_well.none_is_stuck y.runs.program w h (harts.apart Take refl i)

@@ -150,7 +150,8 @@ module _ (y : System) (s : IsSystem y) (w : World) (b : AbstractRun y) (code : C
 
     -- what it answers the thread guards, in any state where it guards what it reads
     pub answers_guarded : (next : AbstractRun y) (c : ThreadGhost) →
-        ((one : Element) → Contains ones one → Guards (flat_of y) (now next.config) code.thread.number one.variable) → AnswersGuarded y next code c reading
+        ((one : Element) → Contains ones one → Guards (flat_of y) (now next.config) code.thread.number one.variable one.element) →
+        AnswersGuarded y next code c reading
     answers_guarded next c guards address bytes value e =
         let r = read_of address bytes value e in
         record {
@@ -185,7 +186,7 @@ module _ (y : System) (s : IsSystem y) (w : World) (b : AbstractRun y) (code : C
     reads_here : (one : Element) → Contains ones one → ReadsHere (flat_of y) (kept_of y b) b.config code.thread.number one
     reads_here one of = record { going = going; graph_thread = graph_thread; found = found; node = node; at = at; reads = of }
 
-    pub guards_here : (one : Element) → Contains ones one → Guards (flat_of y) (now b.config) code.thread.number one.variable
+    pub guards_here : (one : Element) → Contains ones one → Guards (flat_of y) (now b.config) code.thread.number one.variable one.element
     guards_here one of =
         let r = (resumed y s b).resumed in
         readers_guard (flat_of y) b.origin b.config b.schedule code.thread.number one s.plan.formed r.invariant r.kept (reads_here one of)

@@ -22,27 +22,37 @@ use Rattle.crash_simulation.specs.Systems.{System, IsSystem, places_of, thread_c
 use Rattle.crash_simulation.specs.AbstractRuns.{AbstractRun, kept_of, now_of}
 use Rattle.crash_simulation.specs.ThreadGhosts.{ThreadGhost, record_kept, IsInAttempt, InPhase, IsFlushed, ThreadInv}
 use Rattle.crash_simulation.specs.SimulationRelation.{AreHeld, AreLocked, Simulates}
-use Rattle.crash_simulation.specs.InstructionSteps.{StepsOrStutters, MayStore, with_ghost, begins, IsCounted, Releases, OwnStep}
+use Rattle.crash_simulation.specs.InstructionSteps.{StepsOrStutters, MayStore, with_ghost, begins, IsCounted, Releases, OwnStep, AtCoreNow, thread_of}
 use Rattle.crash_simulation.proofs.LocksAfterStep.{own_ghost, other_ghost, GoneOn, locked_after}
 
--- the ghost state of a thread on its way between boundaries, with these cleans ahead
-abbrev pub going : ThreadGhost → (cleans : List Effect) → ThreadGhost
-going c cleans = record { old = c.old; new = c.new; rest = []; committed = true; cleans = cleans; giving = None }
+-- the ghost state of a thread on its way between boundaries, with these cleans and steps ahead
+abbrev pub going : ThreadGhost → (cleans : List Effect) → (before_mark : ℕ) → ThreadGhost
+going c cleans before_mark =
+    record { old = c.old; new = c.new; rest = []; committed = true; cleans = cleans; giving = None; before_mark = before_mark }
 
 -- ---- The step
 
-module _ (y : System) (s : IsSystem y) (w : World) (h : ℕ) (stands : Simulates y s w) (below : h < thread_count y) where
+-- a hart of a machine that simulates an abstract run, at the code of its thread's node
+pub record AtNode (y : System) (s : IsSystem y) (w : World) (h : ℕ) : Type 0 where
+  pub stands : Simulates y s w
+  pub below : h < thread_count y
+  pub core : AtCoreNow y s w h stands below
+
+module _ {y : System} {s : IsSystem y} {w : World} {h : ℕ} (site : AtNode y s w h) where
+  abbrev pub own_thread : ThreadInv y w site.stands.before_commit.abstract (s.codes.each h site.below) (site.stands.before_commit.ghosts h)
+  own_thread = thread_of y s w h site.stands site.below
+
   abbrev pub code : Code y.plan
-  code = s.codes.each h below
+  code = s.codes.each h site.below
 
   abbrev pub number : ℕ
   number = code.thread.number
 
   abbrev pub abstract : AbstractRun y
-  abstract = stands.before_commit.abstract
+  abstract = site.stands.before_commit.abstract
 
   abbrev pub ghosts : ℕ → ThreadGhost
-  ghosts = stands.before_commit.ghosts
+  ghosts = site.stands.before_commit.ghosts
 
   abbrev pub ghost : ThreadGhost
   ghost = ghosts h
@@ -51,7 +61,7 @@ module _ (y : System) (s : IsSystem y) (w : World) (h : ℕ) (stands : Simulates
   after = after_event y.runs.program w (Step number)
 
   pub same_number : number ≡ h
-  same_number = s.codes.number h below
+  same_number = s.codes.number h site.below
 
   -- OwnStep, of the thread's number
   pub record StepOf (k : ℕ) : Type 0 where
@@ -66,11 +76,11 @@ module _ (y : System) (s : IsSystem y) (w : World) (h : ℕ) (stands : Simulates
     pub counted : IsCounted y w abstract k (begins led) ghost new
     pub released : Releases y w k ghost new
 
-  pub own_step : StepOf number → OwnStep y s w h stands
+  pub own_step : StepOf number → OwnStep y s w h site.stands
   own_step o =
       let p : StepOf h = subst StepOf same_number o in
       record {
-        below = below;
+        below = site.below;
         next = p.next;
         led = p.led;
         memory = p.memory;
@@ -91,8 +101,8 @@ module _ (y : System) (s : IsSystem y) (w : World) (h : ℕ) (stands : Simulates
       (AreHeld w ghosts (now_of y abstract) → AreHeld after (with_ghost ghosts number new) (now_of y next)) →
       AreLocked y after next (with_ghost ghosts number new)
   locks_after next new hart later here runs there still may held =
-      locked_after y s w abstract ghosts number stands.before_commit.sound (record { hart = hart; here = here; phase_is = runs }) next new later there
-      (subst GoneOn (sym still) tt) may stands.before_commit.locks held
+      locked_after y s w abstract ghosts number site.stands.before_commit.sound (record { hart = hart; here = here; phase_is = runs }) next new later there
+      (subst GoneOn (sym still) tt) may site.stands.before_commit.locks held
 
   -- where holders stay, and the thread gives no mutex back
   pub held_still : (next : AbstractRun y) (new : ThreadGhost) → after.holders ≡ w.holders → (now_of y next).holders ≡ (now_of y abstract).holders →
@@ -124,22 +134,23 @@ module _ (y : System) (s : IsSystem y) (w : World) (h : ℕ) (stands : Simulates
   -- ---- The thread, between boundaries
 
   module _ (next : AbstractRun y) (same : kept_of y next ≡ kept_of y abstract) (goes : IsInAttempt y abstract code ghost) (cleans : List Effect)
+      (before_mark : ℕ)
       (clean : (effect : Effect) → Contains cleans effect → is_clean effect ≡ true) (elsewhere : IsElsewhere y.runs.program w number number)
       (graph_thread : GraphThread) (walks : slice_get (now_of y next).graph_threads number ≡ Some graph_thread) where
     log_after : LogInv number ghost.old ghost.new after []
     log_after =
-        steps_keep y.runs.program number number ghost.old ghost.new w [] stands.before_commit.sound
-        (subst (λ (rest : List Effect). LogInv number ghost.old ghost.new w rest) goes.rest (stands.before_commit.each h below).log) elsewhere
+        steps_keep y.runs.program number number ghost.old ghost.new w [] site.stands.before_commit.sound
+        (subst (λ (rest : List Effect). LogInv number ghost.old ghost.new w rest) goes.rest (site.stands.before_commit.each h site.below).log) elsewhere
 
     pub thread_going : ((hart : Hart) → slice_get after.harts number ≡ Some hart →
-        InPhase y after next code (going ghost cleans) hart graph_thread hart.phase) →
+        InPhase y after next code (going ghost cleans before_mark) hart graph_thread hart.phase) →
         ((hart : Hart) → slice_get after.harts number ≡ Some hart → (v e : ℕ) →
-        Writes next.config.kept number (attempt_of next.config number).done v e → IsFlushed y after next code (going ghost cleans) hart v e) →
-        ThreadInv y after next code (going ghost cleans)
+        Writes next.config.kept number (attempt_of next.config number).done v e → IsFlushed y after next code (going ghost cleans before_mark) hart v e) →
+        ThreadInv y after next code (going ghost cleans before_mark)
     thread_going phase flushed =
         let kept : record_kept ghost ≡ ghost.new = cond-true ghost.committed ghost.new ghost.old goes.committed in
         let told : Describes y.plan code (kept_of y abstract) ghost.new =
-        subst (λ (r : Record). Describes y.plan code (kept_of y abstract) r) kept (stands.before_commit.each h below).describes in
+        subst (λ (r : Record). Describes y.plan code (kept_of y abstract) r) kept (site.stands.before_commit.each h site.below).describes in
         record {
           log = log_after;
           no_sooner = λ _. ends_committed number ghost.old ghost.new (config_of after log_after.hart []) log_after.log refl;

@@ -1,5 +1,5 @@
 -- A hart that executes instructions is in a fragment, at a call, or at the code of a node that takes no mutex.
-use Rattle.std.proofs.Common.{◌≡◌, ◌≢◌, ◌⊎◌, inl, inr, ⊎_elim, refl, ℕ, zero, suc, ◌-◌, ◌/◌, ◌<◌, List, [], ◌∷◌, ◌++◌}
+use Rattle.std.proofs.Common.{◌≡◌, ◌≢◌, ◌⊎◌, inl, inr, ⊎_elim, refl, ℕ, zero, suc, ◌+◌, ◌*◌, ◌/◌, ◌<◌, ◌≤◌, List, [], ◌∷◌, ◌++◌, length}
 use Rattle.std.proofs.Common.{ap, ap₂, arith, sym, ◌∙◌, subst, Option, Some, None, Bool, true, false}
 use Rattle.std.specs.Prelude.{slice_get, Contains, not, ◌&&◌, if◌then◌else◌}
 use Rattle.std.specs.List.{list_any}
@@ -14,9 +14,9 @@ use Rattle.rv64_isa.specs.declared.phase.Phase.{Phase}
 use Rattle.rv64_isa.specs.declared.phase.Phase.TheVariants.{Run}
 use Rattle.rv64_isa.specs.Rows.{Effect, Cleans}
 use Rattle.rv64_isa.specs.Machine.{Hart, World}
-use Rattle.boundary_code.specs.Boundaries.{Boundary, boundary_effects}
-use Rattle.code_runs.specs.CodeTraces.{MarkedEnvironment}
-use Rattle.node_code.specs.Pieces.{bank_after}
+use Rattle.boundary_code.specs.Boundaries.{Boundary, boundary_effects, side_after}
+use Rattle.code_runs.specs.CodeTraces.{MarkedEnvironment, seen_effects}
+use Rattle.hart_runs.specs.RunSteps.{cleans_in, steps_left}
 use Rattle.flow_graph.specs.Nodes.{Action, Eval, Store, Test, Lock, Unlock, End, Node, Graph}
 use Rattle.flow_graph.specs.Lowering.{lowered, threads_nodes}
 use Rattle.flow_graph.specs.Actions as a
@@ -26,29 +26,32 @@ use Rattle.flow_graph.specs.Liveness.{NodeAt}
 use Rattle.flow_graph.proofs.Public.{nodes_at, at_nodes, found_in, contains_none, node_shaped, node_at}
 use Rattle.region_attempts.proofs.Public.{StoresHere, writing_stores}
 use Rattle.recovery_semantics.specs.Events.{IsGoing}
-use Rattle.log_states.specs.Logs.{Record}
+use Rattle.log_states.specs.Logs.{Record, IsSideOf}
 use Rattle.log_states.specs.Stages.{is_store}
 use Rattle.log_states.specs.Laws.{recorded_by}
 use Rattle.log_states.specs.LogInvariant.{LogInv}
-use Rattle.log_states.proofs.Public.{offset_follows, begins_uncommitted, boundaries_fence, begins_standing, boundary_stores}
+use Rattle.log_states.proofs.Public.{side_follows, begins_uncommitted, boundaries_fence, begins_standing, boundary_stores}
 use Rattle.hart_runs.specs.Calls.{IsInPhase}
 use Rattle.thread_code.specs.RegistersAtNodes.{IsAnswered, source_of}
 use Rattle.thread_code.specs.NodeCodeEffects.{Places, Entrance, keeping, kind_at}
 use Rattle.thread_code.specs.Programs.{IsNodeCode}
 use Rattle.thread_runs.specs.CodeFragments as ways
-use Rattle.thread_runs.specs.CodeFragments.{ExitPoint, Arrives, Keeps, Asks, Took, IsOnFragment, IsAtCore, on_machine}
+use Rattle.thread_runs.specs.CodeFragments.{ExitPoint, Arrives, Keeps, Asks, Took, IsOnFragment, on_machine}
 use Rattle.thread_runs.specs.Laws.{IsOnSomeFragment}
-use Rattle.thread_runs.proofs.Public.{arrivals_end, took_end, at_end, nodes_begin}
+use Rattle.thread_runs.proofs.Public.{arrivals_end, took_end, at_end, nodes_begin, cleans_on}
+use Rattle.crash_simulation.specs.StepsToMark.{weight, call_weight, entry_ahead, core_ahead, beyond, IsSoon}
+use Rattle.crash_simulation.proofs.StepsBetweenMarks.{weight_is}
+use Rattle.crash_simulation.proofs.StepsAfterMarks.{core_less, less_soon}
 use Rattle.recovered_threads.specs.RecordDescriptions.{Code, Describes, at_chosen}
 use Rattle.recovered_threads.proofs.Public.{same_there}
 use Rattle.crash_simulation.specs.Systems.{System, IsSystem, flat_of, shapes_of, thread_count}
 use Rattle.crash_simulation.specs.AbstractRuns.{AbstractRun, kept_of, now_of}
 use Rattle.crash_simulation.specs.ThreadGhosts as courses
-use Rattle.crash_simulation.specs.ThreadGhosts.{ThreadGhost, InFragment, AtCore, IsRunningThread, InPhase, ExitInv, IsInAttempt, GoesClean}
-use Rattle.crash_simulation.specs.ThreadGhosts.{IsAtBankOf, AnswersGuarded, IsComing, is_reached, is_ahead, ThreadInv, HasCommittedLog}
+use Rattle.crash_simulation.specs.ThreadGhosts.{ThreadGhost, InFragment, IsRunningThread, InPhase, ExitInv, IsInAttempt}
+use Rattle.crash_simulation.specs.ThreadGhosts.{AnswersGuarded, IsComing, is_reached, is_ahead, ThreadInv, HasCommittedLog}
 use Rattle.crash_simulation.specs.SimulationRelation.{Simulates}
 use Rattle.crash_simulation.specs.InstructionSteps as moving
-use Rattle.crash_simulation.specs.InstructionSteps.{thread_of, OnFragmentNow, AtCoreNow, IsCalling, asks, gives}
+use Rattle.crash_simulation.specs.InstructionSteps.{OnFragmentNow, AtCoreNow, IsCalling, asks, gives}
 use Rattle.crash_simulation.specs.InstructionSteps.{ends, is_bound, IsReadyToStep, SimulatesReady, RunsReady}
 use Rattle.crash_simulation.proofs.LoadFreeEnvironment.{bare, bare_agrees, bare_meets, bare_answers, bare_reads, placed, none_ahead, resettled}
 use Rattle.crash_simulation.proofs.Boundaries.{IsAddress, stands_in, store_is, store_ahead, BoundaryIsRecoverable, boundaries_begin}
@@ -143,12 +146,14 @@ pub record KeepsNow (y : System) (w : World) (b : AbstractRun y) (code : Code y.
     (graph_thread : GraphThread) : Type 0 where
   pub environment : MarkedEnvironment
   pub answers : AnswersGuarded y b code c environment
-  pub bank : ℕ
-  pub at_bank : IsAtBankOf y b code c bank
+  pub side : ℕ
+  pub at_side : IsSideOf c.new side
   pub steps : ℕ
   pub fragment : IsOnFragment y.plan code.thread code.is.places (on_machine y.runs.program w code.thread.number environment)
-      (record { exit = Keeps; node = graph_thread.at; seen = seen_by (now_of y b) graph_thread; bank = bank }) steps (c.cleans ++ c.rest)
+      (record { exit = Keeps; node = graph_thread.at; seen = seen_by (now_of y b) graph_thread; side = side }) steps (c.cleans ++ c.rest)
   pub fits : ExitInv y b code c graph_thread Keeps
+  pub soon : IsSoon y code.thread.number c.before_mark
+      (steps_left steps (seen_effects (c.cleans ++ c.rest)) hart.queue + core_ahead y.plan code.is.places graph_thread.at)
 
 abbrev OnKeeps : (y : System) (w : World) → OfThread y w
 OnKeeps y w b code c t = KeepsNow y w b code c t.log.hart t.graph_thread
@@ -159,11 +164,12 @@ fragment_of y w b code c hart graph_thread k = record {
   environment = k.environment;
   answers = k.answers;
   exit = Keeps;
-  bank = k.bank;
-  at_bank = k.at_bank;
+  side = k.side;
+  at_side = k.at_side;
   steps = k.steps;
   fragment = k.fragment;
   fits = k.fits;
+  soon = k.soon;
 }
 
 -- ---- A thread in a machine that simulates an abstract run
@@ -190,9 +196,15 @@ module _ (y : System) (s : IsSystem y) (w : World) (h : ℕ) (stands : Simulates
   abbrev places : Places
   places = code.is.places
 
-  abbrev FragmentWith : MarkedEnvironment → (bank steps : ℕ) → ExitPoint → List Effect → Type 0
-  FragmentWith environment bank steps exit effects = IsOnFragment y.plan code.thread places (on_machine y.runs.program w code.thread.number environment)
-      (record { exit = exit; node = node; seen = seen; bank = bank }) steps effects
+  abbrev FragmentWith : MarkedEnvironment → (side steps : ℕ) → ExitPoint → List Effect → Type 0
+  FragmentWith environment side steps exit effects = IsOnFragment y.plan code.thread places (on_machine y.runs.program w code.thread.number environment)
+      (record { exit = exit; node = node; seen = seen; side = side }) steps effects
+
+  -- in a fragment with so many instructions ahead the hart is as near to its mark as is said
+  abbrev SoonBy : ExitPoint → (steps : ℕ) → Type 0
+  SoonBy exit steps =
+      IsSoon y code.thread.number c.before_mark
+      (steps_left steps (seen_effects (c.cleans ++ c.rest)) t.log.hart.queue + beyond y.plan places exit node)
 
   there : HasNodeThere y t.graph_thread
   there = stands_there y s b code.thread.number t.graph_thread t.walks
@@ -207,8 +219,8 @@ module _ (y : System) (s : IsSystem y) (w : World) (h : ℕ) (stands : Simulates
   core_asks : (core : AtCoreNow y s w h stands below) (mutex next : ℕ) → there.is.action ≡ Lock mutex next → IsReadyToStep y s w h stands below
   core_asks core mutex next e =
       let some : IsOnSomeFragment y.plan code.thread places (on_machine y.runs.program w code.thread.number (bare y s w h below))
-      (record { exit = Asks mutex next; node = node; seen = seen; bank = core.bank }) (places.words node) [] =
-      nodes_begin y.plan code.thread y.runs.program code.program code.is w code.thread.number (bare y s w h below) node seen core.bank core.registers there.is
+      (record { exit = Asks mutex next; node = node; seen = seen; side = core.side }) (places.words node) [] =
+      nodes_begin y.plan code.thread y.runs.program code.program code.is w code.thread.number (bare y s w h below) node seen core.side core.registers there.is
       (a.Takes mutex next) (placed y s w h below stands.before_commit.count) (bare_meets y s w h below) (bare_agrees y s w h below) (bare_reads y s w h below)
       there.at (ap (λ (z : Action). effect_of z seen) e)
       (subst (λ (z : Action). IsAnswered (source_of y.plan code.thread seen) (bare y s w h below).around.loads z) (sym e) tt) tt core.core in
@@ -217,12 +229,19 @@ module _ (y : System) (s : IsSystem y) (w : World) (h : ℕ) (stands : Simulates
         environment = bare y s w h below;
         answers = bare_answers y s w h below b c;
         exit = Asks mutex next;
-        bank = core.bank;
-        at_bank = core.at_bank;
+        side = core.side;
+        at_side = core.at_side;
         steps = some.steps;
         fragment = subst (λ (es : List Effect). IsOnFragment y.plan code.thread places (on_machine y.runs.program w code.thread.number (bare y s w h below))
-            (record { exit = Asks mutex next; node = node; seen = seen; bank = core.bank }) some.steps es) (sym none) some.on;
+            (record { exit = Asks mutex next; node = node; seen = seen; side = core.side }) some.steps es) (sym none) some.on;
         fits = core.goes;
+        soon =
+            let whole : core_ahead y.plan places node ≡ 2 * places.words node =
+            weight_is call_weight y.plan places node there.is there.at ∙ ap (λ (z : Action). call_weight z (places.words node)) e in
+            let short = some.short in
+            let soon = core.soon in
+            let no_cleans : cleans_in (seen_effects (c.cleans ++ c.rest)) ≡ 0 = ap (λ (es : List Effect). cleans_in (seen_effects es)) none in
+            less_soon y code.thread.number c.before_mark _ _ core.soon (omega (arith, whole, short, no_cleans));
       } in
       fragment_ready o some.steps refl (asks mutex next)
 
@@ -239,23 +258,24 @@ module _ (y : System) (s : IsSystem y) (w : World) (h : ℕ) (stands : Simulates
 
   -- ---- After the boundary before it
 
-  module _ (environment : MarkedEnvironment) (bank : ℕ) (at_bank : IsAtBankOf y b code c bank) where
+  module _ (environment : MarkedEnvironment) (side : ℕ) (at_side : IsSideOf c.new side) where
     abbrev FragmentTo : ExitPoint → (steps : ℕ) → List Effect → Type 0
-    FragmentTo exit steps effects = FragmentWith environment bank steps exit effects
+    FragmentTo exit steps effects = FragmentWith environment side steps exit effects
 
     -- nothing is ahead at a fragment's end
     none_left : (exit : ExitPoint) → FragmentTo exit 0 (c.cleans ++ c.rest) → c.cleans ++ c.rest ≡ []
     none_left exit fragment = none_ahead y s w h below environment _ (c.cleans ++ c.rest) fragment
 
-    pub keeps_ready : FragmentTo Keeps 0 (c.cleans ++ c.rest) → ExitInv y b code c t.graph_thread Keeps → IsReadyToStep y s w h stands below
-    keeps_ready fragment fits =
+    pub keeps_ready : FragmentTo Keeps 0 (c.cleans ++ c.rest) → ExitInv y b code c t.graph_thread Keeps →
+        IsSoon y code.thread.number c.before_mark (length t.log.hart.queue + core_ahead y.plan places node) → IsReadyToStep y s w h stands below
+    keeps_ready fragment fits soon =
         let going : IsGoing b.config code.thread.number = fits.1 in
         let bounded = fits.2 in
         let rest : c.rest ≡ [] = right_empty c.cleans c.rest (none_left Keeps fragment) in
         let committed : c.committed ≡ true = caught_is_over y w b code c t rest (stands.caught_up h below) in
         core_ready (record {
-          bank = bank;
-          at_bank = at_bank;
+          side = side;
+          at_side = at_side;
           registers = fragment.registers;
           core = record { own = fragment.own; at = at_end w code.thread.number environment _ _ fragment.on; enters = fragment.has };
           goes = record {
@@ -264,51 +284,53 @@ module _ (y : System) (s : IsSystem y) (w : World) (h : ℕ) (stands : Simulates
             execution = bounded.execution;
           };
           fresh = λ k. sym going ∙ bounded.after committed;
+          soon = soon;
         })
 
     -- ---- At the entry of a node with no boundary before it
 
     pub plain_ready : FragmentTo Arrives 0 (c.cleans ++ c.rest) → ExitInv y b code c t.graph_thread Arrives → ¬ (IsChosen y.plan.graph y.plan.boundaries node) →
-        IsReadyToStep y s w h stands below
-    plain_ready fragment fits plain =
+        IsSoon y code.thread.number c.before_mark (length t.log.hart.queue + entry_ahead y.plan places node) → IsReadyToStep y s w h stands below
+    plain_ready fragment fits plain soon =
         let again = resettled y s w h below environment _ (c.cleans ++ c.rest) fragment in
-        let core = (arrivals_end y.plan code.thread y.runs.program code.program code.is w code.thread.number (bare y s w h below) node seen bank []
+        let core = (arrivals_end y.plan code.thread y.runs.program code.program code.is w code.thread.number (bare y s w h below) node seen side []
         (placed y s w h below stands.before_commit.count) (bare_reads y s w h below) there.is there.at again).plain plain in
         core_ready (record {
-          bank = bank;
-          at_bank = at_bank;
+          side = side;
+          at_side = at_side;
           registers = again.registers;
           core = core;
           goes = record { goes = fits.0; cleans = left_empty c.cleans c.rest (none_left Arrives fragment); execution = fits.1 };
           fresh = λ k. absurd (plain k);
+          soon = let less = core_less y.plan places node in less_soon y code.thread.number c.before_mark _ _ soon (omega (arith, less));
         })
 
   -- ---- At the entry of a node with a boundary before it by choice
 
-  module _ (bank : ℕ) (at_bank : IsAtBankOf y b code c bank) (goes : IsInAttempt y b code c) (execution : t.graph_thread.ended ≡ false) (cleans : c.cleans ≡ [])
-      (chosen : IsChosen y.plan.graph y.plan.boundaries node) (i : IsInPhase w h Run)
+  module _ (side : ℕ) (at_side : IsSideOf c.new side) (goes : IsInAttempt y b code c) (execution : t.graph_thread.ended ≡ false) (cleans : c.cleans ≡ [])
+      (chosen : IsChosen y.plan.graph y.plan.boundaries node) (i : IsInPhase w h Run) (soon : SoonBy Arrives 0)
       (fragment : IsOnFragment y.plan code.thread places (on_machine y.runs.program w code.thread.number (bare y s w h below))
-      (record { exit = Arrives; node = node; seen = seen; bank = bank }) 0 []) where
+      (record { exit = Arrives; node = node; seen = seen; side = side }) 0 []) where
     abbrev registers : List ℕ
     registers = fragment.registers
 
     abbrev boundary : Boundary
     boundary = keeping y.plan code.thread places node
 
-    abbrev bank_next : ℕ
-    bank_next = bank_after boundary bank
+    abbrev side_next : ℕ
+    side_next = side_after boundary side
 
     abbrev resume : ℕ
     resume = places.core node
 
     abbrev ahead : List Effect
-    ahead = boundary_effects boundary (1 - bank) resume registers
+    ahead = boundary_effects boundary side resume registers
 
     abbrev new : Record
-    new = recorded_by boundary (1 - bank) resume registers
+    new = recorded_by boundary side resume registers
 
     abbrev ghost : ThreadGhost
-    ghost = record { old = c.new; new = new; rest = ahead; committed = false; cleans = []; giving = None }
+    ghost = record { old = c.new; new = new; rest = ahead; committed = false; cleans = []; giving = None; before_mark = c.before_mark }
 
     -- the boundary's code begins with the store
     address : IsAddress resume
@@ -317,7 +339,7 @@ module _ (y : System) (s : IsSystem y) (w : World) (h : ℕ) (stands : Simulates
         let store = store_ahead y.plan code s.plan (now_of y b) (now_good y s b) t.graph_thread t.walks there.is here.variable here.kind here.next
         there.at here.is in
         let is = store_is y.plan code s.plan (now_of y b) (now_good y s b) t.graph_thread t.walks store.0 store.1 in
-        let m : Entrance = record { environment = bare y s w h below; node = node; seen = seen; bank = bank; registers = registers } in
+        let m : Entrance = record { environment = bare y s w h below; node = node; seen = seen; side = side; registers = registers } in
         let of_node : IsNodeCode y.plan code.thread places node there.is = code.is.code node there.is fragment.own there.at in
         let does : effect_of there.is.action seen ≡ Some (a.Makes store.0 here.next) =
         ap (λ (z : Action). effect_of z seen) here.is
@@ -329,8 +351,8 @@ module _ (y : System) (s : IsSystem y) (w : World) (h : ℕ) (stands : Simulates
         (subst (λ (z : Action). IsAnswered (source_of y.plan code.thread seen) (bare y s w h below).around.loads z) (sym here.is) tt) does is.it.kind kind).0 in
         stands_in y s h below resume storing.instr storing.stands
 
-    begins : BoundaryIsRecoverable y.plan code (now_of y b) node bank resume registers
-    begins = boundaries_begin y.plan code (now_of y b) bank resume registers s.plan (now_orderly y s b) (now_good y s b) (record {
+    begins : BoundaryIsRecoverable y.plan code (now_of y b) node side resume registers
+    begins = boundaries_begin y.plan code (now_of y b) side resume registers s.plan (now_orderly y s b) (now_good y s b) (record {
       graph_thread = t.graph_thread;
       there = t.walks;
       goes_on = execution;
@@ -341,9 +363,9 @@ module _ (y : System) (s : IsSystem y) (w : World) (h : ℕ) (stands : Simulates
     })
 
     log : LogInv code.thread.number c.new new w ahead
-    log = begins_standing boundary c.old c.new bank resume registers w
+    log = begins_standing boundary c.old c.new side resume registers w
         (subst (λ (es : List Effect). LogInv code.thread.number c.old c.new w es) goes.rest t.log)
-        (record { registers = fragment.has.at_bank; is = at_bank }) begins.recoverable
+        (record { registers = fragment.has.at_side; is = at_side }) begins.recoverable
 
     same_hart : log.hart ≡ t.log.hart
     same_hart = same_there (slice_get w.harts code.thread.number) log.hart t.log.hart log.here t.log.here
@@ -354,8 +376,8 @@ module _ (y : System) (s : IsSystem y) (w : World) (h : ℕ) (stands : Simulates
         ap (λ (x : Hart). x.phase) (same_there (slice_get w.harts h) log.hart i.hart (ap (slice_get w.harts) (sym number) ∙ log.here) i.here) ∙ i.phase_is
 
     keeps : IsOnSomeFragment y.plan code.thread places (on_machine y.runs.program w code.thread.number (bare y s w h below))
-        (record { exit = Keeps; node = node; seen = seen; bank = bank_next }) (places.words node) ahead
-    keeps = (arrivals_end y.plan code.thread y.runs.program code.program code.is w code.thread.number (bare y s w h below) node seen bank []
+        (record { exit = Keeps; node = node; seen = seen; side = side_next }) (places.words node) ahead
+    keeps = (arrivals_end y.plan code.thread y.runs.program code.program code.is w code.thread.number (bare y s w h below) node seen side []
         (placed y s w h below stands.before_commit.count) (bare_reads y s w h below) there.is there.at fragment).chosen chosen
 
     -- the fragment up to its end
@@ -363,9 +385,8 @@ module _ (y : System) (s : IsSystem y) (w : World) (h : ℕ) (stands : Simulates
     keeps_now = record {
       environment = bare y s w h below;
       answers = bare_answers y s w h below b ghost;
-      bank = bank_next;
-      at_bank = (offset_follows boundary bank resume registers keeps.on.registers begins.recoverable fragment.has.at_bank.exists keeps.on.has.at_bank.count
-          keeps.on.has.at_bank.zero_is keeps.on.has.at_bank.offset).is;
+      side = side_next;
+      at_side = side_follows boundary side resume registers begins.recoverable;
       steps = keeps.steps;
       fragment = keeps.on;
       fits = (
@@ -373,6 +394,17 @@ module _ (y : System) (s : IsSystem y) (w : World) (h : ℕ) (stands : Simulates
         goes.going,
         record { execution = execution; cleans = refl; gives = refl; before = λ e. tt; after = λ e. absurd (true≢false (sym e)) },
       );
+      soon =
+          let few : cleans_in (seen_effects ahead) ≤ keeps.steps =
+          cleans_on (bare y s w h below) keeps.steps _ _ (seen_effects ahead) keeps.on.on.walks in
+          let short = keeps.short in
+          let queue : length log.hart.queue ≡ length t.log.hart.queue = ap (λ (x : Hart). length x.queue) same_hart in
+          let stores = chosen_stores y s node there.is there.at chosen in
+          let whole : entry_ahead y.plan places node ≡ 2 * places.words node =
+          weight_is weight y.plan places node there.is there.at ∙ ap (λ (z : Action). weight z (places.words node)) stores.is in
+          let none : core_ahead y.plan places node ≡ 0 =
+          weight_is call_weight y.plan places node there.is there.at ∙ ap (λ (z : Action). call_weight z (places.words node)) stores.is in
+          less_soon y code.thread.number c.before_mark _ _ soon (omega (arith, few, short, queue, whole, none));
     }
 
     coming : (u e position : ℕ) → IsComing y w b code c t.log.hart u e position → IsComing y w b code ghost log.hart u e position
@@ -402,50 +434,59 @@ module _ (y : System) (s : IsSystem y) (w : World) (h : ℕ) (stands : Simulates
             position = f.position;
             since = f.since;
             comes = λ since. coming u e f.position (f.comes since);
-            fenced = λ un few. let two = boundaries_fence boundary (1 - bank) resume registers in absurd (omega (arith, two, few));
+            fenced = λ un few. let two = boundaries_fence boundary side resume registers in absurd (omega (arith, two, few));
           };
     }
 
     caught : HasCommittedLog y w b code ghost thread
-    caught = begins_uncommitted boundary (1 - bank) resume registers w.words log.hart.queue
+    caught = begins_uncommitted boundary side resume registers w.words log.hart.queue
 
     -- the boundary has its stores ahead: no steps are bound to it
     unbound : is_bound ghost ≡ is_bound c
-    unbound = ap (λ (some : Bool). not some) (boundary_stores boundary (1 - bank) resume registers)
+    unbound = ap (λ (some : Bool). not some) (boundary_stores boundary side resume registers)
         ∙ sym (ap (λ (done : Bool). not done && not (list_any is_store c.rest)) goes.committed)
 
     begun : SimulatesAnd y s w h below stands (OnKeeps y w)
-    begun = placed_anew y s w h stands below i (OnKeeps y w) ghost thread caught (sym goes.giving) unbound
-        (none_leaving ghost refl ∙ sym (none_leaving c goes.giving)) keeps_now
+    begun = placed_anew y s w h stands below i (OnKeeps y w) ghost thread caught
+        (record { bound = unbound; leaving = none_leaving ghost refl ∙ sym (none_leaving c goes.giving); giving = sym goes.giving; ahead = refl }) keeps_now
 
   -- ---- In a fragment, whatever it leads to
 
-  module _ (environment : MarkedEnvironment) (answers : AnswersGuarded y b code c environment) (bank : ℕ) (at_bank : IsAtBankOf y b code c bank)
+  module _ (environment : MarkedEnvironment) (answers : AnswersGuarded y b code c environment) (side : ℕ) (at_side : IsSideOf c.new side)
       (steps : ℕ) where
     abbrev FragmentBy : ExitPoint → Type 0
-    FragmentBy exit = FragmentWith environment bank steps exit (c.cleans ++ c.rest)
+    FragmentBy exit = FragmentWith environment side steps exit (c.cleans ++ c.rest)
 
-    abbrev now : (exit : ExitPoint) → FragmentBy exit → ExitInv y b code c t.graph_thread exit → OnFragmentNow y s w h stands below
-    now exit fragment fits =
-        record { environment = environment; answers = answers; exit = exit; bank = bank; at_bank = at_bank; steps = steps; fragment = fragment; fits = fits }
+    abbrev now : (exit : ExitPoint) → FragmentBy exit → ExitInv y b code c t.graph_thread exit → SoonBy exit steps → OnFragmentNow y s w h stands below
+    now exit fragment fits soon = record {
+      environment = environment;
+      answers = answers;
+      exit = exit;
+      side = side;
+      at_side = at_side;
+      steps = steps;
+      fragment = fragment;
+      fits = fits;
+      soon = soon;
+    }
 
-  keeps_by : (environment : MarkedEnvironment) (answers : AnswersGuarded y b code c environment) (bank : ℕ) (at_bank : IsAtBankOf y b code c bank) (steps : ℕ)
-      (fragment : FragmentBy environment answers bank at_bank steps Keeps) → ExitInv y b code c t.graph_thread Keeps → IsReadyToStep y s w h stands below
-  keeps_by environment answers bank at_bank zero fragment fits = keeps_ready environment bank at_bank fragment fits
-  keeps_by environment answers bank at_bank (suc n) fragment fits = moving.on_fragment (now environment answers bank at_bank (suc n) Keeps fragment fits) n refl
+  keeps_by : (environment : MarkedEnvironment) (answers : AnswersGuarded y b code c environment) (side : ℕ) (at_side : IsSideOf c.new side) (steps : ℕ)
+      (fragment : FragmentBy environment answers side at_side steps Keeps) → ExitInv y b code c t.graph_thread Keeps → SoonBy Keeps steps →
+      IsReadyToStep y s w h stands below
+  keeps_by environment answers side at_side zero fragment fits soon =
+      keeps_ready environment side at_side fragment fits (less_soon y code.thread.number c.before_mark _ _ soon (omega arith))
+  keeps_by environment answers side at_side (suc n) fragment fits soon =
+      moving.on_fragment (now environment answers side at_side (suc n) Keeps fragment fits soon) n refl
 
   pub keeps_then : KeepsNow y w b code c t.log.hart t.graph_thread → IsReadyToStep y s w h stands below
-  keeps_then k = keeps_by k.environment k.answers k.bank k.at_bank k.steps k.fragment k.fits
+  keeps_then k = keeps_by k.environment k.answers k.side k.at_side k.steps k.fragment k.fits k.soon
 
 ready_with : (y : System) (s : IsSystem y) (w : World) (h : ℕ) (below : h < thread_count y) (old : Simulates y s w) →
     SimulatesAnd y s w h below old (OnKeeps y w) → SimulatesReady y s w h old
 ready_with y s w h below old z =
     record {
       stands = z.stands;
-      abstract = z.abstract;
-      bound = z.bound;
-      leaving = z.leaving;
-      giving = z.giving;
+      similar = z.similar;
       below = below;
       ready = keeps_then y s w h z.stands below z.so;
     }
@@ -454,32 +495,39 @@ module _ (y : System) (s : IsSystem y) (w : World) (h : ℕ) (stands : Simulates
   abbrev Of : ExitPoint → (steps : ℕ) → Type 0
   Of exit steps =
       (environment : MarkedEnvironment) (answers : AnswersGuarded y (b y s w h stands below) (code y s w h stands below) (c y s w h stands below) environment)
-      (bank : ℕ) (at_bank : IsAtBankOf y (b y s w h stands below) (code y s w h stands below) (c y s w h stands below) bank) →
-      FragmentBy y s w h stands below environment answers bank at_bank steps exit →
+      (side : ℕ) (at_side : IsSideOf (c y s w h stands below).new side) →
+      FragmentBy y s w h stands below environment answers side at_side steps exit →
       ExitInv y (b y s w h stands below) (code y s w h stands below) (c y s w h stands below) (t y s w h stands below).graph_thread exit →
-      SimulatesReady y s w h stands
+      SoonBy y s w h stands below exit steps → SimulatesReady y s w h stands
 
   as_it_is : IsReadyToStep y s w h stands below → SimulatesReady y s w h stands
-  as_it_is ready = record { stands = stands; abstract = refl; bound = λ n. refl; leaving = λ n. refl; giving = λ n. refl; below = below; ready = ready }
+  as_it_is ready = record {
+    stands = stands;
+    similar = record { abstract = refl; same = λ n. record { bound = refl; leaving = refl; giving = refl; ahead = refl } };
+    below = below;
+    ready = ready;
+  }
 
   -- before its end
   goes_on : (exit : ExitPoint) (n : ℕ) → Of exit (suc n)
-  goes_on exit n environment answers bank at_bank fragment fits =
-      as_it_is (moving.on_fragment (now y s w h stands below environment answers bank at_bank (suc n) exit fragment fits) n refl)
+  goes_on exit n environment answers side at_side fragment fits soon =
+      as_it_is (moving.on_fragment (now y s w h stands below environment answers side at_side (suc n) exit fragment fits soon) n refl)
 
   calling : (exit : ExitPoint) (steps : ℕ) → IsCalling y s w h stands below exit → Of exit steps
-  calling exit steps calls environment answers bank at_bank fragment fits =
-      as_it_is (fragment_ready y s w h stands below (now y s w h stands below environment answers bank at_bank steps exit fragment fits) steps refl calls)
+  calling exit steps calls environment answers side at_side fragment fits soon =
+      as_it_is (fragment_ready y s w h stands below (now y s w h stands below environment answers side at_side steps exit fragment fits soon) steps refl calls)
 
   arrived : Of Arrives 0
-  arrived environment answers bank at_bank fragment fits =
+  arrived environment answers side at_side fragment fits soon =
       let is = there y s w h stands below in
       elim (chosen_or_not y (t y s w h stands below).graph_thread.at is.is is.at) [
         | inl chosen ↦
-            let none = none_left y s w h stands below environment bank at_bank Arrives fragment in
-            ready_with y s w h below stands (begun y s w h stands below bank at_bank fits.0 fits.1 (left_empty _ _ none) chosen i
+            let none = none_left y s w h stands below environment side at_side Arrives fragment in
+            ready_with y s w h below stands (begun y s w h stands below side at_side fits.0 fits.1 (left_empty _ _ none) chosen i soon
             (resettled y s w h below environment _ _ fragment))
-        | inr plain ↦ as_it_is (plain_ready y s w h stands below environment bank at_bank fragment fits plain)
+        | inr plain ↦
+            as_it_is (plain_ready y s w h stands below environment side at_side fragment fits plain
+            (less_soon y (code y s w h stands below).thread.number (c y s w h stands below).before_mark _ _ soon (omega arith)))
       ]
 
   arrives : (steps : ℕ) → Of Arrives steps
@@ -488,25 +536,27 @@ module _ (y : System) (s : IsSystem y) (w : World) (h : ℕ) (stands : Simulates
 
   -- after the boundary that follows a lock
   took : (from : ℕ) → Of (Took from) 0
-  took from environment answers bank at_bank fragment bounded =
+  took from environment answers side at_side fragment bounded soon =
       let number = (code y s w h stands below).thread.number in
-      let none = none_left y s w h stands below environment bank at_bank (Took from) fragment in
+      let none = none_left y s w h stands below environment side at_side (Took from) fragment in
       let rest = right_empty (c y s w h stands below).cleans (c y s w h stands below).rest none in
       let committed = caught_is_over y w _ _ _ (t y s w h stands below) rest (stands.caught_up h below) in
-      let some = took_end y.plan _ y.runs.program _ (code y s w h stands below).is w number (bare y s w h below) from _ _ bank []
+      let some = took_end y.plan _ y.runs.program _ (code y s w h stands below).is w number (bare y s w h below) from _ _ side []
       (placed y s w h below stands.before_commit.count) (resettled y s w h below environment _ _ fragment) in
       let none_begun = bounded.after committed in
       let going : IsGoing stands.before_commit.abstract.config number =
       ⊎_elim (λ e. e) (λ e. absurd (let more = e.0 in omega (arith, more, none_begun)))
       ((resumed y s stands.before_commit.abstract).resumed.invariant.tried number).begun in
-      arrives some.steps (bare y s w h below) (bare_answers y s w h below _ _) bank at_bank
-      (subst (λ (es : List Effect). FragmentWith y s w h stands below (bare y s w h below) bank some.steps Arrives es) (sym none) some.on)
+      arrives some.steps (bare y s w h below) (bare_answers y s w h below _ _) side at_side
+      (subst (λ (es : List Effect). FragmentWith y s w h stands below (bare y s w h below) side some.steps Arrives es) (sym none) some.on)
       (record { going = going; rest = rest; giving = bounded.gives; committed = committed }, bounded.execution)
+      (let short = some.short in less_soon y number (c y s w h stands below).before_mark _ _ soon (omega (arith, short)))
 
   by_exit : (exit : ExitPoint) (steps : ℕ) → Of exit steps
   by_exit Arrives steps = arrives steps
   by_exit Keeps steps =
-      λ environment answers bank at_bank fragment fits. as_it_is (keeps_by y s w h stands below environment answers bank at_bank steps fragment fits)
+      λ environment answers side at_side fragment fits soon.
+      as_it_is (keeps_by y s w h stands below environment answers side at_side steps fragment fits soon)
   by_exit (Asks mutex next) steps = calling (Asks mutex next) steps (asks mutex next)
   by_exit (Took from) zero = took from
   by_exit (Took from) (suc n) = goes_on (Took from) n
@@ -515,7 +565,7 @@ module _ (y : System) (s : IsSystem y) (w : World) (h : ℕ) (stands : Simulates
 
   in_run : IsRunningThread y w (b y s w h stands below) (code y s w h stands below) (c y s w h stands below) (t y s w h stands below).log.hart
       (t y s w h stands below).graph_thread → SimulatesReady y s w h stands
-  in_run (courses.on_fragment o) = by_exit o.exit o.steps o.environment o.answers o.bank o.at_bank o.fragment o.fits
+  in_run (courses.on_fragment o) = by_exit o.exit o.steps o.environment o.answers o.side o.at_side o.fragment o.fits o.soon
   in_run (courses.at_core core) = as_it_is (core_ready y s w h stands below core)
 
   ready : SimulatesReady y s w h stands

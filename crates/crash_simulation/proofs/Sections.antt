@@ -6,7 +6,6 @@ use Rattle.std.proofs.lemmas.Bool.{true≢false}
 use Rattle.ido_base.specs.Locks.{holds_none}
 use Rattle.c_tree.specs.Flats as f
 use Rattle.c_tree.specs.Source as m
-use Rattle.c_tree.specs.Source.{source_step}
 use Rattle.c_tree.specs.LockDiscipline.{Held}
 use Rattle.source_machine.specs.Discipline.{StateKeeps}
 use Rattle.source_machine.specs.Mutexes.{locks, unlocks, held_by}
@@ -39,7 +38,7 @@ pub between_same : (s z : m.State) (u : ℕ) → held_by u z.holders ≡ held_by
 between_same s z u same =
     none_where u z.holders ∙ (ap (λ (h : Held). is_empty (locks_held h)) same ∙ sym (none_where u s.holders))
 
-none_ends : (before later : Bool) → later ≡ before → one_if (not before && later) ≡ 0
+pub none_ends : (before later : Bool) → later ≡ before → one_if (not before && later) ≡ 0
 none_ends true later same = refl
 none_ends false true same = absurd (true≢false same)
 none_ends false false same = refl
@@ -56,10 +55,10 @@ module _ (s : m.State) (t n : ℕ) (runs : m.runs_from s (replicate (suc n) t) �
   split : replicate n t ++ t ∷ [] ≡ replicate (suc n) t
   split = last_first n t [] ∙ more_empty (replicate (suc n) t)
 
-  fewer_run : m.runs_from s (replicate n t) ≡ true
+  pub fewer_run : m.runs_from s (replicate n t) ≡ true
   fewer_run = prefix_runs s (replicate n t) (t ∷ []) (ap (m.runs_from s) split ∙ runs)
 
-  one_more : (u : ℕ) → m.ended_from s (replicate (suc n) t) u ≡ m.ended_from s (replicate n t) u + m.ends_section (solo s t n) (solo s t (suc n)) u
+  pub one_more : (u : ℕ) → m.ended_from s (replicate (suc n) t) u ≡ m.ended_from s (replicate n t) u + m.ends_section (solo s t n) (solo s t (suc n)) u
   one_more u =
       let l = last_step s t n runs in
       let one : m.ended_from (solo s t n) (t ∷ []) u ≡ m.ends_section (solo s t n) l.next u + 0 = ap (ends_by [] (solo s t n) u) l.is in

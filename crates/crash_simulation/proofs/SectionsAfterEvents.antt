@@ -1,8 +1,8 @@
 -- The sections that are kept and the machine's releases, where it simulates before commit after an event, or simulates the same abstract run as before.
 use Rattle.std.proofs.Common.{◌≡◌, ◌≢◌, ◌⊎◌, inl, inr, refl, ℕ, suc, ◌+◌, ◌<◌, List, [], ap, sym, ◌∙◌, subst, arith, Option, Some, None}
-use Rattle.std.proofs.Common.{Bool, true, false, eq-eqb}
+use Rattle.std.proofs.Common.{Bool, true, false}
 use Rattle.std.specs.Prelude.{slice_get, is_some, ◌&&◌, ◌==◌, if◌then◌else◌}
-use Rattle.std.proofs.lemmas.Bool.{true≢false, cases_Bool, and_parts, cond-true, cond-false, eqb-true, ne_eqb}
+use Rattle.std.proofs.lemmas.Bool.{true≢false, cases_Bool, and_parts, eqb-true}
 use Rattle.std.proofs.lemmas.List.{append-nil}
 use Rattle.ido_base.specs.declared.event.Event.{Event}
 use Rattle.ido_base.specs.declared.event.Event.TheVariants.{Step, Evict, Crash}
@@ -20,18 +20,15 @@ use Rattle.log_states.specs.Stages.{left_by_crash}
 use Rattle.recovered_threads.specs.RecoveryStates.{Gathers}
 use Rattle.recovered_threads.proofs.Public.{same_there, same_or_other, holds_none_is}
 use Rattle.crash_simulation.specs.Systems.{System, IsSystem, thread_count}
-use Rattle.crash_simulation.specs.AbstractRuns.{AbstractRun}
-use Rattle.crash_simulation.specs.ThreadGhosts.{ThreadGhost}
 use Rattle.crash_simulation.specs.SimulationRelation.{Simulates}
-use Rattle.crash_simulation.specs.InstructionSteps.{is_leaving, Releases, nothing_released, last_released, with_ghost, OwnStep, SimulatesReady}
-use Rattle.crash_simulation.specs.ReleasedSections.{one_if, sections_kept, IsReleasedOf, in_step, cut_off, AreReleased}
+use Rattle.crash_simulation.specs.InstructionSteps.{is_leaving, Releases, nothing_released, last_released, OwnStep}
+use Rattle.crash_simulation.specs.ReleasedSections.{one_if, sections_kept, IsReleasedOf, in_step, cut_off}
 use Rattle.crash_simulation.proofs.LastReleases.{no_release, holders_stay_none, other_release}
 use Rattle.crash_simulation.proofs.RecordsAfterCrash.{left}
-use Rattle.crash_simulation.proofs.SimulationInRecovery.{SimulatesStill}
 use Rattle.crash_simulation.proofs.SimulationAfterCrash as crashing
-use Rattle.crash_simulation.proofs.StepSimulation.{simulates_after, evicted_simulates}
+use Rattle.crash_simulation.proofs.StepSimulation.{evicted_simulates}
 use Rattle.crash_simulation.proofs.CommitSimulation.{stopped_rests}
-use Rattle.crash_simulation.proofs.AccountsBeforeCommit.{led_sections}
+use Rattle.crash_simulation.proofs.EndedSections.{led_sections}
 
 -- the releases after an event
 abbrev pub released_by : List (List Slot) → World → Event → (released : ℕ → ℕ) → (thread : ℕ) → ℕ
@@ -105,61 +102,18 @@ module _ (program : List (List Slot)) (w : World) (h : ℕ) where
       let zero = ap (λ (b : Bool). one_if b) (other_release program w h n other) in
       omega (arith, zero)
 
--- ---- Where the machine simulates the same abstract run
-
-module _ (y : System) (s : IsSystem y) (w : World) (h : ℕ) (old : Simulates y s w) (still : SimulatesStill y s w (after_event y.runs.program w (Step h)) old)
-    (none : releases_last y.runs.program w (Step h) h ≡ false) (r : ℕ → ℕ) (released : AreReleased y s w old.before_commit r) where
-  abbrev then_r : ℕ → ℕ
-  then_r = released_by y.runs.program w (Step h) r
-
-  kept_still : (n : ℕ) → sections_kept y still.stands.before_commit.abstract n ≡ sections_kept y old.before_commit.abstract n
-  kept_still n = ap (λ (b : AbstractRun y). sections_kept y b n) still.abstract
-
-  by : (n : ℕ) → IsReleasedOf y w old.before_commit.abstract n (old.before_commit.ghosts n) (r n) →
-      IsReleasedOf y (after_event y.runs.program w (Step h)) still.stands.before_commit.abstract n (still.stands.before_commit.ghosts n) (then_r n)
-  by n (in_step e) =
-      let same = none_released y.runs.program w h none r n in
-      in_step (kept_still n ∙ (e ∙ (ap (λ (k : ℕ). k + one_if (is_leaving (old.before_commit.ghosts n))) (sym same)
-      ∙ ap (λ (c : ThreadGhost). then_r n + one_if (is_leaving c)) (sym (still.ghosts n)))))
-  by n (cut_off i e) =
-      cut_off (stays_done y.runs.program w h old.before_commit.sound n i) (kept_still n ∙ (e ∙ ap suc (sym (none_released y.runs.program w h none r n))))
-
-  pub still_released : AreReleased y s (after_event y.runs.program w (Step h)) still.stands.before_commit then_r
-  still_released = record {
-    each = λ n below. by n (released.each n below);
-    beyond = λ n outside. kept_still n ∙ (released.beyond n outside ∙ sym (none_released y.runs.program w h none r n));
-  }
-
--- ---- The machine that is taken to be ready
-
-module _ (y : System) (s : IsSystem y) (w : World) (h : ℕ) (old : Simulates y s w) (ready : SimulatesReady y s w h old) (r : ℕ → ℕ)
-    (released : AreReleased y s w old.before_commit r) where
-  kept_ready : (n : ℕ) → sections_kept y ready.stands.before_commit.abstract n ≡ sections_kept y old.before_commit.abstract n
-  kept_ready n = ap (λ (b : AbstractRun y). sections_kept y b n) ready.abstract
-
-  ready_by : (n : ℕ) → IsReleasedOf y w old.before_commit.abstract n (old.before_commit.ghosts n) (r n) →
-      IsReleasedOf y w ready.stands.before_commit.abstract n (ready.stands.before_commit.ghosts n) (r n)
-  ready_by n (in_step e) = in_step (kept_ready n ∙ (e ∙ ap (λ (b : Bool). r n + one_if b) (sym (ready.leaving n))))
-  ready_by n (cut_off i e) = cut_off i (kept_ready n ∙ e)
-
-  pub ready_released : AreReleased y s w ready.stands.before_commit r
-  ready_released = record {
-    each = λ n below. ready_by n (released.each n below);
-    beyond = λ n outside. kept_ready n ∙ released.beyond n outside;
-  }
-
 -- ---- A step of a hart that executes instructions
 
-module _ (y : System) (s : IsSystem y) (w : World) (h : ℕ) (stands : Simulates y s w) (i : IsInPhase w h Run) (o : OwnStep y s w h stands) (r : ℕ → ℕ)
-    (released : AreReleased y s w stands.before_commit r) where
+module _ (y : System) (s : IsSystem y) (w : World) (h : ℕ) (stands : Simulates y s w) (i : IsInPhase w h Run) (o : OwnStep y s w h stands)
+    (r : ℕ → ℕ) where
   abbrev then_own : ℕ → ℕ
   then_own = released_by y.runs.program w (Step h) r
 
   abbrev later : World
   later = after_event y.runs.program w (Step h)
 
-  kept_own : (n : ℕ) → sections_kept y o.next n ≡ sections_kept y stands.before_commit.abstract n
-  kept_own n = led_sections y stands.before_commit.abstract h o.next o.led n
+  pub kept_own : (n : ℕ) → sections_kept y o.next n ≡ sections_kept y stands.before_commit.abstract n
+  kept_own n = (led_sections y stands.before_commit.abstract h o.next o.led n).sections
 
   own_lag : Releases y w h (stands.before_commit.ghosts h) o.ghost →
       r h + one_if (is_leaving (stands.before_commit.ghosts h)) ≡ then_own h + one_if (is_leaving o.ghost)
@@ -178,40 +132,16 @@ module _ (y : System) (s : IsSystem y) (w : World) (h : ℕ) (stands : Simulates
       let same : d.hart ≡ i.hart = same_there (slice_get w.harts h) d.hart i.hart d.here i.here in
       true≢false (sym (ap is_running (sym d.phase_is ∙ (ap (λ (x : Hart). x.phase) same ∙ i.phase_is))))
 
-  own_by : IsReleasedOf y w stands.before_commit.abstract h (stands.before_commit.ghosts h) (r h) → IsReleasedOf y later o.next h o.ghost (then_own h)
-  own_by (in_step e) = in_step (kept_own h ∙ (e ∙ own_lag o.released))
-  own_by (cut_off d e) = absurd (not_done d)
+  pub released_own : IsReleasedOf y w stands.before_commit.abstract h (stands.before_commit.ghosts h) (r h) → IsReleasedOf y later o.next h o.ghost (then_own h)
+  released_own (in_step e) = in_step (kept_own h ∙ (e ∙ own_lag o.released))
+  released_own (cut_off d e) = absurd (not_done d)
 
-  other_by : (n : ℕ) → n ≢ h → IsReleasedOf y w stands.before_commit.abstract n (stands.before_commit.ghosts n) (r n) →
+  pub released_other : (n : ℕ) → n ≢ h → IsReleasedOf y w stands.before_commit.abstract n (stands.before_commit.ghosts n) (r n) →
       IsReleasedOf y later o.next n (stands.before_commit.ghosts n) (then_own n)
-  other_by n other (in_step e) =
+  released_other n other (in_step e) =
       in_step (kept_own n ∙ (e ∙ ap (λ (k : ℕ). k + one_if (is_leaving (stands.before_commit.ghosts n))) (sym (other_released y.runs.program w h r n other))))
-  other_by n other (cut_off d e) =
+  released_other n other (cut_off d e) =
       cut_off (stays_done y.runs.program w h stands.before_commit.sound n d) (kept_own n ∙ (e ∙ ap suc (sym (other_released y.runs.program w h r n other))))
-
-  IsReleasedAt : ℕ → Type 0
-  IsReleasedAt n = IsReleasedOf y later o.next n (with_ghost stands.before_commit.ghosts h o.ghost n) (then_own n)
-
-  each_own : (n : ℕ) → n < thread_count y → IsReleasedAt n
-  unfolding IsReleasedAt
-  each_own n below = elim (same_or_other n h) [
-    | inl same ↦
-        subst IsReleasedAt (sym same)
-        (subst (λ (c : ThreadGhost). IsReleasedOf y later o.next h c (then_own h))
-        (sym (cond-true (h == h) o.ghost (stands.before_commit.ghosts h) (eq-eqb h h refl))) (own_by (released.each h o.below)))
-    | inr other ↦
-        subst (λ (c : ThreadGhost). IsReleasedOf y later o.next n c (then_own n))
-        (sym (cond-false (n == h) o.ghost (stands.before_commit.ghosts n) (ne_eqb n h other))) (other_by n other (released.each n below))
-  ]
-
-  pub own_step_released : AreReleased y s later (simulates_after y s w h stands i o) then_own
-  unfolding IsReleasedAt
-  own_step_released = record {
-    each = each_own;
-    beyond = λ n outside.
-        let inside = o.below in
-        kept_own n ∙ (released.beyond n outside ∙ sym (other_released y.runs.program w h r n (λ e. omega (arith, outside, inside, e))));
-  }
 
 -- ---- An eviction
 
@@ -222,24 +152,21 @@ pub evicted_done : (program : List (List Slot)) (w : World) (line mask n : ℕ) 
 evicted_done program w line mask n i =
     record { hart = i.hart; here = ap (λ (v : World). harts_in v n) (evictions_touch program w line mask).1 ∙ i.here; phase_is = i.phase_is }
 
-module _ (y : System) (s : IsSystem y) (w : World) (line mask : ℕ) (stands : Simulates y s w) (r : ℕ → ℕ)
-    (released : AreReleased y s w stands.before_commit r) where
-  evicted_by : (n : ℕ) → IsReleasedOf y w stands.before_commit.abstract n (stands.before_commit.ghosts n) (r n) →
+module _ (y : System) (s : IsSystem y) (w : World) (line mask : ℕ) (stands : Simulates y s w) (r : ℕ → ℕ) where
+  pub evicted_by : (n : ℕ) → IsReleasedOf y w stands.before_commit.abstract n (stands.before_commit.ghosts n) (r n) →
       IsReleasedOf y (after_event y.runs.program w (Evict line mask)) (evicted_simulates y s w line mask stands).abstract n
       (stands.before_commit.ghosts n) (r n + 0)
   evicted_by n (in_step e) = in_step (e ∙ ap (λ (k : ℕ). k + one_if (is_leaving (stands.before_commit.ghosts n))) (none_more (r n)))
   evicted_by n (cut_off i e) = cut_off (evicted_done y.runs.program w line mask n i) (e ∙ ap suc (none_more (r n)))
 
-  pub evicted_released : AreReleased y s (after_event y.runs.program w (Evict line mask)) (evicted_simulates y s w line mask stands)
-      (released_by y.runs.program w (Evict line mask) r)
-  evicted_released = record {
-    each = λ n below. evicted_by n (released.each n below);
-    beyond = λ n outside. released.beyond n outside ∙ none_more (r n);
-  }
-
 -- ---- A crash
 
-module _ (y : System) (s : IsSystem y) (w : World) (stands : Simulates y s w) (r : ℕ → ℕ) (released : AreReleased y s w stands.before_commit r) where
+pub kept_crashed : (y : System) (s : IsSystem y) (w : World) (stands : Simulates y s w) (n : ℕ) →
+    sections_kept y (crashing.stands_after y s w stands).before_commit.abstract n ≡ sections_kept y stands.before_commit.abstract n
+kept_crashed y s w stands n =
+    ap (λ (us : List ℕ). ended_from stands.before_commit.abstract.origin.source us n) (append-nil stands.before_commit.abstract.schedule)
+
+module _ (y : System) (s : IsSystem y) (w : World) (stands : Simulates y s w) (r : ℕ → ℕ) where
   abbrev crashed : World
   crashed = after_event y.runs.program w Crash
 
@@ -273,35 +200,26 @@ module _ (y : System) (s : IsSystem y) (w : World) (stands : Simulates y s w) (r
         phase_is = phase_none n log.hart.phase (left_none n below committed none) (gathers.each n log.hart log.here);
       }
 
-  kept_crashed : (n : ℕ) → sections_kept y (crashing.stands_after y s w stands).before_commit.abstract n ≡ sections_kept y stands.before_commit.abstract n
-  kept_crashed n = ap (λ (us : List ℕ). ended_from stands.before_commit.abstract.origin.source us n) (append-nil stands.before_commit.abstract.schedule)
-
   abbrev Crashed : ℕ → Type 0
   Crashed n =
       IsReleasedOf y crashed (crashing.stands_after y s w stands).before_commit.abstract n
       ((crashing.stands_after y s w stands).before_commit.ghosts n) (r n + 0)
 
-  crashed_by : (n : ℕ) → n < thread_count y → IsReleasedOf y w stands.before_commit.abstract n (stands.before_commit.ghosts n) (r n) → Crashed n
+  pub crashed_by : (n : ℕ) → n < thread_count y → IsReleasedOf y w stands.before_commit.abstract n (stands.before_commit.ghosts n) (r n) → Crashed n
   crashed_by n below (cut_off i e) =
       let rests = stopped_rests y s w stands.before_commit n below i in
-      cut_off (crashed_done n below rests.0.committed rests.1) (kept_crashed n ∙ (e ∙ ap suc (none_more (r n))))
+      cut_off (crashed_done n below rests.0.committed rests.1) (kept_crashed y s w stands n ∙ (e ∙ ap suc (none_more (r n))))
   crashed_by n below (in_step e) =
       let c = stands.before_commit.ghosts n in
       elim (cases_Bool (is_leaving c)) [
         | inl leaves ↦
             let one = and_parts c.committed (is_some c.giving && (c.new.point == 0)) leaves in
             let two = and_parts (is_some c.giving) (c.new.point == 0) one.1 in
-            let kept = kept_crashed n in
+            let kept = kept_crashed y s w stands n in
             let more = ap one_if leaves in
             cut_off (crashed_done n below one.0 (eqb-true c.new.point 0 two.1)) (omega (arith, kept, e, more))
         | inr stays ↦
-            let kept = kept_crashed n in
+            let kept = kept_crashed y s w stands n in
             let none = ap one_if stays in
             in_step (omega (arith, kept, e, none))
       ]
-
-  pub crash_released : AreReleased y s crashed (crashing.stands_after y s w stands).before_commit (released_by y.runs.program w Crash r)
-  crash_released = record {
-    each = λ n below. crashed_by n below (released.each n below);
-    beyond = λ n outside. kept_crashed n ∙ (released.beyond n outside ∙ none_more (r n));
-  }

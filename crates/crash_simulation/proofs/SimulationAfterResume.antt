@@ -1,47 +1,43 @@
 -- A hart that recovery resumes goes on at the node of its graph thread.
-use Rattle.std.proofs.Common.{◌≡◌, inr, refl, ℕ, ◌<◌, List, [], ◌++◌, length, ap, ap₂, sym, ◌∙◌, subst, Some, Bool}
+use Rattle.std.proofs.Common.{◌≡◌, inr, refl, ℕ, ◌<◌, List, [], ◌++◌, length, ap, ap₂, sym, ◌∙◌, subst, Some, Bool, ◌≤◌, ◌+◌, ◌*◌, arith}
 use Rattle.std.specs.Prelude.{slice_get, if◌then◌else◌}
 use Rattle.ido_base.specs.declared.event.Event.TheVariants.{Step}
 use Rattle.rv64_isa.specs.declared.phase.Phase.{Phase}
 use Rattle.rv64_isa.specs.declared.phase.Phase.TheVariants.{Resume}
 use Rattle.rv64_isa.specs.Rows.{Effect}
-use Rattle.rv64_isa.specs.Machine.{Hart, World, Outcome, happens, moved, after_event, resume_of, bank_of}
+use Rattle.rv64_isa.specs.Machine.{Hart, World, Outcome, happens, moved, after_event, resume_of}
 use Rattle.flow_graph.specs.Actions.{GraphThread, seen_by}
 use Rattle.code_runs.specs.ComputingRuns.{config}
-use Rattle.code_runs.specs.CodeTraces.{MarkedEnvironment}
+use Rattle.code_runs.specs.CodeTraces.{MarkedEnvironment, seen_effects}
 use Rattle.rv64_isa.proofs.Public.{queues_stand}
+use Rattle.log_states.specs.Logs.{side_of}
 use Rattle.hart_runs.specs.Calls.{IsInPhase}
-use Rattle.hart_runs.proofs.Public.{resumes_step}
+use Rattle.hart_runs.proofs.Public.{resumes_step, queues_stay_short}
 use Rattle.region_attempts.specs.GraphStates.{flow_solo}
 use Rattle.region_attempts.proofs.Public.{graph_stands}
-use Rattle.thread_code.specs.Plans.{IsNodeOf}
-use Rattle.thread_code.specs.RegistersAtNodes.{Enters}
-use Rattle.thread_code.specs.Programs as code
-use Rattle.thread_code.specs.Programs.{IsResumeAddress}
 use Rattle.thread_runs.specs.CodeFragments.{Arrives, IsOnFragment, on_machine}
-use Rattle.thread_runs.specs.Laws.{node_resumed, IsUnderFragment, at_core, arrives}
-use Rattle.thread_runs.proofs.Public.{fragments_see_all, cores_see_all, resumed_go_on}
-use Rattle.recovered_threads.specs.RecordDescriptions as telling
-use Rattle.recovered_threads.specs.RecordDescriptions.{Code, ResumesAt, Describes}
+use Rattle.thread_runs.specs.Laws.{IsOnSomeFragment}
+use Rattle.thread_runs.proofs.Public.{fragments_see_all, cores_see_all, locks_go_on, unlocks_go_on}
+use Rattle.recovered_threads.specs.RecordDescriptions.{Code, ResumesAt, Describes, at_chosen, past_lock, past_unlock}
 use Rattle.recovered_threads.specs.RecoveryStates.{Gathers, HasGathered, AreGathered, IsRecoveredHart, ResumesThread}
 use Rattle.recovered_threads.proofs.Public.{same_there, gathered_go_on, harts_go_on}
 use Rattle.crash_simulation.specs.Systems.{System, IsSystem, flat_of, thread_count}
 use Rattle.crash_simulation.specs.AbstractRuns.{AbstractRun, kept_of, now_of}
 use Rattle.crash_simulation.specs.ThreadGhosts as courses
-use Rattle.crash_simulation.specs.ThreadGhosts.{ThreadGhost, Rests, InPhase, IsRunningThread, InFragment, AtCore}
+use Rattle.crash_simulation.specs.ThreadGhosts.{ThreadGhost, Rests, InPhase, IsRunningThread}
 use Rattle.crash_simulation.specs.SimulationRelation.{AreHeld, AreLocked, gathering, gathered, records_of, Simulates}
 use Rattle.crash_simulation.specs.Laws.{ResumesStand}
 use Rattle.crash_simulation.proofs.LoadFreeEnvironment.{bare, bare_agrees, bare_meets, bare_answers, placed}
 use Rattle.crash_simulation.proofs.StatesMatchSource.{resumed}
-use Rattle.crash_simulation.proofs.SimulationInRecovery.{SimulatesStill, moved_is, quiet_stands, phase_of, held_on}
-
--- where the record says, the thread may be resumed
-resumed_there : (y : System) (c : Code y.plan) (node address : ℕ) → IsNodeOf c.thread node → ResumesAt y.plan c node address →
-    (r : IsResumeAddress y.plan c.thread c.is.places address) × (node_resumed y.plan c.thread c.is.places r ≡ node)
-resumed_there y c node address own (telling.at_chosen chosen) = (code.at_chosen node own chosen, refl)
-resumed_there y c node address own (telling.past_lock from mutex is of at action) = (code.past_lock from mutex node is of at action, refl)
-resumed_there y c node address own (telling.past_unlock from mutex is of at action holds) =
-    (code.past_unlock from mutex node is of at action holds, refl)
+use Rattle.crash_simulation.proofs.SimulationInRecovery.{SimulatesStill, moved_is, quiet_stands, phase_of}
+use Rattle.crash_simulation.proofs.LocksAfterStep.{held_alike}
+use Rattle.thread_code.specs.NodeCodeEffects.{Places}
+use Rattle.hart_runs.specs.HartsOnRuns.{IsRunningAt}
+use Rattle.hart_runs.specs.RunSteps.{cleans_in}
+use Rattle.std.specs.List.{Contains}
+use Rattle.flow_graph.specs.Nodes.{Action, successors}
+use Rattle.crash_simulation.specs.StepsToMark.{entry_ahead}
+use Rattle.crash_simulation.proofs.StepsAfterMarks.{entry_soon, core_less, whole_soon, most_is, fits_by}
 
 module _ (y : System) (s : IsSystem y) (w : World) (h : ℕ) (stands : Simulates y s w) (i : IsInPhase w h Resume)
     (ag : AreGathered w (records_of stands.before_commit.ghosts))
@@ -102,33 +98,8 @@ module _ (y : System) (s : IsSystem y) (w : World) (h : ℕ) (stands : Simulates
     count : length after.harts ≡ thread_count y
     count = (queues_stand y.runs.program w (Step h) (s.count ∙ sym stands.before_commit.count) stands.before_commit.sound).1 ∙ stands.before_commit.count
 
-    abbrev bank : ℕ
-    bank = bank_of ghost.new.point
-
-    under_fragment : IsUnderFragment y.plan c.thread c.is.places (on_machine y.runs.program after c.thread.number environment) go.told.graph_thread.at
-        (seen_by (kept_of y b) go.told.graph_thread) bank
-        go.after.registers
-    under_fragment =
-        let r = resumed_there y c go.told.graph_thread.at (resume_of ghost.new.point) go.told.own go.told.resumes in
-        subst (λ (node : ℕ). IsUnderFragment y.plan c.thread c.is.places (on_machine y.runs.program after c.thread.number environment) node
-        (seen_by (kept_of y b) go.told.graph_thread) bank
-        go.after.registers) r.1
-        (resumed_go_on y.plan c.thread y.runs.program c.program c.is after c.thread.number environment (resume_of ghost.new.point) r.0
-        (seen_by (kept_of y b) go.told.graph_thread) bank go.after.registers (placed y s after h below count)
-        (bare_meets y s after h below) (bare_agrees y s after h below)
-        (record {
-          hart = go.after;
-          here = ap (slice_get after.harts) same ∙ there;
-          runs = go.runs;
-          is = ap (config go.after.registers) go.pc;
-        })
-        (record {
-          kept = go.after.registers;
-          old = bank;
-          entered = subst (λ (node : ℕ). Enters y.plan c.thread node (seen_by (kept_of y b) go.told.graph_thread) bank go.after.registers) (sym r.1) go.enters;
-          at_bank = go.enters.at_bank;
-          same = λ register live. refl;
-        }))
+    abbrev side : ℕ
+    side = side_of ghost.new
 
     goes : courses.IsInAttempt y b c ghost
     goes = record { going = rests.begun ∙ sym rests.done; rest = rests.rest; giving = rests.giving; committed = rests.committed }
@@ -136,35 +107,76 @@ module _ (y : System) (s : IsSystem y) (w : World) (h : ℕ) (stands : Simulates
     none_ahead : ghost.cleans ++ ghost.rest ≡ []
     none_ahead = ap₂ ◌++◌ rests.cleans rests.rest
 
-    runs_by : IsUnderFragment y.plan c.thread c.is.places (on_machine y.runs.program after c.thread.number environment) go.told.graph_thread.at
-        (seen_by (kept_of y b) go.told.graph_thread) bank
-        go.after.registers → IsRunningThread y after b c ghost go.after go.told.graph_thread
-    runs_by (at_core core) = courses.at_core (record {
-      bank = bank;
-      at_bank = λ some. refl;
+    abbrev places : Places
+    places = c.is.places
+
+    short : length go.after.queue ≤ 16
+    short = queues_stay_short y.runs.program w (Step h) stands.before_commit.short h go.after there
+
+    abbrev IsHere : ℕ → Type 0
+    IsHere address = IsRunningAt after c.thread.number (config go.after.registers address)
+
+    runs_at_core : IsHere (places.core go.told.graph_thread.at) → IsRunningThread y after b c ghost go.after go.told.graph_thread
+    runs_at_core at = courses.at_core (record {
+      side = side;
+      at_side = λ some. refl;
       registers = go.after.registers;
       core =
-          cores_see_all y.plan c.thread c.is.places after c.thread.number go.told.graph_thread.at (seen_by (kept_of y b) go.told.graph_thread) bank
+          cores_see_all y.plan c.thread places after c.thread.number go.told.graph_thread.at (seen_by (kept_of y b) go.told.graph_thread) side
           go.after.registers
-          (now_of y b).variables core;
+          (now_of y b).variables (record { own = go.told.own; at = at; enters = go.enters });
       goes = record { goes = goes; cleans = rests.cleans; execution = go.told.goes_on };
       fresh = λ chosen. rests.done;
+      soon =
+          let all = entry_soon y s h below go.told.graph_thread.at (length go.after.queue) go.told.own short in
+          let less = core_less y.plan places go.told.graph_thread.at in
+          whole_soon y c.thread.number ghost.before_mark _ rests.whole (omega (arith, all, less));
     })
-    runs_by (arrives from own fragment) = courses.on_fragment (record {
+
+    -- after a lock or an unlock
+    runs_after : (from : ℕ) → 2 * places.words from + entry_ahead y.plan places go.told.graph_thread.at + 4 ≤ 2 * length c.program.code →
+        IsOnSomeFragment y.plan c.thread places (on_machine y.runs.program after c.thread.number environment)
+        (record { exit = Arrives; node = go.told.graph_thread.at; seen = seen_by (kept_of y b) go.told.graph_thread; side = side }) (places.words from) [] →
+        IsRunningThread y after b c ghost go.after go.told.graph_thread
+    runs_after from fit fragment = courses.on_fragment (record {
       environment = environment;
       answers = bare_answers y s after h below b ghost;
       exit = Arrives;
-      bank = bank;
-      at_bank = λ some. refl;
+      side = side;
+      at_side = λ some. refl;
       steps = fragment.steps;
-      fragment = subst (λ (es : List Effect). IsOnFragment y.plan c.thread c.is.places (on_machine y.runs.program after c.thread.number environment)
-          (record { exit = Arrives; node = go.told.graph_thread.at; seen = seen_by (now_of y b) go.told.graph_thread; bank = bank }) fragment.steps es)
+      fragment = subst (λ (es : List Effect). IsOnFragment y.plan c.thread places (on_machine y.runs.program after c.thread.number environment)
+          (record { exit = Arrives; node = go.told.graph_thread.at; seen = seen_by (now_of y b) go.told.graph_thread; side = side }) fragment.steps es)
           (sym none_ahead)
-          (fragments_see_all y.plan c.thread c.is.places y.runs.program after c.thread.number environment
-          (record { exit = Arrives; node = go.told.graph_thread.at; seen = seen_by (kept_of y b) go.told.graph_thread; bank = bank }) fragment.steps []
+          (fragments_see_all y.plan c.thread places y.runs.program after c.thread.number environment
+          (record { exit = Arrives; node = go.told.graph_thread.at; seen = seen_by (kept_of y b) go.told.graph_thread; side = side }) fragment.steps []
           (now_of y b).variables fragment.on);
       fits = (goes, go.told.goes_on);
+      soon =
+          let few = fragment.short in
+          let queue = short in
+          let most = most_is y s h below in
+          let no_cleans : cleans_in (seen_effects (ghost.cleans ++ ghost.rest)) ≡ 0 = ap (λ (es : List Effect). cleans_in (seen_effects es)) none_ahead in
+          whole_soon y c.thread.number ghost.before_mark _ rests.whole (omega (arith, few, queue, most, no_cleans, fit));
     })
+
+    runs_by : (address : ℕ) → ResumesAt y.plan c go.told.graph_thread.at address → IsHere address →
+        IsRunningThread y after b c ghost go.after go.told.graph_thread
+    runs_by _ (at_chosen chosen) at = runs_at_core at
+    runs_by _ (past_lock from mutex is own found locks) at =
+        runs_after from
+        (fits_by y s h below from is own found go.told.graph_thread.at go.told.own
+        (subst (λ (z : Action). Contains (successors z) go.told.graph_thread.at) (sym locks) (0, omega arith, refl)) (λ ends. cc))
+        (locks_go_on y.plan c.thread from mutex go.told.graph_thread.at (record { own = own; is = is; at = found; locks = locks }) y.runs.program
+        c.program c.is after c.thread.number environment (seen_by (kept_of y b) go.told.graph_thread) side go.after.registers (placed y s after h below count)
+        (bare_meets y s after h below) (bare_agrees y s after h below) at go.enters)
+    runs_by _ (past_unlock from mutex is own found unlocks holds) at =
+        runs_after from
+        (fits_by y s h below from is own found go.told.graph_thread.at go.told.own
+        (subst (λ (z : Action). Contains (successors z) go.told.graph_thread.at) (sym unlocks) (0, omega arith, refl)) (λ ends. cc))
+        (unlocks_go_on y.plan c.thread from mutex go.told.graph_thread.at (record { own = own; is = is; at = found; unlocks = unlocks }) y.runs.program
+        c.program c.is after c.thread.number environment (seen_by (kept_of y b) go.told.graph_thread) side go.after.registers (placed y s after h below count)
+        (bare_meets y s after h below) (bare_agrees y s after h below) at go.enters)
 
     own : InPhase y after b c ghost new (stands.before_commit.each h below).graph_thread new.phase
     own =
@@ -172,7 +184,13 @@ module _ (y : System) (s : IsSystem y) (w : World) (h : ℕ) (stands : Simulates
         (moved_is y s w h stands w i.hart new i.here does refl refl refl (resumes_step y.runs.program w h i).queue).here in
         let is : go.after ≡ new = same_there (slice_get after.harts h) go.after new there here in
         let runs : IsRunningThread y after b c ghost go.after (stands.before_commit.each h below).graph_thread =
-        subst (λ (x : GraphThread). IsRunningThread y after b c ghost go.after x) same_graph_thread (runs_by under_fragment) in
+        subst (λ (x : GraphThread). IsRunningThread y after b c ghost go.after x) same_graph_thread (runs_by (resume_of ghost.new.point) go.told.resumes
+        (record {
+          hart = go.after;
+          here = ap (slice_get after.harts) same ∙ there;
+          runs = go.runs;
+          is = ap (config go.after.registers) go.pc;
+        })) in
         subst (λ (x : Hart). InPhase y after b c ghost x (stands.before_commit.each h below).graph_thread x.phase) is
         (subst (λ (p : Phase). InPhase y after b c ghost go.after (stands.before_commit.each h below).graph_thread p) (sym go.runs) runs)
 
@@ -181,7 +199,7 @@ module _ (y : System) (s : IsSystem y) (w : World) (h : ℕ) (stands : Simulates
       quiet_stands y s w h stands i.hart new i.here
       (moved_is y s w h stands w i.hart new i.here does refl refl refl (resumes_step y.runs.program w h i).queue) own
       (gathered (gathered_go_on y.runs.program w (records_of stands.before_commit.ghosts) h Resume ag (inr refl) i).1
-      (held_on y s w h stands after (ap (λ (o : Outcome). o.0.holders) does) held))
+      (held_alike w after stands.before_commit.ghosts stands.before_commit.ghosts (now_of y b) (ap (λ (o : Outcome). o.0.holders) does) (λ n. refl) held))
 
 resumes_by : (y : System) (s : IsSystem y) (w : World) (h : ℕ) (stands : Simulates y s w) → IsInPhase w h Resume →
     AreLocked y w stands.before_commit.abstract stands.before_commit.ghosts → SimulatesStill y s w (after_event y.runs.program w (Step h)) stands

@@ -21,6 +21,7 @@ use Rattle.rv64_isa.specs.Executables.{first_world}
 use Rattle.rv64_isa.specs.Programs.{code_start, code_of}
 use Rattle.rv64_isa.specs.Machine.{Hart, World, fresh_hart, numbers_from, start_of}
 use Rattle.rv64_isa.proofs.Public.{starts_simulate}
+use Rattle.boundary_code.proofs.Public.{fresh_on_side}
 use Rattle.code_runs.specs.ComputingRuns.{config}
 use Rattle.code_runs.specs.CodeTraces.{Program, MarkedEnvironment, Meets}
 use Rattle.hart_runs.specs.HartsOnRuns.{instr_of, instr_at, environment_of, Agrees}
@@ -52,6 +53,8 @@ use Rattle.crash_simulation.specs.Systems as systems
 use Rattle.crash_simulation.specs.Systems.{System, IsSystem, flat_of}
 use Rattle.crash_simulation.specs.AbstractRuns.{AbstractRun, kept_of, now_of}
 use Rattle.crash_simulation.specs.ThreadGhosts.{ThreadGhost, InFragment, on_fragment, InPhase, ThreadInv}
+use Rattle.crash_simulation.specs.StepsToMark.{most_ahead}
+use Rattle.crash_simulation.proofs.StepsAfterMarks.{entry_soon}
 use Rattle.crash_simulation.specs.SimulationRelation.{Simulates, gathered}
 use Rattle.crash_simulation.specs.Laws.{StartSimulates}
 use Rattle.crash_simulation.proofs.StatesMatchSource.{free_holds_none, none_holds}
@@ -130,7 +133,7 @@ module _ (y : System) (s : IsSystem y) where
       }
 
   abbrev ghosts : ℕ → ThreadGhost
-  ghosts n = record { old = nothing_recorded; new = nothing_recorded; rest = []; committed = true; cleans = []; giving = None }
+  ghosts n = record { old = nothing_recorded; new = nothing_recorded; rest = []; committed = true; cleans = []; giving = None; before_mark = most_ahead y n }
 
   fresh : (n : ℕ) → n < length y.runs.program → slice_get w.harts n ≡ Some (fresh_hart y.runs.program Run n)
   unfolding start_of
@@ -179,7 +182,7 @@ module _ (y : System) (s : IsSystem y) where
 
   enters : (code : Code y.plan) → Enters y.plan code.thread code.thread.part.first (seen_by (now_of y abstract) (graph_thread code)) 0 (replicate 32 0)
   enters code = record {
-    at_bank = record { count = refl; zero_is = refl; offset = refl; exists = omega arith };
+    at_side = fresh_on_side;
     count = length-replicate code.thread.part.locals (pos 0) ∙ locals_are y.plan code.thread s.plan code.of;
     locals = λ local k there live.
         let value = zero_local code.thread.part.locals local in
@@ -207,8 +210,8 @@ module _ (y : System) (s : IsSystem y) where
         environment = environment number;
         answers = λ address bytes value e. absurd (none-some value e);
         exit = Arrives;
-        bank = 0;
-        at_bank = λ none. absurd (none refl);
+        side = 0;
+        at_side = λ none. absurd (none refl);
         steps = 0;
         fragment =
             threads_start y.plan code.thread y.runs.program code.program code.is w number (environment number)
@@ -217,6 +220,11 @@ module _ (y : System) (s : IsSystem y) where
             (record { hart = fresh_hart y.runs.program Run number; here = fresh number inside; runs = refl; is = ap (config (replicate 32 0)) start })
             (enters code);
         fits = (record { going = nothing_done (flat_of y).threads number; rest = refl; giving = refl; committed = refl }, refl);
+        soon =
+            let all = entry_soon y s n below code.thread.part.first (length hart.queue) (first_node code)
+            (starts_are_short y.runs.program y.runs.mutexes y.runs.initial number hart here) in
+            let is : most_ahead y number ≡ most_ahead y n = ap (most_ahead y) same in
+            (omega (arith, all, is), omega (arith, is));
       }
 
   pub thread : (n : ℕ) (below : n < systems.thread_count y) → ThreadInv y w abstract (s.codes.each n below) (ghosts n)

@@ -28,6 +28,7 @@ use Rattle.crash_simulation.specs.AbstractRuns.{AbstractRun, kept_of, now_of}
 use Rattle.crash_simulation.specs.ThreadGhosts.{Rests, InPhase, ThreadInv}
 use Rattle.crash_simulation.specs.SimulationRelation.{AreHeld, AreLocked, gathering, gathered, records_of, Simulates}
 use Rattle.crash_simulation.specs.Laws.{TakesStand, WaitsStand, StoppedStand}
+use Rattle.crash_simulation.proofs.LocksAfterStep.{held_alike}
 use Rattle.crash_simulation.proofs.StatesMatchSource.{orderly}
 use Rattle.crash_simulation.proofs.UnchangedMemory.{phase_moves, others_stand}
 use Rattle.crash_simulation.proofs.RecordsAfterCrash.{stays_caught}
@@ -213,14 +214,6 @@ module _ (y : System) (s : IsSystem y) (w : World) (h : ℕ) (stands : Simulates
               absurd (none-some lock (sym (all_rest n inside).giving ∙ gives));
         }
 
-  -- holders alone matter
-  pub held_on : (v : World) → v.holders ≡ w.holders → AreHeld w stands.before_commit.ghosts (now_of y b) → AreHeld v stands.before_commit.ghosts (now_of y b)
-  held_on v same held = record {
-    held = λ lock n there. held.held lock n (ap (λ (hs : List (Option ℕ)). slice_get hs lock) (sym same) ∙ there);
-    holds = λ lock n there. ap (λ (hs : List (Option ℕ)). slice_get hs lock) same ∙ held.holds lock n there;
-    giving = λ lock n exists gives. ap (λ (hs : List (Option ℕ)). slice_get hs lock) same ∙ held.giving lock n exists gives;
-  }
-
   -- a hart that waits is let through
   pub waits : (i : IsInPhase w h Wait) → AreLocked y w b stands.before_commit.ghosts → SimulatesStill y s w after stands
   waits i locks = by (waits_step y.runs.program w h i) locks
@@ -230,7 +223,8 @@ module _ (y : System) (s : IsSystem y) (w : World) (h : ℕ) (stands : Simulates
       go does ag held =
           quiet_stands i.hart (record i.hart { phase = Resume }) i.here
           (moved_is w i.hart (record i.hart { phase = Resume }) i.here does refl refl refl refl) (λ below. phase_of Wait i below)
-          (gathered ag (held_on after (ap (λ (o : Outcome). o.0.holders) does) held))
+          (gathered ag (held_alike w after stands.before_commit.ghosts stands.before_commit.ghosts (now_of y b)
+          (ap (λ (o : Outcome). o.0.holders) does) (λ n. refl) held))
 
       first : (n : b.config.uncommitted ≡ []) (gathers : AreGathering w records) → ((k : ℕ) → ¬ (IsInPhase w k Take)) →
           happens y.runs.program w (Step h) ≡ moved w h (record i.hart { phase = Resume }) → Awaits y.runs.program w records h →

@@ -24,6 +24,7 @@ use Rattle.recovered_threads.specs.RecoveryStates.{Gathers, AreGathering}
 use Rattle.crash_simulation.specs.Systems.{System, IsSystem, flat_of, places_of, thread_count}
 use Rattle.crash_simulation.specs.AbstractRuns.{AbstractRun, kept_of}
 use Rattle.crash_simulation.specs.ThreadGhosts.{ThreadGhost, Rests, InPhase, ThreadInv}
+use Rattle.crash_simulation.specs.StepsToMark.{most_ahead}
 use Rattle.crash_simulation.specs.SimulationRelation.{Simulates, gathering}
 use Rattle.crash_simulation.proofs.StatesMatchSource.{orderly}
 use Rattle.crash_simulation.proofs.RecordsAfterCrash.{over_is_caught}
@@ -32,7 +33,7 @@ module _ (y : System) (s : IsSystem y) (v : World) (abstract : AbstractRun y) (r
     (fresh : (n : ℕ) → (attempt_of abstract.config n).done ≡ 0) (count : length v.harts ≡ thread_count y) (gathers : AreGathering v records)
     (describe : AllDescribe y.plan s.codes (kept_of y abstract) records) where
   abbrev pub ghosts : ℕ → ThreadGhost
-  ghosts n = record { old = nothing_recorded; new = records n; rest = []; committed = true; cleans = []; giving = None }
+  ghosts n = record { old = nothing_recorded; new = records n; rest = []; committed = true; cleans = []; giving = None; before_mark = most_ahead y n }
 
   in_phase : (code : Code y.plan) (n : ℕ) (hart : Hart) (graph_thread : GraphThread) (phase : Phase) → Gathers v n (records n) phase →
       Rests y abstract code (ghosts n) → InPhase y v abstract code (ghosts n) hart graph_thread phase
@@ -58,6 +59,7 @@ module _ (y : System) (s : IsSystem y) (v : World) (abstract : AbstractRun y) (r
         cleans = refl;
         giving = refl;
         committed = refl;
+        whole = ap (most_ahead y) (sym same);
       } in
       let now : graph_after (lowered (flat_of y)) (kept_of y abstract) abstract.config.uncommitted ≡ kept_of y abstract =
       ap (graph_after (lowered (flat_of y)) (kept_of y abstract)) none in

@@ -29,9 +29,10 @@ use Rattle.recovered_threads.specs.RecoveryStates.{HasRecord, AreGathering, AreG
 use Rattle.crash_simulation.specs.Systems.{System, IsSystem, flat_of, places_of, thread_count}
 use Rattle.crash_simulation.specs.AbstractRuns.{AbstractRun, now_of}
 use Rattle.crash_simulation.specs.ThreadGhosts.{ThreadGhost, AnswersGuarded, ThreadInv}
-use Rattle.crash_simulation.specs.SimulationRelation.{AreHeld, AreLocked, gathering, gathered, records_of, SimulatesBeforeCommit, Simulates}
+use Rattle.crash_simulation.specs.SimulationRelation.{AreLocked, gathering, gathered, records_of, SimulatesBeforeCommit, Simulates}
 use Rattle.crash_simulation.specs.InstructionSteps.{StepsOrStutters, stays, goes, abstract_next, with_ghost, OwnStep, OwnStepsSimulate}
 use Rattle.crash_simulation.specs.Laws.{EvictionsSimulate}
+use Rattle.crash_simulation.proofs.LocksAfterStep.{held_alike}
 use Rattle.crash_simulation.proofs.StatesMatchSource.{resumed}
 use Rattle.crash_simulation.proofs.UncommittedSteps.{leads_on}
 use Rattle.crash_simulation.proofs.UnmovedThreads.{stays_unmoved, unmoved}
@@ -191,17 +192,11 @@ module _ (y : System) (s : IsSystem y) (w : World) (line mask : ℕ) (stands : S
         (are.each h hart (there_before h hart there));
   }
 
-  held_evicted : AreHeld w before.ghosts (now_of y before.abstract) → AreHeld evicted before.ghosts (now_of y run_after)
-  held_evicted held = record {
-    held = λ lock n there. held.held lock n (held_before lock (Some n) there);
-    holds = λ lock n there. ap (λ (hs : List (Option ℕ)). slice_get hs lock) holders_same ∙ held.holds lock n there;
-    giving = λ lock n exists gives. ap (λ (hs : List (Option ℕ)). slice_get hs lock) holders_same ∙ held.giving lock n exists gives;
-  }
-
   pub locked_evicted : AreLocked y w before.abstract before.ghosts → AreLocked y evicted run_after before.ghosts
   locked_evicted (gathering none gathers) = gathering none (gathering_evicted (records_of before.ghosts) gathers)
   locked_evicted (gathered are held) =
-      gathered (gathered_evicted (records_of before.ghosts) are) (held_evicted held)
+      gathered (gathered_evicted (records_of before.ghosts) are)
+      (held_alike w evicted before.ghosts before.ghosts (now_of y before.abstract) holders_same (λ n. refl) held)
 
   abbrev pub evicted_simulates : SimulatesBeforeCommit y s evicted
   evicted_simulates = record {

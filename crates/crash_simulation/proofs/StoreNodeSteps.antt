@@ -15,9 +15,9 @@ use Rattle.ido_ints.specs.Kinds.{bytes_of}
 use Rattle.ido_ints.specs.TypedNumbers.{typed, register_form_of}
 use Rattle.c_tree.specs.Source.{Pending}
 use Rattle.c_tree.specs.Programs.{Variable}
-use Rattle.c_tree.specs.LockDiscipline.{guard_of}
+use Rattle.source_machine.specs.ElementLocks.{element_lock}
 use Rattle.c_ranges.specs.RunInvariants as ranges
-use Rattle.c_ranges.specs.RunInvariants.{AreNumbersOf, IsThreadOf}
+use Rattle.c_ranges.specs.RunInvariants.{AreNumbersOf}
 use Rattle.c_ranges.proofs.Public.{zip_at}
 use Rattle.source_machine.specs.Discipline.{Guards}
 use Rattle.source_machine.proofs.Public.{held_found}
@@ -32,7 +32,7 @@ use Rattle.flow_graph.specs.Nodes.{Node, Action, Store}
 use Rattle.flow_graph.specs.Lowering.{lowered}
 use Rattle.flow_graph.specs.Liveness.{NodeAt}
 use Rattle.flow_graph.specs.Actions as a
-use Rattle.flow_graph.specs.Actions.{GraphThread, FlowState, Seen, effect_of, seen_by, graph_step}
+use Rattle.flow_graph.specs.Actions.{GraphThread, Seen, effect_of, seen_by, graph_step}
 use Rattle.flow_graph.proofs.Public.{contains_none}
 use Rattle.hart_runs.specs.RunSteps.{Contents, Changes, is_clean}
 use Rattle.hart_runs.proofs.Public.{forward_reaches}
@@ -54,11 +54,10 @@ use Rattle.thread_code.specs.NodeCodeEffects.{kind_at}
 use Rattle.thread_runs.specs.CodeFragments.{MayDo, stage_after, cleans_of, effects_of, on_machine}
 use Rattle.thread_runs.specs.Laws as laws
 use Rattle.thread_runs.specs.Laws.{IsAtSomeMark, MarksPass, run_at}
-use Rattle.crash_simulation.specs.Systems.{System, IsSystem, flat_of, shapes_of, places_of, thread_count}
+use Rattle.crash_simulation.specs.Systems.{System, IsSystem, flat_of, shapes_of, places_of}
 use Rattle.crash_simulation.specs.AbstractRuns.{AbstractRun, kept_of, now_of, attempts_of}
 use Rattle.crash_simulation.specs.ThreadGhosts.{ThreadGhost, IsFlushed, IsComing, is_ahead}
-use Rattle.crash_simulation.specs.SimulationRelation.{Simulates}
-use Rattle.crash_simulation.specs.InstructionSteps.{MayStore, element, AtCoreNow, thread_of}
+use Rattle.crash_simulation.specs.InstructionSteps.{MayStore, element}
 use Rattle.crash_simulation.proofs.StatesMatchSource.{resumed, now_orderly, now_good}
 use Rattle.crash_simulation.proofs.Boundaries.{store_is}
 use Rattle.crash_simulation.proofs.Elements.{room}
@@ -68,12 +67,14 @@ use Rattle.crash_simulation.proofs.ConfigAfterBegin.{one_longer, attempted, done
 use Rattle.crash_simulation.proofs.GraphAfterBegin.{after_effect, done_is, follows_on, not_come, boundary_after_is}
 use Rattle.crash_simulation.proofs.UncommittedSteps.{leads_on}
 use Rattle.crash_simulation.proofs.NodeEnvironments.{reads_none, answers_none, element_access}
-use Rattle.crash_simulation.proofs.OwnHartSteps.{going, code, number, abstract, ghost, after, StepOf}
+use Rattle.crash_simulation.proofs.OwnHartSteps.{going, code, number, abstract, ghost, after, StepOf, AtNode, own_thread}
 use Rattle.crash_simulation.proofs.PendingFlushes.{flushed_still, as_before}
 use Rattle.crash_simulation.proofs.WriteBackSteps.{mark_step}
 use Rattle.crash_simulation.proofs.MarksAtNodes.{inside, environment, at_some_mark}
 use Rattle.crash_simulation.proofs.LocalNodeSteps.{matches_now}
 use Rattle.crash_simulation.proofs.MarkSteps as passing
+use Rattle.crash_simulation.specs.StepsToMark.{most_ahead}
+use Rattle.crash_simulation.proofs.StepsAfterMarks.{passed_soon}
 use Rattle.crash_simulation.proofs.MarkSteps.{passed_step}
 
 -- memory takes of a value the bytes that a store writes
@@ -92,21 +93,21 @@ clean_if : (b : Bool) (address : ℕ) (effect : Effect) → Contains (if b then 
 clean_if true address effect has = clean_first address effect has
 clean_if false address effect has = absurd (contains_none effect has)
 
-module _ (y : System) (s : IsSystem y) (w : World) (h : ℕ) (stands : Simulates y s w) (below : h < thread_count y) (core : AtCoreNow y s w h stands below)
-    (marks : MarksPass) (node : Node) (at : NodeAt (lowered (flat_of y)) (thread_of y s w h stands below).graph_thread.at node)
+module _ {y : System} {s : IsSystem y} {w : World} {h : ℕ} (site : AtNode y s w h)
+    (marks : MarksPass) (node : Node) (at : NodeAt (lowered (flat_of y)) (own_thread site).graph_thread.at node)
     (variable : ℕ) (kind : Kind) (next_node : ℕ) (action : node.action ≡ Store variable kind next_node) (store : Pending)
-    (pending : (thread_of y s w h stands below).graph_thread.pending ≡ Some store) where
+    (pending : (own_thread site).graph_thread.pending ≡ Some store) where
   abbrev graph_thread : GraphThread
-  graph_thread = (thread_of y s w h stands below).graph_thread
+  graph_thread = (own_thread site).graph_thread
 
   abbrev n : ℕ
-  n = number y s w h stands below
+  n = number site
 
   abbrev b : AbstractRun y
-  b = abstract y s w h stands below
+  b = abstract site
 
   abbrev v : World
-  v = after y s w h stands below
+  v = after site
 
   abbrev seen : Seen
   seen = seen_by (now_of y b) graph_thread
@@ -115,7 +116,7 @@ module _ (y : System) (s : IsSystem y) (w : World) (h : ℕ) (stands : Simulates
   none address bytes = false
 
   abbrev here : MarkedEnvironment
-  here = environment y s w h stands below core node at none
+  here = environment site node at none
 
   abbrev e : a.Effect
   e = a.Makes store next_node
@@ -126,12 +127,12 @@ module _ (y : System) (s : IsSystem y) (w : World) (h : ℕ) (stands : Simulates
       ∙ ap (λ (p : Option Pending). let o : Option a.Effect = elim p [ Some q ↦ Some (a.Makes q next_node) | None ↦ None ] in o) pending
 
   walks : slice_get (now_of y b).graph_threads n ≡ Some graph_thread
-  walks = (thread_of y s w h stands below).walks
+  walks = (own_thread site).walks
 
   -- ---- The store
 
   formed : ranges.IsStoreInRange (flat_of y).variables store
-  formed = store_is y.plan (code y s w h stands below) s.plan (now_of y b) (now_good y s b) graph_thread walks store pending
+  formed = store_is y.plan (code site) s.plan (now_of y b) (now_good y s b) graph_thread walks store pending
 
   abbrev k : Kind
   k = formed.it.kind
@@ -145,7 +146,7 @@ module _ (y : System) (s : IsSystem y) (w : World) (h : ℕ) (stands : Simulates
   in_variables : address < variables_end
   in_variables = element_below (flat_of y).variables (room y s) store.variable store.element formed.it formed.found formed.element
 
-  may_do : MayDo y.plan (code y s w h stands below).thread (code y s w h stands below).is.places (length w.harts) here e
+  may_do : MayDo y.plan (code site).thread (code site).is.places (length w.harts) here e
   may_do = (
     k,
     kind_is,
@@ -155,15 +156,15 @@ module _ (y : System) (s : IsSystem y) (w : World) (h : ℕ) (stands : Simulates
     },
   )
 
-  nothing_read : IsAnswered (source_of y.plan (code y s w h stands below).thread seen) here.around.loads node.action
-  nothing_read = subst (λ (z : Action). IsAnswered (source_of y.plan (code y s w h stands below).thread seen) here.around.loads z) (sym action) tt
+  nothing_read : IsAnswered (source_of y.plan (code site).thread seen) here.around.loads node.action
+  nothing_read = subst (λ (z : Action). IsAnswered (source_of y.plan (code site).thread seen) here.around.loads z) (sym action) tt
 
-  pub mark : IsAtSomeMark y.plan (code y s w h stands below).thread (code y s w h stands below).is.places (on_machine y.runs.program w n here)
-      graph_thread.at seen core.bank
-      core.registers e
+  pub mark : IsAtSomeMark y.plan (code site).thread (code site).is.places (on_machine y.runs.program w n here)
+      graph_thread.at seen site.core.side
+      site.core.registers e
   mark =
-      at_some_mark y s w h stands below core node at none e refl does
-      (reads_none y s w b (code y s w h stands below) (s.own h below) stands.before_commit.count (inside y s w h stands below core node at none))
+      at_some_mark site node at none e refl does
+      (reads_none y s w b (code site) (s.own h site.below) site.stands.before_commit.count (inside site node at none))
       nothing_read may_do
 
   -- ---- The source
@@ -171,7 +172,7 @@ module _ (y : System) (s : IsSystem y) (w : World) (h : ℕ) (stands : Simulates
   graph_step_is : graph_step (lowered (flat_of y)) (now_of y b) n ≡ Some (after_effect (now_of y b) n graph_thread e)
   graph_step_is =
       step_is (flat_of y) s.plan.formed (now_of y b) (now b.config) n (matches_now y s b) graph_thread walks node at e does
-      ∙ done_is (now_of y b) n graph_thread e refl core.goes.execution
+      ∙ done_is (now_of y b) n graph_thread e refl site.core.goes.execution
 
   ahead : store_ahead (now b.config) n ≡ Some store
   ahead = ahead_is (flat_of y) s.plan.formed (now_of y b) (now b.config) n (matches_now y s b) graph_thread walks node at ∙ pending
@@ -180,7 +181,7 @@ module _ (y : System) (s : IsSystem y) (w : World) (h : ℕ) (stands : Simulates
   memory = memory_in (places_of y) v.words
 
   minded : HasCome (flat_of y) y.plan.boundaries (kept_of y b) b.config n → ⊥
-  minded = not_come y s b n graph_thread node e core.goes.goes.going walks at does (λ mutex next gives. cc) core.fresh
+  minded = not_come y s b n graph_thread node e site.core.goes.goes.going walks at does (λ mutex next gives. cc) site.core.fresh
 
   exists : store.element < length (slice_index_or (now b.config).variables store.variable [])
   exists =
@@ -197,26 +198,27 @@ module _ (y : System) (s : IsSystem y) (w : World) (h : ℕ) (stands : Simulates
   written u i writes =
       let r = (resumed y s b).resumed in
       let same : writes.store ≡ store =
-      same_Some _ _ (sym writes.is ∙ alone_ahead (flat_of y) b.config r.invariant n core.goes.goes.going ∙ ahead) in
+      same_Some _ _ (sym writes.is ∙ alone_ahead (flat_of y) b.config r.invariant n site.core.goes.goes.going ∙ ahead) in
       (sym writes.variable_is ∙ ap (λ (q : Pending). q.variable) same, sym writes.element_is ∙ ap (λ (q : Pending). q.element) same)
 
   -- the thread guards it
-  guards : Guards (flat_of y) (now b.config) n store.variable
+  guards : Guards (flat_of y) (now b.config) n store.variable store.element
   guards =
       let o = now_orderly y s b in
       let there = is_there (flat_of y) s.plan.formed n (now_of y b) o.source o.matches graph_thread node walks at in
       let held = (o.keeps.each n there.thread there.there).pending store (sym there.match.pending ∙ pending) in
-      let found = held_found n o.source.holders (guard_of (flat_of y).variables store.variable) held in
-      ap (λ (hs : List (Option ℕ)). slice_get hs (guard_of (flat_of y).variables store.variable))
+      let lock = element_lock (flat_of y).variables store.variable store.element in
+      let found = held_found n o.source.holders lock held in
+      ap (λ (hs : List (Option ℕ)). slice_get hs lock)
       (sym (matches_now y s b).holders ∙ o.matches.holders) ∙ found
 
   -- ---- The mark is passed
 
   abbrev cleans : List Effect
-  cleans = cleans_of y.plan (code y s w h stands below).thread (code y s w h stands below).is.places graph_thread.at store
+  cleans = cleans_of y.plan (code site).thread (code site).is.places graph_thread.at store
 
-  module _ (p : laws.PassesMark y.plan (code y s w h stands below).thread (code y s w h stands below).is.places (on_machine y.runs.program w n here) e
-      (stage_after y.plan (code y s w h stands below).thread (code y s w h stands below).is.places graph_thread.at seen core.bank e) mark.steps mark.effects
+  module _ (p : laws.PassesMark y.plan (code site).thread (code site).is.places (on_machine y.runs.program w n here) e
+      (stage_after y.plan (code site).thread (code site).is.places graph_thread.at seen site.core.side e) mark.steps mark.effects
       mark.at) where
     abbrev value : ℕ
     value = (p.made k kind_is).value
@@ -226,7 +228,7 @@ module _ (y : System) (s : IsSystem y) (w : World) (h : ℕ) (stands : Simulates
 
     later_is : p.later ≡ cleans
     later_is =
-        let all : r.Stores address (bytes_of k) (r.read core.registers pending_value) ∷ cleans ≡ r.Stores address (bytes_of k) value ∷ p.later =
+        let all : r.Stores address (bytes_of k) (r.read site.core.registers pending_value) ∷ cleans ≡ r.Stores address (bytes_of k) value ∷ p.later =
         sym (mark.seen_are k kind_is) ∙ p.effects_are ∙ ap (λ (z : Effect). effects_of z ++ p.later) effect_is in
         same_tail _ _ cleans p.later all
 
@@ -254,7 +256,7 @@ module _ (y : System) (s : IsSystem y) (w : World) (h : ℕ) (stands : Simulates
 
     stored : IsStored b.config.memory memory store.variable store.element store.number
     stored =
-        let size = stands.before_commit.sound.size in
+        let size = site.stands.before_commit.sound.size in
         let apart : AreSpotsApart (places_of y) (length w.words) =
         variables_apart (flat_of y).variables (length w.words) (room y s) (omega (arith, size)) in
         let is_at = (addresses_reach (flat_of y).variables (length w.harts) store.variable store.element formed.it (room y s) formed.found formed.element).at in
@@ -262,13 +264,13 @@ module _ (y : System) (s : IsSystem y) (w : World) (h : ℕ) (stands : Simulates
         (memory_in (places_of y) (words.stored w.words (byte_number address) (bytes_of k) (register_form_of (typed k store.number))))
         store.variable store.element store.number =
         memory_stored (places_of y) w.words store.variable store.element k (byte_number address) store.number apart is_at formed.held in
-        subst (λ (old : Memory). IsStored old memory store.variable store.element store.number) stands.before_commit.memory
+        subst (λ (old : Memory). IsStored old memory store.variable store.element store.number) site.stands.before_commit.memory
         (subst (λ (ws : List Word). IsStored (memory_in (places_of y) w.words) (memory_in (places_of y) ws) store.variable store.element store.number)
         (sym words_are) new)
 
     abbrev happened : ConfigStep b.config (begun b.config n memory (one_longer b.config n))
     happened = stores n memory (one_longer b.config n) (record {
-      going = core.goes.goes.going;
+      going = site.core.goes.goes.going;
       store = store;
       ahead = ahead;
       there = exists;
@@ -277,12 +279,12 @@ module _ (y : System) (s : IsSystem y) (w : World) (h : ℕ) (stands : Simulates
     })
 
     clean : (effect : Effect) → Contains cleans effect → is_clean effect ≡ true
-    clean effect has = clean_if ((code y s w h stands below).is.places.cleans graph_thread.at) address effect has
+    clean effect has = clean_if ((code site).is.places.cleans graph_thread.at) address effect has
 
     no_end : e ≡ a.Ends → cleans ≡ []
     no_end is = cc
 
-    abbrev passed : passing.Passing y s w h stands below core
+    abbrev passed : passing.Passing site
     passed = record {
       effect = e;
       plain = refl;
@@ -306,45 +308,47 @@ module _ (y : System) (s : IsSystem y) (w : World) (h : ℕ) (stands : Simulates
       none_kept = refl;
       minded = minded;
       is_step = refl;
+      soon = passed_soon y s h site.below w site.stands here graph_thread.at seen site.core.side site.core.registers node e site.core.core.own at does mark p;
     }
 
     abbrev next : AbstractRun y
-    next = passing.next y s w h stands below core passed
+    next = passing.next site passed
 
     abbrev new : ThreadGhost
-    new = going (ghost y s w h stands below) cleans
+    new = going (ghost site) cleans (most_ahead y n)
 
     state : now_of y next ≡ after_effect (now_of y b) n graph_thread e
     state = same_Some _ _ (sym (follows_on y s b _ happened refl) ∙ graph_step_is)
 
     -- what this step cleans is coming
     comes_now : (other : Hart) (line : ℕ) → Cleans (attempts_of y b) n (attempt_of b.config n).done line →
-        (u i position : ℕ) → line_of (shapes_of y) u i ≡ line → IsComing y v next (code y s w h stands below) new other u i position
+        (u i position : ℕ) → line_of (shapes_of y) u i ≡ line → IsComing y v next (code site) new other u i position
     comes_now other line cleaned u i position in_line =
         let is = written cleaned.variable cleaned.element cleaned.stores in
-        let at_node : cleaned.node ≡ graph_thread.at = same_Some _ _ (sym cleaned.at ∙ boundary_after_is y s b n graph_thread core.goes.goes.going walks) in
+        let at_node : cleaned.node ≡ graph_thread.at =
+        same_Some _ _ (sym cleaned.at ∙ boundary_after_is y s b n graph_thread site.core.goes.goes.going walks) in
         let same_line : line_of (shapes_of y) store.variable store.element ≡ line_of (shapes_of y) u i =
         ap (λ (j : ℕ). line_of (shapes_of y) j store.element) (sym is.0) ∙ ap (λ (j : ℕ). line_of (shapes_of y) cleaned.variable j) (sym is.1)
         ∙ cleaned.in_line ∙ sym in_line in
         is_ahead store.variable store.element
-        (there ((code y s w h stands below).is.places.cleans graph_thread.at) refl (λ uncleaned. cleaned.cleans
-        (ap (slice_get y.left_out) at_node ∙ (s.own h below).cleans graph_thread.at core.core.own uncleaned))) same_line
+        (there ((code site).is.places.cleans graph_thread.at) refl (λ uncleaned. cleaned.cleans
+        (ap (slice_get y.left_out) at_node ∙ (s.own h site.below).cleans graph_thread.at site.core.core.own uncleaned))) same_line
       where
-        there : (q : Bool) → (code y s w h stands below).is.places.cleans graph_thread.at ≡ q →
-            ((code y s w h stands below).is.places.cleans graph_thread.at ≡ false → ⊥) →
+        there : (q : Bool) → (code site).is.places.cleans graph_thread.at ≡ q →
+            ((code site).is.places.cleans graph_thread.at ≡ false → ⊥) →
             Contains cleans (r.Cleans address)
         there false is never = absurd (never is)
         there true is never =
             subst (λ (z : Bool). Contains (if z then r.Cleans address ∷ [] else []) (r.Cleans address)) (sym is) (0, omega arith, refl)
 
     flushed : (other : Hart) → p.on.on.hart ≡ other → (u i : ℕ) → Writes next.config.kept n (attempt_of next.config n).done u i →
-        IsFlushed y v next (code y s w h stands below) new other u i
+        IsFlushed y v next (code site) new other u i
     flushed other is u i writes = by (same_or_other u store.variable) (same_or_other i store.element)
       where
         longer : (attempt_of next.config n).done ≡ suc (attempt_of b.config n).done
         longer = done_longer b.config n
 
-        newest : IsFlushed y v next (code y s w h stands below) new other store.variable store.element
+        newest : IsFlushed y v next (code site) new other store.variable store.element
         newest =
             let r = (resumed y s b).resumed in
             record {
@@ -352,7 +356,7 @@ module _ (y : System) (s : IsSystem y) (w : World) (h : ℕ) (stands : Simulates
               within = (let l = longer in omega (arith, l));
               writes = record {
                 store = store;
-                is = alone_ahead (flat_of y) b.config r.invariant n core.goes.goes.going ∙ ahead;
+                is = alone_ahead (flat_of y) b.config r.invariant n site.core.goes.goes.going ∙ ahead;
                 variable_is = refl;
                 element_is = refl;
               };
@@ -366,28 +370,28 @@ module _ (y : System) (s : IsSystem y) (w : World) (h : ℕ) (stands : Simulates
                   let line : ℕ = line_of (shapes_of y) store.variable store.element in
                   comes_now other line
                   (subst (λ (j : ℕ). Cleans (attempts_of y b) n j line) same
-                  (as_before y w v b (code y s w h stands below) (ghost y s w h stands below) core.goes.cleans mark.at.on.hart (b.config.uncommitted ++ n ∷ [])
+                  (as_before y w v b (code site) (ghost site) site.core.goes.cleans mark.at.on.hart (b.config.uncommitted ++ n ∷ [])
                   memory (one_longer b.config n) (leads_on y b _ happened refl minded).0 (leads_on y b _ happened refl minded).1 new other cleaned.last line
                   cleaned.at))
                   store.variable store.element _ refl;
               fenced = λ un. absurd (true≢false un);
             }
 
-        older : IsOther store.variable store.element u i → IsFlushed y v next (code y s w h stands below) new other u i
+        older : IsOther store.variable store.element u i → IsFlushed y v next (code site) new other u i
         older apart = from (wrote b.config.kept n (attempt_of b.config n).done u i
             (subst (λ (j : ℕ). Writes b.config.kept n j u i) longer writes))
           where
             from : Writes b.config.kept n (attempt_of b.config n).done u i ⊎ WritesAt b.config.kept n (attempt_of b.config n).done u i →
-                IsFlushed y v next (code y s w h stands below) new other u i
+                IsFlushed y v next (code site) new other u i
             from (inr at_once) = let same = written u i at_once in absurd (apart same.0 same.1)
             from (inl old) =
-                let t = thread_of y s w h stands below in
+                let t = own_thread site in
                 let old_is : mark.at.on.hart ≡ t.log.hart = same_there (slice_get w.harts n) mark.at.on.hart t.log.hart mark.at.on.here t.log.here in
                 let l = longer in
-                flushed_still y w v b (code y s w h stands below) (ghost y s w h stands below) core.goes.cleans t.log.hart (b.config.uncommitted ++ n ∷ [])
+                flushed_still y w v b (code site) (ghost site) site.core.goes.cleans t.log.hart (b.config.uncommitted ++ n ∷ [])
                 memory (one_longer b.config n) (leads_on y b _ happened refl minded).0 (leads_on y b _ happened refl minded).1 new other
                 (λ j position reach. subst (λ (x : Hart). PersistsThrough v.words x.queue j position) (sym p.same ∙ is)
-                (forward_reaches y.runs.program w n (run_at y.plan (code y s w h stands below).thread (code y s w h stands below).is.places mark.at) p.forward j
+                (forward_reaches y.runs.program w n (run_at y.plan (code site).thread (code site).is.places mark.at) p.forward j
                 position
                 (subst (λ (x : Hart). PersistsThrough w.words x.queue j position) (sym old_is) reach)))
                 (omega (arith, l)) (omega (arith, l)) (λ now line cleaned. comes_now other line cleaned) u i
@@ -395,20 +399,20 @@ module _ (y : System) (s : IsSystem y) (w : World) (h : ℕ) (stands : Simulates
                 (t.flushed u i old) (λ un. absurd (true≢false un))
 
         by : (u ≡ store.variable) ⊎ (u ≢ store.variable) → (i ≡ store.element) ⊎ (i ≢ store.element) →
-            IsFlushed y v next (code y s w h stands below) new other u i
+            IsFlushed y v next (code site) new other u i
         by (inr apart) other_element = older (λ same same_element. apart same)
         by (inl same) (inr apart) = older (λ also same_element. apart same_element)
         by (inl same) (inl same_element) =
-            subst (λ (j : ℕ). IsFlushed y v next (code y s w h stands below) new other j i) (sym same)
-            (subst (λ (j : ℕ). IsFlushed y v next (code y s w h stands below) new other store.variable j) (sym same_element) newest)
+            subst (λ (j : ℕ). IsFlushed y v next (code site) new other j i) (sym same)
+            (subst (λ (j : ℕ). IsFlushed y v next (code site) new other store.variable j) (sym same_element) newest)
 
-    store_passes : StepOf y s w h stands below n
+    store_passes : StepOf site n
     store_passes =
-        passed_step y s w h stands below core passed state
-        (answers_none y s w b (code y s w h stands below) (s.own h below) stands.before_commit.count (inside y s w h stands below core node at none) next new)
+        passed_step site passed state
+        (answers_none y s w b (code site) (s.own h site.below) site.stands.before_commit.count (inside site node at none) next new)
         flushed
 
-  pub store_step : StepOf y s w h stands below n
-  store_step = mark_step y s w h stands below core marks here e
-      (stage_after y.plan (code y s w h stands below).thread (code y s w h stands below).is.places graph_thread.at seen core.bank e) mark.steps mark.effects
+  pub store_step : StepOf site n
+  store_step = mark_step site marks here e
+      (stage_after y.plan (code site).thread (code site).is.places graph_thread.at seen site.core.side e) mark.steps mark.effects
       mark.at store_passes

@@ -11,7 +11,7 @@ use Rattle.source_machine.specs.StepExchanges.{IsSameTo}
 use Rattle.source_machine.proofs.Public.{run_keeps, locks_same, unlocks_same, solo as solo_law}
 use Rattle.flow_graph.specs.Actions.{GraphThread, FlowState}
 use Rattle.flow_graph.specs.Lockstep.{Matches}
-use Rattle.recovery_semantics.specs.Attempts.{Attempt, attempt_at, no_attempt, IsAttempted, IsInner, solo, WritesAt, Writes}
+use Rattle.recovery_semantics.specs.Attempts.{Attempt, attempt_at, no_attempt, IsAttempted, IsInner, solo, WritesAt}
 use Rattle.recovery_semantics.specs.Configs.{Config, Invariant, now, attempt_of}
 use Rattle.recovery_semantics.specs.Events.{IsGoing, commits, settled_by, IsSettled, steps_begun}
 use Rattle.recovery_semantics.specs.Executions.{then}
@@ -20,14 +20,13 @@ use Rattle.recovery_semantics.proofs.Public.{inner_along, writes_at_same, none_l
 use Rattle.recovery_semantics.proofs.Public.{last_after, last_alone, last_stays}
 use Rattle.region_attempts.specs.GraphStates.{flow_solo, node_after}
 use Rattle.region_attempts.specs.AttemptsInRegion.{SettlesThere}
-use Rattle.region_attempts.specs.PendingCleans.{CleansSince}
 use Rattle.region_attempts.specs.Laws.{MatchesSource, GraphThreadsSettle}
 use Rattle.region_attempts.proofs.Public.{step_lockstep, matched_run, inner_runs, own_step, graph_stands, graph_follows, graph_settles}
 use Rattle.log_states.specs.Logs.{Record}
 use Rattle.recovered_threads.specs.RecordDescriptions.{Code, Describes}
 use Rattle.recovered_threads.proofs.Public.{others_describe}
 use Rattle.crash_simulation.specs.Systems.{System, IsSystem, flat_of}
-use Rattle.crash_simulation.specs.AbstractRuns.{AbstractRun, kept_of, now_of, attempts_of}
+use Rattle.crash_simulation.specs.AbstractRuns.{AbstractRun, kept_of, now_of}
 use Rattle.crash_simulation.proofs.StatesMatchSource.{resumed, kept_matches}
 
 -- ---- Attempts
@@ -173,15 +172,8 @@ module _ (y : System) (s : IsSystem y) (b : AbstractRun y) where
       pub writes_on : (k v e : ℕ) → k ≤ longest → WritesAt old.kept u k v e → WritesAt K' u k v e
       writes_on k v e l w = writes_at_same K' old.kept u k v e (source_path k l).own w
 
-      writes_at_before : (k v e : ℕ) → k ≤ longest → WritesAt K' u k v e → WritesAt old.kept u k v e
+      pub writes_at_before : (k v e : ℕ) → k ≤ longest → WritesAt K' u k v e → WritesAt old.kept u k v e
       writes_at_before k v e l w = writes_at_same old.kept K' u k v e (sym (source_path k l).own) w
-
-      pub writes_before : (v e : ℕ) → Writes K' u (attempt_of committed_run.config u).done v e → Writes old.kept u done v e
-      writes_before v e w =
-          let within = w.within in
-          let same = done_same in
-          let below = (invariant.tried u).within in
-          record { before = w.before; within = omega (arith, within, same); at = writes_at_before w.before v e (omega (arith, within, same, below)) w.at }
 
       -- another thread's graph thread is the same
       graph_thread_same : slice_get (kept_of y committed_run).graph_threads u ≡ slice_get (kept_of y b).graph_threads u
@@ -217,32 +209,8 @@ module _ (y : System) (s : IsSystem y) (b : AbstractRun y) where
           (run_keeps x K' (replicate k u) keeps') (source_path k runs) one.next two.next (graph_threads_along k runs) one.is two.is
           ∙ ap (λ (z : FlowState). slice_get z.graph_threads u) (sym two.after))
 
-      node_same : (k : ℕ) → k ≤ longest → node_after x (kept_of y committed_run) u k ≡ node_after x (kept_of y b) u k
+      pub node_same : (k : ℕ) → k ≤ longest → node_after x (kept_of y committed_run) u k ≡ node_after x (kept_of y b) u k
       node_same k l = ap (option_map (λ (z : GraphThread). z.at)) (graph_threads_along k l)
-
-      -- what another thread cleans along its attempt was cleaned before
-      pub cleans_before : (first line : ℕ) →
-          CleansSince (attempts_of y committed_run) u first (attempt_of committed_run.config u).done line →
-          CleansSince (attempts_of y b) u first done line
-      cleans_before first line c =
-          let within = c.within in
-          let same = done_same in
-          let below = (invariant.tried u).within in
-          let low : c.last ≤ longest = omega (arith, within, same, below) in
-          record {
-            last = c.last;
-            since = c.since;
-            within = omega (arith, within, same);
-            at = record {
-              node = c.at.node;
-              at = sym (node_same c.last low) ∙ c.at.at;
-              variable = c.at.variable;
-              element = c.at.element;
-              stores = writes_at_before c.last c.at.variable c.at.element low c.at.stores;
-              in_line = c.at.in_line;
-              cleans = c.at.cleans;
-            };
-          }
 
       -- another thread's record goes on to describe the kept state
       pub describes_on : (code : Code y.plan) (r : Record) → code.thread.number ≡ u → Describes y.plan code (kept_of y b) r →

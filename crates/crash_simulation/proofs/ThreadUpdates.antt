@@ -13,26 +13,23 @@ use Rattle.recovered_threads.proofs.Public.{same_there, same_or_other}
 use Rattle.crash_simulation.specs.Systems.{System, IsSystem, thread_count}
 use Rattle.crash_simulation.specs.AbstractRuns.{AbstractRun, now_of}
 use Rattle.crash_simulation.specs.ThreadGhosts.{ThreadGhost, ThreadInv, HasCommittedLog}
-use Rattle.crash_simulation.specs.SimulationRelation.{AreHeld, AreLocked, gathering, gathered, records_of, Simulates}
-use Rattle.crash_simulation.specs.InstructionSteps.{with_ghost, is_bound, is_leaving}
+use Rattle.crash_simulation.specs.SimulationRelation.{AreLocked, gathering, gathered, records_of, Simulates}
+use Rattle.crash_simulation.proofs.LocksAfterStep.{held_alike}
+use Rattle.crash_simulation.specs.InstructionSteps.{with_ghost, is_bound, is_leaving, SaysSame, AreSimilar}
 
 -- what is said of a thread in a machine
 abbrev pub OfThread : (y : System) → World → Type 1
 OfThread y w = (b : AbstractRun y) (code : Code y.plan) (c : ThreadGhost) → ThreadInv y w b code c → Type 0
 
--- the machine simulates the same abstract run, where the same steps are bound, and that is so of the thread
+-- the machine simulates the same abstract run, and that is so of the thread
 pub record SimulatesAnd (y : System) (s : IsSystem y) (w : World) (h : ℕ) (below : h < thread_count y) (old : Simulates y s w) (P : OfThread y w) : Type 0 where
   pub stands : Simulates y s w
-  pub abstract : stands.before_commit.abstract ≡ old.before_commit.abstract
-  pub bound : (n : ℕ) → is_bound (stands.before_commit.ghosts n) ≡ is_bound (old.before_commit.ghosts n)
-  pub leaving : (n : ℕ) → is_leaving (stands.before_commit.ghosts n) ≡ is_leaving (old.before_commit.ghosts n)
-  pub giving : (n : ℕ) → (stands.before_commit.ghosts n).giving ≡ (old.before_commit.ghosts n).giving
+  pub similar : AreSimilar y s old stands
   pub so : P stands.before_commit.abstract (s.codes.each h below) (stands.before_commit.ghosts h) (stands.before_commit.each h below)
 
 module _ (y : System) (s : IsSystem y) (w : World) (h : ℕ) (stands : Simulates y s w) (below : h < thread_count y) (i : IsInPhase w h Run) (P : OfThread y w)
     (ghost : ThreadGhost) (t : ThreadInv y w stands.before_commit.abstract (s.codes.each h below) ghost)
-    (caught : HasCommittedLog y w stands.before_commit.abstract (s.codes.each h below) ghost t) (gives : ghost.giving ≡ (stands.before_commit.ghosts h).giving)
-    (bounds : is_bound ghost ≡ is_bound (stands.before_commit.ghosts h)) (leaves : is_leaving ghost ≡ is_leaving (stands.before_commit.ghosts h))
+    (caught : HasCommittedLog y w stands.before_commit.abstract (s.codes.each h below) ghost t) (says : SaysSame ghost (stands.before_commit.ghosts h))
     (so : P stands.before_commit.abstract (s.codes.each h below) ghost t) where
   abbrev b : AbstractRun y
   b = stands.before_commit.abstract
@@ -79,17 +76,7 @@ module _ (y : System) (s : IsSystem y) (w : World) (h : ℕ) (stands : Simulates
   ]
 
   giving_same : (n : ℕ) → (new n).giving ≡ (old n).giving
-  giving_same n = same_of (λ (c : ThreadGhost). c.giving) gives n
-
-  held_on : AreHeld w old (now_of y b) → AreHeld w new (now_of y b)
-  held_on held = record {
-    held = λ lock n there. elim (held.held lock n there) [
-      | inl now ↦ inl now
-      | inr g ↦ inr (record { exists = g.exists; free = g.free; gives = giving_same n ∙ g.gives })
-    ];
-    holds = held.holds;
-    giving = λ lock n exists g. held.giving lock n exists (sym (giving_same n) ∙ g);
-  }
+  giving_same n = same_of (λ (c : ThreadGhost). c.giving) says.giving n
 
   gathered_on : AreGathered w (records_of old) → AreGathered w (records_of new)
   gathered_on ag = record {
@@ -104,7 +91,7 @@ module _ (y : System) (s : IsSystem y) (w : World) (h : ℕ) (stands : Simulates
 
   locked_on : AreLocked y w b old → AreLocked y w b new
   locked_on (gathering none gathers) = absurd (subst (λ (p : Phase). Gathers w h (records_of old h) p) i.phase_is (gathers.each h i.hart i.here))
-  locked_on (gathered ag held) = gathered (gathered_on ag) (held_on held)
+  locked_on (gathered ag held) = gathered (gathered_on ag) (held_alike w w old new (now_of y b) refl giving_same held)
 
   pub placed_anew : SimulatesAnd y s w h below stands P
   placed_anew = record {
@@ -122,9 +109,14 @@ module _ (y : System) (s : IsSystem y) (w : World) (h : ℕ) (stands : Simulates
       };
       caught_up = λ n within. (all n within).1;
     };
-    abstract = refl;
-    bound = same_of is_bound bounds;
-    leaving = same_of is_leaving leaves;
-    giving = giving_same;
+    similar = record {
+      abstract = refl;
+      same = λ n. record {
+        bound = same_of is_bound says.bound n;
+        leaving = same_of is_leaving says.leaving n;
+        giving = giving_same n;
+        ahead = same_of (λ (c : ThreadGhost). c.before_mark) says.ahead n;
+      };
+    };
     so = (all h below).2 refl;
   }

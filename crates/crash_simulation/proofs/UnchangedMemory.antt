@@ -1,28 +1,30 @@
 -- Threads where memory is as it was.
-use Rattle.std.proofs.Common.{◌≡◌, ◌≢◌, refl, ℕ, ◌/◌, List, length, ap, sym, ◌∙◌, subst, Some, true}
+use Rattle.std.proofs.Common.{◌≡◌, ◌≢◌, refl, ℕ, ◌/◌, List, [], length, ap, sym, ◌∙◌, subst, Some, true}
 use Rattle.std.specs.Prelude.{slice_get}
 use Rattle.ido_base.specs.declared.event.Event.TheVariants.{Step}
 use Rattle.ido_base.specs.Words.{Word, Entry, loaded}
 use Rattle.ido_base.specs.Layout.{byte_number, variable_at}
 use Rattle.ido_base.specs.Growth.{PersistsThrough}
-use Rattle.rv64_isa.specs.declared.phase.Phase.{Phase}
-use Rattle.rv64_isa.specs.declared.phase.Phase.TheVariants.{Take, Wait, Resume, Run, Done, Ended}
 use Rattle.rv64_isa.specs.Machine.{Hart, World, after_event}
 use Rattle.rv64_isa.specs.Frames.{IsWellFormedWorld}
-use Rattle.flow_graph.specs.Actions.{GraphThread}
-use Rattle.log_states.specs.Stages.{LogIs, is_committed}
+use Rattle.std.proofs.lemmas.List.{append-nil}
+use Rattle.ido_base.specs.Growth.{AreChanged}
+use Rattle.ido_base.proofs.Public.{are_persisted_refl, changed_refl}
+use Rattle.log_states.specs.Logs.{log_word, IsUnstored}
+use Rattle.log_states.specs.Stages.{LogIs, is_committed, Elsewhere}
 use Rattle.code_runs.specs.CodeTraces.{MarkedEnvironment}
 use Rattle.hart_runs.specs.HartsOnRuns.{is_access, Agrees}
 use Rattle.hart_runs.proofs.Public.{others_leave}
-use Rattle.thread_runs.proofs.Public.{others_keep_fragments, others_keep_cores}
 use Rattle.recovered_threads.specs.RecordDescriptions.{Code}
-use Rattle.crash_simulation.specs.Systems.{System, shapes_of}
+use Rattle.crash_simulation.specs.Systems.{System, flat_of, shapes_of}
 use Rattle.crash_simulation.specs.AbstractRuns.{AbstractRun}
-use Rattle.crash_simulation.specs.ThreadGhosts.{ThreadGhost, InPhase, IsRunningThread, on_fragment, at_core}
+use Rattle.crash_simulation.specs.ThreadGhosts.{ThreadGhost, InPhase}
 use Rattle.crash_simulation.specs.ThreadGhosts.{IsComing, is_reached, is_ahead, ThreadInv, committed}
+use Rattle.crash_simulation.proofs.UnmovedThreads.{stays_unmoved}
+use Rattle.crash_simulation.proofs.OtherEventsKeepThreads.{stands_on}
 
 -- memory agrees where it is as it was
-pub agrees_on : (y : System) (w v : World) (h : ℕ) (s : MarkedEnvironment) → v.words ≡ w.words → length v.harts ≡ length w.harts → Agrees y.runs.program w h s →
+agrees_on : (y : System) (w v : World) (h : ℕ) (s : MarkedEnvironment) → v.words ≡ w.words → length v.harts ≡ length w.harts → Agrees y.runs.program w h s →
     Agrees y.runs.program v h s
 agrees_on y w v h s words count a = record {
   fetches = a.fetches;
@@ -78,47 +80,17 @@ module _ (y : System) (w v : World) (b : AbstractRun y) (code : Code y.plan) (c 
   }
 
 -- a step of another hart that leaves memory leaves the thread
-module _ (y : System) (w : World) (g : ℕ) (b : AbstractRun y) (code : Code y.plan) (c : ThreadGhost)
-    (words : (after_event y.runs.program w (Step g)).words ≡ w.words)
-    (sound : IsWellFormedWorld w) (other : g ≢ code.thread.number) where
-  abbrev after : World
-  after = after_event y.runs.program w (Step g)
-
-  runs_on : (hart : Hart) (graph_thread : GraphThread) → IsRunningThread y w b code c hart graph_thread → IsRunningThread y after b code c hart graph_thread
-  runs_on hart graph_thread (on_fragment o) = on_fragment (record {
-    environment = o.environment;
-    answers = o.answers;
-    exit = o.exit;
-    bank = o.bank;
-    at_bank = o.at_bank;
-    steps = o.steps;
-    fragment =
-        others_keep_fragments y.plan code.thread code.is.places y.runs.program w code.thread.number o.environment _ o.steps _ (Step g) sound other o.fragment
-        (agrees_on y w after code.thread.number o.environment words (others_leave y.runs.program w code.thread.number (Step g) sound other).1
-        o.fragment.agrees);
-    fits = o.fits;
-  })
-  runs_on hart graph_thread (at_core o) = at_core (record {
-    bank = o.bank;
-    at_bank = o.at_bank;
-    registers = o.registers;
-    core =
-        others_keep_cores y.plan code.thread code.is.places y.runs.program w code.thread.number graph_thread.at _ o.bank o.registers (Step g)
-        sound other o.core;
-    goes = o.goes;
-    fresh = o.fresh;
-  })
-
-  in_phase_on : (hart : Hart) (graph_thread : GraphThread) (phase : Phase) → InPhase y w b code c hart graph_thread phase →
-      InPhase y after b code c hart graph_thread phase
-  in_phase_on hart graph_thread Take p = p
-  in_phase_on hart graph_thread Wait p = p
-  in_phase_on hart graph_thread Resume p = p
-  in_phase_on hart graph_thread Run p = runs_on hart graph_thread p
-  in_phase_on hart graph_thread Done p = p
-  in_phase_on hart graph_thread Ended p = p
-
-  pub others_stand : ThreadInv y w b code c → ThreadInv y after b code c
-  others_stand t =
-      phase_moves y w after b code c words t t.log.hart ((others_leave y.runs.program w code.thread.number (Step g) sound other).0 ∙ t.log.here) refl
-      (in_phase_on t.log.hart t.graph_thread t.log.hart.phase t.phase)
+pub others_stand : (y : System) (w : World) (g : ℕ) (b : AbstractRun y) (code : Code y.plan) (c : ThreadGhost) →
+    (after_event y.runs.program w (Step g)).words ≡ w.words → IsWellFormedWorld w → g ≢ code.thread.number → ThreadInv y w b code c →
+    ThreadInv y (after_event y.runs.program w (Step g)) b code c
+others_stand y w g b code c words sound other =
+    let n = code.thread.number in
+    let left = others_leave y.runs.program w n (Step g) sound other in
+    stands_on y b b.config b.execution b.respects code c (stays_unmoved (flat_of y) b.origin b.schedule b.config n) w (Step g) sound other
+    (λ hart here. record {
+      next = hart;
+      there = left.0 ∙ here;
+      moves = Elsewhere [] refl (subst (AreChanged w.words) (sym words) (changed_refl w.words))
+          (subst (IsUnstored n w.words) (sym words) (λ i below. (are_persisted_refl w.words).each (log_word n i))) (sym (append-nil hart.queue)) tt;
+    })
+    (λ z answers agrees. agrees_on y w (after_event y.runs.program w (Step g)) n z words left.1 agrees)

@@ -1,9 +1,9 @@
 -- A hart at the code of a node that gives a mutex back: it passes its mark, and the boundary before the call begins.
-use Rattle.std.proofs.Common.{◌≡◌, ◌≢◌, ◌⊎◌, inl, inr, ⊎_elim, refl, ℕ, suc, ◌+◌, ◌-◌, ◌*◌, ◌/◌, ◌<◌, ◌≤◌, List, [], ◌∷◌, ◌++◌, length, ap, sym}
+use Rattle.std.proofs.Common.{◌≡◌, ◌≢◌, ◌⊎◌, inl, inr, ⊎_elim, refl, ℕ, suc, ◌+◌, ◌*◌, ◌/◌, ◌<◌, ◌≤◌, List, [], ◌∷◌, ◌++◌, length, ap, sym}
 use Rattle.std.proofs.Common.{◌∙◌, subst, arith, Option, Some, None, Bool, false}
-use Rattle.std.specs.Prelude.{slice_get, slice_set, Contains, not, ◌&&◌, if◌then◌else◌}
+use Rattle.std.specs.Prelude.{slice_get, slice_set, Contains, not, ◌&&◌}
 use Rattle.std.specs.List.{list_any}
-use Rattle.std.proofs.lemmas.Bool.{true≢false, cond-true, cases_Bool}
+use Rattle.std.proofs.lemmas.Bool.{true≢false, cond-true}
 use Rattle.std.proofs.lemmas.Option.{none-some, same_Some, slice_get_within}
 use Rattle.ido_base.specs.declared.event.Reply.TheVariants.{Moved, Drained}
 use Rattle.ido_base.specs.Growth.{PersistsThrough}
@@ -15,8 +15,7 @@ use Rattle.rv64_isa.specs.Rows as r
 use Rattle.rv64_isa.specs.Rows.{Effect}
 use Rattle.rv64_isa.specs.Machine.{Hart, World}
 use Rattle.rv64_isa.specs.Schedule.{is_running, is_point_store}
-use Rattle.boundary_code.specs.Boundaries.{Boundary, boundary_effects, is_empty}
-use Rattle.node_code.specs.Pieces.{bank_after}
+use Rattle.boundary_code.specs.Boundaries.{Boundary, boundary_effects, side_after}
 use Rattle.code_runs.specs.CodeTraces.{MarkedEnvironment}
 use Rattle.variable_words.proofs.Public.{is_size, at_whole}
 use Rattle.flow_graph.specs.Nodes.{Node, Action, Unlock, Graph}
@@ -31,17 +30,17 @@ use Rattle.recovery_semantics.specs.ElementHistories.{Memory, history_at}
 use Rattle.recovery_semantics.specs.Attempts.{Writes}
 use Rattle.recovery_semantics.specs.Configs.{now, attempt_of}
 use Rattle.recovery_semantics.specs.Events as events
-use Rattle.recovery_semantics.specs.Events.{ConfigStep, synchronises, begun, steps_begun}
+use Rattle.recovery_semantics.specs.Events.{ConfigStep, synchronises, begun}
 use Rattle.recovery_semantics.specs.Laws.{HasUnlocked}
 use Rattle.recovery_semantics.specs.VariableSpots.{memory_in}
 use Rattle.recovery_semantics.proofs.Public.{memory_stays, counted_own}
 use Rattle.region_attempts.proofs.Public.{stores_are_cleaned}
-use Rattle.log_states.specs.Logs.{Record, log_word}
+use Rattle.log_states.specs.Logs.{Record, IsSideOf, log_word}
 use Rattle.log_states.specs.Stages.{is_store, fences_ahead}
 use Rattle.log_states.specs.Machines.{IsNext, IsLogEffect, StoresWord, CleansLine, PassesFence, config_of}
 use Rattle.log_states.specs.Laws.{recorded_by}
 use Rattle.log_states.specs.LogInvariant.{LogInv, passage, Advances, Completes, WritesBack}
-use Rattle.log_states.proofs.Public.{stores_nothing, one_effect, boundaries_stay_in, point_store_is_last, byte_of_log, word_of_point, point_says}
+use Rattle.log_states.proofs.Public.{stores_nothing, one_effect, boundaries_stay_in, point_store_is_last, byte_of_log, word_of_point, side_follows}
 use Rattle.log_states.proofs.Public.{boundaries_fence, steps_keep, begins_standing, own_steps_keep, boundary_stores}
 use Rattle.recovered_threads.specs.RecordDescriptions.{Describes, past_unlock}
 use Rattle.recovered_threads.proofs.Public.{same_there, same_or_other, unlocks_enter}
@@ -51,13 +50,13 @@ use Rattle.thread_runs.specs.CodeFragments.{Gives, stage_after, effects_of, IsOn
 use Rattle.thread_runs.specs.Laws as laws
 use Rattle.thread_runs.specs.Laws.{IsAtSomeMark, MarksPass, run_at}
 use Rattle.thread_runs.proofs.Public.{fragments_see_all}
-use Rattle.crash_simulation.specs.Systems.{System, IsSystem, flat_of, shapes_of, places_of, thread_count}
+use Rattle.crash_simulation.specs.Systems.{System, IsSystem, flat_of, shapes_of, places_of}
 use Rattle.crash_simulation.specs.AbstractRuns.{AbstractRun, kept_of, now_of}
-use Rattle.crash_simulation.specs.ThreadGhosts.{ThreadGhost, record_kept, IsAtBankOf, on_fragment, InPhase}
+use Rattle.crash_simulation.specs.ThreadGhosts.{ThreadGhost, record_kept, on_fragment, InPhase}
 use Rattle.crash_simulation.specs.ThreadGhosts.{IsFlushed, IsComing, is_reached, is_ahead, ThreadInv}
-use Rattle.crash_simulation.specs.SimulationRelation.{IsGiving, AreHeld, Simulates}
+use Rattle.crash_simulation.specs.SimulationRelation.{IsGiving, AreHeld}
 use Rattle.crash_simulation.specs.InstructionSteps.{goes, MayStore, nothing, in_log, with_ghost, abstract_next}
-use Rattle.crash_simulation.specs.InstructionSteps.{begins_unlock, is_bound, nothing_released, AtCoreNow, thread_of}
+use Rattle.crash_simulation.specs.InstructionSteps.{begins_unlock, is_bound, nothing_released, begins_step}
 use Rattle.crash_simulation.proofs.LastReleases.{holders_stay_none, none_leaving}
 use Rattle.crash_simulation.proofs.StatesMatchSource.{cuts, resumed, now_orderly, now_good}
 use Rattle.crash_simulation.proofs.Boundaries.{after_unlock_in, BoundaryIsRecoverable, boundaries_begin}
@@ -68,30 +67,31 @@ use Rattle.crash_simulation.proofs.ConfigAfterBegin.{alone_unlocks}
 use Rattle.crash_simulation.proofs.GraphAfterBegin.{after_effect, done_is, graph_thread_is, graph_threads_count, follows_on}
 use Rattle.crash_simulation.proofs.UncommittedSteps.{leads_on}
 use Rattle.crash_simulation.proofs.NodeEnvironments.{reads_none, answers_none}
-use Rattle.crash_simulation.proofs.OwnHartSteps.{code, number, same_number, abstract, ghosts, ghost, after, StepOf, locks_after}
+use Rattle.crash_simulation.proofs.OwnHartSteps.{code, number, same_number, abstract, ghosts, ghost, after, StepOf, locks_after, AtNode, own_thread}
 use Rattle.crash_simulation.proofs.PendingFlushes.{flushed_still}
+use Rattle.crash_simulation.specs.StepsToMark.{most_ahead}
+use Rattle.crash_simulation.proofs.StepsAfterMarks.{passed_soon}
 use Rattle.crash_simulation.proofs.WriteBackSteps.{mark_step, none_clean, not_bound}
 use Rattle.crash_simulation.proofs.MarksAtNodes.{inside, environment, at_some_mark}
 use Rattle.crash_simulation.proofs.LocalNodeSteps.{matches_now}
-use Rattle.boundary_code.proofs.Public.{some_there}
 
-module _ (y : System) (s : IsSystem y) (w : World) (h : ℕ) (stands : Simulates y s w) (below : h < thread_count y) (core : AtCoreNow y s w h stands below)
-    (marks : MarksPass) (node : Node) (at : NodeAt (lowered (flat_of y)) (thread_of y s w h stands below).graph_thread.at node)
+module _ {y : System} {s : IsSystem y} {w : World} {h : ℕ} (site : AtNode y s w h)
+    (marks : MarksPass) (node : Node) (at : NodeAt (lowered (flat_of y)) (own_thread site).graph_thread.at node)
     (mutex next_node : ℕ) (action : node.action ≡ Unlock mutex next_node) where
   abbrev graph_thread : GraphThread
-  graph_thread = (thread_of y s w h stands below).graph_thread
+  graph_thread = (own_thread site).graph_thread
 
   abbrev n : ℕ
-  n = number y s w h stands below
+  n = number site
 
   abbrev b : AbstractRun y
-  b = abstract y s w h stands below
+  b = abstract site
 
   abbrev c : ThreadGhost
-  c = ghost y s w h stands below
+  c = ghost site
 
   abbrev v : World
-  v = after y s w h stands below
+  v = after site
 
   abbrev seen : Seen
   seen = seen_by (now_of y b) graph_thread
@@ -100,7 +100,7 @@ module _ (y : System) (s : IsSystem y) (w : World) (h : ℕ) (stands : Simulates
   none address bytes = false
 
   abbrev here : MarkedEnvironment
-  here = environment y s w h stands below core node at none
+  here = environment site node at none
 
   abbrev e : a.Effect
   e = a.Gives mutex next_node
@@ -109,17 +109,17 @@ module _ (y : System) (s : IsSystem y) (w : World) (h : ℕ) (stands : Simulates
   does = ap (λ (z : Action). effect_of z seen) action
 
   walks : slice_get (now_of y b).graph_threads n ≡ Some graph_thread
-  walks = (thread_of y s w h stands below).walks
+  walks = (own_thread site).walks
 
-  nothing_read : IsAnswered (source_of y.plan (code y s w h stands below).thread seen) here.around.loads node.action
-  nothing_read = subst (λ (z : Action). IsAnswered (source_of y.plan (code y s w h stands below).thread seen) here.around.loads z) (sym action) tt
+  nothing_read : IsAnswered (source_of y.plan (code site).thread seen) here.around.loads node.action
+  nothing_read = subst (λ (z : Action). IsAnswered (source_of y.plan (code site).thread seen) here.around.loads z) (sym action) tt
 
-  pub mark : IsAtSomeMark y.plan (code y s w h stands below).thread (code y s w h stands below).is.places (on_machine y.runs.program w n here)
-      graph_thread.at seen core.bank
-      core.registers e
+  pub mark : IsAtSomeMark y.plan (code site).thread (code site).is.places (on_machine y.runs.program w n here)
+      graph_thread.at seen site.core.side
+      site.core.registers e
   mark =
-      at_some_mark y s w h stands below core node at none e refl does
-      (reads_none y s w b (code y s w h stands below) (s.own h below) stands.before_commit.count (inside y s w h stands below core node at none))
+      at_some_mark site node at none e refl does
+      (reads_none y s w b (code site) (s.own h site.below) site.stands.before_commit.count (inside site node at none))
       nothing_read tt
 
   -- ---- The source
@@ -127,7 +127,7 @@ module _ (y : System) (s : IsSystem y) (w : World) (h : ℕ) (stands : Simulates
   graph_step_is : graph_step (lowered (flat_of y)) (now_of y b) n ≡ Some (after_effect (now_of y b) n graph_thread e)
   graph_step_is =
       step_is (flat_of y) s.plan.formed (now_of y b) (now b.config) n (matches_now y s b) graph_thread walks node at e does
-      ∙ done_is (now_of y b) n graph_thread e refl core.goes.execution
+      ∙ done_is (now_of y b) n graph_thread e refl site.core.goes.execution
 
   unlocks_now : unlocks (now b.config) n ≡ Some mutex
   unlocks_now = unlocks_it (flat_of y) s.plan.formed (now_of y b) (now b.config) n (matches_now y s b) graph_thread walks node at mutex next_node action
@@ -136,7 +136,7 @@ module _ (y : System) (s : IsSystem y) (w : World) (h : ℕ) (stands : Simulates
   passing =
       let stepped = source_steps (flat_of y) s.plan.formed (now_of y b) (now b.config) n (matches_now y s b) graph_thread walks node at _ graph_step_is in
       record {
-        going = core.goes.goes.going;
+        going = site.core.goes.goes.going;
         next = stepped.0;
         is = stepped.1;
         mutex = mutex;
@@ -166,8 +166,8 @@ module _ (y : System) (s : IsSystem y) (w : World) (h : ℕ) (stands : Simulates
   has_unlocked =
       let i = (resumed y s b).resumed.invariant in
       record {
-        begun = counted_own n b.config.uncommitted ∙ ap suc core.goes.goes.going;
-        unlocks_it = alone_unlocks (flat_of y) b.config i n core.goes.goes.going ∙ unlocks_now;
+        begun = counted_own n b.config.uncommitted ∙ ap suc site.core.goes.goes.going;
+        unlocks_it = alone_unlocks (flat_of y) b.config i n site.core.goes.goes.going ∙ unlocks_now;
       }
 
   -- the thread has the mutex now
@@ -183,54 +183,54 @@ module _ (y : System) (s : IsSystem y) (w : World) (h : ℕ) (stands : Simulates
   -- ---- The boundary
 
   abbrev boundary : Boundary
-  boundary = keeping y.plan (code y s w h stands below).thread (code y s w h stands below).is.places next_node
+  boundary = keeping y.plan (code site).thread (code site).is.places next_node
 
   abbrev resume : ℕ
-  resume = (code y s w h stands below).is.places.after graph_thread.at
+  resume = (code site).is.places.after graph_thread.at
 
   abbrev effects_all : List Effect
-  effects_all = boundary_effects boundary (1 - core.bank) resume core.registers
+  effects_all = boundary_effects boundary site.core.side resume site.core.registers
 
   abbrev new_record : Record
-  new_record = recorded_by boundary (1 - core.bank) resume core.registers
+  new_record = recorded_by boundary site.core.side resume site.core.registers
 
   at_plan : NodeAt y.plan.graph graph_thread.at node
   at_plan = subst (λ (g : Graph). NodeAt g graph_thread.at node) (sym s.plan.lowered) at
 
-  enters_next : Enters y.plan (code y s w h stands below).thread next_node (seen_by (now_of y next) graph_thread_next) core.bank core.registers
+  enters_next : Enters y.plan (code site).thread next_node (seen_by (now_of y next) graph_thread_next) site.core.side site.core.registers
   enters_next =
       let seen_same : seen ≡ seen_by (now_of y next) graph_thread_next = ap (λ (z : FlowState). seen_by z graph_thread_next) (sym state) in
-      unlocks_enter y.plan (code y s w h stands below) (now_of y next) graph_thread_next graph_thread.at mutex core.bank node core.registers s.plan
+      unlocks_enter y.plan (code site) (now_of y next) graph_thread_next graph_thread.at mutex site.core.side node site.core.registers s.plan
       (now_orderly y s next)
       walks_next at_plan action
-      (subst (λ (z : Seen). Enters y.plan (code y s w h stands below).thread graph_thread.at z core.bank core.registers) seen_same core.core.enters)
+      (subst (λ (z : Seen). Enters y.plan (code site).thread graph_thread.at z site.core.side site.core.registers) seen_same site.core.core.enters)
 
-  begins : BoundaryIsRecoverable y.plan (code y s w h stands below) (now_of y next) next_node core.bank resume core.registers
-  begins = boundaries_begin y.plan (code y s w h stands below) (now_of y next) core.bank resume core.registers s.plan (now_orderly y s next)
+  begins : BoundaryIsRecoverable y.plan (code site) (now_of y next) next_node site.core.side resume site.core.registers
+  begins = boundaries_begin y.plan (code site) (now_of y next) site.core.side resume site.core.registers s.plan (now_orderly y s next)
       (now_good y s next) (record {
         graph_thread = graph_thread_next;
         there = walks_next;
-        goes_on = core.goes.execution;
+        goes_on = site.core.goes.execution;
         own = mark.at.own;
-        resumes = λ holds. past_unlock graph_thread.at mutex node core.core.own at_plan action holds;
+        resumes = λ holds. past_unlock graph_thread.at mutex node site.core.core.own at_plan action holds;
         enters = enters_next;
-        address = after_unlock_in y s h below graph_thread.at mutex next_node
-            (record { own = core.core.own; is = node; at = at_plan; unlocks = action });
+        address = after_unlock_in y s h site.below graph_thread.at mutex next_node
+            (record { own = site.core.core.own; is = node; at = at_plan; unlocks = action });
       })
 
   log_first : LogInv n c.new new_record w effects_all
   log_first =
-      begins_standing boundary c.old c.new core.bank resume core.registers w
-      (subst (λ (rest : List Effect). LogInv n c.old c.new w rest) core.goes.goes.rest (thread_of y s w h stands below).log)
-      (record { registers = core.core.enters.at_bank; is = core.at_bank }) begins.recoverable
+      begins_standing boundary c.old c.new site.core.side resume site.core.registers w
+      (subst (λ (rest : List Effect). LogInv n c.old c.new w rest) site.core.goes.goes.rest (own_thread site).log)
+      (record { registers = site.core.core.enters.at_side; is = site.core.at_side }) begins.recoverable
 
   not_bound_now : is_bound c ≡ false
-  not_bound_now = ap (λ (q : Bool). is_bound (record c { committed = q })) core.goes.goes.committed
+  not_bound_now = ap (λ (q : Bool). is_bound (record c { committed = q })) site.core.goes.goes.committed
 
   -- ---- The mark is passed
 
-  module _ (p : laws.PassesMark y.plan (code y s w h stands below).thread (code y s w h stands below).is.places (on_machine y.runs.program w n here) e
-      (stage_after y.plan (code y s w h stands below).thread (code y s w h stands below).is.places graph_thread.at seen core.bank e) mark.steps mark.effects
+  module _ (p : laws.PassesMark y.plan (code site).thread (code site).is.places (on_machine y.runs.program w n here) e
+      (stage_after y.plan (code site).thread (code site).is.places graph_thread.at seen site.core.side e) mark.steps mark.effects
       mark.at) where
     abbrev hart : Hart
     hart = mark.at.on.hart
@@ -259,19 +259,19 @@ module _ (y : System) (s : IsSystem y) (w : World) (h : ℕ) (stands : Simulates
     same_words = ap (λ (z : World). z.words) p.forward.world
 
     memory_as : v.words ≡ w.words → memory_in (places_of y) v.words ≡ b.config.memory
-    memory_as same = ap (memory_in (places_of y)) same ∙ stands.before_commit.memory
+    memory_as same = ap (memory_in (places_of y)) same ∙ site.stands.before_commit.memory
 
     -- nothing is seen of it
     unseen : (f : Effect) (is : p.forward.effect ≡ f) → effects_all ≡ p.later → is_store f ≡ false → is_point_store n f ≡ false →
         v.words ≡ w.words → IsFirst f
     unseen f is same no_store no_point words = record {
-      log = steps_keep y.runs.program n n c.new new_record w p.later stands.before_commit.sound
+      log = steps_keep y.runs.program n n c.new new_record w p.later site.stands.before_commit.sound
           (subst (λ (rest : List Effect). LogInv n c.new new_record w rest) same log_first)
           (stores_nothing y.runs.program w n n hart f (is_next f is) no_store);
       may = nothing f no_store;
       memory = memory_as words;
-      point = no_point ∙ ap not (sym (boundary_stores boundary (1 - core.bank) resume core.registers) ∙ ap (list_any is_store) same);
-      fenced = λ few. let two = boundaries_fence boundary (1 - core.bank) resume core.registers in
+      point = no_point ∙ ap not (sym (boundary_stores boundary site.core.side resume site.core.registers) ∙ ap (list_any is_store) same);
+      fenced = λ few. let two = boundaries_fence boundary site.core.side resume site.core.registers in
           let fences = ap fences_ahead same in
           absurd (omega (arith, few, two, fences));
     }
@@ -318,7 +318,7 @@ module _ (y : System) (s : IsSystem y) (w : World) (h : ℕ) (stands : Simulates
         let log = first_log f same in
         let word = stored_word address bytes value (of_log f same) in
         record {
-          log = log_by f is same (own_steps_keep y.runs.program n c.new new_record w hart f p.later stands.before_commit.sound (is_next f is) log);
+          log = log_by f is same (own_steps_keep y.runs.program n c.new new_record w hart f p.later site.stands.before_commit.sound (is_next f is) log);
           may = subst (λ (k : ℕ). MayStore y b n (r.Stores address k value)) (sym word.3) (in_log address value word.0 word.1 word.2);
           memory =
               ap (memory_in (places_of y)) (same_words ∙ ap (λ (x : Contents). x.words) (words_by f is _ refl))
@@ -330,9 +330,9 @@ module _ (y : System) (s : IsSystem y) (w : World) (h : ℕ) (stands : Simulates
               let size = is_size kind in
               ⊎_elim (λ k. omega (arith, ends, meets, place, first, k)) (λ k. ⊎_elim (λ k. omega (arith, ends, meets, place, first, k))
               (λ k. ⊎_elim (λ k. omega (arith, ends, meets, place, first, k)) (λ k. omega (arith, ends, meets, place, first, k)) k) k) size)
-              ∙ stands.before_commit.memory;
+              ∙ site.stands.before_commit.memory;
           point = point_store_is_last n c.new new_record (config_of w log.hart (f ∷ p.later)) address bytes value p.later log.log refl;
-          fenced = λ few. let two = boundaries_fence boundary (1 - core.bank) resume core.registers in
+          fenced = λ few. let two = boundaries_fence boundary site.core.side resume site.core.registers in
               let fences = ap fences_ahead same in
               absurd (omega (arith, few, two, fences));
         }
@@ -341,11 +341,12 @@ module _ (y : System) (s : IsSystem y) (w : World) (h : ℕ) (stands : Simulates
         let same : effects_all ≡ f ∷ p.later = ahead_is f is in
         record {
           log =
-              log_by f is same (own_steps_keep y.runs.program n c.new new_record w hart f p.later stands.before_commit.sound (is_next f is) (first_log f same));
+              log_by f is same (own_steps_keep y.runs.program n c.new new_record w hart f p.later site.stands.before_commit.sound (is_next f is)
+              (first_log f same));
           may = nothing f refl;
           memory = memory_as (same_words ∙ ap (λ (x : Contents). x.words) (words_by f is _ refl).1);
-          point = ap not (sym (boundary_stores boundary (1 - core.bank) resume core.registers) ∙ ap (list_any is_store) same);
-          fenced = λ few. let two = boundaries_fence boundary (1 - core.bank) resume core.registers in
+          point = ap not (sym (boundary_stores boundary site.core.side resume site.core.registers) ∙ ap (list_any is_store) same);
+          fenced = λ few. let two = boundaries_fence boundary site.core.side resume site.core.registers in
               let fences = ap fences_ahead same in
               absurd (omega (arith, few, two, fences));
         }
@@ -354,10 +355,11 @@ module _ (y : System) (s : IsSystem y) (w : World) (h : ℕ) (stands : Simulates
         let same : effects_all ≡ f ∷ p.later = ahead_is f is in
         record {
           log =
-              log_by f is same (own_steps_keep y.runs.program n c.new new_record w hart f p.later stands.before_commit.sound (is_next f is) (first_log f same));
+              log_by f is same (own_steps_keep y.runs.program n c.new new_record w hart f p.later site.stands.before_commit.sound (is_next f is)
+              (first_log f same));
           may = nothing f refl;
           memory = memory_as (same_words ∙ ap (λ (x : Contents). x.words) (words_by f is _ refl).1);
-          point = ap not (sym (boundary_stores boundary (1 - core.bank) resume core.registers) ∙ ap (list_any is_store) same);
+          point = ap not (sym (boundary_stores boundary site.core.side resume site.core.registers) ∙ ap (list_any is_store) same);
           fenced = λ few. refl;
         }
     by_effect r.Calls is = absurd (words_by r.Calls is p.forward.contents refl)
@@ -368,53 +370,52 @@ module _ (y : System) (s : IsSystem y) (w : World) (h : ℕ) (stands : Simulates
     -- ---- The thread
 
     abbrev new : ThreadGhost
-    new = record { old = c.new; new = new_record; rest = p.later; committed = false; cleans = []; giving = Some mutex }
+    new = record { old = c.new; new = new_record; rest = p.later; committed = false; cleans = []; giving = Some mutex; before_mark = most_ahead y n }
 
-    abbrev bank_next : ℕ
-    bank_next = bank_after boundary core.bank
+    abbrev side_next : ℕ
+    side_next = side_after boundary site.core.side
 
-    at_bank_next : IsAtBankOf y next (code y s w h stands below) new bank_next
-    at_bank_next some = elim (cases_Bool (is_empty boundary.locks)) [
-      | inl between ↦ absurd (some (cond-true (is_empty boundary.locks) 0 _ between))
-      | inr within ↦
-          let says = point_says boundary (1 - core.bank) resume core.registers begins.recoverable (omega arith) (some_there boundary.locks within) in
-          says.1 ∙ ap (λ (q : Bool). if q then core.bank else 1 - core.bank) (sym within)
-    ]
+    at_side_next : IsSideOf new_record side_next
+    at_side_next = side_follows boundary site.core.side resume site.core.registers begins.recoverable
 
-    fragment : IsOnFragment y.plan (code y s w h stands below).thread (code y s w h stands below).is.places (on_machine y.runs.program v n here)
-        (record { exit = Gives graph_thread.at mutex; node = next_node; seen = seen_by (now_of y next) graph_thread_next; bank = bank_next }) mark.steps p.later
-    fragment = fragments_see_all y.plan (code y s w h stands below).thread (code y s w h stands below).is.places y.runs.program v n here
-        (stage_after y.plan (code y s w h stands below).thread (code y s w h stands below).is.places graph_thread.at seen core.bank e) mark.steps p.later
+    fragment : IsOnFragment y.plan (code site).thread (code site).is.places (on_machine y.runs.program v n here)
+        (record { exit = Gives graph_thread.at mutex; node = next_node; seen = seen_by (now_of y next) graph_thread_next; side = side_next }) mark.steps p.later
+    fragment = fragments_see_all y.plan (code site).thread (code site).is.places y.runs.program v n here
+        (stage_after y.plan (code site).thread (code site).is.places graph_thread.at seen site.core.side e) mark.steps p.later
         (now_of y next).variables p.on
 
     same_here : (other : Hart) → slice_get v.harts n ≡ Some other → p.on.on.hart ≡ other
     same_here other there = same_there (slice_get v.harts n) p.on.on.hart other p.on.on.here there
 
-    phase : (other : Hart) → slice_get v.harts n ≡ Some other → InPhase y v next (code y s w h stands below) new other graph_thread_next other.phase
+    phase : (other : Hart) → slice_get v.harts n ≡ Some other → InPhase y v next (code site) new other graph_thread_next other.phase
     phase other there =
-        subst (λ (x : Hart). InPhase y v next (code y s w h stands below) new x graph_thread_next x.phase) (same_here other there)
-        (subst (λ (q : Phase). InPhase y v next (code y s w h stands below) new p.on.on.hart graph_thread_next q) (sym p.on.on.runs)
+        subst (λ (x : Hart). InPhase y v next (code site) new x graph_thread_next x.phase) (same_here other there)
+        (subst (λ (q : Phase). InPhase y v next (code site) new p.on.on.hart graph_thread_next q) (sym p.on.on.runs)
         (on_fragment (record {
           environment = here;
           answers =
-              answers_none y s w b (code y s w h stands below) (s.own h below) stands.before_commit.count (inside y s w h stands below core node at none) next
+              answers_none y s w b (code site) (s.own h site.below) site.stands.before_commit.count (inside site node at none) next
               new;
           exit = Gives graph_thread.at mutex;
-          bank = bank_next;
-          at_bank = at_bank_next;
+          side = side_next;
+          at_side = at_side_next;
           steps = mark.steps;
           fragment = fragment;
           fits = record {
-            execution = core.goes.execution;
+            execution = site.core.goes.execution;
             cleans = refl;
             gives = refl;
             before = λ un. has_unlocked;
             after = λ over. absurd (true≢false (sym over));
           };
+          soon = (
+            passed_soon y s h site.below w site.stands here graph_thread.at seen site.core.side site.core.registers node e site.core.core.own at does mark p,
+            omega arith,
+          );
         })))
 
     -- what it has stored is durable after a fence
-    settled : (u i : ℕ) (f : IsFlushed y w b (code y s w h stands below) c (thread_of y s w h stands below).log.hart u i) → p.forward.effect ≡ r.Fences →
+    settled : (u i : ℕ) (f : IsFlushed y w b (code site) c (own_thread site).log.hart u i) → p.forward.effect ≡ r.Fences →
         f.position ≤ (history_at b.config.memory u i).durable
     settled u i f fence =
         let stay = resumed y s b in
@@ -424,45 +425,45 @@ module _ (y : System) (s : IsSystem y) (w : World) (h : ℕ) (stands : Simulates
         s.left_out stay.resumed.invariant stay.resumed.kept (stay.inside n) (inr (mutex, inr unlocks_alone)) f.within f.writes in
         by (f.comes cleaned)
       where
-        t : ThreadInv y w b (code y s w h stands below) c
-        t = thread_of y s w h stands below
+        t : ThreadInv y w b (code site) c
+        t = own_thread site
 
-        by : IsComing y w b (code y s w h stands below) c t.log.hart u i f.position → f.position ≤ (history_at b.config.memory u i).durable
+        by : IsComing y w b (code site) c t.log.hart u i f.position → f.position ≤ (history_at b.config.memory u i).durable
         by (is_ahead variable element has line) =
             absurd (contains_none (r.Cleans (variable_at (shapes_of y) variable element))
-            (subst (λ (es : List Effect). Contains es (r.Cleans (variable_at (shapes_of y) variable element))) core.goes.cleans has))
+            (subst (λ (es : List Effect). Contains es (r.Cleans (variable_at (shapes_of y) variable element))) site.core.goes.cleans has))
         by (is_reached reached) =
             let old_is : hart ≡ t.log.hart = same_there (slice_get w.harts n) hart t.log.hart mark.at.on.here t.log.here in
             let j : ℕ = byte_number (variable_at (shapes_of y) u i) / 8 in
             let settles =
-            fences_settle y.runs.program w n (run_at y.plan (code y s w h stands below).thread (code y s w h stands below).is.places mark.at) p.forward fence j
+            fences_settle y.runs.program w n (run_at y.plan (code site).thread (code site).is.places mark.at) p.forward fence j
             f.position (subst (λ (x : Hart). PersistsThrough w.words x.queue j f.position) (sym old_is) reached) in
             let there : f.position < length (history_at (memory_in (places_of y) w.words) u i).values =
-            subst (λ (m : Memory). f.position < length (history_at m u i).values) (sym stands.before_commit.memory) f.since.there in
+            subst (λ (m : Memory). f.position < length (history_at m u i).values) (sym site.stands.before_commit.memory) f.since.there in
             let durable = position_durable y s w.words v.words u i f.position there settles in
             subst (λ (m : Memory). f.position ≤ (history_at m u i).durable) first.memory durable
 
     flushed : (other : Hart) → slice_get v.harts n ≡ Some other → (u i : ℕ) → Writes next.config.kept n (attempt_of next.config n).done u i →
-        IsFlushed y v next (code y s w h stands below) new other u i
+        IsFlushed y v next (code site) new other u i
     flushed other there u i writes =
-        let t = thread_of y s w h stands below in
+        let t = own_thread site in
         let old_is : hart ≡ t.log.hart = same_there (slice_get w.harts n) hart t.log.hart mark.at.on.here t.log.here in
-        flushed_still y w v b (code y s w h stands below) c core.goes.cleans t.log.hart (b.config.uncommitted ++ n ∷ []) b.config.memory b.config.attempts
+        flushed_still y w v b (code site) c site.core.goes.cleans t.log.hart (b.config.uncommitted ++ n ∷ []) b.config.memory b.config.attempts
         (leads_on y b _ happened refl tt).0 (leads_on y b _ happened refl tt).1 new other
         (λ j position reach. subst (λ (x : Hart). PersistsThrough v.words x.queue j position) (sym p.same ∙ same_here other there)
-        (forward_reaches y.runs.program w n (run_at y.plan (code y s w h stands below).thread (code y s w h stands below).is.places mark.at)
+        (forward_reaches y.runs.program w n (run_at y.plan (code site).thread (code site).is.places mark.at)
         p.forward j position
         (subst (λ (x : Hart). PersistsThrough w.words x.queue j position) (sym old_is) reach)))
         (omega arith) (omega arith) (λ longer. absurd (omega (arith, longer))) u i (λ position since. since) (t.flushed u i writes)
         (λ un few. settled u i (t.flushed u i writes) (first.fenced few))
 
-    own : ThreadInv y v next (code y s w h stands below) new
+    own : ThreadInv y v next (code site) new
     own =
-        let kept : record_kept c ≡ c.new = cond-true c.committed c.new c.old core.goes.goes.committed in
+        let kept : record_kept c ≡ c.new = cond-true c.committed c.new c.old site.core.goes.goes.committed in
         record {
           log = first.log;
           no_sooner = λ over. absurd (true≢false (sym over));
-          describes = subst (λ (z : Record). Describes y.plan (code y s w h stands below) (kept_of y b) z) kept (thread_of y s w h stands below).describes;
+          describes = subst (λ (z : Record). Describes y.plan (code site) (kept_of y b) z) kept (own_thread site).describes;
           will_describe = λ un. begins.describes;
           unlocked = λ mutex gives over. absurd (true≢false (sym over));
           cleans = none_clean;
@@ -486,7 +487,7 @@ module _ (y : System) (s : IsSystem y) (w : World) (h : ℕ) (stands : Simulates
     others_next : (lock : ℕ) → lock ≢ mutex → slice_get (now_of y next).holders lock ≡ slice_get (now_of y b).holders lock
     others_next lock other = ap (λ (hs : List (Option ℕ)). slice_get hs lock) holders_next ∙ set_other (now_of y b).holders mutex lock None other
 
-    held : AreHeld w (ghosts y s w h stands below) (now_of y b) → AreHeld v (with_ghost (ghosts y s w h stands below) n new) (now_of y next)
+    held : AreHeld w (ghosts site) (now_of y b) → AreHeld v (with_ghost (ghosts site) n new) (now_of y next)
     held old = record {
       held = λ lock k there. holds_or_gives lock k
           (old.held lock k (ap (λ (hs : List (Option ℕ)). slice_get hs lock) (sym holders_stay) ∙ there)) (same_or_other lock mutex);
@@ -497,21 +498,21 @@ module _ (y : System) (s : IsSystem y) (w : World) (h : ℕ) (stands : Simulates
       giving = λ lock k exists there. ap (λ (hs : List (Option ℕ)). slice_get hs lock) holders_stay ∙ elim (same_or_other k n) [
         | inl same ↦
             let is : mutex ≡ lock =
-            same_Some _ _ (sym (ap (λ (z : ThreadGhost). z.giving) (own_ghost (ghosts y s w h stands below) n new))
-            ∙ ap (λ (j : ℕ). (with_ghost (ghosts y s w h stands below) n new j).giving) (sym same) ∙ there) in
+            same_Some _ _ (sym (ap (λ (z : ThreadGhost). z.giving) (own_ghost (ghosts site) n new))
+            ∙ ap (λ (j : ℕ). (with_ghost (ghosts site) n new j).giving) (sym same) ∙ there) in
             ap (slice_get w.holders) (sym is) ∙ old.holds mutex n owned ∙ ap (λ (j : ℕ). Some (Some j)) (sym same)
         | inr other ↦ old.giving lock k (subst (λ (m : ℕ). k < m) count_next exists)
-            (sym (ap (λ (z : ThreadGhost). z.giving) (other_ghost (ghosts y s w h stands below) n new k other)) ∙ there)
+            (sym (ap (λ (z : ThreadGhost). z.giving) (other_ghost (ghosts site) n new k other)) ∙ there)
       ];
     }
       where
-        own_giving : (lock : ℕ) → (ghosts y s w h stands below n).giving ≡ Some lock → ⊥
+        own_giving : (lock : ℕ) → (ghosts site n).giving ≡ Some lock → ⊥
         own_giving lock gives = none-some lock
-            (sym core.goes.goes.giving ∙ (ap (λ (j : ℕ). (ghosts y s w h stands below j).giving) (sym (same_number y s w h stands below)) ∙ gives))
+            (sym site.core.goes.goes.giving ∙ (ap (λ (j : ℕ). (ghosts site j).giving) (sym (same_number site)) ∙ gives))
 
-        holds_or_gives : (lock k : ℕ) → (slice_get (now_of y b).holders lock ≡ Some (Some k)) ⊎ IsGiving (ghosts y s w h stands below) (now_of y b) lock k →
+        holds_or_gives : (lock k : ℕ) → (slice_get (now_of y b).holders lock ≡ Some (Some k)) ⊎ IsGiving (ghosts site) (now_of y b) lock k →
             (lock ≡ mutex) ⊎ (lock ≢ mutex) →
-            (slice_get (now_of y next).holders lock ≡ Some (Some k)) ⊎ IsGiving (with_ghost (ghosts y s w h stands below) n new) (now_of y next) lock k
+            (slice_get (now_of y next).holders lock ≡ Some (Some k)) ⊎ IsGiving (with_ghost (ghosts site) n new) (now_of y next) lock k
         holds_or_gives lock k (inl has) (inr other) = inl (others_next lock other ∙ has)
         holds_or_gives lock k (inl has) (inl same) =
             let is : n ≡ k = same_Some _ _ (same_Some _ _ (sym owned ∙ ap (slice_get (now_of y b).holders) (sym same) ∙ has)) in
@@ -520,24 +521,24 @@ module _ (y : System) (s : IsSystem y) (w : World) (h : ℕ) (stands : Simulates
                   subst (λ (j : ℕ). j < length (now_of y next).graph_threads) is
                   (slice_get_within (now_of y next).graph_threads n graph_thread_next walks_next);
               free = ap (slice_get (now_of y next).holders) same ∙ free_next;
-              gives = ap (λ (j : ℕ). (with_ghost (ghosts y s w h stands below) n new j).giving) (sym is)
-                  ∙ ap (λ (z : ThreadGhost). z.giving) (own_ghost (ghosts y s w h stands below) n new) ∙ ap Some (sym same);
+              gives = ap (λ (j : ℕ). (with_ghost (ghosts site) n new j).giving) (sym is)
+                  ∙ ap (λ (z : ThreadGhost). z.giving) (own_ghost (ghosts site) n new) ∙ ap Some (sym same);
             })
         holds_or_gives lock k (inr g) (inl same) =
             absurd (none-some n (same_Some _ _ (sym g.free ∙ ap (slice_get (now_of y b).holders) same ∙ owned)))
         holds_or_gives lock k (inr g) (inr other) =
-            let apart : k ≢ n = λ is. own_giving lock (ap (λ (j : ℕ). (ghosts y s w h stands below j).giving) (sym is) ∙ g.gives) in
+            let apart : k ≢ n = λ is. own_giving lock (ap (λ (j : ℕ). (ghosts site j).giving) (sym is) ∙ g.gives) in
             inr (record {
               exists = subst (λ (m : ℕ). k < m) (sym count_next) g.exists;
               free = others_next lock other ∙ g.free;
-              gives = ap (λ (z : ThreadGhost). z.giving) (other_ghost (ghosts y s w h stands below) n new k apart) ∙ g.gives;
+              gives = ap (λ (z : ThreadGhost). z.giving) (other_ghost (ghosts site) n new k apart) ∙ g.gives;
             })
 
     may_each : (other : Hart) (effect : Effect) → IsNext y.runs.program w n other effect → MayStore y b n effect
     may_each other effect is =
         subst (λ (f : Effect). MayStore y b n f) (one_effect y.runs.program w n hart other p.forward.effect effect (is_next _ refl) is) first.may
 
-    unlock_passes : StepOf y s w h stands below n
+    unlock_passes : StepOf site n
     unlock_passes = record {
       next = next;
       led = goes _ happened refl (leads_on y b _ happened refl tt).0 (leads_on y b _ happened refl tt).1;
@@ -545,18 +546,19 @@ module _ (y : System) (s : IsSystem y) (w : World) (h : ℕ) (stands : Simulates
       stores_own = may_each;
       new = new;
       own = own;
-      locks = locks_after y s w h stands below next new hart p.on.on.hart mark.at.on.here mark.at.on.runs p.on.on.here p.on.on.runs may_each held;
+      locks = locks_after site next new hart p.on.on.hart mark.at.on.here mark.at.on.runs p.on.on.here p.on.on.runs may_each held;
       mutexes = ap (λ (hs : List (Option ℕ)). length hs) holders_stay;
       counted = record {
         marks = p.mark y.runs.marks refl;
         unlocked = λ lock gives. begins_unlock refl (unlocks_now ∙ gives);
         points = p.point ∙ first.point ∙ ap (λ (q : Bool). not q && is_bound new) (sym not_bound_now);
-        bound = λ bound. absurd (not_bound c core.goes.goes.committed bound);
+        bound = λ bound. absurd (not_bound c site.core.goes.goes.committed bound);
+        nears = begins_step refl;
       };
-      released = nothing_released (holders_stay_none y.runs.program w n holders_stay) (sym (none_leaving c core.goes.goes.giving));
+      released = nothing_released (holders_stay_none y.runs.program w n holders_stay) (sym (none_leaving c site.core.goes.goes.giving));
     }
 
-  pub unlock_step : StepOf y s w h stands below n
-  unlock_step = mark_step y s w h stands below core marks here e
-      (stage_after y.plan (code y s w h stands below).thread (code y s w h stands below).is.places graph_thread.at seen core.bank e) mark.steps mark.effects
+  pub unlock_step : StepOf site n
+  unlock_step = mark_step site marks here e
+      (stage_after y.plan (code site).thread (code site).is.places graph_thread.at seen site.core.side e) mark.steps mark.effects
       mark.at unlock_passes

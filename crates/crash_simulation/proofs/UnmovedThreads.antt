@@ -142,10 +142,11 @@ module _ (x : f.Flat) (w : IsWellFormed x) (o : Origin x) (schedule : List ℕ) 
             };
           })
 
-      apart : (v e : ℕ) → Writes old.kept n (attempt_of old n).done v e → v ≢ h.store.variable
-      apart v e written same =
-          writers_apart x next n u h.store.variable e h.store.element (events_keep x old next i (stores u memory attempts h)) (λ k. other (sym k))
-          (subst (λ (k : ℕ). Writes old.kept n (attempt_of next n).longest k e) same (mine v e written)) its
+      apart : (v e : ℕ) → Writes old.kept n (attempt_of old n).done v e → v ≡ h.store.variable → e ≡ h.store.element → ⊥
+      apart v e written same equal =
+          writers_apart x next n u h.store.variable h.store.element (events_keep x old next i (stores u memory attempts h)) (λ k. other (sym k))
+          (subst (λ (k : ℕ). Writes old.kept n (attempt_of next n).longest k h.store.element) same
+          (subst (λ (k : ℕ). Writes old.kept n (attempt_of next n).longest v k) equal (mine v e written))) its
 
   -- what happens by one thread leaves the others
   unmoved_by : (thread : ℕ) → n ≢ thread → (next : Config) (h : ConfigStep old next) → IsDoneBy thread h → IsUnmoved x o schedule old next n
@@ -174,7 +175,7 @@ module _ (x : f.Flat) (w : IsWellFormed x) (o : Origin x) (schedule : List ℕ) 
         held = held_on u other step.next step.is;
         holds = holds_on u other (begun old u memory attempts) (stores u memory attempts h) refl (held_on u other step.next step.is);
         since = λ v e q written s. since_stays old.memory memory h.store.variable h.store.element h.store.number h.stored v e q
-            (λ same equal. apart u other memory attempts h v e written same) s;
+            (apart u other memory attempts h v e written) s;
         durable = stored_low old.memory memory h.store.variable h.store.element h.store.number h.stored;
       }
   unmoved_by thread differs _ (synchronises u h) own =

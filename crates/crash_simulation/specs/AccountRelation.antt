@@ -1,11 +1,11 @@
 -- The machine's account of begun and kept steps is that of the abstract run's config.
-use Rattle.std.specs.Prelude.{◌≡◌, ℕ, ◌<◌, List, [], ◌∷◌, ◌++◌, length, true, false}
+use Rattle.std.specs.Prelude.{◌≡◌, ℕ, ◌<◌, ◌≤◌, List, [], ◌∷◌, ◌++◌, length, true, false}
 use Rattle.ido_base.specs.declared.event.Event.{Event}
 use Rattle.ido_base.specs.Words.{last_position}
 use Rattle.c_tree.specs.Source.{State, start}
 use Rattle.rv64_isa.specs.Executables.{first_world}
 use Rattle.rv64_isa.specs.Machine.{World, after_events}
-use Rattle.rv64_isa.specs.Schedule.{HartSteps, Steps, hart_steps, first_steps, steps_along}
+use Rattle.rv64_isa.specs.Schedule.{HartSteps, Steps, hart_steps, first_steps, steps_along, released_count}
 use Rattle.recovery_semantics.specs.Events.{steps_begun}
 use Rattle.log_states.specs.Logs.{point_in}
 use Rattle.crash_simulation.specs.Systems.{System, IsSystem, flat_of, thread_count}
@@ -13,6 +13,7 @@ use Rattle.crash_simulation.specs.AbstractRuns.{AbstractRun}
 use Rattle.crash_simulation.specs.ThreadGhosts.{ThreadGhost}
 use Rattle.crash_simulation.specs.SimulationRelation.{SimulatesBeforeCommit, Simulates}
 use Rattle.crash_simulation.specs.InstructionSteps.{is_bound}
+use Rattle.crash_simulation.specs.ReleasedSections.{sections_kept, IsReleasedOf}
 
 -- of a thread: the steps that it has begun, bound to the store of its point where the boundary under way has made that
 pub record IsCountedOf (y : System) (w : World) (b : AbstractRun y) (thread : ℕ) (c : ThreadGhost) (steps : HartSteps) : Type 0 where
@@ -29,20 +30,29 @@ pub record Beginning : Type 0 where
 abbrev pub first_beginning : System → Beginning
 first_beginning y = record { from = start (flat_of y); kept = [] }
 
-pub record AreCounted (y : System) (s : IsSystem y) (g : Beginning) (w : World) (t : SimulatesBeforeCommit y s w) (steps : Steps) : Type 0 where
+-- of a thread: its steps are counted, and the sections that its hart has left by a release
+pub record IsAccountedOf (y : System) (w : World) (b : AbstractRun y) (thread : ℕ) (c : ThreadGhost) (steps : HartSteps) (releases : ℕ) : Type 0 where
+  pub counted : IsCountedOf y w b thread c steps
+  pub released : IsReleasedOf y w b thread c releases
+
+pub record AreCounted (y : System) (s : IsSystem y) (g : Beginning) (w : World) (t : SimulatesBeforeCommit y s w) (steps : Steps) (releases : ℕ → ℕ) :
+    Type 0 where
   pub begins : t.abstract.origin.source ≡ g.from
   pub kept : steps.kept ≡ g.kept ++ t.abstract.schedule
   pub pending : steps.pending ≡ t.abstract.config.uncommitted
   pub count : length steps.harts ≡ thread_count y
-  pub each : (n : ℕ) → n < thread_count y → IsCountedOf y w t.abstract n (t.ghosts n) (hart_steps steps n)
+  pub each : (n : ℕ) → n < thread_count y → IsAccountedOf y w t.abstract n (t.ghosts n) (hart_steps steps n) (releases n)
+  -- past the last thread, as many sections are kept as are released
+  pub beyond : (n : ℕ) → thread_count y ≤ n → sections_kept y t.abstract n ≡ releases n
 
--- the machine simulates an abstract run, and its steps are counted
-pub record SimulatesCounted (y : System) (s : IsSystem y) (g : Beginning) (w : World) (steps : Steps) : Type 0 where
+-- the machine simulates an abstract run, its steps are counted, and so many releases ended a section of each thread
+pub record SimulatesCounted (y : System) (s : IsSystem y) (g : Beginning) (w : World) (steps : Steps) (releases : ℕ → ℕ) : Type 0 where
   pub stands : Simulates y s w
-  pub counted : AreCounted y s g w stands.before_commit steps
+  pub counted : AreCounted y s g w stands.before_commit steps releases
 
 -- the machine simulates an abstract run and its steps are counted after all events that may happen, in whatever order
 abbrev pub MachinesResume : Type 0
 MachinesResume = (y : System) (s : IsSystem y) (events : List Event) →
     SimulatesCounted y s (first_beginning y) (after_events y.runs.program (first_world y.runs) events)
     (steps_along y.runs.marks y.runs.program (first_world y.runs) events (first_steps (length y.runs.program) []))
+    (released_count y.runs.program (first_world y.runs) events)

@@ -1,7 +1,8 @@
 -- A step of a hart that executes instructions: what it is to its own thread, and all that the others need to know of it.
-use Rattle.std.specs.Prelude.{◌≡◌, ◌≢◌, ℕ, suc, ◌*◌, ◌/◌, ◌<◌, length, slice_get, Option, Some, is_some, Bool, true, false, not, ◌&&◌, ◌==◌, if◌then◌else◌}
+use Rattle.std.specs.Prelude.{◌≡◌, ◌≢◌, ◌⊎◌, ℕ, suc, ◌*◌, ◌/◌, ◌<◌, length, slice_get, Option, Some, is_some, Bool, true, false, not, ◌&&◌, ◌==◌, if◌then◌else◌}
 use Rattle.std.specs.List.{list_any}
 use Rattle.ido_base.specs.declared.event.Event.TheVariants.{Step}
+use Rattle.ido_base.specs.declared.event.Reply.TheVariants.{Waits}
 use Rattle.ido_base.specs.Layout.{log_lines, variable_at, byte_number}
 use Rattle.ido_ints.specs.Kinds.{bytes_of}
 use Rattle.c_tree.specs.Programs.{Variable}
@@ -9,9 +10,9 @@ use Rattle.c_tree.specs.WellFormed.{elements_in}
 use Rattle.c_tree.specs.Source.{State}
 use Rattle.source_machine.specs.Discipline.{Guards}
 use Rattle.source_machine.specs.Mutexes.{unlocks}
-use Rattle.rv64_isa.specs.declared.phase.Phase.TheVariants.{Run}
+use Rattle.rv64_isa.specs.declared.phase.Phase.TheVariants.{Run, Done, Ended}
 use Rattle.rv64_isa.specs.Rows.{Effect, Stores}
-use Rattle.rv64_isa.specs.Machine.{Hart, World, after_event}
+use Rattle.rv64_isa.specs.Machine.{Hart, World, after_event, happens}
 use Rattle.rv64_isa.specs.Schedule.{passes_mark, stores_point, releases_last}
 use Rattle.flow_graph.specs.Nodes.{Lock, Node}
 use Rattle.flow_graph.specs.Liveness.{NodeAt}
@@ -50,12 +51,12 @@ pub data StepsOrStutters (y : System) (b : AbstractRun y) (thread : ℕ) : Abstr
   goes : (next : Config) (h : ConfigStep b.config next) → IsDoneBy thread h → (execution : Execution (flat_of y) b.origin.source next b.schedule)
       (respects : RespectsAll (flat_of y) y.plan.boundaries b.origin execution) → StepsOrStutters y b thread (abstract_next y b next execution respects)
 
--- the thread may make the effect: it stores to its own log, or to an element of a variable that it guards, or nothing
+-- the thread may make the effect: it stores to its own log, or to an element that it guards, or nothing
 pub data MayStore (y : System) (b : AbstractRun y) (thread : ℕ) : Effect → Type 0 where
   nothing : (effect : Effect) → is_store effect ≡ false → MayStore y b thread effect
   in_log : (address value i : ℕ) → i < 8 * log_lines → byte_number address / 8 ≡ log_word thread i → MayStore y b thread (Stores address 8 value)
   element : (variable number value : ℕ) (is : Variable) → slice_get (flat_of y).variables variable ≡ Some is → number < elements_in is.length →
-      Guards (flat_of y) (now b.config) thread variable →
+      Guards (flat_of y) (now b.config) thread variable number →
       MayStore y b thread (Stores (variable_at (shapes_of y) variable number) (bytes_of is.kind) value)
 
 -- the thread's ghost state is that one
@@ -86,12 +87,21 @@ pub data IsUnlocked (s : State) (thread : ℕ) (begun : Bool) (giving : Option �
   was_unlocked : begun ≡ false → giving ≡ Some mutex → IsUnlocked s thread begun giving mutex
   begins_unlock : begun ≡ true → unlocks s thread ≡ Some mutex → IsUnlocked s thread begun giving mutex
 
+-- by the step the hart passes a mark, or it waits for a mutex, is one step nearer to its mark, or stops
+pub data Nears (y : System) (w : World) (h : ℕ) (begun : Bool) (old new : ℕ) : Type 0 where
+  begins_step : begun ≡ true → Nears y w h begun old new
+  waits : (mutex holder : ℕ) → happens y.runs.program w (Step h) ≡ (w, Waits mutex holder) → new ≡ old → Nears y w h begun old new
+  is_nearer : old ≡ suc new → Nears y w h begun old new
+  halts : (hart : Hart) → slice_get (after_event y.runs.program w (Step h)).harts h ≡ Some hart → (hart.phase ≡ Done) ⊎ (hart.phase ≡ Ended) →
+      Nears y w h begun old new
+
 -- the step passes a mark exactly where a step of the source is begun, and stores the thread's point exactly where the steps become bound to that
 pub record IsCounted (y : System) (w : World) (b : AbstractRun y) (h : ℕ) (begun : Bool) (old new : ThreadGhost) : Type 0 where
   pub marks : passes_mark y.runs.marks y.runs.program w h ≡ begun
   pub unlocked : (mutex : ℕ) → new.giving ≡ Some mutex → IsUnlocked (now b.config) h begun old.giving mutex
   pub points : stores_point y.runs.program w (Step h) h ≡ (not (is_bound old) && is_bound new)
   pub bound : is_bound old ≡ true → is_bound new ≡ true
+  pub nears : Nears y w h begun old.before_mark new.before_mark
 
 -- ---- What it releases
 
@@ -128,7 +138,7 @@ module _ (y : System) (s : IsSystem y) (w : World) (h : ℕ) (stands : Simulates
   OnFragmentNow = InFragment y w stands.before_commit.abstract (s.codes.each h below) (stands.before_commit.ghosts h) thread_of.log.hart thread_of.graph_thread
 
   abbrev pub AtCoreNow : Type 0
-  AtCoreNow = AtCore y w stands.before_commit.abstract (s.codes.each h below) (stands.before_commit.ghosts h) thread_of.graph_thread
+  AtCoreNow = AtCore y w stands.before_commit.abstract (s.codes.each h below) (stands.before_commit.ghosts h) thread_of.log.hart thread_of.graph_thread
 
   -- a fragment whose end is where the hart makes a call
   pub data IsCalling : ExitPoint → Type 0 where
@@ -142,13 +152,22 @@ module _ (y : System) (s : IsSystem y) (w : World) (h : ℕ) (stands : Simulates
     calls : (o : OnFragmentNow) → o.steps ≡ 0 → IsCalling o.exit → IsReadyToStep
     at_core : AtCoreNow → ((is : Node) (mutex next : ℕ) → NodeAt y.plan.graph thread_of.graph_thread.at is → is.action ≢ Lock mutex next) → IsReadyToStep
 
--- the machine simulates the same abstract run, where the same steps are bound, and the hart is ready
+-- whether the thread's steps are bound, whether it leaves a section, what it has to give back, and how near its hart is to the next mark, are the same
+pub record SaysSame (new old : ThreadGhost) : Type 0 where
+  pub bound : is_bound new ≡ is_bound old
+  pub leaving : is_leaving new ≡ is_leaving old
+  pub giving : new.giving ≡ old.giving
+  pub ahead : new.before_mark ≡ old.before_mark
+
+-- two machines simulate the same abstract run, and the same is said of each thread
+pub record AreSimilar (y : System) (s : IsSystem y) {w v : World} (old : Simulates y s w) (new : Simulates y s v) : Type 0 where
+  pub abstract : new.before_commit.abstract ≡ old.before_commit.abstract
+  pub same : (n : ℕ) → SaysSame (new.before_commit.ghosts n) (old.before_commit.ghosts n)
+
+-- the machine simulates the same abstract run, and the hart is ready
 pub record SimulatesReady (y : System) (s : IsSystem y) (w : World) (h : ℕ) (old : Simulates y s w) : Type 0 where
   pub stands : Simulates y s w
-  pub abstract : stands.before_commit.abstract ≡ old.before_commit.abstract
-  pub bound : (n : ℕ) → is_bound (stands.before_commit.ghosts n) ≡ is_bound (old.before_commit.ghosts n)
-  pub leaving : (n : ℕ) → is_leaving (stands.before_commit.ghosts n) ≡ is_leaving (old.before_commit.ghosts n)
-  pub giving : (n : ℕ) → (stands.before_commit.ghosts n).giving ≡ (old.before_commit.ghosts n).giving
+  pub similar : AreSimilar y s old stands
   pub below : h < thread_count y
   pub ready : IsReadyToStep y s w h stands below
 

@@ -1,9 +1,11 @@
 pub mod Systems
 pub mod AbstractRuns
+pub mod StepsToMark
 pub mod ThreadGhosts
 pub mod SimulationRelation
 pub mod InstructionSteps
-pub mod AccountRelation
 pub mod ReleasedSections
+pub mod AccountRelation
+pub mod PointSections
 pub mod Laws
 pub mod RecoveredWords

@@ -4,7 +4,7 @@ use Rattle.ido_base.specs.declared.event.Event.{Event}
 use Rattle.ido_base.specs.Layout.{word_count}
 use Rattle.ido_base.specs.Words.{word_of}
 use Rattle.rv64_isa.specs.Machine.{World, after_crash_of, after_events}
-use Rattle.rv64_isa.specs.Schedule.{first_steps, steps_along}
+use Rattle.rv64_isa.specs.Schedule.{first_steps, steps_along, released_count}
 use Rattle.variable_words.specs.Variables.{durable_variables}
 use Rattle.region_attempts.specs.Origins.{Origin}
 use Rattle.recovered_threads.specs.Machines.{RecoversTo}
@@ -33,3 +33,4 @@ RecoveredAreCounted = (y : System) (s : IsSystem y) (o : Origin (flat_of y)) (wo
     SimulatesCounted y s (record { from = o.source; kept = kept })
     (after_events y.runs.program (after_crash_of y.runs.program y.runs.mutexes words) events)
     (steps_along y.runs.marks y.runs.program (after_crash_of y.runs.program y.runs.mutexes words) events (first_steps (length y.runs.program) kept))
+    (released_count y.runs.program (after_crash_of y.runs.program y.runs.mutexes words) events)

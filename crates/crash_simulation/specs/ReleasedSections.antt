@@ -1,18 +1,16 @@
 -- The kept schedule and the machine's releases: it holds each section that has ended, and at most one more of each thread.
-use Rattle.std.specs.Prelude.{◌≡◌, ℕ, suc, ◌+◌, ◌<◌, ◌≤◌, List, [], length, Bool, if◌then◌else◌}
+use Rattle.std.specs.Prelude.{◌≡◌, ℕ, suc, ◌+◌, ◌≤◌, List, [], length, Bool, if◌then◌else◌}
 use Rattle.ido_base.specs.declared.event.Event.{Event}
 use Rattle.c_tree.specs.Source.{start, ended_from}
 use Rattle.rv64_isa.specs.declared.phase.Phase.TheVariants.{Done}
 use Rattle.rv64_isa.specs.Executables.{first_world}
 use Rattle.rv64_isa.specs.Machine.{World}
-use Rattle.rv64_isa.specs.Schedule.{Steps, first_steps, steps_along, released_count}
+use Rattle.rv64_isa.specs.Schedule.{first_steps, steps_along, released_count}
 use Rattle.hart_runs.specs.Calls.{IsInPhase}
-use Rattle.crash_simulation.specs.Systems.{System, IsSystem, flat_of, thread_count}
+use Rattle.crash_simulation.specs.Systems.{System, IsSystem, flat_of}
 use Rattle.crash_simulation.specs.AbstractRuns.{AbstractRun}
 use Rattle.crash_simulation.specs.ThreadGhosts.{ThreadGhost}
-use Rattle.crash_simulation.specs.SimulationRelation.{SimulatesBeforeCommit}
 use Rattle.crash_simulation.specs.InstructionSteps.{is_leaving}
-use Rattle.crash_simulation.specs.AccountRelation.{Beginning, SimulatesCounted}
 
 abbrev pub one_if : Bool → ℕ
 one_if b = if b then 1 else 0
@@ -25,16 +23,6 @@ sections_kept y b thread = ended_from b.origin.source b.schedule thread
 pub data IsReleasedOf (y : System) (w : World) (b : AbstractRun y) (thread : ℕ) (c : ThreadGhost) (released : ℕ) : Type 0 where
   in_step : sections_kept y b thread ≡ released + one_if (is_leaving c) → IsReleasedOf y w b thread c released
   cut_off : IsInPhase w thread Done → sections_kept y b thread ≡ suc released → IsReleasedOf y w b thread c released
-
-pub record AreReleased (y : System) (s : IsSystem y) (w : World) (t : SimulatesBeforeCommit y s w) (released : ℕ → ℕ) : Type 0 where
-  pub each : (n : ℕ) → n < thread_count y → IsReleasedOf y w t.abstract n (t.ghosts n) (released n)
-  -- past the last thread, as many sections are kept as are released
-  pub beyond : (n : ℕ) → thread_count y ≤ n → sections_kept y t.abstract n ≡ released n
-
--- the machine simulates an abstract run, its steps are counted, and so many releases ended a section of each thread
-pub record IsCarried (y : System) (s : IsSystem y) (g : Beginning) (w : World) (steps : Steps) (count : ℕ → ℕ) : Type 0 where
-  pub resumed : SimulatesCounted y s g w steps
-  pub released : AreReleased y s w resumed.stands.before_commit count
 
 -- the sections that have ended for the source, and for the machine
 abbrev pub ended_in_source : (y : System) → List Event → (thread : ℕ) → ℕ

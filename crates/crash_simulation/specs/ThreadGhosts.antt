@@ -1,5 +1,5 @@
 -- Where a thread of a compiled program is, by its graph thread and its ghost state.
-use Rattle.std.specs.Prelude.{◌≡◌, ◌≢◌, ℕ, ◌/◌, ◌<◌, ◌≤◌, List, [], ◌++◌, slice_get, Contains, Option, Some, None, Bool, true, false, if◌then◌else◌}
+use Rattle.std.specs.Prelude.{◌≡◌, ℕ, ◌+◌, ◌/◌, ◌<◌, ◌≤◌, List, [], ◌++◌, length, slice_get, Contains, Option, Some, None, Bool, true, false, if◌then◌else◌}
 use Rattle.ido_base.specs.Layout.{variable_at, byte_number}
 use Rattle.ido_base.specs.Growth.{PersistsThrough}
 use Rattle.ido_ints.specs.Kinds.{bytes_of}
@@ -9,8 +9,8 @@ use Rattle.source_machine.specs.Discipline.{Guards}
 use Rattle.rv64_isa.specs.declared.phase.Phase.{Phase}
 use Rattle.rv64_isa.specs.declared.phase.Phase.TheVariants.{Take, Wait, Resume, Run, Done, Ended}
 use Rattle.rv64_isa.specs.Rows.{Effect, Cleans}
-use Rattle.rv64_isa.specs.Machine.{Hart, World, bank_of}
-use Rattle.code_runs.specs.CodeTraces.{MarkedEnvironment}
+use Rattle.rv64_isa.specs.Machine.{Hart, World}
+use Rattle.code_runs.specs.CodeTraces.{MarkedEnvironment, seen_effects}
 use Rattle.flow_graph.specs.Actions.{GraphThread, seen_by}
 use Rattle.flow_graph.specs.IdempotentCuts.{IsChosen}
 use Rattle.recovery_semantics.specs.ElementHistories.{IsSince, history_at}
@@ -19,15 +19,16 @@ use Rattle.recovery_semantics.specs.Configs.{now, attempt_of}
 use Rattle.recovery_semantics.specs.Events.{IsGoing, steps_begun}
 use Rattle.recovery_semantics.specs.Laws.{HasLocked, HasUnlocked, LastUnlocks}
 use Rattle.region_attempts.specs.PendingCleans.{line_of, CleansSince}
-use Rattle.log_states.specs.Logs.{Record}
+use Rattle.log_states.specs.Logs.{Record, IsSideOf}
 use Rattle.log_states.specs.Stages.{fences_ahead, is_committed}
 use Rattle.log_states.specs.Machines.{config_of}
 use Rattle.log_states.specs.LogInvariant.{LogInv}
-use Rattle.hart_runs.specs.RunSteps.{is_clean}
+use Rattle.hart_runs.specs.RunSteps.{is_clean, steps_left}
 use Rattle.thread_runs.specs.CodeFragments.{ExitPoint, Arrives, Keeps, Asks, Took, Gives, Ends, IsOnFragment, IsAtCore, on_machine}
 use Rattle.recovered_threads.specs.RecordDescriptions.{Code, Describes}
 use Rattle.crash_simulation.specs.Systems.{System, flat_of, shapes_of}
 use Rattle.crash_simulation.specs.AbstractRuns.{AbstractRun, kept_of, now_of, attempts_of}
+use Rattle.crash_simulation.specs.StepsToMark.{beyond, core_ahead, most_ahead, IsSoon}
 
 -- the ghost state of a thread: what is said of it besides its graph thread
 pub record ThreadGhost : Type 0 where
@@ -41,6 +42,8 @@ pub record ThreadGhost : Type 0 where
   pub cleans : List Effect
   -- the mutex that it has unlocked by a step that is begun, but not yet given back
   pub giving : Option ℕ
+  -- its hart makes so many steps at most before the next mark
+  pub before_mark : ℕ
 
 -- what the kept state has of the thread's log
 abbrev pub record_kept : ThreadGhost → Record
@@ -51,7 +54,7 @@ module _ (y : System) (b : AbstractRun y) (code : Code y.plan) (c : ThreadGhost)
   abbrev pub number : ℕ
   number = code.thread.number
 
-  -- an access to an element of a variable that the thread guards
+  -- an access to an element that the thread guards
   pub record IsGuarded (address bytes : ℕ) : Type 0 where
     pub variable : ℕ
     pub element : ℕ
@@ -60,15 +63,11 @@ module _ (y : System) (b : AbstractRun y) (code : Code y.plan) (c : ThreadGhost)
     pub within : element < elements_in is.length
     pub address_is : address ≡ variable_at (shapes_of y) variable element
     pub bytes_are : bytes ≡ bytes_of is.kind
-    pub guards : Guards (flat_of y) (now b.config) number variable
+    pub guards : Guards (flat_of y) (now b.config) number variable element
 
   -- the environment answers no others
   abbrev pub AnswersGuarded : MarkedEnvironment → Type 0
   AnswersGuarded s = (address bytes value : ℕ) → s.around.loads address bytes ≡ Some value → IsGuarded address bytes
-
-  -- the record's bank, if it has one, is that one
-  abbrev pub IsAtBankOf : (bank : ℕ) → Type 0
-  IsAtBankOf bank = c.new.point ≢ 0 → bank_of c.new.point ≡ bank
 
   -- the attempt goes on, and no boundary is under way
   pub record IsInAttempt : Type 0 where
@@ -109,6 +108,7 @@ module _ (y : System) (b : AbstractRun y) (code : Code y.plan) (c : ThreadGhost)
     pub cleans : c.cleans ≡ []
     pub giving : c.giving ≡ None
     pub committed : c.committed ≡ true
+    pub whole : c.before_mark ≡ most_ahead y number
 
 module _ (y : System) (w : World) (b : AbstractRun y) (code : Code y.plan) (c : ThreadGhost) where
   -- a boundary is committed once its point is durable
@@ -122,25 +122,28 @@ module _ (y : System) (w : World) (b : AbstractRun y) (code : Code y.plan) (c : 
     pub environment : MarkedEnvironment
     pub answers : AnswersGuarded y b code c environment
     pub exit : ExitPoint
-    pub bank : ℕ
-    pub at_bank : IsAtBankOf y b code c bank
+    pub side : ℕ
+    pub at_side : IsSideOf c.new side
     pub steps : ℕ
     pub fragment : IsOnFragment y.plan code.thread code.is.places (on_machine y.runs.program w code.thread.number environment)
-        (record { exit = exit; node = graph_thread.at; seen = seen_by (now_of y b) graph_thread; bank = bank }) steps (c.cleans ++ c.rest)
+        (record { exit = exit; node = graph_thread.at; seen = seen_by (now_of y b) graph_thread; side = side }) steps (c.cleans ++ c.rest)
     pub fits : ExitInv y b code c graph_thread exit
+    pub soon : IsSoon y code.thread.number c.before_mark
+        (steps_left steps (seen_effects (c.cleans ++ c.rest)) hart.queue + beyond y.plan code.is.places exit graph_thread.at)
 
-  pub record AtCore (graph_thread : GraphThread) : Type 0 where
-    pub bank : ℕ
-    pub at_bank : IsAtBankOf y b code c bank
+  pub record AtCore (hart : Hart) (graph_thread : GraphThread) : Type 0 where
+    pub side : ℕ
+    pub at_side : IsSideOf c.new side
     pub registers : List ℕ
-    pub core : IsAtCore y.plan code.thread code.is.places w code.thread.number graph_thread.at (seen_by (now_of y b) graph_thread) bank registers
+    pub core : IsAtCore y.plan code.thread code.is.places w code.thread.number graph_thread.at (seen_by (now_of y b) graph_thread) side registers
     pub goes : GoesClean y b code c false graph_thread
     -- at the code of a node with a chosen boundary before it the attempt begins
     pub fresh : IsChosen y.plan.graph y.plan.boundaries graph_thread.at → (attempt_of b.config code.thread.number).done ≡ 0
+    pub soon : IsSoon y code.thread.number c.before_mark (length hart.queue + core_ahead y.plan code.is.places graph_thread.at)
 
   pub data IsRunningThread (hart : Hart) (graph_thread : GraphThread) : Type 0 where
     on_fragment : InFragment hart graph_thread → IsRunningThread hart graph_thread
-    at_core : AtCore graph_thread → IsRunningThread hart graph_thread
+    at_core : AtCore hart graph_thread → IsRunningThread hart graph_thread
 
   abbrev pub InPhase : Hart → GraphThread → Phase → Type 0
   InPhase hart graph_thread Take = Rests y b code c

@@ -4,6 +4,7 @@ ghost use Rattle.crash_simulation.specs.Laws.{CommitStutters, CrashSimulates, Ev
 ghost use Rattle.crash_simulation.specs.Laws.{RunsSimulate, SettledIsKept, StartSimulates, StoppedStand, TakesMove, TakesStand, WaitsStand};
 ghost use Rattle.crash_simulation.specs.RecoveredWords.{RecoveredAreCounted, RecoveredWordsSimulate};
 ghost use Rattle.crash_simulation.specs.ReleasedSections.{SectionsAreKept};
+ghost use Rattle.crash_simulation.specs.PointSections.{SectionsEndAtPoints};
 ghost use Rattle.crash_simulation.specs.InstructionSteps.{CallsStep, CoresStep, OwnStepsSimulate, RunsReady, FragmentsStep};
 
 use thread_runs::laws::{fragments_go_on, marks_pass};
@@ -89,6 +90,7 @@ pub fn runs_simulate()
 pub fn events_stand()
     ensures { EventsStand }
 {
+    fragments_go_on();
     fragments_step();
     cores_step();
 }
@@ -117,6 +119,16 @@ pub fn recovered_are_counted()
 /// The kept schedule holds each section that has ended, and at most one more of each thread.
 pub fn sections_are_kept()
     ensures { SectionsAreKept }
+{
+    fragments_go_on();
+    fragments_step();
+    cores_step();
+}
+
+/// An event ends a section of a thread by the kept schedule exactly where the durable point of its hart, which was not 0, becomes 0. What it takes from the
+/// events is the durable points alone, so that sections can be counted where steps are kept.
+pub fn sections_end_at_points()
+    ensures { SectionsEndAtPoints }
 {
     fragments_go_on();
     fragments_step();

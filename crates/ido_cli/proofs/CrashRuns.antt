@@ -30,8 +30,9 @@ use Rattle.ido_cli.specs.Reports.{machine_state}
 use Rattle.ido_cli.specs.Runs.{IsReport}
 use Rattle.ido_cli.specs.Sweeps.{SweptScript, most_round_steps, status_of}
 use Rattle.ido_cli.specs.links.CompileRefusals.{TellsRefusal}
+use Rattle.ido_cli.specs.links.CountedSections.{CountsSections}
 use Rattle.ido_cli.specs.links.CrashPoints.{HasLivedTo, HasPoint, IsOutcomeAt, lines_in, translation_at}
-use Rattle.ido_cli.proofs.PlayedRuns.{HasPlayed, harts_of_life, run_by}
+use Rattle.ido_cli.proofs.PlayedRuns.{HasPlayed, as_many_threads, counts_sections, harts_of_life, run_by}
 use Rattle.ido_cli.proofs.SweptTables.{told_again}
 
 -- ---- The life
@@ -83,6 +84,13 @@ module _ (points : CrashPoints) (k : ℕ) (life : Course) (h : HasLivedTo points
       let y = points.translated in
       harts_of_life (flat_of points.flat) y.object y.marks y.cuts life
       (take k (events_by (translation_at points) (lines_in points.script)) ++ Crash ∷ h.rounds) lived
+
+  pub counts_then : HasPoint points k → CountsSections (flat_of points.flat) life
+  counts_then can =
+      let y = points.translated in
+      let flat = flat_of points.flat in
+      counts_sections flat y.object y.marks y.cuts life (take k (events_by (translation_at points) (lines_in points.script)) ++ Crash ∷ h.rounds) lived
+      can.compilation (as_many_threads flat y.object y.marks y.cuts can.translated_is)
 
   pub outcome_of : HasPoint points k → (status : ℕ) (settled : Bool) (output : List ℕ) →
       IsReport (machine_state (flat_of points.flat) (world_of life) (steps_in life).kept) status output → settled ≡ (status == 0) →

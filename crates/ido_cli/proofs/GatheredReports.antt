@@ -80,6 +80,13 @@ map_pushed g xs ys new n k x h e is so_far =
     ap (λ zs. zs ++ rest) is ∙ append_assoc xs (x ∷ []) rest
     ∙ ap (λ zs. xs ++ zs) (ap (λ z. z ∷ rest) e ∙ ap (map g) (sym (numbers_more k n h))) ∙ so_far
 
+-- where functions agree on numbers, so do their values at these
+pub same_map : (f g : ℕ → ℕ) (at n : ℕ) → ((k : ℕ) → at ≤ k → k < at + n → f k ≡ g k) → map f (numbers_from at n) ≡ map g (numbers_from at n)
+same_map f g at zero same = refl
+same_map f g at (suc n) same =
+    ap₂ (λ (x : ℕ) (xs : List ℕ). x ∷ xs) (same at (omega arith) (omega arith))
+    (same_map f g (at + 1) n (λ k from below. same k (omega (arith, from)) (omega (arith, below))))
+
 -- ---- Elements, one variable after the other
 
 pub take_min : (n : ℕ) (xs : List ℤ) → take (min n (length xs)) xs ≡ take n xs

@@ -18,6 +18,7 @@ mod Lengths
 mod SettledReports
 mod DurableNumbers
 mod ScriptEventCount
+mod EndedSections
 mod PlayedRuns
 mod KeptStepsBounded
 mod RunImages

@@ -1,10 +1,10 @@
 -- What is played of a compiled source: the machine and the kept steps of its translation, which are those of the source.
-use Rattle.std.proofs.Common.{◌≡◌, refl, ℕ, suc, ◌+◌, ◌≤◌, List, [], ◌∷◌, ◌++◌, length, map, take}
+use Rattle.std.proofs.Common.{◌≡◌, refl, ℕ, suc, ◌+◌, ◌<◌, ◌≤◌, List, [], ◌∷◌, ◌++◌, length, map, take}
 use Rattle.std.proofs.Common.{sym, ◌∙◌, ap, ap₂, subst, Some, None, ◌-◌, ◌^◌, flat_map, min, arith}
 use Rattle.std.specs.Prelude.{codes}
 use Rattle.std.proofs.lemmas.List.{length-map, take_all}
 use Rattle.ido_base.specs.declared.event.Event.{Event}
-use Rattle.ido_base.specs.Cores.{played}
+use Rattle.ido_base.specs.Cores.{passed_count, played}
 use Rattle.ido_base.specs.declared.limits.TheConstants.{MOST_EVENTS}
 use Rattle.c_tree.specs.Flats as f
 use Rattle.c_tree.specs.Source as m
@@ -34,11 +34,13 @@ use Rattle.run_scripts.specs.Bounds.{lines_bound}
 use Rattle.run_scripts.specs.Reports as r
 use Rattle.run_scripts.specs.Plays.{excess_at, script_events}
 use Rattle.run_scripts.specs.Scripts.{Line}
-use Rattle.run_tracker.specs.ObjectLives.{Course, LifeConfig, living, new_life, opening_of, steps_in, world_of}
+use Rattle.run_tracker.specs.ObjectLives.{Course, LifeConfig, ends_at_point, living, new_life, opening_of, steps_in, world_of}
 use Rattle.ido_cli.specs.Plays.{IsRunBy, ScriptAnswer, beginning, events_by, too_long}
 use Rattle.ido_cli.specs.Refusals.{IsRefusedAt}
 use Rattle.ido_cli.specs.Reports.{machine_state, unsettled_harts}
+use Rattle.ido_cli.specs.links.CountedSections.{CountsSections}
 use Rattle.ido_cli.specs.Runs.{IsReport, counted, named, run_state, taken, unsettled_threads}
+use Rattle.ido_cli.proofs.EndedSections.{are_ended}
 use Rattle.ido_cli.proofs.GatheredReports.{reported_is}
 use Rattle.ido_cli.proofs.ScriptEventCount.{events_fit, events_pass}
 use Rattle.ido_cli.proofs.SettledReports.{run_of}
@@ -108,6 +110,20 @@ module _ (flat : f.Flat) (object : Object) (marks : Marks) (cuts : Cuts) (life :
         run_of c compilation events status output
         (subst (λ (s : Steps). IsReport (machine_state flat (world c events) s.kept) status output) same_steps
         (subst (λ (w : World). IsReport (machine_state flat w (steps_in life).kept) status output) same_world told))
+
+    -- it has counted the sections that the source ends
+    pub counts_sections : length object.code.items ≡ length flat.threads → CountsSections flat life
+    counts_sections threads =
+        let many = ap (λ (x : LifeConfig). length x.runs.program) p.begins in
+        record {
+          harts = many ∙ (length-map object.code.items (λ code. map slot_of code.items) ∙ threads);
+          each = λ h below.
+              let c = translation_to flat object marks cuts in
+              ap₂ (λ (x : LifeConfig) (es : List Event). passed_count living (λ (n : LifeConfig) e. ends_at_point n.runs.program n.world e h) x es)
+              p.begins p.journal
+              ∙ (are_ended c compilation h (subst (λ (n : ℕ). h < n) many below) events
+              ∙ ap (λ (s : Steps). m.ended_from (m.start flat) s.kept h) (sym same_steps));
+        }
 
 -- ---- The play of a script
 

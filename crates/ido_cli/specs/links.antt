@@ -2,4 +2,5 @@ pub mod RunRequests
 pub mod Regions
 pub mod CompileRefusals
 pub mod LegRuns
+pub mod CountedSections
 pub mod CrashPoints

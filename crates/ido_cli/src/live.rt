@@ -16,6 +16,7 @@ ghost use Rattle.ido_cli.specs.Answers.{LiveAnswer};
 ghost use Rattle.ido_cli.specs.Reports.{machine_state};
 ghost use Rattle.ido_cli.specs.Runs.{IsReport};
 ghost use Rattle.ido_cli.specs.ThreadedRuns.{evictions_at, most_leg_events};
+ghost use Rattle.ido_cli.specs.links.CountedSections.{CountsSections};
 ghost use Rattle.ido_cli.specs.links.LegRuns.{CanRun, HasCrashed, HasRunLegs, IsLiveRun, IsSaidOf};
 
 use crate::refusal::source_refused;
@@ -142,9 +143,9 @@ fn told(
     flat: &Flat,
     life: &Life,
 ) -> Result<Said, OutOfMemory>
-    requires few { length flat.now.threads.items ≤ MOST_THREADS }
     requires room { HaveRoom (map shape_of (flat_of flat.now).variables) }
     requires harts { length (world_of life.now).harts ≡ length life.now.runs.program }
+    requires counted { CountsSections (flat_of flat.now) life.now }
     ensures { IfOk result (λ said. IsSaidOf journal source.now (flat_of flat.now) life.now said.status said.output.items) }
 {
     if !journal {

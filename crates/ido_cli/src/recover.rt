@@ -15,7 +15,7 @@ use crate::refusal::{
     VERSION_PLACE, refused, refused_at_byte, refused_at_register, refused_at_step,
     refused_at_thread, refused_of_threads,
 };
-use crate::report::say;
+use crate::report::say_by_source;
 use crate::said::Said;
 use compiler_correctness::laws::images_are_crashes;
 use hart_driver::drive::drive;
@@ -93,7 +93,7 @@ fn recovered<R: Threads + Wait + Sync, G: Gate + Sync>(
         none,
         gate,
     )?;
-    say(alloc, &compiled.flat, &driven.core)
+    say_by_source(alloc, &compiled.flat, &driven.core)
 }
 
 /// The answer to an input of `recover`.

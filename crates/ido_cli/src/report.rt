@@ -5,11 +5,12 @@ ghost use Rattle.c_tree.specs.Flats.{flat_of};
 ghost use Rattle.c_tree.specs.Source as m;
 ghost use Rattle.rv64_isa.specs.Machine.{numbers_from};
 ghost use Rattle.run_scripts.specs.links.ReportViews as views;
-ghost use Rattle.run_tracker.specs.ObjectLives.{world_of, steps_in};
+ghost use Rattle.run_tracker.specs.ObjectLives.{ended_sections, world_of, steps_in};
 ghost use Rattle.c_tree.specs.WellFormed.{shape_of};
 ghost use Rattle.memory_layout.specs.Variables.{HaveRoom};
 ghost use Rattle.ido_cli.specs.Reports.{machine_state, unsettled_harts};
 ghost use Rattle.ido_cli.specs.Runs.{IsReport};
+ghost use Rattle.ido_cli.specs.links.CountedSections.{CountsSections};
 
 use crate::durable::durable;
 use crate::said::Said;
@@ -49,17 +50,33 @@ fn ended_by(alloc: Global, flat: &Flat, schedule: &[u32]) -> Result<Vec<u64>, Ou
     ended(alloc, &state)
 }
 
-/// What is reported of a life.
-pub fn reported(alloc: Global, flat: &Flat, life: &Life) -> Result<Reported, OutOfMemory>
-    requires few { length flat.now.threads.items ≤ MOST_THREADS }
+/// How many sections of each thread have ended by kept steps, as the life has counted them.
+fn counted(alloc: Global, life: &Life) -> Result<Vec<u64>, OutOfMemory>
+    ensures { IfOk result (λ sections. sections.items ≡ map (ended_sections life.now) (numbers_from 0 (length life.now.runs.program))) }
+{
+    let mut sections = Vec::new(alloc);
+    for hart in 0..life.harts() {
+        sections.push(life.ended(hart))?;
+    }
+    Ok(sections)
+}
+
+/// What is reported of a life, of whose threads so many sections have ended.
+fn gathered(
+    alloc: Global,
+    flat: &Flat,
+    life: &Life,
+    ended: Vec<u64>,
+) -> Result<Reported, OutOfMemory>
     requires room { HaveRoom (map shape_of (flat_of flat.now).variables) }
     requires harts { length (world_of life.now).harts ≡ length life.now.runs.program }
+    requires ended { let x = flat_of flat.now in
+        ended.items ≡ map (m.ended_from (m.start x) (steps_in life.now).kept) (numbers_from 0 (length x.threads)) }
     ensures { IfOk result (λ state. views.state_of state ≡ machine_state (flat_of flat.now) (world_of life.now) (steps_in life.now).kept) }
 {
     let unsettled = unsettled(alloc, life)?;
     let variables = durable(alloc, life, &flat.variables)?;
     let kept = life.schedule();
-    let ended = ended_by(alloc, flat, kept)?;
     let schedule = kept.to_vec(alloc)?;
     Ok(Reported {
         unsettled,
@@ -67,6 +84,29 @@ pub fn reported(alloc: Global, flat: &Flat, life: &Life) -> Result<Reported, Out
         ended,
         schedule,
     })
+}
+
+/// What is reported of a life that has counted its sections.
+pub fn reported(alloc: Global, flat: &Flat, life: &Life) -> Result<Reported, OutOfMemory>
+    requires room { HaveRoom (map shape_of (flat_of flat.now).variables) }
+    requires harts { length (world_of life.now).harts ≡ length life.now.runs.program }
+    requires counted { CountsSections (flat_of flat.now) life.now }
+    ensures { IfOk result (λ state. views.state_of state ≡ machine_state (flat_of flat.now) (world_of life.now) (steps_in life.now).kept) }
+{
+    let ended = counted(alloc, life)?;
+    gathered(alloc, flat, life, ended)
+}
+
+/// What is reported of any life: the source is run by its kept schedule.
+fn reported_by_source(alloc: Global, flat: &Flat, life: &Life) -> Result<Reported, OutOfMemory>
+    requires few { length flat.now.threads.items ≤ MOST_THREADS }
+    requires room { HaveRoom (map shape_of (flat_of flat.now).variables) }
+    requires harts { length (world_of life.now).harts ≡ length life.now.runs.program }
+    ensures { IfOk result (λ state. views.state_of state ≡ machine_state (flat_of flat.now) (world_of life.now) (steps_in life.now).kept) }
+{
+    let kept = life.schedule();
+    let ended = ended_by(alloc, flat, kept)?;
+    gathered(alloc, flat, life, ended)
 }
 
 /// What is said of a state: its report, with the status that says whether it is settled.
@@ -78,13 +118,24 @@ pub fn say_reported(alloc: Global, state: &Reported) -> Result<Said, OutOfMemory
     Ok(Said { status, output })
 }
 
-/// What is said of a life.
+/// What is said of a life that has counted its sections.
 pub fn say(alloc: Global, flat: &Flat, life: &Life) -> Result<Said, OutOfMemory>
+    requires room { HaveRoom (map shape_of (flat_of flat.now).variables) }
+    requires harts { length (world_of life.now).harts ≡ length life.now.runs.program }
+    requires counted { CountsSections (flat_of flat.now) life.now }
+    ensures { IfOk result (λ said. IsReport (machine_state (flat_of flat.now) (world_of life.now) (steps_in life.now).kept) said.status said.output.items) }
+{
+    let state = reported(alloc, flat, life)?;
+    say_reported(alloc, &state)
+}
+
+/// What is said of any life, also of one that went on from an image that no run of this source left: nothing relates its kept schedule to its points.
+pub fn say_by_source(alloc: Global, flat: &Flat, life: &Life) -> Result<Said, OutOfMemory>
     requires few { length flat.now.threads.items ≤ MOST_THREADS }
     requires room { HaveRoom (map shape_of (flat_of flat.now).variables) }
     requires harts { length (world_of life.now).harts ≡ length life.now.runs.program }
     ensures { IfOk result (λ said. IsReport (machine_state (flat_of flat.now) (world_of life.now) (steps_in life.now).kept) said.status said.output.items) }
 {
-    let state = reported(alloc, flat, life)?;
+    let state = reported_by_source(alloc, flat, life)?;
     say_reported(alloc, &state)
 }

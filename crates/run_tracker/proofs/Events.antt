@@ -7,7 +7,7 @@ use Rattle.ido_base.specs.declared.event.Event.{Event}
 use Rattle.ido_base.specs.declared.event.Event.TheVariants.{Step, Evict, Crash}
 use Rattle.ido_base.specs.Words.{Word, word_at, last_position}
 use Rattle.ido_base.specs.Growth.{AreChanged}
-use Rattle.ido_base.specs.Cores.{played, point_stores, finished_fences}
+use Rattle.ido_base.specs.Cores.{played, passed_count, point_stores, finished_fences}
 use Rattle.ido_base.proofs.Public.{passed_count-more}
 use Rattle.rv64_isa.specs.declared.object.Slot.{Slot}
 use Rattle.rv64_isa.specs.Frames.{IsWellFormedWorld}
@@ -16,7 +16,7 @@ use Rattle.rv64_isa.specs.Machine.{World, IsValidEvent, after_event, after_event
 use Rattle.rv64_isa.specs.Schedule.{Steps, no_steps, with_begun, with_bound, with_step, with_all_kept}
 use Rattle.rv64_isa.specs.Schedule.{steps_after, steps_along, passes_mark, stores_point, finishes_fence}
 use Rattle.run_tracker.specs.links.AccountRepresentation.{AreOrdered, weight, hart_weight, point_word}
-use Rattle.run_tracker.specs.ObjectLives.{LifeConfig, living}
+use Rattle.run_tracker.specs.ObjectLives.{LifeConfig, living, ends_at_point}
 use Rattle.run_tracker.proofs.StepTotals.{weight-begun, weight-bound, weight-all_kept, harts-all_kept}
 use Rattle.run_tracker.proofs.BoundStepOrder.{ordered_later, ordered-begun, ordered-bound, ordered-all_kept, ordered-none}
 
@@ -50,6 +50,15 @@ pub fences_more : (m : LifeConfig) (events : List Event) (event : Event) (h : �
 fences_more m events event h =
     passed_count-more living (λ (n : LifeConfig). living.finishes_fence n h) m events event
     ∙ ap (λ (n : LifeConfig). finished_fences living m events h + cond (living.finishes_fence n h event) 1 0) (played_is m events)
+
+pub sections_more : (m : LifeConfig) (events : List Event) (event : Event) (h : ℕ)
+    → passed_count living (λ (n : LifeConfig) e. ends_at_point n.runs.program n.world e h) m (events ++ event ∷ [])
+    ≡ passed_count living (λ (n : LifeConfig) e. ends_at_point n.runs.program n.world e h) m events
+    + cond (ends_at_point m.runs.program (after_events m.runs.program m.world events) event h) 1 0
+sections_more m events event h =
+    let ends : LifeConfig → Event → Bool = λ n e. ends_at_point n.runs.program n.world e h in
+    passed_count-more living ends m events event
+    ∙ ap (λ (n : LifeConfig). passed_count living ends m events + cond (ends n event) 1 0) (played_is m events)
 
 -- ---- What a step begins and binds
 

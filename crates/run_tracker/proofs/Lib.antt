@@ -2,6 +2,7 @@ pub mod Public
 mod StepsByObservation
 mod BoundSteps
 mod EventCounts
+mod DurablePoints
 mod DurableWordsStay
 mod DurableWords
 mod Events

@@ -15,10 +15,12 @@ use Rattle.ido_machine.specs.Machines.{RepresentsMachine, program_in, events_of}
 use Rattle.run_tracker.specs.declared.account.Account.{Account}
 use Rattle.run_tracker.specs.declared.counts.Counts.{Counts}
 use Rattle.run_tracker.specs.declared.life.Life.TheInside.{Inside}
+use Rattle.run_tracker.specs.declared.sections.Sections.{Sections}
 use Rattle.run_tracker.specs.links.Journals.{Recorded}
 use Rattle.run_tracker.specs.links.AccountRepresentation.{AccountInv, AreOpen, AreOrdered, weight}
+use Rattle.run_tracker.specs.links.SectionRepresentation.{AreSections, section_at}
 use Rattle.run_tracker.specs.links.SignTables.{AreTables}
-use Rattle.run_tracker.specs.ObjectLives.{Course, world_of, steps_in, with_event, living, opening_of}
+use Rattle.run_tracker.specs.ObjectLives.{Course, world_of, steps_in, with_event, living, opening_of, ended_sections, ends_at_point}
 use Rattle.run_tracker.specs.links.LifeParts.{AreCounted, HaveCounted, HasCounts}
 use Rattle.run_tracker.specs.links.LifeRepresentation.{course_of, executable_by, opening_by, AreCounts, LifeInv}
 use Rattle.run_tracker.proofs.Events.{after_more, along_more, points_more, fences_more, harts-after, weight-after, ordered-after}
@@ -46,17 +48,26 @@ module _ (life : Inside) (stands : LifeInv life) where
         (λ h. passed-few living (λ m. living.finishes_fence m h) (opening_of (course_of life)) life.journal.events);
   }
 
-  module _ (event : Event) (machine : Machine) (account : Account) (journal : Recorded) (counts : Counts)
+  -- no more sections have ended than there were events
+  pub few_sections : (h : ℕ) → h < length life.sections.harts.items → (section_at life.sections h).ended < 2 ^ 63
+  few_sections h below =
+      let few = passed-few living (λ m event. ends_at_point m.runs.program m.world event h) (opening_of (course_of life)) life.journal.events in
+      omega (arith, stands.sections.counted h (omega (arith, below, stands.sections.size)), few, stands.within, stands.few)
+
+  module _ (event : Event) (machine : Machine) (account : Account) (journal : Recorded) (counts : Counts) (sections : Sections)
       (valid : IsValidEvent (length (program_in life.machine)) event) (room : length life.journal.events < life.cap)
       (same : program_in machine ≡ program_in life.machine) (events : events_of machine ≡ events_of life.machine + 1)
       (world : RepresentsMachine machine (after_event (program_in life.machine) (world_of (course_of life)) event))
       (steps : AccountInv account
       (steps_after (node_marks life.marks.threads.items) (program_in life.machine) (world_of (course_of life)) event (steps_in (course_of life))))
       (counted : HaveCounted life.counts counts (program_in life.machine) (world_of (course_of life)) event)
+      (sectioned : AreSections sections (length (program_in life.machine)) (after_event (program_in life.machine) (world_of (course_of life)) event)
+      (ended_sections (with_event (course_of life) event)))
       (journal_is : journal ≡ record life.journal { events = life.journal.events ++ event ∷ [] })
       (kept_room : vec_capacity account.kept ≡ vec_capacity life.account.kept) (stores_room : vec_capacity account.stores ≡ vec_capacity life.account.stores)
       (stores : vec_len account.stores ≤ vec_len life.account.stores + 1) where
-    pub course_is : course_of (record life { machine = machine; account = account; journal = journal; counts = counts }) ≡ with_event (course_of life) event
+    pub course_is : course_of (record life { machine = machine; account = account; journal = journal; counts = counts; sections = sections })
+        ≡ with_event (course_of life) event
     course_is =
         let at : List (List Slot) → List Event → Course = λ p j. record {
           runs = executable_by p life;
@@ -76,7 +87,7 @@ module _ (life : Inside) (stands : LifeInv life) where
 
     -- what is so of the course with the event is so of the new one
     moved : (P : Course → Type 0) → P (with_event (course_of life) event) →
-        P (course_of (record life { machine = machine; account = account; journal = journal; counts = counts }))
+        P (course_of (record life { machine = machine; account = account; journal = journal; counts = counts; sections = sections }))
     moved P h = subst P (sym course_is) h
 
     counts_are : (old new : List ℕ) (done now : ℕ → ℕ) (does : ℕ → Bool) → AreCounts old (length (program_in life.machine)) done → AreCounted old new does →
@@ -90,7 +101,7 @@ module _ (life : Inside) (stands : LifeInv life) where
     valid_steps : IsValidEvent (length (steps_in (course_of life)).harts) event
     valid_steps = subst (λ (n : ℕ). IsValidEvent n event) (sym steps_count) valid
 
-    pub lasts : LifeInv (record life { machine = machine; account = account; journal = journal; counts = counts })
+    pub lasts : LifeInv (record life { machine = machine; account = account; journal = journal; counts = counts; sections = sections })
     lasts = record {
       machine = moved (λ (x : Course). RepresentsMachine machine (world_of x)) (subst (RepresentsMachine machine) (sym world_is) world);
       sound =
@@ -131,6 +142,9 @@ module _ (life : Inside) (stands : LifeInv life) where
           (finished_fences living (opening_of (course_of life)) (life.journal.events ++ event ∷ []))
           (λ h. finishes_fence (program_in life.machine) (world_of (course_of life)) event h) stands.fences counted.fences
           (λ h. fences_more (opening_of (course_of life)) life.journal.events event h));
+      sections = moved (λ (x : Course). AreSections sections (length x.runs.program) (world_of x) (ended_sections x))
+          (subst (λ (w : World). AreSections sections (length (program_in life.machine)) w (ended_sections (with_event (course_of life) event))) (sym world_is)
+          sectioned);
       within = omega (arith, room, longer);
       few = stands.few;
       bytes = stands.bytes;

@@ -21,10 +21,11 @@ use Rattle.run_tracker.specs.declared.account.Account.{Account}
 use Rattle.run_tracker.specs.declared.life.Life.TheInside.{Inside}
 use Rattle.run_tracker.specs.links.Journals.{Recorded}
 use Rattle.run_tracker.specs.links.AccountRepresentation.{AccountInv, AreOpen, AreOrdered, weight}
+use Rattle.run_tracker.specs.links.SectionRepresentation.{AreSections}
 use Rattle.run_tracker.specs.links.SignTables.{AreTables}
 use Rattle.run_tracker.specs.links.LocalRepresentation.{marks_passed, with_more_begun}
 use Rattle.run_tracker.specs.LocalRuns.{with_steps}
-use Rattle.run_tracker.specs.ObjectLives.{Course, living, opening_of, steps_in, world_of}
+use Rattle.run_tracker.specs.ObjectLives.{Course, ended_sections, living, opening_of, steps_in, world_of}
 use Rattle.run_tracker.specs.links.LifeRepresentation.{course_of, executable_by, opening_by, AreCounts, LifeInv}
 use Rattle.run_tracker.proofs.LifeAfterEvent.{hart_count, steps_count}
 use Rattle.run_tracker.proofs.LocalRuns.{HasRunLocally, has_run_locally}
@@ -107,6 +108,13 @@ module _ (life : Inside) (stands : LifeInv life) (h made passed : ℕ) (hart : H
     fences = moved (λ (x : Course). AreCounts life.counts.fences.items (length x.runs.program) (finished_fences living (opening_of x) x.journal))
         (same_counts life.counts.fences.items (finished_fences living (opening_of before) life.journal.events)
         (finished_fences living (opening_of before) (with_steps before h made).journal) stands.fences ahead.fences);
+    sections = moved (λ (x : Course). AreSections life.sections (length x.runs.program) (world_of x) (ended_sections x))
+        (subst (λ (w : World). AreSections life.sections (length (program_in life.machine)) w (ended_sections (with_steps before h made))) (sym ahead.world)
+        (record {
+          size = stands.sections.size;
+          point = stands.sections.point;
+          counted = λ g below. stands.sections.counted g below ∙ sym (ahead.sections g);
+        }));
     within = omega (arith, room, longer);
     few = stands.few;
     bytes = stands.bytes;

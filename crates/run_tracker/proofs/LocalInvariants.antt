@@ -1,6 +1,6 @@
 -- What stands of a local run as it goes ahead, and where a life adopts it.
 use Rattle.std.proofs.Common.{◌≡◌, ℕ, suc, ◌+◌, ◌≤◌, List, length, Option}
-use Rattle.std.proofs.Common.{Some, None, Bool, true, false, cond, ◌==◌, refl, ap, sym, ◌∙◌, arith}
+use Rattle.std.proofs.Common.{Some, None, Bool, true, false, cond, ◌==◌, refl, ap, sym, subst, ◌∙◌, arith}
 use Rattle.std.specs.List.{list_any}
 use Rattle.rv64_isa.specs.declared.object.Slot.{Slot}
 use Rattle.rv64_isa.specs.declared.phase.Phase.{Phase}
@@ -15,7 +15,7 @@ use Rattle.run_tracker.specs.declared.signs.Sign.{Sign}
 use Rattle.run_tracker.specs.declared.signs.SignTable.{SignTable}
 use Rattle.run_tracker.specs.LocalRuns.{LocalCourse, IsAtBeginning, state_in}
 use Rattle.run_tracker.specs.links.LocalRepresentation.{LocalInv, marks_at, marks_passed}
-use Rattle.run_tracker.specs.links.SignTables.{IsTableOf, sign_at, sign_in}
+use Rattle.run_tracker.specs.links.SignTables.{IsTableOf, is_plain, sign_at, sign_in}
 use Rattle.run_tracker.proofs.SignObservations.{word_mark}
 
 pub running_phase : (phase : Phase) → is_running phase ≡ true → phase ≡ Run
@@ -69,6 +69,7 @@ copied old new start code addresses starts signs is = record {
   marks = λ k below. ap (λ (xs : List Sign). (sign_in xs k).mark) signs ∙ is.marks k below;
   fences = λ k slot there. ap (λ (xs : List Sign). (sign_in xs k).fence) signs ∙ is.fences k slot there;
   stores = λ k slot there. ap (λ (xs : List Sign). (sign_in xs k).store) signs ∙ is.stores k slot there;
+  plains = λ k. subst (λ (xs : List Sign). (sign_in xs k).plain ≡ is_plain (sign_in xs k)) (sym signs) (is.plains k);
 }
 
 -- ---- A run whose hart is still as it was at its beginning

@@ -16,7 +16,7 @@ use Rattle.run_tracker.specs.declared.counts.Counts.{Counts}
 use Rattle.run_tracker.specs.declared.signs.SignTable.{SignTable}
 use Rattle.run_tracker.specs.declared.stepping.Observation.{Observation}
 use Rattle.run_tracker.specs.links.AccountRepresentation.{AreOpen, point_word}
-use Rattle.run_tracker.specs.links.SignTables.{is_plain, sign_at, IsTableOf}
+use Rattle.run_tracker.specs.links.SignTables.{sign_at, IsTableOf}
 use Rattle.run_tracker.specs.links.LifeParts.{is_drained, seen_step, HasStepped, HaveCounted}
 use Rattle.run_tracker.proofs.EventCounts.{completes-other, counted-none}
 use Rattle.run_tracker.proofs.DurableWordsStay.{undrained}
@@ -153,9 +153,10 @@ module _ (program : List (List Slot)) (tables : List SignTable) (marks : List (L
           omega (arith, unstored refl, stepped.seen.position, more ∙ ap (λ (b : Bool). last_in w + cond b 1 0) (no_point (sym is)))
 
       -- a plain word changes nothing that is accounted for
-      module _ (plain : is_plain (sign_at table observation.pc) ≡ true) where
+      module _ (plain : (sign_at table observation.pc).plain ≡ true) where
         parts : ((sign_at table observation.pc).mark ≡ false) × ((sign_at table observation.pc).fence ≡ false) × ((sign_at table observation.pc).store ≡ false)
-        parts = of_plain (sign_at table observation.pc).mark (sign_at table observation.pc).fence (sign_at table observation.pc).store plain
+        parts = of_plain (sign_at table observation.pc).mark (sign_at table observation.pc).fence (sign_at table observation.pc).store
+            (sym (table_is.plains ((observation.pc - table.start) / 4)) ∙ plain)
           where
             of_plain : (mark fence store : Bool) → not (mark || fence || store) ≡ true → (mark ≡ false) × (fence ≡ false) × (store ≡ false)
             of_plain false false false e = (refl, refl, refl)

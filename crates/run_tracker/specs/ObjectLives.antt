@@ -1,15 +1,16 @@
 -- The life of a compiled object: what it represents, and how it behaves as a core.
-use Rattle.std.specs.Prelude.{ℕ, ◌*◌, ◌/◌, List, [], ◌∷◌, ◌++◌, length, map, take, drop, slice_get, Bool, true, false, Some, None}
+use Rattle.std.specs.Prelude.{ℕ, ◌*◌, ◌/◌, List, [], ◌∷◌, ◌++◌, length, map, take, drop, slice_get, Bool, true, false, not, ◌&&◌, ◌==◌, Some, None}
 use Rattle.ido_base.specs.declared.event.Event.{Event}
 use Rattle.ido_base.specs.Words.{Word, durable_value}
 use Rattle.ido_base.specs.Layout.{variable_lines}
-use Rattle.ido_base.specs.Cores.{Behaviour}
+use Rattle.ido_base.specs.Cores.{Behaviour, passed_count}
+use Rattle.rv64_isa.specs.declared.object.Slot.{Slot}
 use Rattle.rv64_isa.specs.declared.object.Object.{Object}
 use Rattle.rv64_isa.specs.declared.object.Marks.{Marks}
 use Rattle.rv64_isa.specs.declared.phase.Phase.{Phase}
 use Rattle.rv64_isa.specs.declared.phase.Phase.TheVariants.{Take, Wait, Resume, Run, Done, Ended}
 use Rattle.rv64_isa.specs.Executables.{Executable, executable_of}
-use Rattle.rv64_isa.specs.Machine.{World, after_event, after_events, reply_to, machine_start, machine_from}
+use Rattle.rv64_isa.specs.Machine.{World, after_event, after_events, reply_to, machine_start, machine_from, durable_point}
 use Rattle.rv64_isa.specs.Schedule.{Steps, stores_point, finishes_fence, first_steps, steps_along}
 
 -- ---- What a life is
@@ -102,3 +103,13 @@ opening_of life = record {
   kept_before = life.kept_before;
   world = life.opening;
 }
+
+-- ---- Sections that have ended
+
+-- the event makes the durable point of hart h 0, which it wasn't
+abbrev pub ends_at_point : List (List Slot) → World → Event → (h : ℕ) → Bool
+ends_at_point program w event h = not (durable_point w.words h == 0) && (durable_point (after_event program w event).words h == 0)
+
+-- how many sections of the hart's thread have ended, and are kept, since the life began: so often its durable point has become 0
+abbrev pub ended_sections : Course → (h : ℕ) → ℕ
+ended_sections life h = passed_count living (λ m event. ends_at_point m.runs.program m.world event h) (opening_of life) life.journal

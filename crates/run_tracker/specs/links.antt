@@ -1,4 +1,5 @@
 pub mod AccountRepresentation
+pub mod SectionRepresentation
 pub mod LifeRepresentation
 pub mod Journals
 pub mod SignTables

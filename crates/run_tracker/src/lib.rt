@@ -7,5 +7,6 @@ mod counts;
 mod journal;
 pub mod life;
 pub mod local;
+mod sections;
 mod signs;
 mod stepping;

@@ -13,14 +13,16 @@ ghost use Rattle.rv64_isa.specs.Frames.{IsWellFormedWorld};
 ghost use Rattle.rv64_isa.specs.Schedule.{is_settled, is_settled_hart};
 ghost use Rattle.hart_core.specs.Objects.{IsWithinLimits};
 ghost use Rattle.run_tracker.specs.ObjectLives.{Course, new_life, life_at, life_from, with_event, world_of, steps_in, left_words, variable_words_in};
-ghost use Rattle.run_tracker.specs.ObjectLives.{LifeConfig, is_stopped, is_stopped_phase, living, opening_of};
+ghost use Rattle.run_tracker.specs.ObjectLives.{LifeConfig, ended_sections, is_stopped, is_stopped_phase, living, opening_of};
 ghost use Rattle.run_tracker.specs.LocalRuns.{IsLocalOf, IsAtBeginning, local_at, with_steps};
+ghost use Rattle.run_tracker.specs.links.LifeParts.{may_persist};
 ghost use Rattle.run_tracker.specs.links.LifeRepresentation.{opening_by};
 
 use crate::account::Account;
 use crate::counts::Counts;
 use crate::journal::Journal;
 use crate::local::LocalRun;
+use crate::sections::Sections;
 use crate::signs::{SignTable, copy_of, tables_of};
 use crate::stepping::make;
 use hart_core::local::ThreadCode;
@@ -54,6 +56,7 @@ pub struct Life {
     account: Account,
     journal: Journal,
     counts: Counts,
+    sections: Sections,
     cap: u64,
 }
 
@@ -74,6 +77,14 @@ fn is_stopped_phase(phase: Phase) -> bool
     ensures { result ≡ is_stopped_phase phase }
 {
     matches!(phase, Phase::Done | Phase::Ended)
+}
+
+/// The reply is one to an event by which more of memory may be durable: the write-back of a queued line, an eviction or a crash.
+#[inline(always)]
+fn may_persist(reply: Reply) -> bool
+    ensures { result ≡ may_persist reply }
+{
+    matches!(reply, Reply::Drained | Reply::Device)
 }
 
 /// The phase is the other one.
@@ -186,6 +197,7 @@ impl Life {
             life_at object.now marks.now (opening_by (program_of object.now) object.now.mutexes object.now.initial.items left) before.now cap) }
     {
         let harts = machine.harts();
+        let sections = Sections::new(alloc, &machine)?;
         Ok(Life {
             initial: object.initial.to_vec(alloc)?,
             mutexes: object.mutexes,
@@ -197,6 +209,7 @@ impl Life {
             account: Account::new(alloc, harts, before, cap)?,
             journal: Journal::new(alloc, cap)?,
             counts: Counts::new(alloc, harts)?,
+            sections,
             cap,
         })
     }
@@ -290,13 +303,15 @@ impl Life {
         ensures life { self.new ≡ with_event self.old event }
     {
         self.journal.push(event);
-        make(
+        let reply = make(
             event,
             &mut self.machine,
             &mut self.account,
             &mut self.counts,
             &self.tables,
-        )
+        );
+        self.sections.look_if(may_persist(reply), &self.machine);
+        reply
     }
 
     /// The least hart whose next step would be replied to neither by `Waits` nor by `Barrier` nor by `Still`.
@@ -373,6 +388,14 @@ impl Life {
         ensures { result ≡ point_stores living (opening_of self.now) self.now.journal hart }
     {
         self.counts.points[hart as usize]
+    }
+
+    /// How many sections of the hart's thread have ended by steps that are kept, since the life began: so often its durable point has become 0.
+    pub fn ended(&self, hart: u32) -> u64
+        requires { hart < length self.now.runs.program }
+        ensures { result ≡ ended_sections self.now hart }
+    {
+        self.sections.harts[hart as usize].ended
     }
 
     /// How many fences the hart has finished.

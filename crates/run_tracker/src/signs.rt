@@ -20,16 +20,8 @@ pub(crate) struct Sign {
     pub fence: bool,
     /// The code word stores.
     pub store: bool,
-}
-
-impl Sign {
-    /// Whether the code word is no mark, no fence and no store: there is nothing to account for.
-    #[inline(always)]
-    pub fn is_plain(self) -> bool
-        ensures { result ≡ is_plain self }
-    {
-        !(self.mark | self.fence | self.store)
-    }
+    /// It is none of these: there is nothing to account for. This alone is looked at after most steps.
+    pub plain: bool,
 }
 
 /// The signs of a thread's code words.
@@ -59,10 +51,13 @@ fn plain_sign(word: u32) -> Sign
     ensures { result ≡ plain_sign word }
 {
     let slot = Slot::of_word(word);
+    let fence = is_fence(&slot);
+    let store = is_store(&slot);
     Sign {
         mark: false,
-        fence: is_fence(&slot),
-        store: is_store(&slot),
+        fence,
+        store,
+        plain: !(fence || store),
     }
 }
 
@@ -80,6 +75,8 @@ fn mark_word(signs: &mut [Sign], start: u64, address: u64)
     ensures marks { (k : ℕ) → k < length signs.old → (sign_in signs.new k).mark ≡ ((sign_in signs.old k).mark || is_word_at start k address) }
     ensures fences { (k : ℕ) → (sign_in signs.new k).fence ≡ (sign_in signs.old k).fence }
     ensures stores { (k : ℕ) → (sign_in signs.new k).store ≡ (sign_in signs.old k).store }
+    ensures plains { ((k : ℕ) → (sign_in signs.old k).plain ≡ is_plain (sign_in signs.old k)) → (k : ℕ)
+        → (sign_in signs.new k).plain ≡ is_plain (sign_in signs.new k) }
 {
     if address < start || address % 4 != 0 {
         return;
@@ -87,6 +84,7 @@ fn mark_word(signs: &mut [Sign], start: u64, address: u64)
     let word = (address - start) / 4;
     if word < signs.len() as u64 {
         signs[word as usize].mark = true;
+        signs[word as usize].plain = false;
     }
 }
 

@@ -122,7 +122,7 @@ fn complete(
     ensures capacity { vec_capacity account.new.kept ≡ vec_capacity account.old.kept }
 {
     let sign = tables[hart as usize].sign_at(observation.pc);
-    if sign.is_plain() {
+    if sign.plain {
         return;
     }
     let position = position_after(machine, hart, sign, observation);

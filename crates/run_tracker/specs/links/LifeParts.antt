@@ -29,6 +29,16 @@ is_drained Still = false
 is_drained (Stuck cause) = false
 is_drained Device = false
 
+-- more of memory may be durable by the event with this reply: a queued entry was written back, or it is no step of a hart
+abbrev pub may_persist : Reply → Bool
+may_persist Moved = false
+may_persist Drained = true
+may_persist (Waits lock holder) = false
+may_persist (Barrier hart) = false
+may_persist Still = false
+may_persist (Stuck cause) = false
+may_persist Device = true
+
 -- what was seen of hart h at a world, in which the word of its point exists, and is durable at one of its positions
 pub record IsSeen (w : World) (h : ℕ) (observation : Observation) : Type 0 where
   pub hart : Hart

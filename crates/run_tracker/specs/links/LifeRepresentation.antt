@@ -12,8 +12,9 @@ use Rattle.rv64_isa.specs.Frames.{IsWellFormedWorld}
 use Rattle.ido_machine.specs.Machines.{RepresentsMachine, program_in, events_of}
 use Rattle.run_tracker.specs.declared.life.Life.TheInside.{Inside}
 use Rattle.run_tracker.specs.links.AccountRepresentation.{AccountInv, AreOpen, AreOrdered, weight}
+use Rattle.run_tracker.specs.links.SectionRepresentation.{AreSections}
 use Rattle.run_tracker.specs.links.SignTables.{AreTables}
-use Rattle.run_tracker.specs.ObjectLives.{Course, world_of, steps_in, living, opening_of}
+use Rattle.run_tracker.specs.ObjectLives.{Course, world_of, steps_in, living, opening_of, ended_sections}
 
 -- the world before the first event: that of the start, or that after a crash that left these words
 abbrev pub opening_by : List (List Slot) → (locks : ℕ) → (initial : List ℕ) → Option (Vec ℕ Global) → World
@@ -43,7 +44,7 @@ course_of life = record {
 abbrev pub AreCounts : List ℕ → (harts : ℕ) → (done : ℕ → ℕ) → Type 0
 AreCounts counts harts done = (length counts ≡ harts) × ((h : ℕ) → h < harts → slice_index counts h ≡ done h)
 
--- machine, account and counts are those of the events in the journal
+-- machine, account, counts and sections are those of the events in the journal
 pub record LifeInv (life : Inside) : Type 0 where
   pub machine : RepresentsMachine life.machine (world_of (course_of life))
   pub sound : IsWellFormedWorld (world_of (course_of life))
@@ -57,6 +58,7 @@ pub record LifeInv (life : Inside) : Type 0 where
   pub light : weight (steps_in (course_of life)) ≤ length life.before.items + length life.journal.events
   pub points : AreCounts life.counts.points.items (length (program_in life.machine)) (point_stores living (opening_of (course_of life)) life.journal.events)
   pub fences : AreCounts life.counts.fences.items (length (program_in life.machine)) (finished_fences living (opening_of (course_of life)) life.journal.events)
+  pub sections : AreSections life.sections (length (program_in life.machine)) (world_of (course_of life)) (ended_sections (course_of life))
   pub within : length life.journal.events ≤ life.cap
   pub few : length life.before.items + life.cap < 2 ^ 63
   pub bytes : length life.initial.items ≤ MOST_VARIABLE_BYTES

@@ -28,14 +28,19 @@ is_store_slot slot = elim slot [
 
 -- the sign of a word that isn't a mark
 abbrev pub plain_sign : (word : ℕ) → Sign
-plain_sign word = record { mark = false; fence = is_fence_slot (slot_of word); store = is_store_slot (slot_of word) }
+plain_sign word = record {
+  mark = false;
+  fence = is_fence_slot (slot_of word);
+  store = is_store_slot (slot_of word);
+  plain = not (is_fence_slot (slot_of word) || is_store_slot (slot_of word));
+}
 
 -- nothing is to be accounted for
 abbrev pub is_plain : Sign → Bool
 is_plain sign = not (sign.mark || sign.fence || sign.store)
 
 abbrev pub no_sign : Sign
-no_sign = record { mark = false; fence = false; store = false }
+no_sign = record { mark = false; fence = false; store = false; plain = true }
 
 -- the sign of the k-th word
 abbrev pub sign_in : List Sign → (k : ℕ) → Sign
@@ -52,6 +57,7 @@ pub record IsTableOf (table : SignTable) (start : ℕ) (code : List Slot) (addre
   pub marks : (k : ℕ) → k < length code → (sign_in table.signs.items k).mark ≡ list_any (is_word_at start k) addresses
   pub fences : (k : ℕ) (slot : Slot) → slice_get code k ≡ Some slot → (sign_in table.signs.items k).fence ≡ is_fence_slot slot
   pub stores : (k : ℕ) (slot : Slot) → slice_get code k ≡ Some slot → (sign_in table.signs.items k).store ≡ is_store_slot slot
+  pub plains : (k : ℕ) → (sign_in table.signs.items k).plain ≡ is_plain (sign_in table.signs.items k)
 
 -- a table for each thread of the program, with its marks
 pub record AreTables (tables : List SignTable) (program : List (List Slot)) (marks : List (List ℕ)) : Type 0 where

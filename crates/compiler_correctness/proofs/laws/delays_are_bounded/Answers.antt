@@ -2,6 +2,4 @@ use Rattle.compiler_correctness.proofs.BoundedDelay.{delays_are_bounded}
 use Rattle.compiler_correctness.proofs.laws.delays_are_bounded.Goals as goal
 
 pub returns : goal.returns
-returns c =
-    delays_are_bounded c.marks_pass.ensures c.fragments_go_on.ensures c.steps_are_counted.ensures.forward c.events_stand.ensures c.fragments_step.ensures
-    c.cores_step.ensures
+returns c = delays_are_bounded c.events_stand.ensures c.fragments_step.ensures c.cores_step.ensures c.fragments_go_on.ensures

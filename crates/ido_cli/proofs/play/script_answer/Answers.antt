@@ -3,7 +3,7 @@ use Rattle.std.proofs.lemmas.List.{length-map}
 use Rattle.std.proofs.lemmas.Result.{IfOk-weaker}
 use Rattle.std.specs.Prelude.{codes}
 use Rattle.ido_base.specs.declared.limits.TheConstants.{MOST_EVENTS}
-use Rattle.c_tree.specs.Flats.{flat_of, thread_of}
+use Rattle.c_tree.specs.Flats.{flat_of}
 use Rattle.rv64_isa.specs.Programs.{slot_of}
 use Rattle.run_scripts.specs.links.ScriptViews as scripts
 use Rattle.run_tracker.specs.ObjectLives.{Course}
@@ -14,7 +14,7 @@ use Rattle.ido_cli.specs.Refusals.{line_at}
 use Rattle.ido_compile.specs.CompileAnswers.{translation_in}
 use Rattle.ido_cli.specs.links.RunRequests.{Says}
 use Rattle.ido_cli.proofs.RunImages.{image_after, logs_few, same_variables, steps_few, variables_few, variables_within}
-use Rattle.ido_cli.proofs.PlayedRuns.{as_many_threads, fits, harts_of_life, has_played, has_room, passed_at, past_most, refused, run_by}
+use Rattle.ido_cli.proofs.PlayedRuns.{as_many_threads, counts_sections, fits, harts_of_life, has_played, has_room, passed_at, past_most, refused, run_by}
 use Rattle.ido_cli.proofs.ScriptAnswers.{all_doable}
 use Rattle.ido_cli.proofs.RefusedSchedules.{both_ok}
 use Rattle.ido_cli.proofs.play.script_answer.Goals as goal
@@ -32,13 +32,6 @@ play-requires-clause-room c = λ _.
     let least : cap ≤ cap - 0 = omega arith in
     subst (λ (life : Course). cap ≤ life.cap - length life.journal) (sym c.in_ok-life.ensures) least
 
-pub say-requires-clause-few : goal.say-requires-clause-few
-say-requires-clause-few c =
-    let x = c.args.compiled.now in
-    let y = x.translated in
-    let threads = as_many_threads (flat_of x.flat) y.object y.marks y.cuts c.requires.translated in
-    omega (arith, c.requires.translated.limits.threads, threads, length-map x.flat.threads.items thread_of)
-
 pub say-requires-clause-room : goal.say-requires-clause-room
 say-requires-clause-room c =
     let x = c.args.compiled.now in
@@ -54,6 +47,18 @@ say-requires-clause-harts c =
     c.in_ok-life.ensures c.play.new.core
     c.play.ensures.opening c.play.ensures.events c.in-Ok.ensures.whole in
     harts_of_life (flat_of x.flat) y.object y.marks y.cuts c.play.new.core _ played
+
+pub say-requires-clause-counted : goal.say-requires-clause-counted
+say-requires-clause-counted c =
+    let x = c.args.compiled.now in
+    let y = x.translated in
+    let flat = flat_of x.flat in
+    let lines = map scripts.line_of c.args.script.now.lines.items in
+    let played = has_played flat y.object y.marks y.cuts lines c.script_bound-cap.result c.script_bound-cap.result c.in_ok-life.life
+    c.in_ok-life.ensures c.play.new.core
+    c.play.ensures.opening c.play.ensures.events c.in-Ok.ensures.whole in
+    counts_sections flat y.object y.marks y.cuts c.play.new.core _ played c.requires.compilation
+    (as_many_threads flat y.object y.marks y.cuts c.requires.translated)
 
 pub image-requires-clause-variables : goal.image-requires-clause-variables
 image-requires-clause-variables c =

@@ -30,21 +30,21 @@ drive-requires-clause-moment g c κs within =
     let both : (length life.journal ≤ 3999000) × (3999000 ≤ length life.journal + (life.cap - length life.journal)) = (omega (arith, ap length none), room) in
     both
 
-pub say-requires-clause-few : goal.say-requires-clause-few
-say-requires-clause-few g c =
+pub say_by_source-requires-clause-few : goal.say_by_source-requires-clause-few
+say_by_source-requires-clause-few g c =
     let x = c.args.image.now.compiled in
     let y = x.translated in
     let threads = as_many_threads (flat_of x.flat) y.object y.marks y.cuts c.requires.translated in
     omega (arith, c.requires.translated.limits.threads, threads, length-map x.flat.threads.items thread_of)
 
-pub say-requires-clause-room : goal.say-requires-clause-room
-say-requires-clause-room g c =
+pub say_by_source-requires-clause-room : goal.say_by_source-requires-clause-room
+say_by_source-requires-clause-room g c =
     let x = c.args.image.now.compiled in
     let y = x.translated in
     has_room (flat_of x.flat) y.object y.marks y.cuts c.requires.translated
 
-pub say-requires-clause-harts : goal.say-requires-clause-harts
-say-requires-clause-harts g c =
+pub say_by_source-requires-clause-harts : goal.say_by_source-requires-clause-harts
+say_by_source-requires-clause-harts g c =
     let x = c.args.image.now.compiled in
     let y = x.translated in
     let begun : c.in_ok-life.life ≡ life_from y.object y.marks c.args.image.now.words.items c.args.image.now.schedule.items 3999000 =
@@ -60,8 +60,8 @@ returns g c =
     c.in_ok-life.ensures ∙ ap₂ (λ (ws ks : List ℕ). life_from y.object y.marks ws ks 3999000) c.deref.ensures.value c.deref-2.ensures.value in
     let left = c.in_ok-driven.driven in
     let d = subst (λ (n : ℕ). IsLifeDriven c.in_ok-life.life n 3999000 None left.core left.stops.items left.evict) c.from.ensures c.in_ok-driven.ensures in
-    IfOk-weaker c.say.result _ _
+    IfOk-weaker c.say_by_source.result _ _
     (λ said told.
     recovery (flat_of x.flat) y.object y.marks y.cuts c.requires.translated (file_in c.args.image.now) 3999000 c.in_ok-life.life begun left.core d.plays.opens
     c.files_begin.ensures c.images_are_crashes.ensures c.requires.compilation c.args.turns said.status said.output.items left.stops.items left.evict d told)
-    c.say.ensures
+    c.say_by_source.ensures

@@ -1,14 +1,13 @@
 use Rattle.std.proofs.Common.{◌≡◌, ℕ, ◌+◌, ◌/◌, ◌≤◌, List, length, sym, ap, ap₂, ◌∙◌, subst, arith}
-use Rattle.std.proofs.lemmas.List.{length-map}
 use Rattle.std.proofs.lemmas.Result.{IfOk-weaker}
 use Rattle.ido_base.specs.declared.event.Event.{Event}
-use Rattle.c_tree.specs.Flats.{flat_of, thread_of}
+use Rattle.c_tree.specs.Flats.{flat_of}
 use Rattle.run_scripts.specs.Draws.{drawn_run}
 use Rattle.run_scripts.proofs.Public.{run_valid}
 use Rattle.ido_compile.specs.CompileAnswers.{translation_in}
 use Rattle.ido_cli.specs.Draws.{drawn_by}
 use Rattle.ido_cli.specs.Plays.{IsRunBy}
-use Rattle.ido_cli.proofs.PlayedRuns.{as_many_threads, harts_of_life, has_room, run_by}
+use Rattle.ido_cli.proofs.PlayedRuns.{as_many_threads, counts_sections, harts_of_life, has_room, run_by}
 use Rattle.ido_cli.proofs.DrawnLives.{all_valid, has_made, many_harts, room_for}
 use Rattle.ido_cli.proofs.seeded.drawn_answer.Goals as goal
 
@@ -40,13 +39,6 @@ make_events-requires-clause-room c = λ _.
     room_for y.object y.marks c.len-count.result c.in_ok-life.life c.in_ok-life.ensures (length c.deref.result.now)
     (omega (arith, ap length c.deref.ensures.value, c.len-count.ensures, c.in_ok-events.events.ok))
 
-pub say-requires-clause-few : goal.say-requires-clause-few
-say-requires-clause-few c =
-    let x = c.args.compiled.now in
-    let y = x.translated in
-    let threads = as_many_threads (flat_of x.flat) y.object y.marks y.cuts c.requires.translated in
-    omega (arith, c.requires.translated.limits.threads, threads, length-map x.flat.threads.items thread_of)
-
 pub say-requires-clause-room : goal.say-requires-clause-room
 say-requires-clause-room c =
     let x = c.args.compiled.now in
@@ -61,6 +53,17 @@ say-requires-clause-harts c =
     let made = has_made y.object y.marks c.len-count.result c.in_ok-life.life c.in_ok-life.ensures life c.deref.result.now c.make_events.ensures.opening
     c.make_events.ensures.history in
     harts_of_life (flat_of x.flat) y.object y.marks y.cuts life c.deref.result.now made
+
+pub say-requires-clause-counted : goal.say-requires-clause-counted
+say-requires-clause-counted c =
+    let x = c.args.compiled.now in
+    let y = x.translated in
+    let flat = flat_of x.flat in
+    let life = c.make_events.new.core in
+    let made = has_made y.object y.marks c.len-count.result c.in_ok-life.life c.in_ok-life.ensures life c.deref.result.now c.make_events.ensures.opening
+    c.make_events.ensures.history in
+    counts_sections flat y.object y.marks y.cuts life c.deref.result.now made c.requires.compilation
+    (as_many_threads flat y.object y.marks y.cuts c.requires.translated)
 
 pub returns : goal.returns
 returns c =

@@ -1,18 +1,10 @@
-use Rattle.std.proofs.Common.{List, ℕ, refl, subst, sym, arith}
+use Rattle.std.proofs.Common.{List, ℕ, refl, subst, sym}
 use Rattle.std.specs.Prelude.{◌==◌}
-use Rattle.std.proofs.lemmas.List.{length-map}
-use Rattle.c_tree.specs.Flats.{flat_of, thread_of}
+use Rattle.c_tree.specs.Flats.{flat_of}
 use Rattle.ido_cli.specs.links.CrashPoints.{IsOutcomeAt}
-use Rattle.ido_cli.proofs.PlayedRuns.{as_many_threads, has_room}
-use Rattle.ido_cli.proofs.CrashRuns.{harts_then, outcome_of}
+use Rattle.ido_cli.proofs.PlayedRuns.{has_room}
+use Rattle.ido_cli.proofs.CrashRuns.{counts_then, harts_then, outcome_of}
 use Rattle.ido_cli.proofs.sweep.outcome_after.Goals as goal
-
-pub say-requires-clause-few : goal.say-requires-clause-few
-say-requires-clause-few c =
-    let x = c.args.points.now in
-    let y = x.translated in
-    let threads = as_many_threads (flat_of x.flat) y.object y.marks y.cuts c.requires.translated_is in
-    omega (arith, c.requires.translated_is.limits.threads, threads, length-map x.flat.threads.items thread_of)
 
 pub say-requires-clause-room : goal.say-requires-clause-room
 say-requires-clause-room c =
@@ -22,6 +14,9 @@ say-requires-clause-room c =
 
 pub say-requires-clause-harts : goal.say-requires-clause-harts
 say-requires-clause-harts c = harts_then c.args.points.now c.args.k c.in_ok-life.life c.in_ok-life.ensures
+
+pub say-requires-clause-counted : goal.say-requires-clause-counted
+say-requires-clause-counted c = counts_then c.args.points.now c.args.k c.in_ok-life.life c.in_ok-life.ensures c.requires
 
 pub returns : goal.returns
 returns c =

@@ -7,7 +7,6 @@ use Rattle.ido_machine.specs.Machines.{program_in}
 use Rattle.ido_machine.proofs.Public.{get_is}
 use Rattle.run_tracker.specs.declared.signs.Sign.{Sign}
 use Rattle.run_tracker.specs.links.AccountRepresentation.{AccountInv}
-use Rattle.run_tracker.specs.links.SignTables.{is_plain}
 use Rattle.run_tracker.proofs.StepsByObservation.{fence_done, in_table, mark_is, plain_counts, plain_steps, point_is, position_is}
 use Rattle.run_tracker.proofs.EventCounts.{completes-other, counted-one}
 use Rattle.run_tracker.proofs.Events.{begun_if, noted_is}
@@ -22,23 +21,23 @@ sign_at-sign-requires c =
     c.index-tables-hart.result (get_is c.args.tables.now c.args.hart c.index-tables-hart.result within ∙ ap Some (sym c.index-tables-hart.is)) in
     record { from = place.0; within = place.1 }
 
-pub returns-then-is_plain-clause-steps : goal.returns-then-is_plain-clause-steps
-returns-then-is_plain-clause-steps c = λ program marks w s stepped a.
+pub returns-then-sign-clause-steps : goal.returns-then-sign-clause-steps
+returns-then-sign-clause-steps c = λ program marks w s stepped a.
     let h = c.args.hart in
     let within : h < length c.args.tables.now = omega (arith, c.requires.after.stepped.tables_are.count, c.requires.exists) in
     let found = get_is c.args.tables.now h c.index-tables-hart.result within ∙ ap Some (sym c.index-tables-hart.is) in
-    let plain = sym (c.is_plain.ensures ∙ ap is_plain c.sign_at-sign.ensures) ∙ c.if-is_plain.true in
+    let plain = sym (ap (λ (x : Sign). x.plain) c.sign_at-sign.ensures) ∙ c.if-sign.true in
     subst (AccountInv c.args.account.now)
     (sym (plain_steps program c.args.tables.now marks c.args.machine.now h c.args.observation Moved w stepped c.requires.running refl
     c.index-tables-hart.result found
     plain s)) a
 
-pub returns-then-is_plain-clause-counts : goal.returns-then-is_plain-clause-counts
-returns-then-is_plain-clause-counts c = λ program marks w stepped.
+pub returns-then-sign-clause-counts : goal.returns-then-sign-clause-counts
+returns-then-sign-clause-counts c = λ program marks w stepped.
     let h = c.args.hart in
     let within : h < length c.args.tables.now = omega (arith, c.requires.after.stepped.tables_are.count, c.requires.exists) in
     let found = get_is c.args.tables.now h c.index-tables-hart.result within ∙ ap Some (sym c.index-tables-hart.is) in
-    let plain = sym (c.is_plain.ensures ∙ ap is_plain c.sign_at-sign.ensures) ∙ c.if-is_plain.true in
+    let plain = sym (ap (λ (x : Sign). x.plain) c.sign_at-sign.ensures) ∙ c.if-sign.true in
     plain_counts program c.args.tables.now marks c.args.machine.now h c.args.observation Moved w stepped c.requires.running refl
     c.index-tables-hart.result found
     plain c.args.counts.now

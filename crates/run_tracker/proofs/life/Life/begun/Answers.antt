@@ -1,4 +1,4 @@
-use Rattle.std.proofs.Common.{◌≡◌, ℕ, zero, suc, ◌+◌, ◌≤◌, List, length, replicate, get_or, map, ap, sym, subst, ◌∙◌, refl, arith, rules}
+use Rattle.std.proofs.Common.{◌≡◌, ℕ, zero, suc, ◌+◌, ◌<◌, ◌≤◌, List, length, replicate, get_or, map, ap, sym, subst, ◌∙◌, refl, arith, rules}
 use Rattle.std.proofs.lemmas.List.{length-map, length-replicate}
 use Rattle.rv64_isa.specs.declared.object.Slot.{Slot}
 use Rattle.rv64_isa.specs.declared.object.ThreadMarks.{ThreadMarks}
@@ -11,8 +11,10 @@ use Rattle.ido_base.specs.Cores.{point_stores, finished_fences}
 use Rattle.ido_machine.specs.Machines.{RepresentsMachine, program_in}
 use Rattle.run_tracker.specs.links.Journals.{Recorded}
 use Rattle.run_tracker.specs.links.AccountRepresentation.{AccountInv, AreOpen, AreOrdered, weight}
+use Rattle.run_tracker.specs.declared.sections.HartSections.{HartSections}
+use Rattle.run_tracker.specs.links.SectionRepresentation.{AreSections}
 use Rattle.run_tracker.specs.links.SignTables.{AreTables}
-use Rattle.run_tracker.specs.ObjectLives.{Course, life_at, world_of, steps_in, living, opening_of}
+use Rattle.run_tracker.specs.ObjectLives.{Course, ended_sections, life_at, world_of, steps_in, living, opening_of}
 use Rattle.run_tracker.specs.links.LifeRepresentation.{course_of, opening_by, AreCounts}
 use Rattle.run_tracker.proofs.Events.{weightless}
 use Rattle.run_tracker.proofs.StepsStayOpen.{open-none}
@@ -45,6 +47,7 @@ invariant_of-result c =
       account = account;
       journal = journal;
       counts = c.in_ok-new-3.field-0;
+      sections = c.in_ok-sections.sections;
       cap = c.args.cap;
     }) = search rules in
     let program_is : program_in machine ≡ program_of object = c.requires.program in
@@ -62,6 +65,8 @@ invariant_of-result c =
     ∙ length-map marks.threads.items (λ (t : ThreadMarks). t.nodes.items) ∙ c.requires.marks
     ∙ sym (length-map object.code.items (λ code. map slot_of code.items)) ∙ ap length (sym program_is) in
     let fences = c.in_ok-new-3.ensures.fences in
+    let seen = λ (h : ℕ) (below : h < length (program_of object)).
+    c.in_ok-sections.ensures.each (opening (program_of object)) c.requires.stands h (omega (arith, below, ap length program_is)) in
     record {
       machine = subst (λ (x : Course). RepresentsMachine machine (world_of x)) is c.requires.stands;
       sound = subst (λ (x : Course). IsWellFormedWorld (world_of x)) is c.requires.sound;
@@ -89,6 +94,11 @@ invariant_of-result c =
         ap length fences ∙ length-replicate c.harts-harts.result 0 ∙ count,
         λ h below. ap (λ (xs : List ℕ). get_or xs h 0) fences ∙ each_is c.harts-harts.result h 0,
       );
+      sections = subst (λ (x : Course). AreSections c.in_ok-sections.sections (length x.runs.program) (world_of x) (ended_sections x)) is (record {
+        size = c.in_ok-sections.ensures.size ∙ ap length program_is;
+        point = λ h below. ap (λ (s : HartSections). s.point) (seen h below);
+        counted = λ h below. ap (λ (s : HartSections). s.ended) (seen h below);
+      });
       within = omega (arith, none_yet);
       few = omega (arith, c.requires.cap, same_before);
       bytes = omega (arith, c.requires.limits.bytes, ap length same_bytes);

@@ -1,16 +1,25 @@
-use Rattle.std.proofs.Common.{ℕ, ◌<◌, List, length, sym, subst}
+use Rattle.std.proofs.Common.{ℕ, ◌<◌, List, length, refl, ap, sym, subst, ◌∙◌}
 use Rattle.rv64_isa.specs.Executables.{node_marks}
 use Rattle.rv64_isa.specs.Machine.{IsValidEvent}
 use Rattle.ido_machine.specs.Machines.{program_in}
 use Rattle.run_tracker.specs.declared.signs.SignTable.{SignTable}
 use Rattle.run_tracker.specs.links.SignTables.{AreTables}
-use Rattle.run_tracker.specs.ObjectLives.{Course, world_of, steps_in}
+use Rattle.run_tracker.specs.ObjectLives.{Course, ended_sections, opening_of, steps_in, with_event, world_of}
+use Rattle.run_tracker.specs.links.LifeParts.{may_persist}
 use Rattle.run_tracker.specs.links.LifeRepresentation.{course_of}
-use Rattle.run_tracker.proofs.LifeAfterEvent.{has_counts, lasts}
+use Rattle.run_tracker.proofs.DurablePoints.{sections_after}
+use Rattle.run_tracker.proofs.Events.{sections_more}
+use Rattle.run_tracker.proofs.LifeAfterEvent.{few_sections, has_counts, lasts}
 use Rattle.run_tracker.proofs.life.Life.event.Goals as goal
 
-pub make-requires-clause-counts : goal.make-requires-clause-counts
-make-requires-clause-counts c = has_counts c.self.inside c.self.invariant
+pub make-reply-requires-clause-counts : goal.make-reply-requires-clause-counts
+make-reply-requires-clause-counts c = has_counts c.self.inside c.self.invariant
+
+pub look_if-requires-clause-harts : goal.look_if-requires-clause-harts
+look_if-requires-clause-harts c = c.self.invariant.sections.size ∙ ap length (sym c.make-reply.ensures.program)
+
+pub look_if-requires-clause-few : goal.look_if-requires-clause-few
+look_if-requires-clause-few c = few_sections c.self.inside c.self.invariant
 
 pub invariant_of-self : goal.invariant_of-self
 invariant_of-self c =
@@ -20,13 +29,21 @@ invariant_of-self c =
     let program = program_in life.machine in
     let world = world_of (course_of life) in
     let marks : List (List ℕ) = node_marks life.marks.threads.items in
-    let made = c.make in
+    let made = c.make-reply in
     let valid : IsValidEvent (length program) event =
     subst (λ (x : Course). IsValidEvent (length x.runs.program) event) (sym c.self.view_is) c.requires.valid in
     let room : length life.journal.events < life.cap = subst (λ (x : Course). length x.journal < x.cap) (sym c.self.view_is) c.requires.room in
     let tables = subst (λ (ts : List SignTable). AreTables ts program marks) (sym c.deref.ensures.value) stands.tables in
-    lasts life stands event made.new.machine made.new.account c.push.new.self made.new.counts valid room made.ensures.program made.ensures.events
+    let sectioned =
+    sections_after program world event (length program) life.sections c.look_if.new.self (ended_sections (course_of life))
+    (ended_sections (with_event (course_of life) event)) stands.sections
+    (λ h. sections_more (opening_of (course_of life)) life.journal.events event h) life.machine stands.machine refl stands.sound
+    c.may_persist.result
+    (c.may_persist.ensures ∙ ap may_persist (made.ensures.world world stands.machine).replied) c.look_if.ensures.size
+    (λ looks h below. c.look_if.ensures.seen looks _ (made.ensures.world world stands.machine).stands h below) c.look_if.ensures.unseen in
+    lasts life stands event made.new.machine made.new.account c.push.new.self made.new.counts c.look_if.new.self valid room
+    made.ensures.program made.ensures.events
     (made.ensures.world world stands.machine).stands
     (made.ensures.steps marks world (steps_in (course_of life)) tables stands.machine stands.account stands.are_open)
-    (made.ensures.counts world stands.machine)
+    (made.ensures.counts world stands.machine) sectioned
     c.push.ensures made.ensures.capacity made.ensures.reserved made.ensures.stores

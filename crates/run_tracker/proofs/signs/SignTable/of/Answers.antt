@@ -1,11 +1,11 @@
-use Rattle.std.proofs.Common.{◌≡◌, ℕ, zero, suc, List, [], ◌∷◌, map, length, take, get_or, slice_get, Some, refl, ap, sym, ◌∙◌, arith}
+use Rattle.std.proofs.Common.{◌≡◌, ℕ, zero, suc, List, [], ◌∷◌, map, length, take, get_or, slice_get, Some, refl, ap, sym, subst, ◌∙◌, arith}
 use Rattle.std.proofs.lemmas.List.{length-map, get_or-map, take_all}
 use Rattle.std.specs.List.{list_any}
 use Rattle.rv64_isa.specs.declared.object.Slot.{Slot}
 use Rattle.rv64_isa.specs.Programs.{slot_of}
 use Rattle.ido_machine.proofs.Public.{get_map, get_some}
 use Rattle.run_tracker.specs.declared.signs.Sign.{Sign}
-use Rattle.run_tracker.specs.links.SignTables.{is_fence_slot, is_store_slot, is_word_at, no_sign, plain_sign, sign_in}
+use Rattle.run_tracker.specs.links.SignTables.{is_fence_slot, is_plain, is_store_slot, is_word_at, no_sign, plain_sign, sign_in}
 use Rattle.run_tracker.proofs.SignObservations.{in_length}
 use Rattle.run_tracker.proofs.signs.SignTable.of.Goals as goal
 
@@ -13,6 +13,11 @@ get_found : {X : Type 0} (xs : List X) (k : ℕ) (x : X) → slice_get xs k ≡ 
 get_found [] k x e = refl
 get_found (y ∷ ys) zero x e = cc
 get_found (y ∷ ys) (suc k) x e = get_found ys k x e
+
+mapped_plains : (words : List ℕ) (k : ℕ) → (sign_in (map plain_sign words) k).plain ≡ is_plain (sign_in (map plain_sign words) k)
+mapped_plains [] k = refl
+mapped_plains (word ∷ words) zero = refl
+mapped_plains (word ∷ words) (suc k) = mapped_plains words k
 
 pub loop-address-init : goal.loop-address-init
 loop-address-init c =
@@ -22,6 +27,7 @@ loop-address-init c =
       size = ap length plain ∙ length-map words plain_sign;
       marks = λ k below. ap (λ (xs : List Sign). (sign_in xs k).mark) plain ∙ ap (λ (x : Sign). x.mark) (get_or-map plain_sign words k 0 no_sign below);
       fences = λ k word found. ap (λ (xs : List Sign). (sign_in xs k).fence) plain ∙ ap (λ (x : Sign). x.fence) (get_map plain_sign words k word no_sign found);
+      plains = λ k. subst (λ (xs : List Sign). (sign_in xs k).plain ≡ is_plain (sign_in xs k)) (sym plain) (mapped_plains words k);
       stores = λ k word found. ap (λ (xs : List Sign). (sign_in xs k).store) plain ∙ ap (λ (x : Sign). x.store) (get_map plain_sign words k word no_sign found);
     }
 
@@ -38,6 +44,7 @@ returns c =
     (some.0, some.1, sym (get_map slot_of words k some.0 slot some.1) ∙ get_found (map slot_of words) k slot found) in
     record {
       starts = refl;
+      plains = inv.plains;
       size = inv.size ∙ sym long;
       marks = λ k below. inv.marks k (omega (arith, below, long)) ∙ ap (list_any (is_word_at c.args.start k)) all;
       fences = λ k slot found.

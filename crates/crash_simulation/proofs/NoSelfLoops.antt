@@ -12,7 +12,7 @@ use Rattle.flow_graph.specs.Liveness.{NodeAt}
 use Rattle.flow_graph.specs.Lockstep.{Standing, free, HasStandingAt, threads_standings}
 use Rattle.std.proofs.lemmas.Option.{slice_get_within}
 use Rattle.flow_graph.proofs.Public.{found_in, length-statements_nodes, length-thread_nodes, ActionLeads, agrees}
-use Rattle.crash_simulation.proofs.Public.{standing_of}
+use Rattle.crash_simulation.proofs.LocksAtCalls.{standing_of}
 
 -- ---- What is left at a node
 
@@ -137,13 +137,3 @@ unfolding lowered
 node_there x thread p g node inside =
     let within = ends_within x.threads 0 thread p g in
     found_in (threads_nodes x.threads 0) node (omega (arith, within, inside))
-
--- a thread's part of the graph has a node at least
-begins_within : (ts : List f.Thread) (first k : ℕ) (p : Part) → slice_get (parts ts first) k ≡ Some p → p.first < p.end
-begins_within [] first k p g = cc
-begins_within (t ∷ ts) first zero p g = let here : part t first ≡ p = cc in subst (λ (q : Part). q.first < q.end) here (omega arith)
-begins_within (t ∷ ts) first (suc k) p g = begins_within ts (first + thread_count t) k p g
-
-pub part_begins : (x : f.Flat) (thread : ℕ) (p : Part) → slice_get (lowered x).threads thread ≡ Some p → p.first < p.end
-unfolding lowered
-part_begins x thread p g = begins_within x.threads 0 thread p g

@@ -18,8 +18,12 @@ use Rattle.crash_simulation.specs.ThreadGhosts.{ThreadGhost, ThreadInv}
 use Rattle.crash_simulation.specs.SimulationRelation.{Simulates}
 use Rattle.crash_simulation.specs.InstructionSteps as moving
 use Rattle.crash_simulation.specs.InstructionSteps.{OnFragmentNow, AtCoreNow, thread_of}
-use Rattle.crash_simulation.proofs.Public.{is_quiet, some_node, owes_here, matches_now, store_node_steps_mark as making_mark}
-use Rattle.crash_simulation.proofs.Public.{local_node_steps_mark as quietly_mark, unlock_node_steps_mark as unlocking_mark}
+use Rattle.crash_simulation.proofs.NodeEffects.{is_quiet, some_node, owes_here}
+use Rattle.crash_simulation.proofs.LocalNodeSteps.{matches_now}
+use Rattle.crash_simulation.proofs.OwnHartSteps.{AtNode}
+use Rattle.crash_simulation.proofs.LocalNodeSteps.{mark as quietly_mark}
+use Rattle.crash_simulation.proofs.StoreNodeSteps.{mark as making_mark}
+use Rattle.crash_simulation.proofs.UnlockNodeSteps.{mark as unlocking_mark}
 
 -- ---- Where a hart that executes instructions is
 
@@ -54,18 +58,21 @@ module _ (y : System) (s : IsSystem y) (w : World) (h : ℕ) (stands : Simulates
   fragments : (o : OnFragmentNow y s w h stands below) (steps : ℕ) → o.steps ≡ suc steps → RunsOn y w n
   fragments o steps is =
       let fragment = subst (λ (k : ℕ). IsOnFragment y.plan code.thread code.is.places (on_machine y.runs.program w n o.environment)
-      (record { exit = o.exit; node = graph_thread.at; seen = seen; bank = o.bank }) k (ghost.cleans ++ ghost.rest)) is o.fragment in
+      (record { exit = o.exit; node = graph_thread.at; seen = seen; side = o.side }) k (ghost.cleans ++ ghost.rest)) is o.fragment in
       record { run = run_of y.plan code.thread code.is.places fragment; agrees = fragment.agrees }
 
   -- at a node's code it is at the node's mark
   module _ (marks : MarksPass) (core : AtCoreNow y s w h stands below)
       (free : (is : Node) (mutex next : ℕ) → NodeAt y.plan.graph graph_thread.at is → is.action ≢ Lock mutex next) where
+    abbrev site : AtNode y s w h
+    site = record { stands = stands; below = below; core = core }
+
     found : (node : Node) × NodeAt (lowered (flat_of y)) graph_thread.at node
     found = some_node (flat_of y) s.plan.formed (now_of y b) (now b.config) n (matches_now y s b) graph_thread thread.walks
 
     quiet_runs : (z : Action) → found.0.action ≡ z → (effect : a.Effect) → effect_of z seen ≡ Some effect → is_quiet effect ≡ true → RunsOn y w n
     quiet_runs z is effect does quiet =
-        let mark = quietly_mark y s w h stands below core marks found.0 found.1 effect (ap (λ (x : Action). effect_of x seen) is ∙ does) quiet in
+        let mark = quietly_mark site marks found.0 found.1 effect (ap (λ (x : Action). effect_of x seen) is ∙ does) quiet in
         record { run = run_at y.plan code.thread code.is.places mark.at; agrees = mark.at.agrees }
 
     by_action : (z : Action) → found.0.action ≡ z → RunsOn y w n
@@ -75,13 +82,13 @@ module _ (y : System) (s : IsSystem y) (w : World) (h : ℕ) (stands : Simulates
     by_action (Store variable kind next) is =
         let owed = owes_here (flat_of y) s.plan.formed (now_of y b) (now b.config) n (matches_now y s b) graph_thread thread.walks found.0 found.1
         (record { variable = variable; kind = kind; next = next; is = is }) in
-        let mark = making_mark y s w h stands below core marks found.0 found.1 variable kind next is owed.0 owed.1 in
+        let mark = making_mark site marks found.0 found.1 variable kind next is owed.0 owed.1 in
         record { run = run_at y.plan code.thread code.is.places mark.at; agrees = mark.at.agrees }
     by_action (Test condition holds fails) is = quiet_runs _ is _ refl refl
     by_action (Lock mutex next) is =
         absurd (free found.0 mutex next (subst (λ (g : Graph). NodeAt g graph_thread.at found.0) (sym s.plan.lowered) found.1) is)
     by_action (Unlock mutex next) is =
-        let mark = unlocking_mark y s w h stands below core marks found.0 found.1 mutex next is in
+        let mark = unlocking_mark site marks found.0 found.1 mutex next is in
         record { run = run_at y.plan code.thread code.is.places mark.at; agrees = mark.at.agrees }
     by_action End is = quiet_runs _ is _ refl refl
 

@@ -10,30 +10,17 @@ use Rattle.code_runs.specs.CodeTraces.{Program, Observation, Mark, marked}
 use Rattle.thread_code.specs.Plans.{Plan, Thread, IsThread, IsNodeOf, IsPlan}
 use Rattle.thread_code.specs.NodeCodeEffects.{Places}
 use Rattle.thread_code.specs.Programs.{IsThreadCode, IsNodeCode, IsCalling, IsCallWithin, mark_of}
-use Rattle.compiler_correctness.proofs.NoSelfLoops.{IsEnding, ending}
+use Rattle.crash_simulation.specs.StepsToMark.{weight, weight_at, entry_ahead}
+use Rattle.crash_simulation.proofs.NoSelfLoops.{IsEnding, ending}
 use Rattle.thread_runs.proofs.Public.{any_at}
 
--- ---- How much is ahead at the entry of a node
+-- ---- How much is ahead
 
--- the most steps that a thread makes from there before the node's mark: through the boundary before a store, and to a lock's call
-abbrev pub weight : Action → (words : ℕ) → ℕ
-weight (Eval target value next) words = 0
-weight (Store variable kind next) words = 2 * words
-weight (Test condition holds fails) words = 0
-weight (Lock mutex next) words = 2 * words
-weight (Unlock mutex next) words = 0
-weight End words = 0
-
-abbrev pub ahead : Plan → Places → (node : ℕ) → ℕ
-ahead p c node = elim (slice_get p.graph.nodes node) [
+pub weight_is : (by : Action → (words : ℕ) → ℕ) (p : Plan) (c : Places) (node : ℕ) (is : Node) → NodeAt p.graph node is →
+    weight_at by p c node ≡ by is.action (c.words node)
+weight_is by p c node is at = ap (λ (o : Option Node). elim o [
   | None ↦ 0
-  | Some is ↦ weight is.action (c.words node)
-]
-
-pub ahead_is : (p : Plan) (c : Places) (node : ℕ) (is : Node) → NodeAt p.graph node is → ahead p c node ≡ weight is.action (c.words node)
-ahead_is p c node is at = ap (λ (o : Option Node). elim o [
-  | None ↦ 0
-  | Some x ↦ weight x.action (c.words node)
+  | Some x ↦ by x.action (c.words node)
 ]) at
 
 -- ---- Words
@@ -197,13 +184,13 @@ module _ (p : Plan) (t : Thread) (own : Program) (code : IsThreadCode p t own) w
 
     -- a node that isn't the end, and what is ahead at the entry of another
     pub fits : (n m : ℕ) (is : Node) → IsNodeOf t n → IsNodeOf t m → n ≢ last.number → NodeAt p.graph m is →
-        ((action : Action) → is.action ≡ action → weight action 1 ≢ 0 → n ≢ m) → 2 * c.words n + ahead p c m + 4 ≤ 2 * L
+        ((action : Action) → is.action ≡ action → weight action 1 ≢ 0 → n ≢ m) → 2 * c.words n + entry_ahead p c m + 4 ≤ 2 * L
     fits n m is of there other at apart_they = by is.action refl
       where
-        light : (action : Action) → is.action ≡ action → weight action (c.words m) ≡ 0 → 2 * c.words n + ahead p c m + 4 ≤ 2 * L
+        light : (action : Action) → is.action ≡ action → weight action (c.words m) ≡ 0 → 2 * c.words n + entry_ahead p c m + 4 ≤ 2 * L
         light action e none =
             let one = one_fits n of other in
-            let zero_ahead : ahead p c m ≡ 0 = ahead_is p c m is at ∙ (ap (λ (a : Action). weight a (c.words m)) e ∙ none) in
+            let zero_ahead : entry_ahead p c m ≡ 0 = weight_is weight p c m is at ∙ (ap (λ (a : Action). weight a (c.words m)) e ∙ none) in
             omega (arith, one, zero_ahead)
 
         not_last : (action : Action) → is.action ≡ action → weight action 1 ≢ 0 → m ≢ last.number
@@ -213,16 +200,16 @@ module _ (p : Plan) (t : Thread) (own : Program) (code : IsThreadCode p t own) w
             some (ap (λ (a : Action). weight a 1) (sym e ∙ (ap (λ (x : Node). x.action) one ∙ last.ends)))
 
         heavy : (action : Action) → is.action ≡ action → weight action 1 ≢ 0 → weight action (c.words m) ≡ 2 * c.words m →
-            2 * c.words n + ahead p c m + 4 ≤ 2 * L
+            2 * c.words n + entry_ahead p c m + 4 ≤ 2 * L
         heavy action e some whole =
             let both = both_fit n m of there other (not_last action e some) (apart_they action e some) in
-            let all : ahead p c m ≡ 2 * c.words m = ahead_is p c m is at ∙ (ap (λ (a : Action). weight a (c.words m)) e ∙ whole) in
+            let all : entry_ahead p c m ≡ 2 * c.words m = weight_is weight p c m is at ∙ (ap (λ (a : Action). weight a (c.words m)) e ∙ whole) in
             omega (arith, both, all)
 
         two_some : (k : ℕ) → k ≡ 2 → k ≢ 0
         two_some k e z = omega (arith, e, z)
 
-        by : (action : Action) → is.action ≡ action → 2 * c.words n + ahead p c m + 4 ≤ 2 * L
+        by : (action : Action) → is.action ≡ action → 2 * c.words n + entry_ahead p c m + 4 ≤ 2 * L
         by (Eval target value next) e = light _ e refl
         by (Store variable kind next) e = heavy _ e (two_some (2 * 1) refl) refl
         by (Test condition holds fails) e = light _ e refl
