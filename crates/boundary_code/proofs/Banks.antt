@@ -7,6 +7,7 @@ use Rattle.std.proofs.lemmas.Bool.{and_parts}
 use Rattle.std.proofs.lemmas.Bool.Decides.{nat_tests}
 use Rattle.ido_base.specs.declared.limits.TheConstants.{MOST_THREADS}
 use Rattle.ido_base.specs.Layout.{log_of, slot_at}
+use Rattle.ido_base.specs.declared.log.Log.TheVariants.{V1}
 use Rattle.rv64_isa.specs.declared.instr.Instr.{Instr}
 use Rattle.rv64_isa.specs.declared.instr.Instr.TheVariants.{Store, OpImmediate, Op, CboClean}
 use Rattle.rv64_isa.specs.declared.instr.Operation.TheVariants.{Add, Xor}
@@ -36,23 +37,24 @@ kept_registers [] h = tt
 kept_registers (r ∷ rs) h = let parts = and_parts (is_kept r) (list_all is_kept rs) h in (kept_register r parts.0, kept_registers rs parts.1)
 
 slot_address : (thread bank slot : ℕ) → thread < MOST_THREADS → bank < 2 → slot < 32 →
-    displaced (log_of thread + 256 * bank) 12 (64 + 8 * slot) ≡ slot_at thread bank slot
-slot_address thread bank slot t b s = displaced_small (log_of thread + 256 * bank) (64 + 8 * slot) (omega arith) (omega arith) ∙ omega arith
+    displaced (log_of V1 thread + 256 * bank) 12 (64 + 8 * slot) ≡ slot_at V1 thread bank slot
+slot_address thread bank slot t b s = displaced_small (log_of V1 thread + 256 * bank) (64 + 8 * slot) (omega arith) (omega arith) ∙ omega arith
 
-slot_row : (thread bank : ℕ) (x y : List ℕ) (r offset pc : ℕ) → displaced (log_of thread + 256 * bank) 12 offset ≡ slot_at thread bank r →
+slot_row : (thread bank : ℕ) (x y : List ℕ) (r offset pc : ℕ) → displaced (log_of V1 thread + 256 * bank) 12 offset ≡ slot_at V1 thread bank r →
     Ready thread bank x y →
-    row (Store Sd r 30 offset) y pc ≡ Stores (slot_at thread bank r) 8 (read y r)
+    row (Store Sd r 30 offset) y pc ≡ Stores (slot_at V1 thread bank r) 8 (read y r)
 unfolding row
 slot_row thread bank x y r offset pc e h = ap (λ (n : ℕ). Stores (displaced n 12 offset) 8 (read y r)) h.base ∙ ap (λ (n : ℕ). Stores n 8 (read y r)) e
 
 pub slots_run : (thread bank : ℕ) (x y : List ℕ) (live : List ℕ) (pc : ℕ) → thread < MOST_THREADS → bank < 2 → AreKept live → Ready thread bank x y →
-    RunsFrom (keep_slots live) y pc (map (λ r. Stores (slot_at thread bank r) 8 (read x r)) live) y
+    RunsFrom (keep_slots live) y pc (map (λ r. Stores (slot_at V1 thread bank r) 8 (read x r)) live) y
 slots_run thread bank x y [] pc t b kept h = stop y pc
 slots_run thread bank x y (r ∷ rs) pc t b kept h =
     let here = slot_row thread bank x y r (64 + 8 * r) pc (slot_address thread bank r t b kept.0.0) h in
     let value : read y r ≡ read x r = h.others r kept.0.1 kept.0.2 in
-    store (Store Sd r 30 (64 + 8 * r)) (keep_slots rs) y pc (slot_at thread bank r) 8 (read x r) (map (λ s. Stores (slot_at thread bank s) 8 (read x s)) rs) y
-    (here ∙ ap (λ (n : ℕ). Stores (slot_at thread bank r) 8 n) value) (slots_run thread bank x y rs (pc + 4) t b kept.1 h)
+    store (Store Sd r 30 (64 + 8 * r)) (keep_slots rs) y pc (slot_at V1 thread bank r) 8 (read x r)
+    (map (λ s. Stores (slot_at V1 thread bank s) 8 (read x s)) rs) y
+    (here ∙ ap (λ (n : ℕ). Stores (slot_at V1 thread bank r) 8 n) value) (slots_run thread bank x y rs (pc + 4) t b kept.1 h)
 
 -- ---- Lines
 
@@ -68,22 +70,22 @@ lines-filter p (line ∷ lines) h = by (p line) (lines-filter p lines h.1)
     by true rest = (h.0, rest)
     by false rest = rest
 
-pub are_lines : (slots : List ℕ) → AreLines (lines_in_use slots)
+pub are_lines : (slots : List ℕ) → AreLines (lines_in_use V1 slots)
 are_lines slots = lines-filter (λ line. list_any (λ slot. slot / 8 == line) slots) (0 ∷ 1 ∷ 2 ∷ 3 ∷ []) (lit< tt, (lit< tt, (lit< tt, (lit< tt, tt))))
 
 pub record Cleaned (thread bank : ℕ) (x y : List ℕ) (lines : List ℕ) (pc : ℕ) : Type 0 where
   pub left : List ℕ
-  pub runs : RunsFrom (clean_lines lines) y pc (map (λ line. Cleans (slot_at thread bank (8 * line))) lines) left
+  pub runs : RunsFrom (clean_lines lines) y pc (map (λ line. Cleans (slot_at V1 thread bank (8 * line))) lines) left
   pub ready : Ready thread bank x left
 
 line_address : (thread bank line : ℕ) → thread < MOST_THREADS → bank < 2 → line < 4 →
-    result_of Add (log_of thread + 256 * bank) (sign_extended 12 64 (64 + 64 * line)) ≡ slot_at thread bank (8 * line)
+    result_of Add (log_of V1 thread + 256 * bank) (sign_extended 12 64 (64 + 64 * line)) ≡ slot_at V1 thread bank (8 * line)
 line_address thread bank line t b l =
-    ap (λ (n : ℕ). result_of Add (log_of thread + 256 * bank) n) (small_immediate (64 + 64 * line) (omega arith)) ∙
-    add_small (log_of thread + 256 * bank) (64 + 64 * line) (omega arith) ∙ omega arith
+    ap (λ (n : ℕ). result_of Add (log_of V1 thread + 256 * bank) n) (small_immediate (64 + 64 * line) (omega arith)) ∙
+    add_small (log_of V1 thread + 256 * bank) (64 + 64 * line) (omega arith) ∙ omega arith
 
 line_row : (thread bank : ℕ) (x y : List ℕ) (line pc : ℕ) → thread < MOST_THREADS → bank < 2 → line < 4 → Ready thread bank x y →
-    row (OpImmediate Addi 7 30 (64 + 64 * line)) y pc ≡ Continues (slice_set y 7 (slot_at thread bank (8 * line))) (next pc)
+    row (OpImmediate Addi 7 30 (64 + 64 * line)) y pc ≡ Continues (slice_set y 7 (slot_at V1 thread bank (8 * line))) (next pc)
 unfolding row
 line_row thread bank x y line pc t b l h =
     ap (λ (n : ℕ). Continues (slice_set y 7 (result_of Add n (sign_extended 12 64 (64 + 64 * line)))) (next pc)) h.base ∙
@@ -97,10 +99,10 @@ pub cleans_run : (thread bank : ℕ) (x y : List ℕ) (lines : List ℕ) (pc : �
     Cleaned thread bank x y lines pc
 cleans_run thread bank x y [] pc t b few h = record { left = y; runs = stop y pc; ready = h }
 cleans_run thread bank x y (line ∷ lines) pc t b few h =
-    let address : ℕ = slot_at thread bank (8 * line) in
+    let address : ℕ = slot_at V1 thread bank (8 * line) in
     let y' : List ℕ = slice_set y 7 address in
     let more = cleans_run thread bank x y' lines (pc + 4 + 4) t b few.1 (ready_still thread bank x y address h) in
-    let rest : List Effect = map (λ l. Cleans (slot_at thread bank (8 * l))) lines in
+    let rest : List Effect = map (λ l. Cleans (slot_at V1 thread bank (8 * l))) lines in
     record {
       left = more.left;
       runs = go (OpImmediate Addi 7 30 (64 + 64 * line)) (CboClean 7 ∷ clean_lines lines) y y' pc (Cleans address ∷ rest) more.left
@@ -115,11 +117,11 @@ cleans_run thread bank x y (line ∷ lines) pc t b few h =
 pub record Banked (thread mask bank : ℕ) (log record_code : List Instr) (live : List ℕ) (x : List ℕ) (pc : ℕ) : Type 0 where
   pub left : List ℕ
   pub runs : RunsFrom (bank_part log record_code live) x pc
-      (Stores (slot_at thread bank 0) 8 mask ∷ map (λ r. Stores (slot_at thread bank r) 8 (read x r)) live ++ map
-      (λ line. Cleans (slot_at thread bank (8 * line))) (lines_in_use (0 ∷ live))) left
+      (Stores (slot_at V1 thread bank 0) 8 mask ∷ map (λ r. Stores (slot_at V1 thread bank r) 8 (read x r)) live ++ map
+      (λ line. Cleans (slot_at V1 thread bank (8 * line))) (lines_in_use V1 (0 ∷ live))) left
   pub ready : Ready thread bank x left
 
-flip_row : (x : List ℕ) (bank pc : ℕ) → IsOnSide bank x → row (OpImmediate Xori 3 3 256) x pc ≡ Continues (slice_set x 3 (256 * (1 - bank))) (next pc)
+flip_row : (x : List ℕ) (bank pc : ℕ) → IsOnSide V1 bank x → row (OpImmediate Xori 3 3 256) x pc ≡ Continues (slice_set x 3 (256 * (1 - bank))) (next pc)
 unfolding row
 flip_row x bank pc h = ap (λ (n : ℕ). Continues (slice_set x 3 n) (next pc)) (ap (λ (n : ℕ). result_of Xor n 256) h.offset ∙ flip bank h.exists)
 
@@ -131,52 +133,54 @@ base_row y log offset pc e f s = ap (λ (n : ℕ). Continues (slice_set y 30 (re
     ap (λ (n : ℕ). Continues (slice_set y 30 n) (next pc)) (add_small log offset s)
 
 mask_row : (thread bank : ℕ) (x y : List ℕ) (mask pc : ℕ) → thread < MOST_THREADS → bank < 2 → Ready thread bank x y → read y 7 ≡ mask →
-    row (Store Sd 7 30 64) y pc ≡ Stores (slot_at thread bank 0) 8 mask
+    row (Store Sd 7 30 64) y pc ≡ Stores (slot_at V1 thread bank 0) 8 mask
 unfolding row
 mask_row thread bank x y mask pc t b h e =
     ap (λ (n : ℕ). Stores (displaced n 12 64) 8 (read y 7)) h.base ∙
-    ap (λ (n : ℕ). Stores n 8 (read y 7)) (slot_address thread bank 0 t b (lit< tt)) ∙ ap (λ (n : ℕ). Stores (slot_at thread bank 0) 8 n) e
+    ap (λ (n : ℕ). Stores n 8 (read y 7)) (slot_address thread bank 0 t b (lit< tt)) ∙ ap (λ (n : ℕ). Stores (slot_at V1 thread bank 0) 8 n) e
 
 pub banked : (thread mask bank : ℕ) (log record_code : List Instr) (live : List ℕ) (x : List ℕ) (pc : ℕ) → thread < MOST_THREADS →
-    AreKept live → IsOnSide bank x →
-    IsConstant 31 (log_of thread) log → IsConstant 7 mask record_code → Banked thread mask (1 - bank) log record_code live x pc
+    AreKept live → IsOnSide V1 bank x →
+    IsConstant 31 (log_of V1 thread) log → IsConstant 7 mask record_code → Banked thread mask (1 - bank) log record_code live x pc
 banked thread mask bank log record_code live x pc t kept at is_log is_mask =
     let other : ℕ = 1 - bank in
     let below : other < 2 = omega arith in
     let offset : ℕ = 256 * other in
     let x1 : List ℕ = slice_set x 3 offset in
-    let x2 : List ℕ = slice_set x1 31 (log_of thread) in
-    let x3 : List ℕ = slice_set x2 30 (log_of thread + offset) in
+    let x2 : List ℕ = slice_set x1 31 (log_of V1 thread) in
+    let x3 : List ℕ = slice_set x2 30 (log_of V1 thread + offset) in
     let x4 : List ℕ = slice_set x3 7 mask in
     let l1 : length x1 ≡ 32 = length-changed x 3 offset at.count in
-    let l2 : length x2 ≡ 32 = length-changed x1 31 (log_of thread) l1 in
-    let l3 : length x3 ≡ 32 = length-changed x2 30 (log_of thread + offset) l2 in
+    let l2 : length x2 ≡ 32 = length-changed x1 31 (log_of V1 thread) l1 in
+    let l3 : length x3 ≡ 32 = length-changed x2 30 (log_of V1 thread + offset) l2 in
     let z1 : read x1 0 ≡ 0 = read_other x 3 0 offset refl ∙ at.zero_is in
-    let z3 : read x3 0 ≡ 0 = read_other x2 30 0 (log_of thread + offset) refl ∙ read_other x1 31 0 (log_of thread) refl ∙ z1 in
-    let o2 : read x2 3 ≡ offset = read_other x1 31 3 (log_of thread) refl ∙ read_same x 3 offset at.count (lit< tt) in
+    let z3 : read x3 0 ≡ 0 = read_other x2 30 0 (log_of V1 thread + offset) refl ∙ read_other x1 31 0 (log_of V1 thread) refl ∙ z1 in
+    let o2 : read x2 3 ≡ offset = read_other x1 31 3 (log_of V1 thread) refl ∙ read_same x 3 offset at.count (lit< tt) in
     let start = ready thread other mask x at.count at.zero_is in
     let first : RunsFrom (OpImmediate Xori 3 3 256 ∷ log) x pc [] x2 =
-    go (OpImmediate Xori 3 3 256) log x x1 pc [] x2 (flip_row x bank pc at) (constant_runs 31 (log_of thread) log x1 (pc + 4) is_log l1 z1) in
+    go (OpImmediate Xori 3 3 256) log x x1 pc [] x2 (flip_row x bank pc at) (constant_runs 31 (log_of V1 thread) log x1 (pc + 4) is_log l1 z1) in
     let pc2 : ℕ = pc + 4 * length (OpImmediate Xori 3 3 256 ∷ log) in
     let second : RunsFrom (Op Add 30 31 3 ∷ record_code) x2 pc2 [] x4 =
-    go (Op Add 30 31 3) record_code x2 x3 pc2 [] x4 (base_row x2 (log_of thread) offset pc2 (read_same x1 31 (log_of thread) l1 (lit< tt)) o2 (omega arith))
+    go (Op Add 30 31 3) record_code x2 x3 pc2 [] x4
+    (base_row x2 (log_of V1 thread) offset pc2 (read_same x1 31 (log_of V1 thread) l1 (lit< tt)) o2 (omega arith))
     (constant_runs 7 mask record_code x3 (pc2 + 4) is_mask l3 z3) in
     let a = along (OpImmediate Xori 3 3 256 ∷ log) (Op Add 30 31 3 ∷ record_code) x x2 x4 pc [] [] first second in
     let pc3 : ℕ = pc + 4 * length (OpImmediate Xori 3 3 256 ∷ log ++ Op Add 30 31 3 ∷ record_code) in
-    let slots : List Effect = map (λ r. Stores (slot_at thread other r) 8 (read x r)) live in
-    let third : RunsFrom (Store Sd 7 30 64 ∷ keep_slots live) x4 pc3 (Stores (slot_at thread other 0) 8 mask ∷ slots) x4 =
-    store (Store Sd 7 30 64) (keep_slots live) x4 pc3 (slot_at thread other 0) 8 mask slots x4
+    let slots : List Effect = map (λ r. Stores (slot_at V1 thread other r) 8 (read x r)) live in
+    let third : RunsFrom (Store Sd 7 30 64 ∷ keep_slots live) x4 pc3 (Stores (slot_at V1 thread other 0) 8 mask ∷ slots) x4 =
+    store (Store Sd 7 30 64) (keep_slots live) x4 pc3 (slot_at V1 thread other 0) 8 mask slots x4
     (mask_row thread other x x4 mask pc3 t below start (read_same x3 7 mask l3 (lit< tt)))
     (slots_run thread other x x4 live (pc3 + 4) t below kept start) in
     let b = along (OpImmediate Xori 3 3 256 ∷ log ++ Op Add 30 31 3 ∷ record_code) (Store Sd 7 30 64 ∷ keep_slots live) x x4 x4 pc []
-    (Stores (slot_at thread other 0) 8 mask ∷ slots) a third in
-    let done = cleans_run thread other x x4 (lines_in_use (0 ∷ live))
+    (Stores (slot_at V1 thread other 0) 8 mask ∷ slots) a third in
+    let done = cleans_run thread other x x4 (lines_in_use V1 (0 ∷ live))
     (pc + 4 * length (OpImmediate Xori 3 3 256 ∷ log ++ Op Add 30 31 3 ∷ record_code ++ Store Sd 7 30 64 ∷ keep_slots live)) t below
     (are_lines (0 ∷ live)) start in
     record {
       left = done.left;
       runs = along (OpImmediate Xori 3 3 256 ∷ log ++ Op Add 30 31 3 ∷ record_code ++ Store Sd 7 30 64 ∷ keep_slots live)
-          (clean_lines (lines_in_use (0 ∷ live))) x x4 done.left pc
-          (Stores (slot_at thread other 0) 8 mask ∷ slots) (map (λ line. Cleans (slot_at thread other (8 * line))) (lines_in_use (0 ∷ live))) b done.runs;
+          (clean_lines (lines_in_use V1 (0 ∷ live))) x x4 done.left pc
+          (Stores (slot_at V1 thread other 0) 8 mask ∷ slots)
+          (map (λ line. Cleans (slot_at V1 thread other (8 * line))) (lines_in_use V1 (0 ∷ live))) b done.runs;
       ready = done.ready;
     }

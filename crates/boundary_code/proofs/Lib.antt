@@ -1,4 +1,5 @@
 pub mod Public
+mod BoundariesByLog
 mod EmptyLists
 mod Registers
 mod Banks

@@ -6,6 +6,7 @@ use Rattle.std.proofs.lemmas.List.{get_or-set_other}
 use Rattle.std.proofs.Math.Nat.{mod-add-mod}
 use Rattle.std.proofs.lemmas.Int.{ints}
 use Rattle.ido_base.specs.Layout.{log_of, point_at}
+use Rattle.ido_base.specs.declared.log.Log.TheVariants.{V1}
 use Rattle.rv64_isa.specs.declared.instr.Instr.TheVariants.{Auipc, Store, OpImmediate, ShiftImmediate, Op, CboClean, Fence}
 use Rattle.rv64_isa.specs.declared.instr.Operation.TheVariants.{Add, Srl}
 use Rattle.rv64_isa.specs.declared.instr.ImmediateOperation.TheVariants.{Addi}
@@ -89,26 +90,26 @@ unfolding row
 add_row z v w pc e f = ap (λ (n : ℕ). Continues (slice_set z 30 (result_of Add n (read z 7))) (next pc)) e ∙
     ap (λ (n : ℕ). Continues (slice_set z 30 (result_of Add v n)) (next pc)) f
 
-point_row : (z : List ℕ) (r thread value pc : ℕ) → thread < 8 → read z 31 ≡ log_of thread → read z r ≡ value →
-    row (Store Sd r 31 0) z pc ≡ Stores (point_at thread) 8 value
+point_row : (z : List ℕ) (r thread value pc : ℕ) → thread < 8 → read z 31 ≡ log_of V1 thread → read z r ≡ value →
+    row (Store Sd r 31 0) z pc ≡ Stores (point_at V1 thread) 8 value
 unfolding row
 point_row z r thread value pc t e f =
     ap (λ (n : ℕ). Stores (displaced n 12 0) 8 (read z r)) e ∙
-    ap (λ (n : ℕ). Stores n 8 (read z r)) (displaced_small (log_of thread) 0 (lit< tt) (omega arith) ∙ omega arith) ∙
-    ap (λ (n : ℕ). Stores (point_at thread) 8 n) f
+    ap (λ (n : ℕ). Stores n 8 (read z r)) (displaced_small (log_of V1 thread) 0 (lit< tt) (omega arith) ∙ omega arith) ∙
+    ap (λ (n : ℕ). Stores (point_at V1 thread) 8 n) f
 
-clean_row : (z : List ℕ) (thread pc : ℕ) → read z 31 ≡ log_of thread → row (CboClean 31) z pc ≡ Cleans (point_at thread)
+clean_row : (z : List ℕ) (thread pc : ℕ) → read z 31 ≡ log_of V1 thread → row (CboClean 31) z pc ≡ Cleans (point_at V1 thread)
 unfolding row
 clean_row z thread pc e = ap (λ (n : ℕ). Cleans n) e
 
 -- ---- The part
 
-pub commit_run : (z : List ℕ) (r thread value pc : ℕ) → thread < 8 → read z 31 ≡ log_of thread → read z r ≡ value →
-    RunsFrom (commit r) z pc (Stores (point_at thread) 8 value ∷ Cleans (point_at thread) ∷ Fences ∷ []) z
+pub commit_run : (z : List ℕ) (r thread value pc : ℕ) → thread < 8 → read z 31 ≡ log_of V1 thread → read z r ≡ value →
+    RunsFrom (commit r) z pc (Stores (point_at V1 thread) 8 value ∷ Cleans (point_at V1 thread) ∷ Fences ∷ []) z
 commit_run z r thread value pc t e f =
-    store (Store Sd r 31 0) (CboClean 31 ∷ Fence ∷ []) z pc (point_at thread) 8 value (Cleans (point_at thread) ∷ Fences ∷ []) z
+    store (Store Sd r 31 0) (CboClean 31 ∷ Fence ∷ []) z pc (point_at V1 thread) 8 value (Cleans (point_at V1 thread) ∷ Fences ∷ []) z
     (point_row z r thread value pc t e f)
-    (clean (CboClean 31) (Fence ∷ []) z (pc + 4) (point_at thread) (Fences ∷ []) z (clean_row z thread (pc + 4) e)
+    (clean (CboClean 31) (Fence ∷ []) z (pc + 4) (point_at V1 thread) (Fences ∷ []) z (clean_row z thread (pc + 4) e)
     (fence Fence [] z (pc + 4 + 4) [] z (fence_row z (pc + 4 + 4)) (stop z (pc + 4 + 4 + 4))))
 
 -- after a boundary that writes this bank, begun with registers x
@@ -119,7 +120,7 @@ pub record Left (bank : ℕ) (x y : List ℕ) : Type 0 where
 pub record Committed (thread bank r t : ℕ) (x z : List ℕ) (pc : ℕ) : Type 0 where
   pub end : List ℕ
   pub runs : RunsFrom (Fence ∷ point r ++ commit 30) z pc
-      (Fences ∷ Stores (point_at thread) 8 (((pc + 4 + (28 + t)) % 2 ^ 64 + bank) % 2 ^ 64) ∷ Cleans (point_at thread) ∷ Fences ∷ []) end
+      (Fences ∷ Stores (point_at V1 thread) 8 (((pc + 4 + (28 + t)) % 2 ^ 64 + bank) % 2 ^ 64) ∷ Cleans (point_at V1 thread) ∷ Fences ∷ []) end
   pub left : Left bank x end
 
 pub committed : (thread bank r t : ℕ) (x z : List ℕ) (pc : ℕ) → thread < 8 → bank < 2 → Close r t → Ready thread bank x z → Committed thread bank r t x z pc
@@ -143,10 +144,10 @@ committed thread bank r t x z pc few b c h =
     bit_row z2 bank (at + 4 + 4) (read_other z1 30 3 v2 refl ∙ read_other z 30 3 v1 refl ∙ h.offset) b in
     let fourth : row (Op Add 30 30 7) z3 (at + 4 + 4 + 4) ≡ Continues z4 (next (at + 4 + 4 + 4)) =
     add_row z3 v2 bank (at + 4 + 4 + 4) (read_other z2 7 30 bank refl ∙ read_same z1 30 v2 l1 (lit< tt)) (read_same z2 7 bank l2 (lit< tt)) in
-    let log : read z4 31 ≡ log_of thread = read_other z3 30 31 v3 refl ∙ read_other z2 7 31 bank refl ∙ read_other z1 30 31 v2 refl ∙
+    let log : read z4 31 ≡ log_of V1 thread = read_other z3 30 31 v3 refl ∙ read_other z2 7 31 bank refl ∙ read_other z1 30 31 v2 refl ∙
     read_other z 30 31 v1 refl ∙ h.log in
     let value : read z4 30 ≡ v3 = read_same z3 30 v3 l3 (lit< tt) in
-    let last : List Effect = Stores (point_at thread) 8 v3 ∷ Cleans (point_at thread) ∷ Fences ∷ [] in
+    let last : List Effect = Stores (point_at V1 thread) 8 v3 ∷ Cleans (point_at V1 thread) ∷ Fences ∷ [] in
     record {
       end = z4;
       runs = fence Fence (point r ++ commit 30) z pc last z4 (fence_row z pc)

@@ -1,6 +1,7 @@
 -- Worked rows of the definitions: a boundary of the first thread that keeps lock 0 and no register.
 use Rattle.std.proofs.Common.{◌≡◌, ℕ, List, [], ◌∷◌, refl, pos}
 use Rattle.std.specs.Prelude.{replicate, slice_set}
+use Rattle.ido_base.specs.declared.log.Log.TheVariants.{V1}
 use Rattle.rv64_isa.specs.declared.instr.Instr.{Instr}
 use Rattle.rv64_isa.specs.declared.instr.Instr.TheVariants.{Lui, OpImmediate}
 use Rattle.rv64_isa.specs.declared.instr.ImmediateOperation.TheVariants.{Addi}
@@ -11,7 +12,7 @@ use Rattle.boundary_code.specs.Boundaries.{Boundary, boundary_effects, lines_in_
 use Rattle.boundary_code.specs.links.InstructionLists.{boundary_list, last_list}
 
 first : Boundary
-first = record { thread = 0; locks = 0 ∷ []; live = []; resume = pos 0 }
+first = record { log = V1; thread = 0; locks = 0 ∷ []; live = []; resume = pos 0 }
 
 code : List Instr
 code = boundary_list (Lui 31 0x2_0000 ∷ []) (OpImmediate Addi 7 0 1 ∷ []) [] 0
@@ -42,5 +43,5 @@ no_bank : effects (last_list (Lui 31 0x2_0000 ∷ [])) zeros 0x1_0000 ≡ Fences
 unfolding zeros row result_of
 no_bank = refl
 
-lines_of_pending : lines_in_use (0 ∷ 8 ∷ 28 ∷ 29 ∷ []) ≡ 0 ∷ 1 ∷ 3 ∷ []
+lines_of_pending : lines_in_use V1 (0 ∷ 8 ∷ 28 ∷ 29 ∷ []) ≡ 0 ∷ 1 ∷ 3 ∷ []
 lines_of_pending = refl

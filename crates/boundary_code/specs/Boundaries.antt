@@ -2,6 +2,8 @@
 use Rattle.std.specs.Prelude.{◌≡◌, ◌≢◌, ℕ, ℤ, ◌+◌, ◌-◌, ◌*◌, ◌/◌, ◌%◌, ◌^◌, ◌<◌, List, [], ◌∷◌, ◌++◌, map, filter, length, Bool, true, false, ◌==◌}
 use Rattle.std.specs.Prelude.{if◌then◌else◌}
 use Rattle.std.specs.List.{list_any}
+use Rattle.ido_base.specs.declared.log.Log.{Log}
+use Rattle.ido_base.specs.declared.log.Log.TheVariants.{V1}
 use Rattle.ido_base.specs.Layout.{point_at, slot_at, bank_bytes}
 use Rattle.ido_base.specs.Locks.{mask_with}
 use Rattle.rv64_isa.specs.declared.instr.Instr.{Instr}
@@ -11,6 +13,8 @@ use Rattle.memory_layout.specs.Roles.{bank_offset, is_temporary}
 use Rattle.operator_code.specs.StraightLineCode.{effects, registers_after}
 
 pub record Boundary : Type 0 where
+  -- how its thread logs
+  pub log : Log
   pub thread : ℕ
   -- the numbers of the locks held after the boundary; where there is none, it ends a section
   pub locks : List ℕ
@@ -23,20 +27,32 @@ abbrev pub is_empty : (locks : List ℕ) → Bool
 is_empty [] = true
 is_empty (lock ∷ locks) = false
 
--- the lines of a bank that have one of these slots
-abbrev pub lines_in_use : (slots : List ℕ) → List ℕ
-lines_in_use slots = filter (λ line. list_any (λ slot. slot / 8 == line) slots) (0 ∷ 1 ∷ 2 ∷ 3 ∷ [])
+-- a bank's lines
+abbrev pub bank_lines : Log → List ℕ
+bank_lines V1 = 0 ∷ 1 ∷ 2 ∷ 3 ∷ []
 
--- the bank gets the mask that has the locks, and the live registers, and its lines in use are cleaned
+-- the lines of a bank that have one of these slots
+abbrev pub lines_in_use : Log → (slots : List ℕ) → List ℕ
+lines_in_use log slots = filter (λ line. list_any (λ slot. slot / 8 == line) slots) (bank_lines log)
+
+-- the slots that keep locks, each with its value: slot 0 has the mask of them
+abbrev pub kept_locks : Log → (locks : List ℕ) → List (ℕ × ℕ)
+kept_locks V1 locks = (0, mask_with locks) ∷ []
+
+-- the slots of a bank that a boundary writes
+abbrev pub slots_kept : Log → (locks live : List ℕ) → List ℕ
+slots_kept log locks live = map (λ (kept : ℕ × ℕ). kept.0) (kept_locks log locks) ++ live
+
+-- the bank gets the locks and the live registers, and its lines in use are cleaned
 abbrev pub bank_effects : Boundary → (bank : ℕ) → (registers : List ℕ) → List Effect
 bank_effects b bank x =
-    Stores (slot_at b.thread bank 0) 8 (mask_with b.locks) ∷
-    map (λ r. Stores (slot_at b.thread bank r) 8 (read x r)) b.live ++
-    map (λ line. Cleans (slot_at b.thread bank (8 * line))) (lines_in_use (0 ∷ b.live))
+    map (λ (kept : ℕ × ℕ). Stores (slot_at b.log b.thread bank kept.0) 8 kept.1) (kept_locks b.log b.locks) ++
+    map (λ r. Stores (slot_at b.log b.thread bank r) 8 (read x r)) b.live ++
+    map (λ line. Cleans (slot_at b.log b.thread bank (8 * line))) (lines_in_use b.log (slots_kept b.log b.locks b.live))
 
 -- all that was cleaned is durable, before the point has a value, and then that is
-abbrev pub commit_effects : (thread point : ℕ) → List Effect
-commit_effects thread point = Fences ∷ Stores (point_at thread) 8 point ∷ Cleans (point_at thread) ∷ Fences ∷ []
+abbrev pub commit_effects : Log → (thread point : ℕ) → List Effect
+commit_effects log thread point = Fences ∷ Stores (point_at log thread) 8 point ∷ Cleans (point_at log thread) ∷ Fences ∷ []
 
 -- where recovery resumes, where the boundary's code stands at this address
 abbrev pub resume_address : Boundary → List Instr → (pc : ℕ) → ℕ
@@ -50,29 +66,30 @@ other_side side = 1 - side
 -- what a boundary does to memory, where x3 has this side before it: the other side's bank is written, and the point names it
 abbrev pub boundary_effects : Boundary → (side resume : ℕ) → (registers : List ℕ) → List Effect
 boundary_effects b side resume x =
-    if is_empty b.locks then commit_effects b.thread 0
-    else bank_effects b (other_side side) x ++ commit_effects b.thread ((resume + other_side side) % 2 ^ 64)
+    if is_empty b.locks then commit_effects b.log b.thread 0
+    else bank_effects b (other_side side) x ++ commit_effects b.log b.thread ((resume + other_side side) % 2 ^ 64)
 
 -- the side that x3 has after a boundary: where it has no locks none was written
 abbrev pub side_after : Boundary → (side : ℕ) → ℕ
 side_after b side = if is_empty b.locks then side else other_side side
 
 -- registers of a thread whose log is on this side: x3 has the offset of its bank
-pub record IsOnSide (side : ℕ) (x : List ℕ) : Type 0 where
+pub record IsOnSide (log : Log) (side : ℕ) (x : List ℕ) : Type 0 where
   pub count : length x ≡ 32
   pub zero_is : read x 0 ≡ 0
-  pub offset : read x bank_offset ≡ bank_bytes * side
+  pub offset : read x bank_offset ≡ bank_bytes log * side
   pub exists : side < 2
 
 -- memory sees these stores, cleans and fences, in this order, and nothing else
 pub record HasEffects (b : Boundary) (code : List Instr) : Type 0 where
-  pub does : (x : List ℕ) (pc side : ℕ) → IsOnSide side x → effects code x pc ≡ boundary_effects b side (resume_address b code pc) x
+  pub does : (x : List ℕ) (pc side : ℕ) → IsOnSide b.log side x → effects code x pc ≡ boundary_effects b side (resume_address b code pc) x
 
 -- after a boundary's code x3 has the other side's offset, but the same side's where no bank was written
-pub record HasOffset (locks : List ℕ) (code : List Instr) : Type 0 where
-  pub leaves : (x : List ℕ) (pc side : ℕ) → IsOnSide side x →
-      read (registers_after code x pc) bank_offset ≡ bank_bytes * (if is_empty locks then side else other_side side)
+pub record HasOffset (log : Log) (locks : List ℕ) (code : List Instr) : Type 0 where
+  pub leaves : (x : List ℕ) (pc side : ℕ) → IsOnSide log side x →
+      read (registers_after code x pc) bank_offset ≡ bank_bytes log * (if is_empty locks then side else other_side side)
 
 -- every register but x3 and the temporaries is as it was
-pub record KeepsRegisters (code : List Instr) : Type 0 where
-  pub keeps : (x : List ℕ) (pc side : ℕ) → IsOnSide side x → (r : ℕ) → is_temporary r ≡ false → r ≢ bank_offset → read (registers_after code x pc) r ≡ read x r
+pub record KeepsRegisters (log : Log) (code : List Instr) : Type 0 where
+  pub keeps : (x : List ℕ) (pc side : ℕ) → IsOnSide log side x → (r : ℕ) → is_temporary r ≡ false → r ≢ bank_offset →
+      read (registers_after code x pc) r ≡ read x r

@@ -2,14 +2,16 @@
 ghost use Rattle.std.specs.Prelude.{◌≡◌, ◌<◌, ◌≤◌, ◌+◌, ◌*◌, ◌^◌, ◌++◌, ◌∷◌, ◌==◌, ◌/◌, [], map, length, pos, negsuc, ◌≤ℤ◌, IsTrue, IfOk, OnOk};
 ghost use Rattle.std.specs.List.{list_all, list_any};
 ghost use Rattle.ido_base.specs.Locks.{locks_in};
+ghost use Rattle.ido_base.specs.declared.log.Log.TheVariants.{V1};
 ghost use Rattle.ido_base.specs.declared.limits.TheConstants.{MOST_THREADS};
 ghost use Rattle.rv64_isa.specs.Signed.{twos_complement};
 ghost use Rattle.memory_layout.specs.Roles.{is_kept};
 ghost use Rattle.boundary_code.specs.Boundaries.{HasEffects, HasOffset, KeepsRegisters, lines_in_use};
 ghost use Rattle.boundary_code.specs.links.InstructionLists.{keep_slots, clean_lines, clean_where, point, commit, bank_part, boundary_list, last_list};
 
+use ido_base::log::Log;
 use ido_base::memory::OutOfMemory;
-use memory_layout::log::{BANK_BYTES, FIRST_BANK, LINE_SLOTS, SLOT_BYTES, log_of};
+use memory_layout::log::{FIRST_BANK, LINE_SLOTS, SLOT_BYTES, log_of};
 use operator_code::constant::constant;
 use operator_code::instructions::{add, auipc, immediate, sd, shift};
 use rv64_isa::field::Register;
@@ -18,6 +20,9 @@ use std::alloc::Global;
 
 /// How far the bank in use lies after the first: x3 from one boundary to the next.
 const BANK_OFFSET: Register = Register::X3;
+
+/// How far the second bank lies after the first, where a bank keeps a mask.
+const BANK_BYTES: u16 = 256;
 
 /// The address of the thread's log, within a boundary.
 const LOG: Register = Register::X31;
@@ -85,7 +90,7 @@ fn emit_clean(code: &mut Vec<Instr>, line: u8, live: &[Register]) -> Result<(), 
 
 /// The bank's lines in use are cleaned.
 fn emit_cleans(code: &mut Vec<Instr>, live: &[Register]) -> Result<(), OutOfMemory>
-    ensures { OnOk result (code.new.items ≡ code.old.items ++ clean_lines (lines_in_use (0 ∷ live.now))) }
+    ensures { OnOk result (code.new.items ≡ code.old.items ++ clean_lines (lines_in_use V1 (0 ∷ live.now))) }
 {
     for line in LINES {
         emit_clean(code, line, live)?;
@@ -141,7 +146,7 @@ fn emit_boundary(
         ImmediateOperation::Xori,
         BANK_OFFSET,
         BANK_OFFSET,
-        BANK_BYTES as u16,
+        BANK_BYTES,
     );
     let mut code = vec![in alloc; flip]?;
     code.extend_from_slice(log)?;
@@ -166,7 +171,7 @@ fn emit_last_boundary(alloc: Global, log: &[Instr]) -> Result<Vec<Instr>, OutOfM
     Ok(code)
 }
 
-/// The code of a boundary: the other bank gets the mask of the locks held after it and the live registers, its
+/// The code of a boundary where a bank keeps a mask: the other bank gets the mask of the locks held after it and the live registers, its
 /// lines in use are cleaned, and a FENCE makes them durable, with what was cleaned before; then the point gets the
 /// address that lies `resume` bytes after the boundary's end, and the bank, is cleaned, and a FENCE makes it durable.
 /// Where the mask is 0, which ends a section, no bank is written and the point gets 0. It leaves all registers but
@@ -183,11 +188,12 @@ pub fn boundary(
     requires low { negsuc 262143 ≤ℤ resume }
     requires high { resume ≤ℤ pos 262144 }
     ensures short { IfOk result (λ code. length code.items ≤ length live.now + 35) }
-    ensures effects { IfOk result (λ code. HasEffects (record { thread = thread; locks = locks_in mask; live = live.now; resume = resume }) code.items) }
-    ensures offset { IfOk result (λ code. HasOffset (locks_in mask) code.items) }
-    ensures others { IfOk result (λ code. KeepsRegisters code.items) }
+    ensures effects { IfOk result (λ code.
+        HasEffects (record { log = V1; thread = thread; locks = locks_in mask; live = live.now; resume = resume }) code.items) }
+    ensures offset { IfOk result (λ code. HasOffset V1 (locks_in mask) code.items) }
+    ensures others { IfOk result (λ code. KeepsRegisters V1 code.items) }
 {
-    let log = constant(alloc, LOG, log_of(thread))?;
+    let log = constant(alloc, LOG, log_of(Log::V1, thread))?;
     if mask == 0 {
         return emit_last_boundary(alloc, &log);
     }

@@ -5,6 +5,7 @@
 
 ghost use Rattle.std.specs.Prelude.{◌≡◌, ◌-◌, ◌<◌, ◌≤◌, [], IfOk};
 ghost use Rattle.ido_base.specs.Layout.{line_count};
+ghost use Rattle.ido_base.specs.declared.log.Log.TheVariants.{V1};
 ghost use Rattle.std.specs.Vec.{vec_capacity, vec_len};
 ghost use Rattle.core_rows.specs.CountingCore.{counting, is_step, next, reply};
 ghost use Rattle.ido_base.specs.Cores.{played, passed_count};
@@ -117,7 +118,7 @@ impl Core for Counter {
 
     ghost space = { λ core. core.most - vec_len core.journal };
 
-    ghost evictable = { λ _ line mask. (line < line_count 1) × (mask ≤ 255) };
+    ghost evictable = { λ _ line mask. (line < line_count V1 1) × (mask ≤ 255) };
 
     ghost is_local = { λ _ _ _. Unit {0} };
 

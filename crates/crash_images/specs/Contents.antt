@@ -1,7 +1,9 @@
 -- What an image holds, without where it lies in memory, and its limits.
 use Rattle.std.specs.Prelude.{◌≡◌, ℕ, ◌*◌, List, length}
 use Rattle.std.specs.List.{AllByRecursion}
-use Rattle.ido_base.specs.declared.limits.TheConstants.{LOG_WORDS, MOST_THREADS, WORD_BYTES}
+use Rattle.ido_base.specs.declared.limits.TheConstants.{MOST_THREADS, WORD_BYTES}
+use Rattle.ido_base.specs.declared.log.Log.TheVariants.{V1}
+use Rattle.ido_base.specs.Layout as layout
 use Rattle.file_fields.specs.Numbers.{IsNumber, IsWord}
 use Rattle.run_scripts.specs.Runs.{Run, runs_of}
 
@@ -27,14 +29,14 @@ contents source variables logs schedule = record { source = source; state = reco
 
 -- words of logs
 abbrev pub most_logs : ℕ
-most_logs = LOG_WORDS * MOST_THREADS
+most_logs = layout.log_words V1 * MOST_THREADS
 
 abbrev pub word_bytes : ℕ
 word_bytes = WORD_BYTES
 
--- words of the log of a thread
+-- words of the log of a thread: images are of the first log
 abbrev pub log_words : ℕ
-log_words = LOG_WORDS
+log_words = layout.log_words V1
 
 -- four bytes tell the thread, and how many steps it took
 abbrev pub IsRun : Run → Type 0

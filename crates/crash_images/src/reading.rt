@@ -17,7 +17,8 @@ use file_fields::error::ReadError;
 use file_fields::reading::{
     Reader, bytes_at, magic_at, number_at, number_within, place_of, repeated, version_at, word_at,
 };
-use ido_base::limits::{LOG_WORDS, MOST_SOURCE_BYTES, WORD_BYTES};
+use ido_base::limits::{MOST_SOURCE_BYTES, WORD_BYTES};
+use ido_base::log::Log;
 use run_scripts::runs::Run;
 use std::alloc::Global;
 
@@ -134,7 +135,12 @@ fn state_at(
 {
     let rest = size_at(total, size, rest)?;
     let (variables, rest) = words_at(alloc, total, u64::from(size / WORD_BYTES), rest)?;
-    let (logs, rest) = words_at(alloc, total, LOG_WORDS as u64 * u64::from(threads), rest)?;
+    let (logs, rest) = words_at(
+        alloc,
+        total,
+        u64::from(Log::V1.words()) * u64::from(threads),
+        rest,
+    )?;
     let (count, rest) = number_at(total, rest)?;
     let (runs, rest) = runs_at(alloc, total, count, rest)?;
     if !rest.is_empty() {

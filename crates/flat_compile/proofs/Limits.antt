@@ -75,7 +75,7 @@ as_many_slots (code ∷ codes) (suc k) d below = as_many_slots codes k d (omega 
 module _ (p : Plan) (plan : IsPlan p) (threads : List (List CodeItem)) (object : Object) (marks : Marks) (coded : IsCode p threads)
     (few : AllFew threads) (few_threads : length threads ≤ MOST_THREADS) (linked : AreLinked code_base threads (program_of object) marks.threads.items)
     (begins : AreInitial (map shape_of p.flat.variables) (map initial_numbers p.flat.variables) object.initial.items)
-    (mutexes : object.mutexes ≡ length p.flat.mutexes) where
+    (mutexes : object.mutexes ≡ length p.flat.mutexes) (logs : p.log ≡ object.log) where
   -- as many as the items are of
   pub count : length object.code.items ≡ length threads
   count =
@@ -84,8 +84,8 @@ module _ (p : Plan) (plan : IsPlan p) (threads : List (List CodeItem)) (object :
 
   some_at : (k : ℕ) (d : Vec ℕ Global) → k < length object.code.items → 1 ≤ length (slice_index_or object.code.items k d).items
   some_at k d below =
-      let own = system p plan threads object marks coded few few_threads linked begins mutexes in
-      let is = system_is p plan threads object marks coded few few_threads linked begins mutexes in
+      let own = system p plan threads object marks coded few few_threads linked begins mutexes logs in
+      let is = system_is p plan threads object marks coded few few_threads linked begins mutexes logs in
       let many = coded.count in
       let inside : k < length p.graph.threads = omega (arith, below, count, many) in
       let words : 1 ≤ length (slice_index_or (program_of object) k []) = some_words own is k inside in

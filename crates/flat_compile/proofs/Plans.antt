@@ -5,6 +5,7 @@ use Rattle.std.specs.Global.{Global}
 use Rattle.std.proofs.lemmas.List.{length-map}
 use Rattle.std.proofs.lemmas.List.Elements.{All-head, All-tail}
 use Rattle.std.proofs.lemmas.Option.{none-some, same_Some}
+use Rattle.ido_base.specs.declared.log.Log.TheVariants.{V1}
 use Rattle.ido_base.specs.declared.limits.TheConstants.{MOST_THREADS, MOST_CODE_WORDS}
 use Rattle.c_tree.specs.Flats.{flat_of}
 use Rattle.rv64_isa.specs.declared.object.Code.{Code}
@@ -46,6 +47,7 @@ use Rattle.flat_compile.proofs.Systems.{system, system_is}
 
 abbrev pub plan_at : Analysis → Cuts → Plan
 plan_at a cuts = record {
+  log = V1;
   flat = flat_of a.flat.now;
   graph = graph_of a.graph;
   boundaries = boundaries_of cuts;
@@ -78,6 +80,7 @@ pub record IsCodeFor (p : Plan) (code : Code) : Type 0 where
   pub few : All (λ (items : Vec CodeItem Global). sum_by most_words_of items.items ≤ MOST_CODE_WORDS) code.threads.items
   pub initial : AreInitial (map shape_of p.flat.variables) (map initial_numbers p.flat.variables) code.initial.items
   pub mutexes : code.mutexes ≡ length p.flat.mutexes
+  pub log : code.log ≡ p.log
 
 abbrev IsFew : Vec CodeItem Global → Type 0
 IsFew items = sum_by most_words_of items.items ≤ MOST_CODE_WORDS
@@ -91,29 +94,31 @@ few_at (first ∷ threads) few (suc n) items there = few_at threads (All-tail Is
 pub is_translated : (p : Plan) (code : Code) → IsCodeFor p code → IsPlan p → (object : Object) (marks : Marks) (cuts : Cuts) →
     p.boundaries ≡ boundaries_of cuts → IsMinimal p.graph (boundaries_of cuts) → AreFewestCuts p.graph (boundaries_of cuts) →
     AreLinked code_base (map items_in code.threads.items) (program_of object) marks.threads.items →
-    object.initial ≡ code.initial → object.mutexes ≡ code.mutexes → IsTranslated p.flat object marks cuts
-is_translated p code is plan object marks cuts at minimal fewest linked initial mutexes =
+    object.initial ≡ code.initial → object.mutexes ≡ code.mutexes → object.log ≡ code.log → p.log ≡ V1 → IsTranslated p.flat object marks cuts
+is_translated p code is plan object marks cuts at minimal fewest linked initial mutexes log first =
     let threads = map items_in code.threads.items in
     let few = few_at code.threads.items is.few in
     let few_threads : length threads ≤ MOST_THREADS = omega (arith, is.few_threads, length-map code.threads.items items_in) in
     let begins = subst (λ (bytes : Vec ℕ Global). AreInitial (map shape_of p.flat.variables) (map initial_numbers p.flat.variables) bytes.items)
     (sym initial) is.initial in
     let locks = mutexes ∙ is.mutexes in
+    let logs = sym (log ∙ is.log) in
     record {
-      system = system p plan threads object marks is.is few few_threads linked begins locks;
-      is = system_is p plan threads object marks is.is few few_threads linked begins locks;
+      system = system p plan threads object marks is.is few few_threads linked begins locks logs;
+      is = system_is p plan threads object marks is.is few few_threads linked begins locks logs;
       of_flat = refl;
       at_cuts = at;
       minimal = subst (λ (g : Graph). IsMinimal g (boundaries_of cuts)) plan.lowered minimal;
       fewest = subst (λ (g : Graph). AreFewestCuts g (boundaries_of cuts)) plan.lowered fewest;
       runs = refl;
+      log = sym logs ∙ first;
       items = threads;
       linked = linked;
       cleans = is.cleans;
-      limits = within_limits p plan threads object marks is.is few few_threads linked begins locks;
+      limits = within_limits p plan threads object marks is.is few few_threads linked begins locks logs;
       threads =
           marked_count code_base threads (program_of object) marks.threads.items linked
-          ∙ sym (count p plan threads object marks is.is few few_threads linked begins locks);
+          ∙ sym (count p plan threads object marks is.is few few_threads linked begins locks logs);
     }
 
 -- ---- Where recovery may resume its threads
@@ -128,9 +133,9 @@ marks_of y s long = record {
 module _ (p : Plan) (code : Code) (is : IsCodeFor p code) (plan : IsPlan p) (object : Object) (marks : Marks) (cuts : Cuts)
     (at : p.boundaries ≡ boundaries_of cuts) (minimal : IsMinimal p.graph (boundaries_of cuts)) (fewest : AreFewestCuts p.graph (boundaries_of cuts))
     (linked : AreLinked code_base (map items_in code.threads.items) (program_of object) marks.threads.items)
-    (initial : object.initial ≡ code.initial) (mutexes : object.mutexes ≡ code.mutexes) where
+    (initial : object.initial ≡ code.initial) (mutexes : object.mutexes ≡ code.mutexes) (log : object.log ≡ code.log) (first : p.log ≡ V1) where
   abbrev whole : IsTranslated p.flat object marks cuts
-  whole = is_translated p code is plan object marks cuts at minimal fewest linked initial mutexes
+  whole = is_translated p code is plan object marks cuts at minimal fewest linked initial mutexes log first
 
   resumes_long : length (resume_marks marks.threads.items) ≡ length p.graph.threads
   resumes_long =

@@ -108,7 +108,7 @@ disciplined_by p plan k d below =
 module _ (p : Plan) (plan : IsPlan p) (threads : List (List CodeItem)) (object : Object) (marks : Marks) (coded : IsCode p threads)
     (few : AllFew threads) (few_threads : length threads ≤ MOST_THREADS) (linked : AreLinked code_base threads (program_of object) marks.threads.items)
     (begins : AreInitial (map shape_of p.flat.variables) (map initial_numbers p.flat.variables) object.initial.items)
-    (mutexes : object.mutexes ≡ length p.flat.mutexes) where
+    (mutexes : object.mutexes ≡ length p.flat.mutexes) (logs : p.log ≡ object.log) where
   abbrev runs : Executable
   runs = executable_of object marks
 
@@ -171,6 +171,7 @@ module _ (p : Plan) (plan : IsPlan p) (threads : List (List CodeItem)) (object :
     codes = codes;
     own = λ n below. record { program = refl; room = room n below; cleans = cleans n below };
     initial = begins;
+    log = logs;
     mutexes = mutexes;
     left_out = λ node e.
         subst (λ (g : Graph). IsCleanedLater g p.boundaries (map shape_of p.flat.variables) node) plan.lowered ((out.each node).0 e);

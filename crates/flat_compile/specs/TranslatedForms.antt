@@ -1,5 +1,6 @@
 -- What the machine runs for a flat form.
 use Rattle.std.specs.Prelude.{◌≡◌, List, length}
+use Rattle.ido_base.specs.declared.log.Log.TheVariants.{V1}
 use Rattle.c_tree.specs.Flats.{Flat}
 use Rattle.rv64_isa.specs.declared.object.Object.{Object}
 use Rattle.rv64_isa.specs.declared.object.Marks.{Marks}
@@ -30,6 +31,8 @@ pub record IsTranslated (flat : Flat) (object : Object) (marks : Marks) (cuts : 
   pub minimal : IsMinimal (lowered flat) (boundaries_of cuts)
   pub fewest : AreFewestCuts (lowered flat) (boundaries_of cuts)
   pub runs : system.runs ≡ executable_of object marks
+  -- its threads log as the first log has it
+  pub log : object.log ≡ V1
   -- The items that the code is linked from, thread after thread: at once after a store they clean its line where no later store of the region does,
   -- and outside the code of boundaries no other line.
   pub items : List (List CodeItem)

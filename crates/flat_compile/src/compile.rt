@@ -7,6 +7,7 @@ ghost use Rattle.flat_compile.specs.TranslatedForms.{IsTranslated, IsResumable};
 use crate::resumes::{Resume, resume_table};
 use flat_analysis::Analysis;
 use flow_graph::cuts::Cuts;
+use ido_base::log::Log;
 use ido_base::memory::OutOfMemory;
 use region_cutter::cut;
 use rv64_codegen::{Plan, emit};
@@ -35,6 +36,7 @@ pub fn translate(alloc: Global, analysis: &Analysis) -> Result<Translated, OutOf
 {
     let cuts = cut(alloc, &analysis.graph)?;
     let plan = Plan {
+        log: Log::V1,
         flat: analysis.flat,
         graph: &analysis.graph,
         cuts: &cuts,

@@ -76,4 +76,4 @@ module _ (program : List (List Slot)) (w : World) (h number : ℕ) (a : IsAtCall
   pub calls_count : ((marks : List (List ℕ)) → passes_mark marks program w h ≡ (has_moved (reply_to program w (Step h)) && is_mark marks h a.hart.pc))
       × (stores_point program w (Step h) h ≡ false) × (finishes_fence program w (Step h) h ≡ false)
   unfolding tested
-  calls_count = (passes, none (is_point_store h) refl, none is_fence refl)
+  calls_count = (passes, none (is_point_store w.log h) refl, none is_fence refl)

@@ -5,6 +5,8 @@ use Rattle.std.specs.Prelude.{nat_lt, nat_le, ◌&&◌}
 use Rattle.std.proofs.lemmas.Bool.{cases_lt, cases_eq, and_parts, or_cases, ltb-true, ltb-false, leb-true, eqb-true}
 use Rattle.std.proofs.lemmas.List.{set_past}
 use Rattle.std.proofs.Math.ListN.{length-append, length-set}
+use Rattle.ido_base.specs.declared.log.Log.TheVariants.{V1}
+use Rattle.ido_base.specs.declared.log.Log.{Log}
 use Rattle.ido_base.specs.declared.event.Event.TheVariants.{Step, Evict}
 use Rattle.ido_base.specs.Words.{Word, Entry, word_at, live_value, last_position, with_value, with_part, part, loaded, stored}
 use Rattle.ido_base.specs.Layout.{in_range, aligned, byte_number, word_count, variables_base, logs_base}
@@ -78,19 +80,19 @@ in_logs : (address bytes top : ℕ) → (nat_le logs_base address && nat_le (add
 in_logs address bytes top e = let h = and_parts _ _ e in (leb-true _ _ h.0, leb-true _ _ h.1)
 
 -- among the variables' bytes, or after them among those of logs
-IsNumbered : (threads address bytes number : ℕ) → Type 0
-IsNumbered threads address bytes number =
+IsNumbered : Log → (threads address bytes number : ℕ) → Type 0
+IsNumbered log threads address bytes number =
     ((address + bytes ≤ variables_base + 65536) × (number + variables_base ≡ address)) ⊎
     ((logs_base ≤ address) × (number + logs_base ≡ address + 65536) × (address + bytes ≤ logs_base + 1024 * threads))
 
-numbered : (threads address bytes : ℕ) → in_range threads address bytes ≡ true → IsNumbered threads address bytes (byte_number address)
+numbered : (log : Log) (threads address bytes : ℕ) → in_range log threads address bytes ≡ true → IsNumbered log threads address bytes (byte_number address)
 unfolding IsNumbered
-numbered threads address bytes inside = by_half (nat_lt address logs_base) refl (or_cases _ _ inside)
+numbered V1 threads address bytes inside = by_half (nat_lt address logs_base) refl (or_cases _ _ inside)
   where
     by_half : (b : Bool) → nat_lt address logs_base ≡ b
         → ((nat_le variables_base address && nat_le (address + bytes) (variables_base + 65536)) ≡ true) ⊎
         ((nat_le logs_base address && nat_le (address + bytes) (logs_base + 1024 * threads)) ≡ true)
-        → IsNumbered threads address bytes (byte_number address)
+        → IsNumbered V1 threads address bytes (byte_number address)
     by_half true e (inl h) =
         let r = in_variables address bytes (variables_base + 65536) h in
         let n : byte_number address ≡ address - variables_base = ap (λ b. cond b (address - variables_base) (65536 + (address - logs_base))) e in
@@ -102,18 +104,19 @@ numbered threads address bytes inside = by_half (nat_lt address logs_base) refl 
         let n : byte_number address ≡ 65536 + (address - logs_base) = ap (λ b. cond b (address - variables_base) (65536 + (address - logs_base))) e in
         inr (r.0, omega (arith, n, r.0), r.1)
 
-numbers_apart : (threads a b c d n k : ℕ) → IsNumbered threads a b n → IsNumbered threads c d k → a + b ≤ c → n + b ≤ k
+numbers_apart : (log : Log) (threads a b c d n k : ℕ) → IsNumbered log threads a b n → IsNumbered log threads c d k → a + b ≤ c → n + b ≤ k
 unfolding IsNumbered
-numbers_apart threads a b c d n k (inl p) (inl q) l = omega (arith, p.1, q.1, l)
-numbers_apart threads a b c d n k (inl p) (inr q) l = omega (arith, p.0, p.1, q.0, q.1)
-numbers_apart threads a b c d n k (inr p) (inl q) l = omega (arith, p.0, p.1, q.0, q.1, l)
-numbers_apart threads a b c d n k (inr p) (inr q) l = omega (arith, p.1, q.1, l)
+numbers_apart V1 threads a b c d n k (inl p) (inl q) l = omega (arith, p.1, q.1, l)
+numbers_apart V1 threads a b c d n k (inl p) (inr q) l = omega (arith, p.0, p.1, q.0, q.1)
+numbers_apart V1 threads a b c d n k (inr p) (inl q) l = omega (arith, p.0, p.1, q.0, q.1, l)
+numbers_apart V1 threads a b c d n k (inr p) (inr q) l = omega (arith, p.1, q.1, l)
 
 -- an aligned access lies in one word
-aligned_within : (threads address bytes number : ℕ) → IsNumbered threads address bytes number → is_width bytes ≡ true → aligned address bytes ≡ true →
+aligned_within : (log : Log) (threads address bytes number : ℕ) → IsNumbered log threads address bytes number → is_width bytes ≡ true →
+    aligned address bytes ≡ true →
     number % 8 + bytes ≤ 8
 unfolding IsNumbered
-aligned_within threads address bytes number p width is_aligned = ⊎_elim
+aligned_within V1 threads address bytes number p width is_aligned = ⊎_elim
     (λ h. ⊎_elim (λ e. of (λ (b : ℕ). within b) 1 (eqb-true _ _ e) (within_one number)) (λ e. by_two (eqb-true _ _ e)) (or_cases _ _ h))
     (λ h. ⊎_elim (λ e. by_four (eqb-true _ _ e)) (λ e. by_eight (eqb-true _ _ e)) (or_cases _ _ h))
     (or_cases _ _ width)
@@ -144,55 +147,58 @@ aligned_within threads address bytes number p width is_aligned = ⊎_elim
     by_eight e = let r : address % 8 ≡ 0 = rest 8 e in omega (arith, r, e, number_rest)
 
 -- an access: its place, and that it lies in one word
-record IsPlaced (threads address bytes : ℕ) : Type 0 where
-  at : IsNumbered threads address bytes (byte_number address)
+record IsPlaced (log : Log) (threads address bytes : ℕ) : Type 0 where
+  at : IsNumbered log threads address bytes (byte_number address)
   whole : byte_number address % 8 + bytes ≤ 8
 
-placed : (threads address bytes : ℕ) → is_access threads address bytes ≡ true → IsPlaced threads address bytes
-placed threads address bytes h =
+placed : (log : Log) (threads address bytes : ℕ) → is_access log threads address bytes ≡ true → IsPlaced log threads address bytes
+placed log threads address bytes h =
     let p = and_parts (is_width bytes) _ h in
-    let q = and_parts (in_range threads address bytes) _ p.1 in
-    let n : IsNumbered threads address bytes (byte_number address) = numbered threads address bytes q.0 in
-    record { at = n; whole = aligned_within threads address bytes (byte_number address) n p.0 q.1 }
+    let q = and_parts (in_range log threads address bytes) _ p.1 in
+    let n : IsNumbered log threads address bytes (byte_number address) = numbered log threads address bytes q.0 in
+    record { at = n; whole = aligned_within log threads address bytes (byte_number address) n p.0 q.1 }
 
 -- the line of an address is there
-pub line_there : (threads address : ℕ) → in_range threads address 1 ≡ true → 8 * (byte_number address / 64) + 8 ≤ word_count threads
+pub line_there : (log : Log) (threads address : ℕ) → in_range log threads address 1 ≡ true → 8 * (byte_number address / 64) + 8 ≤ word_count log threads
 unfolding IsNumbered
-line_there threads address inside = ⊎_elim
+line_there V1 threads address inside = ⊎_elim
     (λ p. (let low = p.0 in let is = p.1 in omega (arith, low, is)))
     (λ p. (let high = p.2 in let is = p.1 in omega (arith, high, is)))
-    (numbered threads address 1 inside)
+    (numbered V1 threads address 1 inside)
 
 -- ---- Agreement
 
-pub persisted_agrees : (program : List (List Slot)) (w v : World) (h : ℕ) (s : MarkedEnvironment) → length v.harts ≡ length w.harts →
+pub persisted_agrees : (program : List (List Slot)) (w v : World) (h : ℕ) (s : MarkedEnvironment) → length v.harts ≡ length w.harts → v.log ≡ w.log →
     ArePersisted w.words v.words →
     Agrees program w h s → Agrees program v h s
-persisted_agrees program w v h s count r a = record {
+persisted_agrees program w v h s count logs r a = record {
   fetches = a.fetches;
   loads = λ address bytes value e.
       let g : LoadGives w address bytes value = a.loads address bytes value e in
       record {
-        may = subst (λ (n : ℕ). is_access n address bytes ≡ true) (sym count) g.may;
+        may = subst (λ (log : Log). is_access log (length v.harts) address bytes ≡ true) (sym logs)
+            (subst (λ (n : ℕ). is_access w.log n address bytes ≡ true) (sym count) g.may);
         is = persisted_loads w.words v.words (byte_number address) bytes r ∙ g.is;
       };
 }
 
-pub beside_agrees : (program : List (List Slot)) (w v : World) (h : ℕ) (s : MarkedEnvironment) (address bytes value : ℕ) → length v.harts ≡ length w.harts →
-    v.words ≡ stored w.words (byte_number address) bytes value → is_access (length w.harts) address bytes ≡ true → IsApart s address bytes →
+pub beside_agrees : (program : List (List Slot)) (w v : World) (h : ℕ) (s : MarkedEnvironment) (address bytes value : ℕ) →
+    length v.harts ≡ length w.harts → v.log ≡ w.log →
+    v.words ≡ stored w.words (byte_number address) bytes value → is_access w.log (length w.harts) address bytes ≡ true → IsApart s address bytes →
     Agrees program w h s → Agrees program v h s
-beside_agrees program w v h s address bytes value count words may apart a = record {
+beside_agrees program w v h s address bytes value count logs words may apart a = record {
   fetches = a.fetches;
   loads = λ at size found e.
       let g : LoadGives w at size found = a.loads at size found e in
-      let there : IsPlaced (length w.harts) address bytes = placed (length w.harts) address bytes may in
-      let here : IsPlaced (length w.harts) at size = placed (length w.harts) at size g.may in
+      let there : IsPlaced w.log (length w.harts) address bytes = placed w.log (length w.harts) address bytes may in
+      let here : IsPlaced w.log (length w.harts) at size = placed w.log (length w.harts) at size g.may in
       let numbers : (byte_number at + size ≤ byte_number address) ⊎ (byte_number address + bytes ≤ byte_number at) = ⊎_elim
-      (λ l. inl (numbers_apart (length w.harts) at size address bytes (byte_number at) (byte_number address) here.at there.at l))
-      (λ l. inr (numbers_apart (length w.harts) address bytes at size (byte_number address) (byte_number at) there.at here.at l))
+      (λ l. inl (numbers_apart w.log (length w.harts) at size address bytes (byte_number at) (byte_number address) here.at there.at l))
+      (λ l. inr (numbers_apart w.log (length w.harts) address bytes at size (byte_number address) (byte_number at) there.at here.at l))
       (apart at size found e) in
       record {
-        may = subst (λ (n : ℕ). is_access n at size ≡ true) (sym count) g.may;
+        may = subst (λ (log : Log). is_access log (length v.harts) at size ≡ true) (sym logs)
+            (subst (λ (n : ℕ). is_access w.log n at size ≡ true) (sym count) g.may);
         is = ap (λ (ws : List Word). loaded ws (byte_number at) size) words
             ∙ (beside w.words (byte_number address) bytes value (byte_number at) size numbers there.whole here.whole ∙ g.is);
       };
@@ -203,26 +209,27 @@ module _ (program : List (List Slot)) (w : World) (h : ℕ) (run : OnRun w h) wh
   same_persisted : (v : World) → v.words ≡ w.words → ArePersisted w.words v.words
   same_persisted v e = subst (λ (ws : List Word). ArePersisted w.words ws) (sym e) (are_persisted_refl w.words)
 
-  by_effect : (v : World) (k : ℕ) (z : MarkedEnvironment) (e : Effect) (c : Contents) → length v.harts ≡ length w.harts → v.words ≡ c.words →
-      Changes (record { words = w.words; queue = run.on.hart.queue }) e c → may_go (length w.harts) e ≡ true → StoresApart z e → Agrees program w k z →
+  by_effect : (v : World) (k : ℕ) (z : MarkedEnvironment) (e : Effect) (c : Contents) → length v.harts ≡ length w.harts → v.log ≡ w.log → v.words ≡ c.words →
+      Changes (record { words = w.words; queue = run.on.hart.queue }) e c → may_go w.log (length w.harts) e ≡ true → StoresApart z e → Agrees program w k z →
       Agrees program v k z
-  by_effect v k z (Continues registers pc) c count is changes may apart a =
-      persisted_agrees program w v k z count (same_persisted v (is ∙ ap (λ (x : Contents). x.words) changes)) a
-  by_effect v k z (Loads address bytes signed register) c count is changes may apart a =
-      persisted_agrees program w v k z count (same_persisted v (is ∙ ap (λ (x : Contents). x.words) changes)) a
-  by_effect v k z (Stores address bytes value) c count is changes may apart a =
-      beside_agrees program w v k z address bytes value count (is ∙ ap (λ (x : Contents). x.words) changes) may apart a
-  by_effect v k z (Cleans address) c count is changes may apart a =
-      persisted_agrees program w v k z count (same_persisted v (is ∙ ap (λ (x : Contents). x.words) changes.1)) a
-  by_effect v k z Fences c count is changes may apart a =
-      persisted_agrees program w v k z count (same_persisted v (is ∙ ap (λ (x : Contents). x.words) changes.1)) a
-  by_effect v k z Calls c count is changes may apart a = absurd changes
+  by_effect v k z (Continues registers pc) c count logs is changes may apart a =
+      persisted_agrees program w v k z count logs (same_persisted v (is ∙ ap (λ (x : Contents). x.words) changes)) a
+  by_effect v k z (Loads address bytes signed register) c count logs is changes may apart a =
+      persisted_agrees program w v k z count logs (same_persisted v (is ∙ ap (λ (x : Contents). x.words) changes)) a
+  by_effect v k z (Stores address bytes value) c count logs is changes may apart a =
+      beside_agrees program w v k z address bytes value count logs (is ∙ ap (λ (x : Contents). x.words) changes) may apart a
+  by_effect v k z (Cleans address) c count logs is changes may apart a =
+      persisted_agrees program w v k z count logs (same_persisted v (is ∙ ap (λ (x : Contents). x.words) changes.1)) a
+  by_effect v k z Fences c count logs is changes may apart a =
+      persisted_agrees program w v k z count logs (same_persisted v (is ∙ ap (λ (x : Contents). x.words) changes.1)) a
+  by_effect v k z Calls c count logs is changes may apart a = absurd changes
 
   pub forward_agrees : (f : GoesForward program w h run) → (k : ℕ) (z : MarkedEnvironment) → StoresApart z f.effect → Agrees program w k z →
       Agrees program (after_event program w (Step h)) k z
   forward_agrees f k z apart a =
       let count : length (after_event program w (Step h)).harts ≡ length w.harts = ap (λ (v : World). length v.harts) f.world ∙ length-set w.harts h _ in
-      by_effect (after_event program w (Step h)) k z f.effect f.contents count (ap (λ (v : World). v.words) f.world) f.changes
+      by_effect (after_event program w (Step h)) k z f.effect f.contents count (ap (λ (v : World). v.log) f.world)
+      (ap (λ (v : World). v.words) f.world) f.changes
       (may_next program w h run f) apart a
 
   pub drains_agree : IsWellFormedWorld w → Drains program w h run → (k : ℕ) (z : MarkedEnvironment) → Agrees program w k z →
@@ -231,10 +238,11 @@ module _ (program : List (List Slot)) (w : World) (h : ℕ) (run : OnRun w h) wh
       let entries : AreEntries w.words (d.entry ∷ d.rest) =
       subst (λ (q : List Entry). AreEntries w.words q) d.queue_is (sound.queues h run.on.hart run.on.here) in
       let count : length (after_event program w (Step h)).harts ≡ length w.harts = ap (λ (v : World). length v.harts) d.world ∙ length-set w.harts h _ in
-      persisted_agrees program w (after_event program w (Step h)) k z count
+      persisted_agrees program w (after_event program w (Step h)) k z count (ap (λ (v : World). v.log) d.world)
       (subst (λ (v : World). ArePersisted w.words v.words) (sym d.world) (write_backs_raise w.words d.entry entries.0)) a
 
 pub evictions_agree : (program : List (List Slot)) (w : World) (line mask k : ℕ) (z : MarkedEnvironment) → Agrees program w k z →
     Agrees program (after_event program w (Evict line mask)) k z
 unfolding happens
-evictions_agree program w line mask k z a = persisted_agrees program w (after_event program w (Evict line mask)) k z refl (evictions_raise w.words line mask) a
+evictions_agree program w line mask k z a =
+    persisted_agrees program w (after_event program w (Evict line mask)) k z refl refl (evictions_raise w.words line mask) a

@@ -1,6 +1,8 @@
 -- What other events leave, and runs one after the other.
 use Rattle.std.proofs.Common.{◌≡◌, ℕ, zero, suc, ◌+◌, ◌-◌, List, [], ◌++◌, length, refl, ap, arith, sym, ◌∙◌, subst, Some, zero-add, append_assoc}
 use Rattle.std.specs.Prelude.{slice_get}
+use Rattle.rv64_isa.proofs.Public.{log_stays}
+use Rattle.ido_base.specs.declared.log.Log.{Log}
 use Rattle.ido_base.specs.declared.event.Event.{Event}
 use Rattle.ido_base.specs.declared.event.Event.TheVariants.{Step, Evict, Crash}
 use Rattle.rv64_isa.specs.declared.object.Slot.{Slot}
@@ -36,7 +38,8 @@ others_keep_runs program w h event sound other s steps seen to on =
         here = leave.0 ∙ on.here;
         runs = on.runs;
         walks = on.walks;
-        may = subst (λ (n : ℕ). MayGo n seen) (sym leave.1) on.may;
+        may = subst (λ (log : Log). MayGo log (length (after_event program w event).harts) seen) (sym (log_stays program w event sound))
+            (subst (λ (n : ℕ). MayGo w.log n seen) (sym leave.1) on.may);
       };
       same = refl;
     }
@@ -45,13 +48,13 @@ others_keep_runs program w h event sound other s steps seen to on =
 
 pub runs_join : (w : World) (h : ℕ) (s : MarkedEnvironment) (n k : ℕ) (first later : List Observation) (by to : LocalConfig) → IsOnTrace w h s n first by →
     Trace s k by later to →
-    MayGo (length w.harts) later → IsOnTrace w h s (n + k) (first ++ later) to
+    MayGo w.log (length w.harts) later → IsOnTrace w h s (n + k) (first ++ later) to
 runs_join w h s n k first later by to on walks may = record {
   hart = on.hart;
   here = on.here;
   runs = on.runs;
   walks = along s n k (config on.hart.registers on.hart.pc) by to first later on.walks walks;
-  may = may_both (length w.harts) first later on.may may;
+  may = may_both w.log (length w.harts) first later on.may may;
 }
 
 regrouped : (seen head tail first later : List Observation) → seen ≡ head ++ tail → tail ≡ first ++ later → seen ≡ (head ++ first) ++ later
@@ -93,21 +96,21 @@ pub runs_split : (w : World) (h : ℕ) (s : MarkedEnvironment) (n k : ℕ) (seen
     IsOnFirstPart w h n (stretch s (n + k) seen to)
 runs_split w h s n k seen to on =
     let p : InParts s n k (config on.hart.registers on.hart.pc) seen to = in_parts s n k (config on.hart.registers on.hart.pc) seen to on.walks in
-    let may : MayGo (length w.harts) (p.first ++ p.later) = subst (λ (x : List Observation). MayGo (length w.harts) x) p.seen_is on.may in
+    let may : MayGo w.log (length w.harts) (p.first ++ p.later) = subst (λ (x : List Observation). MayGo w.log (length w.harts) x) p.seen_is on.may in
     let left : k ≡ n + k - n = omega arith in
     record {
       by = p.by;
       first = p.first;
       later = p.later;
       seen_is = p.seen_is;
-      on = record { hart = on.hart; here = on.here; runs = on.runs; walks = p.before; may = may_left (length w.harts) p.first p.later may };
+      on = record { hart = on.hart; here = on.here; runs = on.runs; walks = p.before; may = may_left w.log (length w.harts) p.first p.later may };
       after = subst (λ (i : ℕ). Trace s i p.by p.later to) left p.after;
-      may = may_right (length w.harts) p.first p.later may;
+      may = may_right w.log (length w.harts) p.first p.later may;
     }
 
 pub runs_begin : (w : World) (h : ℕ) (s : MarkedEnvironment) (steps : ℕ) (seen : List Observation) (m to : LocalConfig) → IsRunningAt w h m →
     Trace s steps m seen to →
-    MayGo (length w.harts) seen →
+    MayGo w.log (length w.harts) seen →
     IsOnTrace w h s steps seen to
 runs_begin w h s steps seen m to at walks may = record {
   hart = at.hart;

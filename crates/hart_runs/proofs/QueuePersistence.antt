@@ -66,10 +66,10 @@ module _ (program : List (List Slot)) (w : World) (h : ℕ) (run : OnRun w h) wh
   cleans_reach_now sound f address k is l =
       let changes : Changes (record { words = w.words; queue = run.on.hart.queue }) (Cleans address) f.contents =
       subst (λ (e : Effect). Changes (record { words = w.words; queue = run.on.hart.queue }) e f.contents) is f.changes in
-      let may : in_range (length w.harts) address 1 ≡ true =
-      subst (λ (e : Effect). may_go (length w.harts) e ≡ true) is (may_next program w h run f) in
+      let may : in_range w.log (length w.harts) address 1 ≡ true =
+      subst (λ (e : Effect). may_go w.log (length w.harts) e ≡ true) is (may_next program w h run f) in
       let exists : 8 * (byte_number address / 64) + 8 ≤ length w.words =
-      subst (λ (n : ℕ). 8 * (byte_number address / 64) + 8 ≤ n) (sym sound.size) (line_there (length w.harts) address may) in
+      subst (λ (n : ℕ). 8 * (byte_number address / 64) + 8 ≤ n) (sym sound.size) (line_there w.log (length w.harts) address may) in
       let r = cleans_reach w.words run.on.hart.queue (byte_number address / 64) k exists l (sound.queues h run.on.hart run.on.here) in
       in_world f (8 * (byte_number address / 64) + k) (last_position (word_at w.words (8 * (byte_number address / 64) + k)))
       (subst (λ (x : Contents). PersistsThrough x.words x.queue (8 * (byte_number address / 64) + k)

@@ -4,6 +4,7 @@ use Rattle.std.proofs.Common.{length, map, refl, ap, arith, sym, ◌∙◌, subs
 use Rattle.std.specs.Prelude.{slice_get, nat_lt, ◌==◌}
 use Rattle.std.proofs.lemmas.Bool.{cases_eq, cond_both, ltb-true}
 use Rattle.std.proofs.Math.ListN.{length-append}
+use Rattle.ido_base.specs.declared.log.Log.{Log}
 use Rattle.ido_base.specs.declared.event.Event.{Event}
 use Rattle.ido_base.specs.declared.event.Event.TheVariants.{Step, Evict, Crash}
 use Rattle.ido_base.specs.Words.{Entry, entry_of, drained, stored, word_of, durable_value}
@@ -63,7 +64,7 @@ module _ (h : ℕ) (w : World) (hart : Hart) (short : length hart.queue ≤ 16) 
 
   accesses : (address bytes : ℕ) (o : Outcome) → KeepsQueues h w o.0 → KeepsQueues h w (access w address bytes o).0
   accesses address bytes o k =
-      cond_both (in_range (length w.harts) address bytes) _ _ (λ (x : Outcome). KeepsQueues h w x.0)
+      cond_both (in_range w.log (length w.harts) address bytes) _ _ (λ (x : Outcome). KeepsQueues h w x.0)
       (λ _. cond_both (aligned address bytes) _ _ (λ (x : Outcome). KeepsQueues h w x.0) (λ _. k) (λ _. stays))
       (λ _. stays)
 
@@ -134,7 +135,7 @@ settles h w v short (Some hart) e =
 
 module _ (program : List (List Slot)) (h : ℕ) (w : World) (short : AreShort w) where
   by_phase : (hart : Hart) → slice_get w.harts h ≡ Some hart → (phase : Phase) → AreShort (phase_step program w h hart phase).0
-  by_phase hart here Take = kept_short h w _ (takes h w hart (short h hart here) (first_missing w.holders (record_of w.words h) h)) short
+  by_phase hart here Take = kept_short h w _ (takes h w hart (short h hart here) (first_missing w.holders (record_of w.log w.words h) h)) short
   by_phase hart here Wait = kept_short h w _ (waits h w hart (short h hart here) (taking_from 0 w.harts)) short
   by_phase hart here Resume = kept_short h w (resumed w h hart).0 (moves h w hart (short h hart here) w _ refl (short h hart here)) short
   by_phase hart here Run =
@@ -154,17 +155,17 @@ all_empty program phase at zero h hart e = absurd (none_some hart e)
 all_empty program phase at (suc count) zero hart e = subst (λ (x : Hart). length x.queue ≤ 16) (some_same _ hart e) (omega arith)
 all_empty program phase at (suc count) (suc h) hart e = all_empty program phase (at + 1) count h hart e
 
-pub starts_are_short : (program : List (List Slot)) (locks : ℕ) (initial : List ℕ) → AreShort (start_of program locks initial)
+pub starts_are_short : (log : Log) (program : List (List Slot)) (locks : ℕ) (initial : List ℕ) → AreShort (start_of log program locks initial)
 unfolding start_of
-starts_are_short program locks initial = λ h hart e. all_empty program (λ thread. Run) 0 (length program) h hart e
+starts_are_short log program locks initial = λ h hart e. all_empty program (λ thread. Run) 0 (length program) h hart e
 
-pub crashes_are_short : (program : List (List Slot)) (locks : ℕ) (words : List ℕ) → AreShort (after_crash_of program locks words)
+pub crashes_are_short : (log : Log) (program : List (List Slot)) (locks : ℕ) (words : List ℕ) → AreShort (after_crash_of log program locks words)
 unfolding after_crash_of
-crashes_are_short program locks words =
-    λ h hart e. all_empty program (λ thread. phase_after_crash (durable_point (map word_of words) thread)) 0 (length program) h hart e
+crashes_are_short log program locks words =
+    λ h hart e. all_empty program (λ thread. phase_after_crash (durable_point log (map word_of words) thread)) 0 (length program) h hart e
 
 pub queues_stay_short : (program : List (List Slot)) (w : World) (event : Event) → AreShort w → AreShort (after_event program w event)
 unfolding happens
 queues_stay_short program w (Step h) short = by_hart program h w short (slice_get w.harts h) refl
 queues_stay_short program w (Evict line mask) short = short
-queues_stay_short program w Crash short = crashes_are_short program (length w.holders) (map durable_value w.words)
+queues_stay_short program w Crash short = crashes_are_short w.log program (length w.holders) (map durable_value w.words)

@@ -3,6 +3,9 @@ use Rattle.std.proofs.Common.{◌≡◌, ◌≢◌, ◌⊎◌, inl, inr, ℕ, ze
 use Rattle.std.proofs.Common.{ap, arith, sym, ◌∙◌, subst, get_or, Bool, true, false, Option, Some, None, add-zero}
 use Rattle.std.specs.Prelude.{slice_get, not, ◌==◌}
 use Rattle.std.proofs.lemmas.Bool.{cond_both, eqb-true}
+use Rattle.ido_base.specs.Words.{Word}
+use Rattle.ido_base.specs.declared.log.Log.TheVariants.{V1}
+use Rattle.ido_base.specs.declared.log.Log.{Log}
 use Rattle.ido_base.specs.declared.event.Event.TheVariants.{Step}
 use Rattle.ido_base.specs.declared.event.Reply.TheVariants.{Still}
 use Rattle.ido_base.specs.Locks.{is_held_by, is_missing, has_lock, first_missing}
@@ -10,7 +13,7 @@ use Rattle.rv64_isa.specs.declared.object.Slot.{Slot}
 use Rattle.rv64_isa.specs.declared.phase.Phase.{Phase}
 use Rattle.rv64_isa.specs.declared.phase.Phase.TheVariants.{Take, Wait, Resume, Run, Done, Ended}
 use Rattle.rv64_isa.specs.Machine.{Hart, World, moved, taken, waited, taking_from, is_taking, record_of}
-use Rattle.rv64_isa.specs.Machine.{durable_point, resume_of, resumed_register, numbers_from, happens}
+use Rattle.rv64_isa.specs.Machine.{durable_point, resume_of, resumed_register, resumed_registers, numbers_from, happens}
 use Rattle.ido_base.proofs.Public.{has_cases, has_first, has_later}
 use Rattle.hart_runs.specs.Calls.{IsInPhase, IsRecorded, TakesLocks, AwaitsOthers, ResumesHart}
 use Rattle.hart_runs.proofs.OtherEventsKeepRuns.{moved_harts_begin}
@@ -93,7 +96,7 @@ module _ (holders : List (Option ℕ)) (h : ℕ) where
 -- ---- Take
 
 module _ (program : List (List Slot)) (w : World) (h : ℕ) (i : IsInPhase w h Take) where
-  takes_by : happens program w (Step h) ≡ taken w h i.hart (first_missing w.holders (record_of w.words h) h)
+  takes_by : happens program w (Step h) ≡ taken w h i.hart (first_missing w.holders (record_of w.log w.words h) h)
   takes_by = by_phase program w h i.hart i.here Take i.phase_is
 
   by_holder : (lock : ℕ) (holder : Option ℕ) → IsRecorded w h lock holder → is_held_by h holder ≡ false →
@@ -101,14 +104,14 @@ module _ (program : List (List Slot)) (w : World) (h : ℕ) (i : IsInPhase w h T
   by_holder lock None r other e = TakesLocks.takes_one lock r (e ∙ ap (λ (x : Option (Option ℕ)). took w h i.hart lock x) r.there)
   by_holder lock (Some g) r other e = TakesLocks.is_kept_from lock g r (not_held h g other) (e ∙ ap (λ (x : Option (Option ℕ)). took w h i.hart lock x) r.there)
 
-  by_missing : (found : Option ℕ) → Missing w.holders (record_of w.words h) h found → happens program w (Step h) ≡ taken w h i.hart found →
+  by_missing : (found : Option ℕ) → Missing w.holders (record_of w.log w.words h) h found → happens program w (Step h) ≡ taken w h i.hart found →
       TakesLocks program w h i.hart
   unfolding Missing HoldsAll
   by_missing None m e = TakesLocks.has_all (λ lock holder r. m lock holder r.there r.among) e
   by_missing (Some lock) m e = by_holder lock m.holder (record { among = m.among; there = m.there }) m.other e
 
   pub takes_step : TakesLocks program w h i.hart
-  takes_step = by_missing (first_missing w.holders (record_of w.words h) h) (missing w.holders h (record_of w.words h)) takes_by
+  takes_step = by_missing (first_missing w.holders (record_of w.log w.words h) h) (missing w.holders h (record_of w.log w.words h)) takes_by
 
 -- ---- Wait
 
@@ -180,10 +183,13 @@ count_mapped : (f : ℕ → ℕ) (at count : ℕ) → length (map f (numbers_fro
 count_mapped f at zero = refl
 count_mapped f at (suc count) = let more = count_mapped f (at + 1) count in omega (arith, more)
 
+count_resumed : (log : Log) (words : List Word) (h : ℕ) → length (resumed_registers log words h) ≡ 32
+count_resumed V1 words h = count_mapped (resumed_register V1 words h) 0 32
+
 resumed_hart : World → (h : ℕ) → Hart → Hart
 resumed_hart w h hart = record hart {
-  registers = map (resumed_register w.words h) (numbers_from 0 32);
-  pc = resume_of (durable_point w.words h);
+  registers = resumed_registers w.log w.words h;
+  pc = resume_of (durable_point w.log w.words h);
   phase = Run;
 }
 
@@ -196,8 +202,8 @@ resumes_step program w h i =
       does = does;
       runs = refl;
       pc = refl;
-      count = count_mapped (resumed_register w.words h) 0 32;
-      registers = λ r l. mapped (resumed_register w.words h) 0 32 r l ∙ ap (λ (n : ℕ). resumed_register w.words h n) (let z : 0 + r ≡ r = omega arith in z);
+      count = count_resumed w.log w.words h;
+      registers = refl;
       queue = refl;
       at = moved_harts_begin program w w h i.hart (resumed_hart w h i.hart) i.here does refl;
     }

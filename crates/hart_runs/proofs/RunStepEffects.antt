@@ -5,6 +5,7 @@ use Rattle.std.specs.Prelude.{slice_get, nat_lt, ◌==◌, if◌then◌else◌}
 use Rattle.std.specs.Option.{option_map}
 use Rattle.std.proofs.lemmas.Bool.{and_parts, cond_both, ltb-true, ltb-false}
 use Rattle.std.proofs.Math.ListN.{length-set}
+use Rattle.ido_base.specs.declared.log.Log.{Log}
 use Rattle.ido_base.specs.declared.event.Event.TheVariants.{Step}
 use Rattle.ido_base.specs.declared.event.Reply.TheVariants.{Moved, Drained}
 use Rattle.ido_base.specs.declared.event.Cause.TheVariants.{Outside, Unaligned}
@@ -22,45 +23,48 @@ use Rattle.hart_runs.proofs.Worlds.{some_same, same_there, none_some, if_true, n
 
 -- ---- Accesses
 
-access_is : (w : World) (address bytes : ℕ) (o : Outcome) → in_range (length w.harts) address bytes ≡ true → aligned address bytes ≡ true →
+access_is : (w : World) (address bytes : ℕ) (o : Outcome) → in_range w.log (length w.harts) address bytes ≡ true → aligned address bytes ≡ true →
     access w address bytes o ≡ o
 access_is w address bytes o inside is_aligned =
-    if_true (in_range (length w.harts) address bytes) (if aligned address bytes then o else stuck w (Unaligned address)) (stuck w (Outside address)) inside
+    if_true (in_range w.log (length w.harts) address bytes) (if aligned address bytes then o else stuck w (Unaligned address))
+    (stuck w (Outside address)) inside
     ∙ if_true (aligned address bytes) o (stuck w (Unaligned address)) is_aligned
 
-access_parts : (threads address bytes : ℕ) → is_access threads address bytes ≡ true → (in_range threads address bytes ≡ true) × (aligned address bytes ≡ true)
-access_parts threads address bytes h = and_parts _ _ (and_parts (is_width bytes) _ h).1
+access_parts : (log : Log) (threads address bytes : ℕ) → is_access log threads address bytes ≡ true →
+    (in_range log threads address bytes ≡ true) × (aligned address bytes ≡ true)
+access_parts log threads address bytes h = and_parts _ _ (and_parts (is_width bytes) _ h).1
 
-pub may_access : (w : World) (address bytes : ℕ) (o : Outcome) → is_access (length w.harts) address bytes ≡ true → access w address bytes o ≡ o
-may_access w address bytes o h = let p = access_parts (length w.harts) address bytes h in access_is w address bytes o p.0 p.1
+pub may_access : (w : World) (address bytes : ℕ) (o : Outcome) → is_access w.log (length w.harts) address bytes ≡ true → access w address bytes o ≡ o
+may_access w address bytes o h = let p = access_parts w.log (length w.harts) address bytes h in access_is w address bytes o p.0 p.1
 
 one_aligned : (address : ℕ) → aligned address 1 ≡ true
 one_aligned address = let e : address % 1 ≡ 0 = omega arith in ap (λ (n : ℕ). n == 0) e
 
 -- ---- What goes to memory
 
-pub may_left : (threads : ℕ) (first later : List Observation) → MayGo threads (first ++ later) → MayGo threads first
-may_left threads [] later h = tt
-may_left threads (Mark ∷ first) later h = may_left threads first later h
-may_left threads (Does e ∷ first) later h = (h.0, may_left threads first later h.1)
+pub may_left : (log : Log) (threads : ℕ) (first later : List Observation) → MayGo log threads (first ++ later) → MayGo log threads first
+may_left log threads [] later h = tt
+may_left log threads (Mark ∷ first) later h = may_left log threads first later h
+may_left log threads (Does e ∷ first) later h = (h.0, may_left log threads first later h.1)
 
-pub may_right : (threads : ℕ) (first later : List Observation) → MayGo threads (first ++ later) → MayGo threads later
-may_right threads [] later h = h
-may_right threads (Mark ∷ first) later h = may_right threads first later h
-may_right threads (Does e ∷ first) later h = may_right threads first later h.1
+pub may_right : (log : Log) (threads : ℕ) (first later : List Observation) → MayGo log threads (first ++ later) → MayGo log threads later
+may_right log threads [] later h = h
+may_right log threads (Mark ∷ first) later h = may_right log threads first later h
+may_right log threads (Does e ∷ first) later h = may_right log threads first later h.1
 
-pub may_both : (threads : ℕ) (first later : List Observation) → MayGo threads first → MayGo threads later → MayGo threads (first ++ later)
-may_both threads [] later h k = k
-may_both threads (Mark ∷ first) later h k = may_both threads first later h k
-may_both threads (Does e ∷ first) later h k = (h.0, may_both threads first later h.1 k)
+pub may_both : (log : Log) (threads : ℕ) (first later : List Observation) → MayGo log threads first → MayGo log threads later →
+    MayGo log threads (first ++ later)
+may_both log threads [] later h k = k
+may_both log threads (Mark ∷ first) later h k = may_both log threads first later h k
+may_both log threads (Does e ∷ first) later h k = (h.0, may_both log threads first later h.1 k)
 
-seen_may : (threads : ℕ) (e : Effect) → MayGo threads (outside e) → may_go threads e ≡ true
-seen_may threads (Continues registers pc) h = refl
-seen_may threads (Loads address bytes signed register) h = refl
-seen_may threads (Stores address bytes value) h = h.0
-seen_may threads (Cleans address) h = h.0
-seen_may threads Fences h = refl
-seen_may threads Calls h = refl
+seen_may : (log : Log) (threads : ℕ) (e : Effect) → MayGo log threads (outside e) → may_go log threads e ≡ true
+seen_may log threads (Continues registers pc) h = refl
+seen_may log threads (Loads address bytes signed register) h = refl
+seen_may log threads (Stores address bytes value) h = h.0
+seen_may log threads (Cleans address) h = h.0
+seen_may log threads Fences h = refl
+seen_may log threads Calls h = refl
 
 -- ---- By the effect of the next instruction
 
@@ -132,7 +136,7 @@ module _ (program : List (List Slot)) (w : World) (h : ℕ) (s : MarkedEnvironme
       }))
       (λ e. let full : 16 ≤ length hart.queue = ltb-false _ _ e in inr (drains_one (Cleans address) hart.queue refl (omega (arith, full)) full))
 
-  by_effect : (e : Effect) → passed s.around (config hart.registers hart.pc) e ≡ Some by → may_go (length w.harts) e ≡ true → One e (applied w h hart e)
+  by_effect : (e : Effect) → passed s.around (config hart.registers hart.pc) e ≡ Some by → may_go w.log (length w.harts) e ≡ true → One e (applied w h hart e)
   by_effect (Continues registers pc) p may = inl (record {
     contents = record { words = w.words; queue = hart.queue };
     changes = refl;
@@ -170,8 +174,8 @@ module _ (program : List (List Slot)) (w : World) (h : ℕ) (run : OnRun w h) (a
   seen_is : run.seen ≡ (marked run.environment.marks hart.pc ++ outside effect) ++ run.on.walks.2
   seen_is = run.on.walks.5 ∙ ap (λ (x : List Observation). x ++ run.on.walks.2) run.on.walks.3.sees
 
-  may_all : MayGo (length w.harts) ((marked run.environment.marks hart.pc ++ outside effect) ++ run.on.walks.2)
-  may_all = subst (λ (x : List Observation). MayGo (length w.harts) x) seen_is run.on.may
+  may_all : MayGo w.log (length w.harts) ((marked run.environment.marks hart.pc ++ outside effect) ++ run.on.walks.2)
+  may_all = subst (λ (x : List Observation). MayGo w.log (length w.harts) x) seen_is run.on.may
 
   -- the hart is there after the step
   there : (ws : List Word) (after : Hart) → slice_get (set w.harts h after) h ≡ Some after
@@ -194,8 +198,8 @@ module _ (program : List (List Slot)) (w : World) (h : ℕ) (run : OnRun w h) (a
         here = there c.contents.words after;
         runs = run.on.runs;
         walks = run.on.walks.4;
-        may = subst (λ (n : ℕ). MayGo n run.on.walks.2) (sym (length-set w.harts h after))
-            (may_right (length w.harts) (marked run.environment.marks hart.pc ++ outside effect) run.on.walks.2 may_all);
+        may = subst (λ (n : ℕ). MayGo w.log n run.on.walks.2) (sym (length-set w.harts h after))
+            (may_right w.log (length w.harts) (marked run.environment.marks hart.pc ++ outside effect) run.on.walks.2 may_all);
       } in
       let moved_on : IsOnTrace (after_event program w (Step h)) h run.environment run.steps run.on.walks.2 run.to =
       subst (λ (o : Outcome). IsOnTrace o.0 h run.environment run.steps run.on.walks.2 run.to) (sym does) stands in
@@ -227,7 +231,7 @@ module _ (program : List (List Slot)) (w : World) (h : ℕ) (run : OnRun w h) (a
         here = there (drained w.words c.entry) after;
         runs = run.on.runs;
         walks = run.on.walks;
-        may = subst (λ (n : ℕ). MayGo n run.seen) (sym (length-set w.harts h after)) run.on.may;
+        may = subst (λ (n : ℕ). MayGo w.log n run.seen) (sym (length-set w.harts h after)) run.on.may;
       } in
       let stays_on : IsOnTrace (after_event program w (Step h)) h run.environment (suc run.steps) run.seen run.to =
       subst (λ (o : Outcome). IsOnTrace o.0 h run.environment (suc run.steps) run.seen run.to) (sym does) stands in
@@ -247,8 +251,8 @@ module _ (program : List (List Slot)) (w : World) (h : ℕ) (run : OnRun w h) (a
 
   one_step : GoesForward program w h run ⊎ Drains program w h run
   one_step = by (by_effect program w h run.environment agrees hart run.on.walks.0 effect run.on.walks.3.does
-      (seen_may (length w.harts) effect (may_right (length w.harts) (marked run.environment.marks hart.pc) (outside effect)
-      (may_left (length w.harts) (marked run.environment.marks hart.pc ++ outside effect) run.on.walks.2 may_all))))
+      (seen_may w.log (length w.harts) effect (may_right w.log (length w.harts) (marked run.environment.marks hart.pc) (outside effect)
+      (may_left w.log (length w.harts) (marked run.environment.marks hart.pc ++ outside effect) run.on.walks.2 may_all))))
     where
       by : Completes w h hart run.on.walks.0 effect (applied w h hart effect) ⊎ WritesBack w h hart effect (applied w h hart effect) →
           GoesForward program w h run ⊎ Drains program w h run
@@ -260,9 +264,11 @@ pub steps_go_on : (program : List (List Slot)) (w : World) (h : ℕ) (run : OnRu
 steps_go_on program w h run agrees = one_step program w h run agrees
 
 -- what a step that goes forward does to memory, it may do
-pub may_next : (program : List (List Slot)) (w : World) (h : ℕ) (run : OnRun w h) → (f : GoesForward program w h run) → may_go (length w.harts) f.effect ≡ true
+pub may_next : (program : List (List Slot)) (w : World) (h : ℕ) (run : OnRun w h) → (f : GoesForward program w h run) →
+    may_go w.log (length w.harts) f.effect ≡ true
 may_next program w h run f =
     let first : List Observation = marked run.environment.marks run.on.hart.pc in
-    let all : MayGo (length w.harts) ((first ++ outside f.effect) ++ f.later) =
-    subst (λ (x : List Observation). MayGo (length w.harts) x) f.seen_is run.on.may in
-    seen_may (length w.harts) f.effect (may_right (length w.harts) first (outside f.effect) (may_left (length w.harts) (first ++ outside f.effect) f.later all))
+    let all : MayGo w.log (length w.harts) ((first ++ outside f.effect) ++ f.later) =
+    subst (λ (x : List Observation). MayGo w.log (length w.harts) x) f.seen_is run.on.may in
+    seen_may w.log (length w.harts) f.effect
+    (may_right w.log (length w.harts) first (outside f.effect) (may_left w.log (length w.harts) (first ++ outside f.effect) f.later all))

@@ -1,6 +1,7 @@
 -- Worked rows: x = x + 1 by a load, a store, a clean and a fence, and calls.
 use Rattle.std.proofs.Common.{zero, suc, subst, ◌≤◌, ◌≡◌, ℕ, List, [], ◌∷◌, length, replicate, refl, Bool, true, false, Option, Some, None}
 use Rattle.std.specs.Prelude.{slice_get, slice_set}
+use Rattle.ido_base.specs.declared.log.Log.TheVariants.{V1}
 use Rattle.ido_base.specs.declared.event.Event.{Event}
 use Rattle.ido_base.specs.declared.event.Event.TheVariants.{Step}
 use Rattle.ido_base.specs.declared.event.Reply.{Reply}
@@ -48,7 +49,8 @@ abbrev registers : (five seventeen : ℕ) → List ℕ
 registers five seventeen = slice_set (slice_set (slice_set (replicate 32 0) 28 0x10000000) 5 five) 17 seventeen
 
 abbrev world_of : (holders : List (Option ℕ)) → (recovering : Bool) → Hart → World
-world_of holders recovering hart = record { words = word_of 6 ∷ replicate 7 (word_of 0); harts = hart ∷ []; holders = holders; recovering = recovering }
+world_of holders recovering hart =
+    record { words = word_of 6 ∷ replicate 7 (word_of 0); harts = hart ∷ []; holders = holders; recovering = recovering; log = V1 }
 
 abbrev first : World
 first = world_of (None ∷ []) false (record { registers = registers 0 0; pc = 0x10000; phase = Run; queue = [] })
@@ -125,7 +127,7 @@ left = refl
 
 -- ---- The store, clean and fence, whatever happens between them
 
-module _ (ws : List Word) (size : length ws ≡ word_count 1) where
+module _ (ws : List Word) (size : length ws ≡ word_count V1 1) where
   before : World
   before = record {
     words = ws;
@@ -133,6 +135,7 @@ module _ (ws : List Word) (size : length ws ≡ word_count 1) where
     holders = None ∷ [];
     recovering =
         false;
+    log = V1;
   }
 
   no_loads : ℕ → ℕ → Option ℕ

@@ -2,6 +2,7 @@
 use Rattle.std.proofs.Common.{◌≡◌, ℕ, zero, suc, ◌+◌, ◌<◌, List, [], ◌∷◌, length, map, replicate, refl, ap, arith, sym, ◌∙◌, Option, Some, None, add-zero}
 use Rattle.std.specs.Prelude.{slice_get}
 use Rattle.std.proofs.lemmas.List.{length-replicate}
+use Rattle.ido_base.specs.declared.log.Log.{Log}
 use Rattle.ido_base.specs.declared.event.Event.TheVariants.{Crash}
 use Rattle.ido_base.specs.Words.{Word, word_of, word_at, durable_value}
 use Rattle.ido_base.specs.Layout.{point_at, word_number}
@@ -27,8 +28,8 @@ all_free zero lock holder e = absurd (none_some holder e)
 all_free (suc count) zero holder e = sym (some_same None holder e)
 all_free (suc count) (suc lock) holder e = all_free count lock holder e
 
-point_left : (ws : List Word) (h : ℕ) → durable_point (map word_of (map durable_value ws)) h ≡ durable_point ws h
-point_left ws h = ap durable_value (word_left ws (word_number (point_at h)))
+point_left : (log : Log) (ws : List Word) (h : ℕ) → durable_point log (map word_of (map durable_value ws)) h ≡ durable_point log ws h
+point_left log ws h = ap durable_value (word_left ws (word_number (point_at log h)))
 
 pub crashes_step : (program : List (List Slot)) (w : World) → IsCrashed program w (after_event program w Crash)
 unfolding happens after_crash_of
@@ -37,9 +38,9 @@ crashes_step program w = record {
   harts = λ h l.
       let kept : List Word = map word_of (map durable_value w.words) in
       let e : 0 + h ≡ h = omega arith in
-      number_there (λ thread. fresh_hart program (phase_after_crash (durable_point kept thread)) thread) 0 (length program) h l
-      ∙ (ap (λ (n : ℕ). Some (fresh_hart program (phase_after_crash (durable_point kept n)) n)) e
-      ∙ ap (λ (p : ℕ). Some (fresh_hart program (phase_after_crash p) h)) (point_left w.words h));
+      number_there (λ thread. fresh_hart program (phase_after_crash (durable_point w.log kept thread)) thread) 0 (length program) h l
+      ∙ (ap (λ (n : ℕ). Some (fresh_hart program (phase_after_crash (durable_point w.log kept n)) n)) e
+      ∙ ap (λ (p : ℕ). Some (fresh_hart program (phase_after_crash p) h)) (point_left w.log w.words h));
   locks = length-replicate (length w.holders) None;
   free = all_free (length w.holders);
   recovering = refl;

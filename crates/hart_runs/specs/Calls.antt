@@ -8,7 +8,7 @@ use Rattle.rv64_isa.specs.declared.object.Slot.{Slot}
 use Rattle.rv64_isa.specs.declared.phase.Phase.{Phase}
 use Rattle.rv64_isa.specs.declared.phase.Phase.TheVariants.{Take, Wait, Resume, Run, Done}
 use Rattle.rv64_isa.specs.Rows.{read}
-use Rattle.rv64_isa.specs.Machine.{Hart, World, with_holder, moved, happens, after_event, record_of, durable_point, resume_of, resumed_register}
+use Rattle.rv64_isa.specs.Machine.{Hart, World, with_holder, moved, happens, after_event, record_of, durable_point, resume_of, resumed_registers}
 use Rattle.rv64_isa.specs.Schedule.{is_running}
 use Rattle.code_runs.specs.ComputingRuns.{config}
 use Rattle.hart_runs.specs.HartsOnRuns.{instr_at, Agrees, IsRunningAt, OnRun}
@@ -41,7 +41,7 @@ pub record IsInPhase (w : World) (h : ℕ) (phase : Phase) : Type 0 where
 
 -- a lock of the thread's record, and the hart that holds it, or none
 pub record IsRecorded (w : World) (h lock : ℕ) (holder : Option ℕ) : Type 0 where
-  pub among : has_lock (record_of w.words h) lock ≡ true
+  pub among : has_lock (record_of w.log w.words h) lock ≡ true
   pub there : slice_get w.holders lock ≡ Some holder
 
 -- a step of a hart that takes locks
@@ -66,12 +66,12 @@ pub record ResumesHart (program : List (List Slot)) (w : World) (h : ℕ) (hart 
   pub after : Hart
   pub does : happens program w (Step h) ≡ moved w h after
   pub runs : after.phase ≡ Run
-  pub pc : after.pc ≡ resume_of (durable_point w.words h)
+  pub pc : after.pc ≡ resume_of (durable_point w.log w.words h)
   pub count : length after.registers ≡ 32
-  pub registers : (r : ℕ) → r < 32 → read after.registers r ≡ resumed_register w.words h r
+  pub registers : after.registers ≡ resumed_registers w.log w.words h
   pub queue : after.queue ≡ hart.queue
   -- the hart begins a run from its resume address
-  pub at : IsRunningAt (after_event program w (Step h)) h (config after.registers (resume_of (durable_point w.words h)))
+  pub at : IsRunningAt (after_event program w (Step h)) h (config after.registers (resume_of (durable_point w.log w.words h)))
 
 -- ---- Where no hart is stuck
 

@@ -1,5 +1,6 @@
 -- A hart in the middle of a run: what the code and memory around it give, and where in the run it stands.
 use Rattle.std.specs.Prelude.{◌≡◌, ℕ, suc, List, [], ◌∷◌, length, slice_get, Option, Some, None, Bool, true, ◌==◌, ◌&&◌, ◌||◌, if◌then◌else◌}
+use Rattle.ido_base.specs.declared.log.Log.{Log}
 use Rattle.ido_base.specs.Words.{loaded}
 use Rattle.ido_base.specs.Layout.{in_range, aligned, byte_number}
 use Rattle.rv64_isa.specs.declared.instr.Instr.{Instr}
@@ -27,13 +28,13 @@ abbrev pub is_width : (bytes : ℕ) → Bool
 is_width bytes = (bytes == 1 || bytes == 2) || (bytes == 4 || bytes == 8)
 
 -- an access that a machine of so many threads lets pass
-abbrev pub is_access : (threads address bytes : ℕ) → Bool
-is_access threads address bytes = is_width bytes && (in_range threads address bytes && aligned address bytes)
+abbrev pub is_access : Log → (threads address bytes : ℕ) → Bool
+is_access log threads address bytes = is_width bytes && (in_range log threads address bytes && aligned address bytes)
 
 -- what loads give in a world, at those addresses and widths that may be read
 abbrev pub live_loads : (reads : ℕ → ℕ → Bool) → World → (address bytes : ℕ) → Option ℕ
 live_loads reads w address bytes =
-    if reads address bytes && is_access (length w.harts) address bytes then Some (loaded w.words (byte_number address) bytes) else None
+    if reads address bytes && is_access w.log (length w.harts) address bytes then Some (loaded w.words (byte_number address) bytes) else None
 
 -- what a run of hart h meets in a world
 abbrev pub environment_of : List (List Slot) → (marks : List ℕ) → (reads : ℕ → ℕ → Bool) → World → (h : ℕ) → MarkedEnvironment
@@ -41,7 +42,7 @@ environment_of program marks reads w h = record { around = record { fetch = inst
 
 -- a load of the world that may be made, and what it gives
 pub record LoadGives (w : World) (address bytes value : ℕ) : Type 0 where
-  pub may : is_access (length w.harts) address bytes ≡ true
+  pub may : is_access w.log (length w.harts) address bytes ≡ true
   pub is : loaded w.words (byte_number address) bytes ≡ value
 
 -- what an environment answers, the hart's code and memory give
@@ -50,18 +51,18 @@ pub record Agrees (program : List (List Slot)) (w : World) (h : ℕ) (s : Marked
   pub loads : (address bytes value : ℕ) → s.around.loads address bytes ≡ Some value → LoadGives w address bytes value
 
 -- what goes to memory goes where it may: a store is an access, and the line of a clean is there
-abbrev pub may_go : (threads : ℕ) → Effect → Bool
-may_go threads (Continues registers pc) = true
-may_go threads (Loads address bytes signed register) = true
-may_go threads (Stores address bytes value) = is_access threads address bytes
-may_go threads (Cleans address) = in_range threads address 1
-may_go threads Fences = true
-may_go threads Calls = true
+abbrev pub may_go : Log → (threads : ℕ) → Effect → Bool
+may_go log threads (Continues registers pc) = true
+may_go log threads (Loads address bytes signed register) = true
+may_go log threads (Stores address bytes value) = is_access log threads address bytes
+may_go log threads (Cleans address) = in_range log threads address 1
+may_go log threads Fences = true
+may_go log threads Calls = true
 
-abbrev pub MayGo : (threads : ℕ) → List Observation → Type 0
-MayGo threads [] = Unit {0}
-MayGo threads (Mark ∷ seen) = MayGo threads seen
-MayGo threads (Does effect ∷ seen) = (may_go threads effect ≡ true) × MayGo threads seen
+abbrev pub MayGo : Log → (threads : ℕ) → List Observation → Type 0
+MayGo log threads [] = Unit {0}
+MayGo log threads (Mark ∷ seen) = MayGo log threads seen
+MayGo log threads (Does effect ∷ seen) = (may_go log threads effect ≡ true) × MayGo log threads seen
 
 -- hart h executes instructions, and is at a local config
 pub record IsRunningAt (w : World) (h : ℕ) (m : LocalConfig) : Type 0 where
@@ -76,7 +77,7 @@ pub record IsOnTrace (w : World) (h : ℕ) (s : MarkedEnvironment) (steps : ℕ)
   pub here : slice_get w.harts h ≡ Some hart
   pub runs : hart.phase ≡ Run
   pub walks : Trace s steps (config hart.registers hart.pc) seen to
-  pub may : MayGo (length w.harts) seen
+  pub may : MayGo w.log (length w.harts) seen
 
 -- a run that hart h stands on, before its end, with so many instructions after the next one
 pub record OnRun (w : World) (h : ℕ) : Type 0 where

@@ -1,6 +1,7 @@
 -- Laws of harts that stand on runs: what each event does to them.
 use Rattle.std.specs.Prelude.{◌≡◌, ◌≢◌, ◌⊎◌, ℕ, suc, ◌+◌, ◌-◌, ◌*◌, ◌/◌, ◌<◌, ◌≤◌, List, [], ◌∷◌, ◌++◌, length, slice_get}
 use Rattle.std.specs.Prelude.{slice_set, Option, Some, None, Bool, true, false, ◌==◌, ◌&&◌, if◌then◌else◌}
+use Rattle.ido_base.specs.declared.log.Log.{Log}
 use Rattle.ido_base.specs.declared.event.Event.{Event}
 use Rattle.ido_base.specs.declared.event.Event.TheVariants.{Step, Evict, Crash}
 use Rattle.ido_base.specs.declared.event.Reply.TheVariants.{Waits, Still, Stuck}
@@ -93,7 +94,7 @@ abbrev pub ForwardCounts : Type 0
 ForwardCounts = (program : List (List Slot)) (w : World) (h : ℕ) (run : OnRun w h) →
     (f : GoesForward program w h run) →
     ((marks : List (List ℕ)) → passes_mark marks program w h ≡ is_mark marks h run.on.hart.pc)
-    × (stores_point program w (Step h) h ≡ is_point_store h f.effect) × (finishes_fence program w (Step h) h ≡ is_fence f.effect)
+    × (stores_point program w (Step h) h ≡ is_point_store w.log h f.effect) × (finishes_fence program w (Step h) h ≡ is_fence f.effect)
 
 -- nothing is counted of a step that writes an entry back
 abbrev pub DrainsCountNone : Type 0
@@ -161,10 +162,10 @@ abbrev pub QueuesStayShort : Type 0
 QueuesStayShort = (program : List (List Slot)) (w : World) (event : Event) → AreShort w → AreShort (after_event program w event)
 
 abbrev pub StartsAreShort : Type 0
-StartsAreShort = (program : List (List Slot)) (locks : ℕ) (initial : List ℕ) → AreShort (start_of program locks initial)
+StartsAreShort = (log : Log) (program : List (List Slot)) (locks : ℕ) (initial : List ℕ) → AreShort (start_of log program locks initial)
 
 abbrev pub CrashesAreShort : Type 0
-CrashesAreShort = (program : List (List Slot)) (locks : ℕ) (words : List ℕ) → AreShort (after_crash_of program locks words)
+CrashesAreShort = (log : Log) (program : List (List Slot)) (locks : ℕ) (words : List ℕ) → AreShort (after_crash_of log program locks words)
 
 -- ---- What memory gives
 
@@ -174,13 +175,16 @@ IsApart s address bytes = (at count value : ℕ) → s.around.loads at count ≡
 
 -- memory goes on to agree where words are persisted
 abbrev pub PersistedAgrees : Type 0
-PersistedAgrees = (program : List (List Slot)) (w v : World) (h : ℕ) (s : MarkedEnvironment) → length v.harts ≡ length w.harts → ArePersisted w.words v.words →
+PersistedAgrees =
+    (program : List (List Slot)) (w v : World) (h : ℕ) (s : MarkedEnvironment) → length v.harts ≡ length w.harts → v.log ≡ w.log →
+    ArePersisted w.words v.words →
     Agrees program w h s → Agrees program v h s
 
 -- memory goes on to agree where other bytes are stored to than the environment answers
 abbrev pub BesideAgrees : Type 0
-BesideAgrees = (program : List (List Slot)) (w v : World) (h : ℕ) (s : MarkedEnvironment) (address bytes value : ℕ) → length v.harts ≡ length w.harts →
-    v.words ≡ stored w.words (byte_number address) bytes value → is_access (length w.harts) address bytes ≡ true → IsApart s address bytes →
+BesideAgrees =
+    (program : List (List Slot)) (w v : World) (h : ℕ) (s : MarkedEnvironment) (address bytes value : ℕ) → length v.harts ≡ length w.harts → v.log ≡ w.log →
+    v.words ≡ stored w.words (byte_number address) bytes value → is_access w.log (length w.harts) address bytes ≡ true → IsApart s address bytes →
     Agrees program w h s → Agrees program v h s
 
 -- where an instruction stores, its bytes are apart from what the environment answers
@@ -213,7 +217,7 @@ EvictionsAgree = (program : List (List Slot)) (w : World) (line mask k : ℕ) (z
 abbrev pub RunsBegin : Type 0
 RunsBegin =
     (w : World) (h : ℕ) (s : MarkedEnvironment) (steps : ℕ) (seen : List Observation) (m to : LocalConfig) → IsRunningAt w h m → Trace s steps m seen to →
-    MayGo (length w.harts) seen → IsOnTrace w h s steps seen to
+    MayGo w.log (length w.harts) seen → IsOnTrace w h s steps seen to
 
 -- a hart that a step has moved, and that executes instructions, is at the local config of its registers and pc, whatever else the step did
 abbrev pub MovedHartsBegin : Type 0
@@ -230,7 +234,7 @@ abbrev pub RunsJoin : Type 0
 RunsJoin =
     (w : World) (h : ℕ) (s : MarkedEnvironment) (n k : ℕ) (first later : List Observation) (by to : LocalConfig) → IsOnTrace w h s n first by →
     Trace s k by later to →
-    MayGo (length w.harts) later →
+    MayGo w.log (length w.harts) later →
     IsOnTrace w h s (n + k) (first ++ later) to
 
 -- the hart stands on the first `n` instructions of its run, and the others lead on from there
@@ -241,7 +245,7 @@ pub record IsOnFirstPart (w : World) (h n : ℕ) (fragment : Stretch) : Type 0 w
   pub seen_is : fragment.seen ≡ first ++ later
   pub on : IsOnTrace w h fragment.environment n first by
   pub after : Trace fragment.environment (fragment.steps - n) by later fragment.to
-  pub may : MayGo (length w.harts) later
+  pub may : MayGo w.log (length w.harts) later
 
 abbrev pub RunsSplit : Type 0
 RunsSplit = (w : World) (h : ℕ) (s : MarkedEnvironment) (n k : ℕ) (seen : List Observation) (to : LocalConfig) → IsOnTrace w h s (n + k) seen to →
@@ -333,7 +337,7 @@ EndsEnd = (program : List (List Slot)) (w : World) (h : ℕ) (a : IsAtCall progr
 -- after a crash only durable values are left; each hart has its first state, which takes locks where its point isn't 0, and every lock is free
 pub record IsCrashed (program : List (List Slot)) (w v : World) : Type 0 where
   pub words : (j : ℕ) → word_at v.words j ≡ word_of (durable_value (word_at w.words j))
-  pub harts : (h : ℕ) → h < length program → slice_get v.harts h ≡ Some (fresh_hart program (phase_after_crash (durable_point w.words h)) h)
+  pub harts : (h : ℕ) → h < length program → slice_get v.harts h ≡ Some (fresh_hart program (phase_after_crash (durable_point w.log w.words h)) h)
   pub locks : length v.holders ≡ length w.holders
   pub free : (lock : ℕ) (holder : Option ℕ) → slice_get v.holders lock ≡ Some holder → holder ≡ None
   pub recovering : v.recovering ≡ true

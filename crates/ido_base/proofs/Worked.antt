@@ -1,6 +1,7 @@
 -- Worked rows of the definitions.
 use Rattle.std.proofs.Common.{◌≡◌, List, [], ◌∷◌, refl, true, false}
 use Rattle.ido_base.specs.declared.location.Shape.{Shape}
+use Rattle.ido_base.specs.declared.log.Log.TheVariants.{V1}
 use Rattle.ido_base.specs.Words.{Word, word_of, live_value, durable_value, word_at, stored, entry_of, drained, evicted}
 use Rattle.ido_base.specs.Layout.{variable_at, slot_at, word_number, point_at, in_range}
 use Rattle.ido_base.specs.Locations.{overlap, same}
@@ -18,16 +19,16 @@ last_variable : variable_at shapes 2 0 ≡ 0x1000_0010
 unfolding shapes
 last_variable = refl
 
-point_of_the_second : word_number (point_at 1) ≡ 8320
+point_of_the_second : word_number (point_at V1 1) ≡ 8320
 point_of_the_second = refl
 
-slot_of_the_second_bank : slot_at 0 1 28 ≡ 0x2000_0220
+slot_of_the_second_bank : slot_at V1 0 1 28 ≡ 0x2000_0220
 slot_of_the_second_bank = refl
 
-last_byte : in_range 1 0x2000_03FF 1 ≡ true
+last_byte : in_range V1 1 0x2000_03FF 1 ≡ true
 last_byte = refl
 
-across_the_end : in_range 1 0x1000_FFFC 8 ≡ false
+across_the_end : in_range V1 1 0x1000_FFFC 8 ≡ false
 across_the_end = refl
 
 eight_words : List Word

@@ -3,7 +3,9 @@ use Rattle.std.specs.Prelude.{ℕ, zero, suc, ◌+◌, ◌-◌, ◌*◌, ◌/◌
 use Rattle.std.specs.Prelude.{replicate, Bool, nat_lt, nat_le, ◌==◌, ◌&&◌, ◌||◌, if◌then◌else◌}
 use Rattle.std.specs.Int.{w64, from_le_bytes}
 use Rattle.ido_base.specs.declared.location.Shape.{Shape}
-use Rattle.ido_base.specs.declared.limits.TheConstants.{LINE_BYTES, VARIABLE_LINES, LOG_LINES}
+use Rattle.ido_base.specs.declared.log.Log.{Log}
+use Rattle.ido_base.specs.declared.log.Log.TheVariants.{V1}
+use Rattle.ido_base.specs.declared.limits.TheConstants.{LINE_BYTES, VARIABLE_LINES}
 
 -- bytes of a line
 abbrev pub line_bytes : ℕ
@@ -22,22 +24,26 @@ abbrev pub variable_lines : ℕ
 variable_lines = VARIABLE_LINES
 
 -- lines of a thread's log
-abbrev pub log_lines : ℕ
-log_lines = LOG_LINES
+abbrev pub log_lines : Log → ℕ
+log_lines V1 = 16
+
+-- words of a thread's log
+abbrev pub log_words : Log → ℕ
+log_words log = 8 * log_lines log
 
 -- how many lines there are
-abbrev pub line_count : (threads : ℕ) → ℕ
-line_count threads = variable_lines + log_lines * threads
+abbrev pub line_count : Log → (threads : ℕ) → ℕ
+line_count log threads = variable_lines + log_lines log * threads
 
 -- how many words they have
-abbrev pub word_count : (threads : ℕ) → ℕ
-word_count threads = 8 * line_count threads
+abbrev pub word_count : Log → (threads : ℕ) → ℕ
+word_count log threads = 8 * line_count log threads
 
 -- each of the count bytes from the address on lies in a line of the variables, or each in a line of a log
-abbrev pub in_range : (threads address count : ℕ) → Bool
-in_range threads address count =
+abbrev pub in_range : Log → (threads address count : ℕ) → Bool
+in_range log threads address count =
     (nat_le variables_base address && nat_le (address + count) (variables_base + line_bytes * variable_lines))
-    || (nat_le logs_base address && nat_le (address + count) (logs_base + line_bytes * log_lines * threads))
+    || (nat_le logs_base address && nat_le (address + count) (logs_base + line_bytes * log_lines log * threads))
 
 -- an access of count bytes is aligned to its size
 abbrev pub aligned : (address count : ℕ) → Bool
@@ -47,23 +53,23 @@ aligned address count = address % count == 0
 abbrev pub byte_number : (address : ℕ) → ℕ
 byte_number address = if nat_lt address logs_base then address - variables_base else line_bytes * variable_lines + (address - logs_base)
 
--- ---- A thread's log: word 0 is the point; two banks of 32 words follow, at offsets 64 and 320
+-- ---- A thread's log: word 0 is the point, and two banks follow
 
 -- the address of a thread's log
-abbrev pub log_of : (thread : ℕ) → ℕ
-log_of thread = logs_base + line_bytes * log_lines * thread
+abbrev pub log_of : Log → (thread : ℕ) → ℕ
+log_of log thread = logs_base + line_bytes * log_lines log * thread
 
 -- the address of its point: 0 between sections, else a resume address plus the number of a bank
-abbrev pub point_at : (thread : ℕ) → ℕ
-point_at thread = log_of thread
+abbrev pub point_at : Log → (thread : ℕ) → ℕ
+point_at log thread = log_of log thread
 
 -- how far the second bank lies after the first
-abbrev pub bank_bytes : ℕ
-bank_bytes = 256
+abbrev pub bank_bytes : Log → ℕ
+bank_bytes V1 = 256
 
 -- the address of a slot: slot 0 of a bank is the mask of the held locks, slot r is register r
-abbrev pub slot_at : (thread bank slot : ℕ) → ℕ
-slot_at thread bank slot = log_of thread + 64 + bank_bytes * bank + 8 * slot
+abbrev pub slot_at : Log → (thread bank slot : ℕ) → ℕ
+slot_at log thread bank slot = log_of log thread + 64 + bank_bytes log * bank + 8 * slot
 
 -- the number of the word at an address that is in range
 abbrev pub word_number : (address : ℕ) → ℕ
@@ -103,8 +109,8 @@ words_of_bytes bytes zero = []
 words_of_bytes bytes (suc count) = from_le_bytes w64 (take 8 bytes) ∷ words_of_bytes (drop 8 bytes) count
 
 -- all words at the start: the initial bytes of the variables, and zeros
-unfoldable pub initial_words : (threads : ℕ) → List ℕ → List ℕ
-initial_words threads bytes = words_of_bytes bytes (8 * variable_lines) ++ replicate (8 * log_lines * threads) 0
+unfoldable pub initial_words : Log → (threads : ℕ) → List ℕ → List ℕ
+initial_words log threads bytes = words_of_bytes bytes (8 * variable_lines) ++ replicate (log_words log * threads) 0
 
 -- all words, where so many words of the variables are given and after them those of the logs
 unfoldable pub spread_words : (variable_words : ℕ) → List ℕ → List ℕ

@@ -9,6 +9,7 @@ pub mod laws;
 pub mod limits;
 pub mod location;
 pub mod locks;
+pub mod log;
 pub mod machine;
 pub mod memory;
 pub mod place;

@@ -58,11 +58,5 @@ pub const VARIABLE_LINES: u64 = 1024;
 /// Words of eight bytes that variables have.
 pub const VARIABLE_WORDS: u32 = 8192;
 
-/// Lines of a thread's log.
-pub const LOG_LINES: u64 = 16;
-
-/// Words of eight bytes of a thread's log.
-pub const LOG_WORDS: u32 = 128;
-
 /// The line of the first thread's point, which is word 0 of it. The point of each further thread lies a log further on.
 pub const POINT_LINE: u32 = VARIABLE_LINES as u32;

@@ -47,20 +47,20 @@ module _ (marks : List (List ℕ)) (program : List (List Slot)) where
       words = (after_event program w (Step h)).words
 
       position : ℕ
-      position = last_position (word_at words (point_word h))
+      position = last_position (word_at words (point_word w.log h))
 
       by : (h < length s.harts) ⊎ (length s.harts ≤ h) → weight (steps_after marks program w (Step h) s) ≤ weight s + 1
-      by (inl within) = weight-after marks program w (Step h) s within
+      by (inl within) = weight-after w.log marks program w (Step h) s within
       by (inr past) =
           let mark = passes_mark marks program w h in
           let point = stores_point program w (Step h) h in
           omega (
             arith,
-            weight-all_kept words (length s.harts) (noted mark point h position s) (omega (arith, harts-noted mark point h position s)),
+            weight-all_kept w.log words (length s.harts) (noted mark point h position s) (omega (arith, harts-noted mark point h position s)),
             weight_past s h past mark point position,
           )
-  one_event w (Evict line mask) s = omega (arith, weight-all_kept (after_event program w (Evict line mask)).words (length s.harts) s (omega arith))
-  one_event w Crash s = weight-after marks program w Crash s tt
+  one_event w (Evict line mask) s = omega (arith, weight-all_kept w.log (after_event program w (Evict line mask)).words (length s.harts) s (omega arith))
+  one_event w Crash s = weight-after w.log marks program w Crash s tt
 
   all_events : (w : World) (events : List Event) (s : Steps) → weight (steps_along marks program w events s) ≤ weight s + length events
   all_events w [] s = omega arith

@@ -5,6 +5,7 @@ use Rattle.std.specs.Prelude.{count_by, option_map, slice_index_or, IfSome, if�
 use Rattle.std.proofs.lemmas.Bool.{eq-eqb, ne_eqb}
 use Rattle.std.proofs.lemmas.List.{at_drop_more, drop_all}
 use Rattle.std.proofs.lemmas.List.Sums.{sum_by-append}
+use Rattle.ido_base.specs.declared.log.Log.{Log}
 use Rattle.ido_base.specs.declared.event.Event.{Event}
 use Rattle.ido_base.specs.declared.event.Event.TheVariants.{Crash}
 use Rattle.ido_base.specs.Cores.{played}
@@ -25,7 +26,7 @@ use Rattle.ido_cli.proofs.LegEvents.{leg_bounded, leg_crashless, leg_evictions}
 abbrev pub IsLifeDriven : (life : Course) → (turns moment : ℕ) → Option Evictor → (left : Course) → List Stop → Option Evictor → Type 0
 IsLifeDriven life turns moment evict left stops evict_left =
     IsDriven living opening_of (λ x. x.journal) (λ x. length x.runs.program) evictions_of (λ x. x.cap - length x.journal)
-    (λ x. IsEviction (length x.runs.program))
+    (λ x. IsEviction x.runs.log (length x.runs.program))
     life turns moment evict left stops evict_left
 
 -- ---- What is still to come of a stream
@@ -148,13 +149,16 @@ module _ (turns : ℕ) (words : List ℕ) (begun : Run) where
       })
 
   module _ (made most : ℕ) (run : Run) (between : IsBetween turns words begun made most run) (can : CanRun (most_leg_events + length words) begun) where
+    same_log : run.life.runs.log ≡ begun.life.runs.log
+    same_log = ap (λ (m : LifeConfig). m.runs.log) between.opens
+
     same_harts : length run.life.runs.program ≡ length begun.life.runs.program
     same_harts = ap (λ (m : LifeConfig). length m.runs.program) between.opens
 
     -- what is still to come is valid, as all of it is
     still_valid : (first now : Option Evictor) (count : ℕ) → HasAdvanced evictions_of first count now →
-        ((v : Evictor) → first ≡ Some v → (n : ℕ) → IsEviction (length begun.life.runs.program) (evictions_of v n).0 (evictions_of v n).1) →
-        (w : Evictor) → now ≡ Some w → (n : ℕ) → IsEviction (length run.life.runs.program) (evictions_of w n).0 (evictions_of w n).1
+        ((v : Evictor) → first ≡ Some v → (n : ℕ) → IsEviction begun.life.runs.log (length begun.life.runs.program) (evictions_of v n).0 (evictions_of v n).1) →
+        (w : Evictor) → now ≡ Some w → (n : ℕ) → IsEviction run.life.runs.log (length run.life.runs.program) (evictions_of w n).0 (evictions_of w n).1
     still_valid None now count h valid w is n = absurd (none_left now h is)
       where
         none_left : (now : Option Evictor) → HasAdvanced evictions_of None count now → now ≡ Some w → ⊥
@@ -163,15 +167,17 @@ module _ (turns : ℕ) (words : List ℕ) (begun : Run) where
     still_valid (Some v) now count h valid w is n = by now h is
       where
         by : (now : Option Evictor) → HasAdvanced evictions_of (Some v) count now → now ≡ Some w →
-            IsEviction (length run.life.runs.program) (evictions_of w n).0 (evictions_of w n).1
+            IsEviction run.life.runs.log (length run.life.runs.program) (evictions_of w n).0 (evictions_of w n).1
         by None h is = absurd h
         by (Some x) h is =
             let same : x ≡ w = cc in
             let at : evictions_of w n ≡ evictions_of v (n + count) = ap (λ (y : Evictor). evictions_of y n) (sym same) ∙ h n in
-            subst (λ (k : ℕ). IsEviction k (evictions_of w n).0 (evictions_of w n).1) (sym same_harts)
-            (subst (λ (e : ℕ × ℕ). IsEviction (length begun.life.runs.program) e.0 e.1) (sym at) (valid v refl (n + count)))
+            subst (λ (l : Log). IsEviction l (length run.life.runs.program) (evictions_of w n).0 (evictions_of w n).1) (sym same_log)
+            (subst (λ (k : ℕ). IsEviction begun.life.runs.log k (evictions_of w n).0 (evictions_of w n).1) (sym same_harts)
+            (subst (λ (e : ℕ × ℕ). IsEviction begun.life.runs.log (length begun.life.runs.program) e.0 e.1) (sym at) (valid v refl (n + count))))
 
-    pub valid_now : (w : Evictor) → run.evict ≡ Some w → (n : ℕ) → IsEviction (length run.life.runs.program) (evictions_of w n).0 (evictions_of w n).1
+    pub valid_now : (w : Evictor) → run.evict ≡ Some w → (n : ℕ) →
+        IsEviction run.life.runs.log (length run.life.runs.program) (evictions_of w n).0 (evictions_of w n).1
     valid_now = still_valid begun.evict run.evict (count_by is_eviction run.life.journal) between.advanced can.valid
 
     pub can_run : (all : ℕ) → all ≤ most_leg_events + length words → CanRun all run

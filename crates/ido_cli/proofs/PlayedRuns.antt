@@ -3,6 +3,7 @@ use Rattle.std.proofs.Common.{◌≡◌, refl, ℕ, suc, ◌+◌, ◌<◌, ◌�
 use Rattle.std.proofs.Common.{sym, ◌∙◌, ap, ap₂, subst, Some, None, ◌-◌, ◌^◌, flat_map, min, arith}
 use Rattle.std.specs.Prelude.{codes}
 use Rattle.std.proofs.lemmas.List.{length-map, take_all}
+use Rattle.ido_base.specs.declared.log.Log.{Log}
 use Rattle.ido_base.specs.declared.event.Event.{Event}
 use Rattle.ido_base.specs.Cores.{passed_count, played}
 use Rattle.ido_base.specs.declared.limits.TheConstants.{MOST_EVENTS}
@@ -55,11 +56,11 @@ sound_along program w (e ∷ es) count sound =
     let all = sound_along program (after_event program w e) es (count ∙ sym next.1) next.0 in
     (all.0, all.1 ∙ next.1)
 
-harts_count : (program : List (List Slot)) (locks : ℕ) (initial : List ℕ) (es : List Event) →
-    length (after_events program (start_of program locks initial) es).harts ≡ length program
-harts_count program locks initial es =
-    let starts = starts_simulate program locks initial in
-    (sound_along program (start_of program locks initial) es (sym starts.1) starts.0).1 ∙ starts.1
+harts_count : (log : Log) (program : List (List Slot)) (locks : ℕ) (initial : List ℕ) (es : List Event) →
+    length (after_events program (start_of log program locks initial) es).harts ≡ length program
+harts_count log program locks initial es =
+    let starts = starts_simulate log program locks initial in
+    (sound_along program (start_of log program locks initial) es (sym starts.1) starts.0).1 ∙ starts.1
 
 -- ---- What is translated
 
@@ -99,7 +100,7 @@ module _ (flat : f.Flat) (object : Object) (marks : Marks) (cuts : Cuts) (life :
 
   pub harts_of_life : length (world_of life).harts ≡ length life.runs.program
   harts_of_life =
-      ap (λ (w : World). length w.harts) same_world ∙ harts_count (program_of object) object.mutexes object.initial.items events
+      ap (λ (w : World). length w.harts) same_world ∙ harts_count object.log (program_of object) object.mutexes object.initial.items events
       ∙ sym (ap (λ (x : LifeConfig). length x.runs.program) p.begins)
 
   module _ (compilation : IsCompilation (translation_to flat object marks cuts)) where

@@ -2,7 +2,10 @@
 use Rattle.std.proofs.Common.{◌≡◌, ℕ, ◌+◌, ◌-◌, ◌*◌, ◌/◌, ◌≤◌, List, [], ◌∷◌, ◌++◌, length, map, take, drop}
 use Rattle.std.proofs.Common.{replicate, ap, ap₂, sym, subst, ◌∙◌, arith, length-append, length-drop, length-take, Option, None, Ok}
 use Rattle.std.proofs.lemmas.List.{length-map, length-replicate}
-use Rattle.ido_base.specs.declared.limits.TheConstants.{LOG_WORDS, VARIABLE_WORDS}
+use Rattle.ido_base.specs.Layout.{log_words}
+use Rattle.ido_base.specs.declared.log.Log.TheVariants.{V1}
+use Rattle.ido_base.specs.declared.log.Log.{Log}
+use Rattle.ido_base.specs.declared.limits.TheConstants.{VARIABLE_WORDS}
 use Rattle.ido_base.specs.declared.event.Event.{Event}
 use Rattle.ido_base.specs.declared.event.Event.TheVariants.{Crash}
 use Rattle.ido_base.specs.Layout.{spread_words, word_count}
@@ -57,8 +60,8 @@ after_crash crashes c is file journal status output told before left =
 
 -- ---- A life that begins with a file's words
 
-spread_size : (n threads : ℕ) (words : List ℕ) → n ≤ VARIABLE_WORDS → length words ≡ n + LOG_WORDS * threads →
-    length (spread_words n words) ≡ word_count threads
+spread_size : (n threads : ℕ) (words : List ℕ) → n ≤ VARIABLE_WORDS → length words ≡ n + log_words V1 * threads →
+    length (spread_words n words) ≡ word_count V1 threads
 unfolding spread_words
 spread_size n threads words few size =
     let front = take n words in
@@ -92,15 +95,16 @@ module _ (flat : f.Flat) (object : Object) (marks : Marks) (cuts : Cuts) (t : Is
   few_harts =
       omega (arith, ap (λ (x : Course). length x.runs.program) is, length-map object.code.items (λ code. map slot_of code.items), t.limits.threads)
 
-  module _ (size : length file.words ≡ length object.initial.items / 8 + LOG_WORDS * length object.code.items) where
+  module _ (size : length file.words ≡ length object.initial.items / 8 + log_words V1 * length object.code.items) where
     first : World
     first = machine_from object file.words []
 
     stands : IsWellFormedWorld (machine_from object file.words []) × (length (machine_from object file.words []).harts ≡ length (program_of object))
     stands =
         let threads = length-map object.code.items (λ code. map slot_of code.items) in
-        crashes_simulate (program_of object) object.mutexes (spread_words (length object.initial.items / 8) file.words)
-        (spread_size (length object.initial.items / 8) (length (program_of object)) file.words (omega (arith, t.limits.bytes)) (omega (arith, size, threads)))
+        crashes_simulate object.log (program_of object) object.mutexes (spread_words (length object.initial.items / 8) file.words)
+        (subst (λ (l : Log). length (spread_words (length object.initial.items / 8) file.words) ≡ word_count l (length (program_of object))) (sym t.log)
+        (spread_size (length object.initial.items / 8) (length (program_of object)) file.words (omega (arith, t.limits.bytes)) (omega (arith, size, threads))))
 
     pub harts_stand : length (world_of begun).harts ≡ length begun.runs.program
     harts_stand = ap (λ (x : Course). length (world_of x).harts) is ∙ stands.1 ∙ sym (ap (λ (x : Course). length x.runs.program) is)
@@ -111,7 +115,7 @@ module _ (flat : f.Flat) (object : Object) (marks : Marks) (cuts : Cuts) (t : Is
   -- ---- After its leg
 
   module _ (life : Course) (same : opening_of life ≡ opening_of begun) where
-    pub harts_after : length file.words ≡ length object.initial.items / 8 + LOG_WORDS * length object.code.items →
+    pub harts_after : length file.words ≡ length object.initial.items / 8 + log_words V1 * length object.code.items →
         length (world_of life).harts ≡ length life.runs.program
     harts_after size =
         let first = stands size in

@@ -1,7 +1,10 @@
 -- What a crash would leave of a life that a script was played on.
 use Rattle.std.proofs.Common.{◌≡◌, ℕ, ◌+◌, ◌*◌, ◌/◌, ◌≤◌, List, [], length, map, take, drop, ap, subst, ◌∙◌, arith}
 use Rattle.std.proofs.lemmas.List.{length-map}
-use Rattle.ido_base.specs.declared.limits.TheConstants.{LOG_WORDS, VARIABLE_WORDS}
+use Rattle.ido_base.specs.Layout.{log_words}
+use Rattle.ido_base.specs.declared.log.Log.TheVariants.{V1}
+use Rattle.ido_base.specs.declared.log.Log.{Log}
+use Rattle.ido_base.specs.declared.limits.TheConstants.{VARIABLE_WORDS}
 use Rattle.ido_base.specs.declared.event.Event.{Event}
 use Rattle.c_tree.specs.Flats as f
 use Rattle.rv64_isa.specs.declared.object.Object.{Object}
@@ -53,10 +56,13 @@ module _ (flat : f.Flat) (object : Object) (marks : Marks) (cuts : Cuts) (life :
     pub variables_few : variable_words_in life ≤ VARIABLE_WORDS
     variables_few = omega (arith, same_variables, t.limits.bytes)
 
-    size : length left ≡ variable_words_in life + LOG_WORDS * length object.code.items
+    size : length left ≡ variable_words_in life + log_words V1 * length object.code.items
     size =
         let harts = length-map object.code.items (λ code. map slot_of code.items) in
-        omega (arith, ap length same_left, (compilation.in_file events).size, same_variables, harts)
+        let in_file = subst (λ (l : Log). length (file_of made (image_of made events)).words
+        ≡ variable_words made + log_words l * length made.runs.program) t.log
+        (compilation.in_file events).size in
+        omega (arith, ap length same_left, in_file, same_variables, harts)
 
     pub variables_within : variable_words_in life ≤ length left
     variables_within = omega (arith, size)

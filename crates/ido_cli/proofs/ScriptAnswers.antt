@@ -1,5 +1,8 @@
 -- What is answered to a script that is read, and to one that isn't.
 use Rattle.std.proofs.Common.{◌≡◌, ℕ, ◌+◌, ◌-◌, List, length, sym, ap, ◌∙◌, subst, Option, Some, None, IfSome, IsSome, All}
+use Rattle.rv64_isa.specs.Machine as isa
+use Rattle.ido_base.specs.declared.log.Log.TheVariants.{V1}
+use Rattle.ido_base.specs.declared.log.Log.{Log}
 use Rattle.ido_base.specs.declared.event.Event.{Event}
 use Rattle.c_tree.specs.Flats as f
 use Rattle.flow_graph.specs.Refusals.{IsAccepted}
@@ -34,6 +37,9 @@ module _ (input rest : List ℕ) (flat : f.Flat) (harts : ℕ) (is : rest ≡ re
       (subst (λ (r : List ℕ). ScriptAnswer c (Says c) (record { lines = lines; input = input; begins = length input - length r }) status output) is answer)
 
 -- what exists at so many harts
-pub all_doable : (harts many : ℕ) (lines : List Line) → harts ≡ many → All (λ (line : Line). IsDoable harts (IsEviction harts) line.command) lines →
-    All (λ (line : Line). IsDoable many (IsEviction many) line.command) lines
-all_doable harts many lines same all = subst (λ (n : ℕ). All (λ (line : Line). IsDoable n (IsEviction n) line.command) lines) same all
+pub all_doable : (log : Log) (harts many : ℕ) (lines : List Line) → V1 ≡ log → harts ≡ many →
+    All (λ (line : Line). IsDoable harts (IsEviction harts) line.command) lines →
+    All (λ (line : Line). IsDoable many (isa.IsEviction log many) line.command) lines
+all_doable log harts many lines logs same all =
+    subst (λ (l : Log). All (λ (line : Line). IsDoable many (isa.IsEviction l many) line.command) lines) logs
+    (subst (λ (n : ℕ). All (λ (line : Line). IsDoable n (IsEviction n) line.command) lines) same all)

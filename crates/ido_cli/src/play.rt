@@ -1,4 +1,5 @@
 //! The commands `play` and `image`: a run of the compiled source by a script.
+ghost use Rattle.ido_base.specs.declared.log.Log.TheVariants.{V1};
 ghost use Rattle.std.specs.Prelude.{◌≡◌, ◌+◌, ◌≤◌, All, length, map, IfOk, IfSome, IsSome};
 ghost use Rattle.ido_base.specs.declared.limits.TheConstants.{MOST_INPUT_BYTES, MOST_SOURCE_BYTES};
 ghost use Rattle.c_tree.specs.Flats.{flat_of};
@@ -51,7 +52,7 @@ fn script_answer(
     requires compilation { IsCompilation (translation_in compiled.now) }
     requires short_source { length compiled.now.text.items ≤ MOST_SOURCE_BYTES }
     requires doable { let threads = length compiled.now.translated.object.code.items in
-        All (λ line. IsDoable threads (IsEviction threads) line.command) script.now.lines.items }
+        All (λ line. IsDoable threads (IsEviction V1 threads) line.command) script.now.lines.items }
     ensures { IfOk result (λ said. ScriptAnswer (translation_in compiled.now) (Says asked compiled.now.text.items (translation_in compiled.now))
         (record { lines = map scripts.line_of script.now.lines.items; input = input.now; begins = begins }) said.status said.output.items) }
 {

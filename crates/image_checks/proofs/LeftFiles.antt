@@ -4,6 +4,9 @@ use Rattle.std.specs.Prelude.{Vec}
 use Rattle.std.specs.Global.{Global}
 use Rattle.std.proofs.Math.Seq.{take-append_seam, drop-append_seam}
 use Rattle.std.proofs.lemmas.List.{length-map, length-take-le}
+use Rattle.ido_base.specs.Layout.{word_count}
+use Rattle.ido_base.specs.declared.log.Log.TheVariants.{V1}
+use Rattle.ido_base.specs.declared.log.Log.{Log}
 use Rattle.ido_base.specs.declared.event.Event.{Event}
 use Rattle.ido_base.specs.declared.limits.TheConstants.{MOST_STEPS}
 use Rattle.ido_base.specs.Words.{Word, durable_value}
@@ -43,7 +46,7 @@ pub record IsWhole (flat : f.Flat) (threads size : ℕ) (x : State) : Type 0 whe
   pub schedule : IsSchedule flat x.runs (schedule_of x.runs)
 
 module _ (machines : MachinesResume) (records : MachinesRecord) (y : System) (s : IsSystem y) (events : List Event)
-    (few : variable_words (translation_of y) ≤ 8192) where
+    (few : variable_words (translation_of y) ≤ 8192) (first : y.plan.log ≡ V1) where
   abbrev c : Translation
   c = translation_of y
 
@@ -65,10 +68,14 @@ module _ (machines : MachinesResume) (records : MachinesRecord) (y : System) (s 
   stands : Simulates y s (world c events)
   stands = (machines y s events).stands
 
+  logs : (world c events).log ≡ V1
+  logs = sym stands.machine.log ∙ first
+
   size : length ws ≡ 8192 + 128 * length y.runs.program
   size =
-      let all = stands.before_commit.sound.size in
-      let count = stands.before_commit.count in
+      let all : length words ≡ word_count V1 (length (world c events).harts) =
+      stands.machine.sound.size ∙ ap (λ (l : Log). word_count l (length (world c events).harts)) logs in
+      let count = stands.machine.count in
       let programs = s.count in
       let mapped = length-map words durable_value in
       omega (arith, all, count, programs, mapped)
@@ -85,7 +92,7 @@ module _ (machines : MachinesResume) (records : MachinesRecord) (y : System) (s 
   unshared : (threads : ℕ) → threads ≡ length y.runs.program → (lock : ℕ) → IsUnshared left.logs threads lock
   unshared threads is lock =
       subst (λ (logs : List ℕ). IsUnshared logs threads lock) (sym logs_are)
-      (subst (λ (k : ℕ). IsUnshared (logs_left words) k lock) (sym (is ∙ s.count)) (are_unshared y s (world c events) stands lock))
+      (subst (λ (k : ℕ). IsUnshared (logs_left words) k lock) (sym (is ∙ s.count)) (are_unshared y s (world c events) stands logs lock))
 
   scheduled : length kept ≤ MOST_STEPS → IsSchedule (flat_of y) (runs_of kept) (schedule_of (runs_of kept))
   scheduled most = record {
@@ -107,7 +114,7 @@ module _ (machines : MachinesResume) (records : MachinesRecord) (y : System) (s 
 
   sound : (table : List (Vec Resume Global)) → IsResumeTable y.plan s.codes table → length kept ≤ MOST_STEPS → IsWellFormedState (flat_of y) table left
   sound table is most = record {
-    logs = subst (λ (logs : List ℕ). AreSound (flat_of y).variables table logs) (sym logs_are) (are_sound y s (world c events) stands table is);
+    logs = subst (λ (logs : List ℕ). AreSound (flat_of y).variables table logs) (sym logs_are) (are_sound y s (world c events) stands logs table is);
     mutexes = unshared (length table) (is.count ∙ sym s.count);
     schedule = scheduled most;
   }
@@ -129,6 +136,9 @@ module _ (flat : f.Flat) (object : Object) (marks : Marks) (cuts : Cuts) (t : Is
   fits : variable_words (translation_of t.system) ≤ 8192
   fits = omega (arith, begins, t.limits.bytes)
 
+  first_of : t.system.plan.log ≡ V1
+  first_of = t.is.log ∙ (ap (λ (x : Executable). x.log) t.runs ∙ t.log)
+
   few_of : length (left_by made events).kept ≤ MOST_STEPS → length (left_by (translation_of t.system) events).kept ≤ MOST_STEPS
   few_of most = subst (λ (c : Translation). length (left_by c events).kept ≤ MOST_STEPS) (sym same) most
 
@@ -146,11 +156,12 @@ module _ (flat : f.Flat) (object : Object) (marks : Marks) (cuts : Cuts) (t : Is
       (file_state (translation_of t.system) (left_by (translation_of t.system) events))) programs
       (subst (λ (k : ℕ). IsWhole (flat_of t.system) (length t.system.runs.program) k
       (file_state (translation_of t.system) (left_by (translation_of t.system) events))) size
-      (whole machines records t.system t.is events fits (few_of most)))))
+      (whole machines records t.system t.is events fits first_of (few_of most)))))
 
 pub runs_leave_no_fault : MachinesResume → MachinesRecord → RunsLeaveNoFault
 runs_leave_no_fault machines records flat object marks cuts table events r most =
     let t = r.translated in
     subst (λ (c : Translation). IsWellFormedState flat table (file_state c (left_by c events))) (same flat object marks cuts t events)
     (subst (λ (x : f.Flat). IsWellFormedState x table (file_state (translation_of t.system) (left_by (translation_of t.system) events))) t.of_flat
-    (sound machines records t.system t.is events (fits flat object marks cuts t events) table r.are (few_of flat object marks cuts t events most)))
+    (sound machines records t.system t.is events (fits flat object marks cuts t events) (first_of flat object marks cuts t events) table r.are
+    (few_of flat object marks cuts t events most)))

@@ -7,6 +7,10 @@ use Rattle.std.proofs.lemmas.Bool.{cases_Bool, cases_lt, cond-true, cond-false, 
 use Rattle.std.proofs.lemmas.List.{get_or-map, get_or_past, length-map}
 use Rattle.std.proofs.lemmas.List.Elements.{Contains-get_or}
 use Rattle.std.proofs.lemmas.Option.{same_Some, slice_get_within}
+use Rattle.rv64_isa.specs.Machine.{durable_point}
+use Rattle.rv64_isa.proofs.Public.{log_stays}
+use Rattle.ido_base.specs.declared.log.Log.TheVariants.{V1}
+use Rattle.ido_base.specs.declared.log.Log.{Log}
 use Rattle.ido_base.specs.declared.event.Event.TheVariants.{Crash}
 use Rattle.ido_base.specs.declared.location.Location.{Location}
 use Rattle.ido_base.specs.Layout.{variables_base, logs_base, word_number, point_at, slot_at, variable_at}
@@ -35,7 +39,7 @@ use Rattle.flow_graph.specs.Nodes.{Action, Eval, Store, Test, Lock, Unlock, End,
 use Rattle.flow_graph.specs.Paths.{LiesInWritten, stored_element}
 use Rattle.flow_graph.proofs.Public.{ShapedAs, found_in, node_shaped, nodes_at}
 use Rattle.log_states.specs.LogInvariant.{LogInv}
-use Rattle.log_states.specs.Logs.{Record, IsRecorded, nothing_recorded, slots_of, value_of}
+use Rattle.log_states.specs.Logs.{Record, IsRecord, IsRecorded, nothing_recorded, slots_of, value_of}
 use Rattle.log_states.specs.Machines.{config_of}
 use Rattle.log_states.proofs.Public.{contains_first, contains_later, crashes_standing, durable_is, ends}
 use Rattle.hart_runs.proofs.Public.{crashes_step}
@@ -95,15 +99,18 @@ place p code node address own (past_unlock from mutex is from_own there unlocks 
 
 -- ---- The log of a thread
 
-module _ (y : System) (s : IsSystem y) (w : World) (stands : Simulates y s w) where
+module _ (y : System) (s : IsSystem y) (w : World) (stands : Simulates y s w) (first : w.log ≡ V1) where
   abbrev logs : List ℕ
   logs = logs_left w.words
 
   abbrev after : World
   after = after_event y.runs.program w Crash
 
+  first_after : after.log ≡ V1
+  first_after = log_stays y.runs.program w Crash stands.machine.sound ∙ first
+
   abbrev kept : FlowState
-  kept = kept_of y stands.before_commit.abstract
+  kept = kept_of y stands.abstract
 
   module _ (n : ℕ) (below : n < thread_count y) where
     abbrev code : Code y.plan
@@ -117,14 +124,20 @@ module _ (y : System) (s : IsSystem y) (w : World) (stands : Simulates y s w) wh
 
     standing : LogInv n nothing_recorded r after []
     standing =
-        let c = stands.before_commit.ghosts n in
-        crashes_standing y.runs.program n c.old c.new w c.rest (s.count ∙ sym stands.before_commit.count) (log_of y s w stands n below)
+        let c = stands.ghosts n in
+        crashes_standing y.runs.program n c.old c.new w c.rest (s.count ∙ sym stands.machine.count) (log_of y s w stands n below)
 
-    recorded : IsRecorded n r after.words
-    recorded = ends n nothing_recorded r (config_of after standing.hart []) standing.log refl
+    recorded : IsRecorded V1 n r after.words
+    recorded =
+        subst (λ (l : Log). IsRecorded l n r after.words) first_after
+        (ends after.log n nothing_recorded r (config_of after standing.hart []) standing.log refl)
 
-    logged_point : logged logs (point_at n) ≡ r.point
-    logged_point = logged_is w.words (point_at n) (omega arith) ∙ left_point y s w stands n below
+    is_record : IsRecord V1 r
+    is_record = subst (λ (l : Log). IsRecord l r) first_after standing.log.follows.new_is
+
+    logged_point : logged logs (point_at V1 n) ≡ r.point
+    logged_point = logged_is w.words (point_at V1 n) (omega arith) ∙ ap (λ (l : Log). durable_point l w.words n) (sym first)
+        ∙ left_point y s w stands n below
 
     is_idle : r.point ≡ 0 → point_in logs n ≡ Idle
     is_idle none = ap point_of (logged_point ∙ none)
@@ -132,22 +145,22 @@ module _ (y : System) (s : IsSystem y) (w : World) (stands : Simulates y s w) wh
     is_at : r.point ≢ 0 → point_in logs n ≡ At (resume_of r.point) (bank_of r.point)
     is_at some = ap point_of logged_point ∙ cond-false (r.point == 0) Idle (At (resume_of r.point) (bank_of r.point)) (ne_eqb r.point 0 some)
 
-    value_there : (slot : ℕ) → r.point ≢ 0 → Contains (0 ∷ r.live) slot → slot_in logs n (bank_of r.point) slot ≡ value_of r slot
+    value_there : (slot : ℕ) → r.point ≢ 0 → Contains (0 ∷ r.live) slot → slot_in logs n (bank_of r.point) slot ≡ value_of V1 r slot
     value_there slot some c =
-        let address = slot_at n (bank_of r.point) slot in
-        let listed : Contains (slots_of r) slot =
+        let address = slot_at V1 n (bank_of r.point) slot in
+        let listed : Contains (slots_of V1 r) slot =
         subst (λ (slots : List ℕ). Contains slots slot) (sym (cond-false (r.point == 0) [] (0 ∷ r.live) (ne_eqb r.point 0 some))) c in
         let same : durable_value (word_at after.words (word_number address)) ≡ durable_value (word_at w.words (word_number address)) =
         ap durable_value ((crashes_step y.runs.program w).words (word_number address)) in
         logged_is w.words address (omega arith) ∙ sym same
-        ∙ durable_is (word_at after.words (word_number address)) (value_of r slot) (recorded.bank slot listed)
+        ∙ durable_is (word_at after.words (word_number address)) (value_of V1 r slot) (recorded.bank slot listed)
 
     mask_there : r.point ≢ 0 → slot_in logs n (bank_of r.point) MASK_SLOT ≡ mask_with r.locks
     mask_there some = value_there 0 some (contains_first 0 r.live)
 
     register_there : (register : ℕ) → r.point ≢ 0 → Contains r.live register → slot_in logs n (bank_of r.point) register ≡ read r.registers register
     register_there register some c =
-        let keepable = standing.log.follows.new_is.live register c in
+        let keepable = is_record.live register c in
         value_there register some (contains_later 0 r.live register c)
         ∙ cond-false (register == 0) (mask_with r.locks) (read r.registers register) (ne_eqb register 0 (λ e. omega (arith, e, keepable.is_register)))
 
@@ -159,7 +172,7 @@ module _ (y : System) (s : IsSystem y) (w : World) (stands : Simulates y s w) wh
       | inr some ↦
           let is : r.point ≢ 0 = eqb-false r.point 0 some in
           ap (λ (p : Point). locks_in (mask_by p logs n)) (is_at is)
-          ∙ (ap locks_in (mask_there is) ∙ (standing.log.follows.new_is.locks.read_back ∙ sym (cond-false (r.point == 0) [] r.locks some)))
+          ∙ (ap locks_in (mask_there is) ∙ (is_record.locks.read_back ∙ sym (cond-false (r.point == 0) [] r.locks some)))
     ]
 
     -- ---- In a section
@@ -202,7 +215,7 @@ module _ (y : System) (s : IsSystem y) (w : World) (stands : Simulates y s w) wh
 
         stored : (variable next : ℕ) (kind : Kind) → is.action ≡ Store variable kind next → Has
         stored variable next kind does =
-            let good = kept_good y s stands.before_commit.abstract in
+            let good = kept_good y s stands.abstract in
             let owed = owes_here (flat_of y) s.plan.formed kept good.source t.number good.matches i.graph_thread i.there is flat_there
             (record { variable = variable; kind = kind; next = next; is = does }) in
             let store : Pending = owed.0 in
@@ -283,7 +296,7 @@ module _ (y : System) (s : IsSystem y) (w : World) (stands : Simulates y s w) wh
   pub are_unshared : (lock : ℕ) → IsUnshared logs (thread_count y) lock
   are_unshared lock one other apart within here there =
       let below : one < thread_count y = omega (arith, apart, within) in
-      let same = records_are_apart y.plan s.codes kept (left y s w stands) s.plan (orderly y s stands.before_commit.abstract) (left_describes y s w stands)
+      let same = records_are_apart y.plan s.codes kept (left y s w stands) s.plan (orderly y s stands.abstract) (left_describes y s w stands)
       one other lock below within
       (ap (λ (locks : List ℕ). has_lock locks lock) (sym (logged_locks one below)) ∙ here)
       (ap (λ (locks : List ℕ). has_lock locks lock) (sym (logged_locks other within)) ∙ there) in

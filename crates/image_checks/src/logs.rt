@@ -4,6 +4,7 @@ ghost use Rattle.crash_images.specs.Contents.{word_bytes, log_words};
 ghost use Rattle.image_checks.specs.Logs.{logged, point_in, slot_in, mask_in};
 
 use crate::limits::BANK_SLOTS;
+use ido_base::log::Log;
 use memory_layout::log::{LOGS_BASE, MASK_SLOT, SLOT_BYTES, point_at, slot_at};
 use memory_layout::point::{Point, read_point};
 
@@ -21,7 +22,7 @@ pub fn point_in(logs: &[u64], thread: u32) -> Point
     requires { log_words * (thread + 1) ≤ length logs.now }
     ensures { result ≡ point_in logs.now thread }
 {
-    read_point(logged(logs, point_at(thread)))
+    read_point(logged(logs, point_at(Log::V1, thread)))
 }
 
 /// What is in a slot of a bank, 0 or 1, of the thread's log.
@@ -31,7 +32,7 @@ pub fn slot_in(logs: &[u64], thread: u32, bank: u32, slot: u8) -> u64
     requires slot { slot < BANK_SLOTS }
     ensures { result ≡ slot_in logs.now thread bank slot }
 {
-    logged(logs, slot_at(thread, bank, u32::from(slot)))
+    logged(logs, slot_at(Log::V1, thread, bank, u32::from(slot)))
 }
 
 /// The mutexes that the thread holds: bit i is set where it holds mutex i.

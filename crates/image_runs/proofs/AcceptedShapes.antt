@@ -6,6 +6,11 @@ use Rattle.std.proofs.lemmas.Bool.{cases_Bool, cases_lt, cond-true, cond-false, 
 use Rattle.std.proofs.lemmas.List.{length-map}
 use Rattle.std.proofs.lemmas.List.Elements.{All-contains}
 use Rattle.std.proofs.lemmas.Option.{none-some, same_Some}
+use Rattle.image_runs.proofs.RecordedWords.{record_none}
+use Rattle.log_states.specs.Logs.{HasLog}
+use Rattle.ido_base.specs.Layout.{word_count}
+use Rattle.ido_base.specs.declared.log.Log.TheVariants.{V1}
+use Rattle.ido_base.specs.declared.log.Log.{Log}
 use Rattle.ido_base.specs.declared.location.Location.{Location}
 use Rattle.ido_base.specs.Layout.{logs_base, point_at, slot_at}
 use Rattle.ido_base.specs.Locks.{has_lock, locks_in}
@@ -24,6 +29,7 @@ use Rattle.rv64_isa.specs.Rows.{read}
 use Rattle.flow_graph.specs.Nodes.{Node}
 use Rattle.flow_graph.specs.Liveness.{NodeAt, IsLive}
 use Rattle.log_states.specs.Logs.{IsKeepable, IsWord, log_word}
+use Rattle.log_states.proofs.Public.{kept_are_keepable, scheme}
 use Rattle.thread_code.specs.Plans.{Plan, Thread, locks_before}
 use Rattle.recovered_threads.specs.RecordDescriptions.{Code, ResumesAt}
 use Rattle.recovered_threads.specs.RecordDescriptions as telling
@@ -39,7 +45,7 @@ use Rattle.image_runs.specs.Shapes.{GoesOnAt, HasThreadShape, HasShape}
 use Rattle.image_runs.specs.Shapes as shapes
 use Rattle.image_runs.specs.Laws.{AcceptedHaveShape}
 use Rattle.image_runs.proofs.SpreadWords as spread
-use Rattle.image_runs.proofs.ResumedLocals.{local_keepable, read_back, resumed_there}
+use Rattle.image_runs.proofs.ResumedLocals.{local_keepable, of_mask}
 
 -- ---- What a point says
 
@@ -82,27 +88,40 @@ resumes_by p code _ (places.past_unlock node mutex next is own there unlocks hol
 
 -- ---- The words of the logs, where the machine has them
 
-module _ (words : List Word) (logs : List ℕ) (there : (address : ℕ) → logs_base ≤ address → durable_at words address ≡ logged logs address) where
-  point_is : (n : ℕ) → point_in logs n ≡ point_of (durable_point words n)
-  point_is n = ap point_of (sym (there (point_at n) (omega arith)))
+module _ (y : System) (first : y.plan.log ≡ V1) (words : List Word) (logs : List ℕ)
+    (there : (address : ℕ) → logs_base ≤ address → durable_at words address ≡ logged logs address) where
+  abbrev log : Log
+  log = y.plan.log
 
-  locks_there : (n : ℕ) → record_of words n ≡ locks_in (mask_in logs n)
+  point_is : (n : ℕ) → point_in logs n ≡ point_of (durable_point log words n)
+  point_is n = ap point_of (sym (there (point_at V1 n) (omega arith))) ∙ ap (λ (l : Log). point_of (durable_point l words n)) (sym first)
+
+  slot_of_point : (n slot : ℕ) → recorded log words n slot ≡ slot_in logs n (bank_of (durable_point log words n)) slot
+  slot_of_point n slot =
+      subst (λ (l : Log). recorded l words n slot ≡ slot_in logs n (bank_of (durable_point l words n)) slot) (sym first)
+      (there (slot_at V1 n (bank_of (durable_point V1 words n)) slot) (omega arith))
+
+  some_locks : (n : ℕ) → durable_point log words n ≢ 0 → record_of log words n ≡ locks_in (recorded log words n 0)
+  some_locks n =
+      subst (λ (l : Log). durable_point l words n ≢ 0 → record_of l words n ≡ locks_in (recorded l words n 0)) (sym first)
+      (λ some. cond-false (durable_point V1 words n == 0) [] (locks_in (recorded V1 words n 0)) (ne_eqb (durable_point V1 words n) 0 some))
+
+  locks_there : (n : ℕ) → record_of log words n ≡ locks_in (mask_in logs n)
   locks_there n =
-      let w : ℕ = durable_point words n in
-      let own : List ℕ = locks_in (recorded words n 0) in
+      let w : ℕ = durable_point log words n in
       let at : Point = At (w - w % 2) (w % 2) in
       elim (cases_Bool (w == 0)) [
         | inl zeroth ↦
-            cond-true (w == 0) [] own zeroth
+            record_none log words n (eqb-true w 0 zeroth)
             ∙ sym (ap (λ (p : Point). locks_in (mask_by p logs n)) (point_is n ∙ cond-true (w == 0) Idle at zeroth) ∙ no_locks)
         | inr other_than ↦
-            cond-false (w == 0) [] own other_than
-            ∙ (ap locks_in (there (slot_at n (bank_of w) 0) (omega arith))
+            some_locks n (eqb-false w 0 other_than)
+            ∙ (ap locks_in (slot_of_point n 0)
             ∙ sym (ap (λ (p : Point). locks_in (mask_by p logs n)) (point_is n ∙ cond-false (w == 0) Idle at other_than)))
       ]
 
-  apart_by : (threads g h lock : ℕ) → ((l : ℕ) → IsUnshared logs threads l) → g < threads → h < threads → has_lock (record_of words g) lock ≡ true →
-      has_lock (record_of words h) lock ≡ true → g ≡ h
+  apart_by : (threads g h lock : ℕ) → ((l : ℕ) → IsUnshared logs threads l) → g < threads → h < threads → has_lock (record_of log words g) lock ≡ true →
+      has_lock (record_of log words h) lock ≡ true → g ≡ h
   apart_by threads g h lock none gb hb gl hl =
       let own : HoldsLock logs g lock = ap (λ (ls : List ℕ). has_lock ls lock) (sym (locks_there g)) ∙ gl in
       let other : HoldsLock logs h lock = ap (λ (ls : List ℕ). has_lock ls lock) (sym (locks_there h)) ∙ hl in
@@ -114,26 +133,25 @@ module _ (words : List Word) (logs : List ℕ) (there : (address : ℕ) → logs
         ]
       ]
 
-  module _ (y : System) (s : IsSystem y) (code : Code y.plan) where
+  module _ (s : IsSystem y) (code : Code y.plan) where
     abbrev t : Thread
     t = code.thread
 
     abbrev n : ℕ
     n = code.thread.number
 
-    module _ (address bank : ℕ) (r : Resume) (w : Names (durable_point words n) address bank) (of : IsResumeOf y.plan t code.is.places r)
+    module _ (address bank : ℕ) (r : Resume) (w : Names (durable_point log words n) address bank) (of : IsResumeOf y.plan t code.is.places r)
         (at : r.address ≡ address) (right : checks.IsRight (flat_of y).variables logs n bank r) where
-      slot_there : (slot : ℕ) → recorded words n slot ≡ slot_in logs n bank slot
-      slot_there slot =
-          there (slot_at n (bank_of (durable_point words n)) slot) (omega arith) ∙ ap (λ (b : ℕ). slot_in logs n b slot) (sym w.bank_is)
+      slot_there : (slot : ℕ) → recorded log words n slot ≡ slot_in logs n bank slot
+      slot_there slot = slot_of_point n slot ∙ ap (λ (b : ℕ). slot_in logs n b slot) (sym w.bank_is)
 
-      register_there : (register : ℕ) → IsKeepable register → read (shapes.resumed y.plan code words) register ≡ slot_in logs n bank register
-      register_there register k = resumed_there words n register k ∙ slot_there register
+      register_there : (register : ℕ) → IsKeepable log register → read (shapes.resumed y.plan code words) register ≡ slot_in logs n bank register
+      register_there register k = (scheme log).reads.registers words n register k ∙ slot_there register
 
-      locks : record_of words n ≡ locks_before y.plan t r.node
+      locks : record_of log words n ≡ locks_before y.plan t r.node
       locks =
-          cond-false (durable_point words n == 0) [] (locks_in (recorded words n 0)) (ne_eqb (durable_point words n) 0 w.some)
-          ∙ (ap locks_in (slot_there 0 ∙ (right.mask ∙ of.found.mask_is)) ∙ read_back y.plan s.plan t code.of r.node)
+          some_locks n w.some
+          ∙ (ap locks_in (slot_there 0 ∙ (right.mask ∙ of.found.mask_is)) ∙ (of_mask y.plan s.plan t code.of r.node).read_back)
 
       local_there : (local : ℕ) (k : Kind) → slice_get t.kinds local ≡ Some k → IsLive y.plan.graph local r.node →
           IsForm k (read (shapes.resumed y.plan code words) (slice_index t.registers local))
@@ -149,8 +167,8 @@ module _ (words : List Word) (logs : List ℕ) (there : (address : ℕ) → logs
       pending_there is location at_node writes =
           let has : IsElementOf (flat_of y).variables location (slot_in logs n bank 28) =
           subst (λ (o : Option Location). HasAddress (flat_of y).variables logs n bank o) (of.found.pending_is is at_node ∙ writes) right.address in
-          let kept : IsKeepable 28 = record { is_register = omega arith; exists = omega arith; not_offset = λ e. (let z : 28 ≡ 3 = e in cc z) } in
-          subst (λ (word : ℕ). IsElementOf (flat_of y).variables location word) (sym (register_there 28 kept)) has
+          subst (λ (word : ℕ). IsElementOf (flat_of y).variables location word)
+          (sym (register_there pending_address (kept_are_keepable log pending_address refl))) has
 
       goes_on : GoesOnAt y.plan code words r.node
       goes_on = record {
@@ -164,9 +182,9 @@ module _ (words : List Word) (logs : List ℕ) (there : (address : ℕ) → logs
 
     thread_shape : (rs : List Resume) → AreResumes y.plan t code.program code.is rs → IsResumableLog (flat_of y).variables rs logs n →
         HasThreadShape y.plan code words
-    thread_shape rs are (checks.idle none) = shapes.idle (zero_of (durable_point words n) (sym (point_is n) ∙ none))
+    thread_shape rs are (checks.idle none) = shapes.idle (zero_of (durable_point log words n) (sym (point_is n) ∙ none))
     thread_shape rs are (checks.resumed address bank r point found right) =
-        let w = names (durable_point words n) address bank (sym (point_is n) ∙ point) in
+        let w = names (durable_point log words n) address bank (sym (point_is n) ∙ point) in
         let e = found_at rs address r found in
         shapes.resumes r.node w.some (goes_on address bank r w (are.each e.0 r e.1) e.2 right)
 
@@ -181,6 +199,7 @@ accepted_have_shape flat object marks cuts table state r is wf =
     let few : length state.variables ≤ 8192 = omega (arith, bytes, own) in
     let program : length y.runs.program ≡ length object.code.items =
     ap (λ (x : Executable). length x.program) r.translated.runs ∙ length-map object.code.items (λ code. map slot_of code.items) in
+    let first : y.plan.log ≡ V1 = s.log ∙ (ap (λ (x : Executable). x.log) r.translated.runs ∙ r.translated.log) in
     let count = s.count in
     let logs = is.logs in
     let long = spread.size state.variables state.logs few in
@@ -188,13 +207,15 @@ accepted_have_shape flat object marks cuts table state r is wf =
     let mapped = length-map (spread.words state.variables state.logs few) word_of in
     let there = spread.logged_there state.variables state.logs few in
     record {
-      size = omega (arith, long, logs, program, count);
-      logs = λ n below. record {
+      size =
+          subst (λ (l : Log). length (spread.words state.variables state.logs few) ≡ word_count l (length y.plan.graph.threads)) (sym first)
+          (omega (arith, long, logs, program, count));
+      logs = λ n below. subst (λ (l : Log). HasLog l n words) (sym first) (record {
         exists = omega (arith, long, logs, program, count, below, mapped);
-        each = λ i inside. subst IsWord (sym (spread.word_there (spread.words state.variables state.logs few) (log_word n i)))
-            (spread.word_fits (slice_index (spread.words state.variables state.logs few) (log_word n i))
-            (spread.bits state.variables state.logs few is.variable_words is.log_words (log_word n i)));
-      };
+        each = λ i inside. subst IsWord (sym (spread.word_there (spread.words state.variables state.logs few) (log_word V1 n i)))
+            (spread.word_fits (slice_index (spread.words state.variables state.logs few) (log_word V1 n i))
+            (spread.bits state.variables state.logs few is.variable_words is.log_words (log_word V1 n i)));
+      });
       threads = λ n below.
           let code = s.codes.each n below in
           let number : n ≡ code.thread.number = sym (s.codes.number n below) in
@@ -202,8 +223,8 @@ accepted_have_shape flat object marks cuts table state r is wf =
           let log : IsResumableLog (flat_of y).variables (resumes_at table n) state.logs code.thread.number =
           subst (λ (k : ℕ). IsResumableLog (flat_of y).variables (resumes_at table n) state.logs k) number
           (subst (λ (x : Flat). IsResumableLog x.variables (resumes_at table n) state.logs n) (sym r.translated.of_flat) (wf.logs n within)) in
-          thread_shape words state.logs there y s code (resumes_at table n) (r.are.each n below) log;
+          thread_shape y first words state.logs there s code (resumes_at table n) (r.are.each n below) log;
       apart = λ g h lock gb hb gl hl.
-          apart_by words state.logs there (length table) g h lock wf.mutexes (subst (λ (k : ℕ). g < k) (sym r.are.count) gb)
+          apart_by y first words state.logs there (length table) g h lock wf.mutexes (subst (λ (k : ℕ). g < k) (sym r.are.count) gb)
           (subst (λ (k : ℕ). h < k) (sym r.are.count) hb) gl hl;
     }

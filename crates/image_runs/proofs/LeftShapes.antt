@@ -4,6 +4,9 @@ use Rattle.std.specs.Prelude.{slice_get, slice_index, slice_index_or, Contains, 
 use Rattle.std.proofs.lemmas.Bool.{cond-false, ne_eqb}
 use Rattle.std.proofs.lemmas.List.{length-map}
 use Rattle.std.proofs.lemmas.Option.{none-some, same_Some, slice_get_within}
+use Rattle.ido_base.specs.Layout.{word_count}
+use Rattle.rv64_isa.proofs.Public.{log_stays}
+use Rattle.ido_base.specs.declared.log.Log.{Log}
 use Rattle.ido_base.specs.declared.event.Event.TheVariants.{Crash}
 use Rattle.ido_base.specs.declared.location.Location.{Location}
 use Rattle.ido_base.specs.Layout.{variable_at}
@@ -27,7 +30,7 @@ use Rattle.flow_graph.specs.Nodes.{Action, Eval, Store, Test, Lock, Unlock, End,
 use Rattle.flow_graph.specs.Paths.{LiesInWritten, stored_element}
 use Rattle.flow_graph.proofs.Public.{ShapedAs, found_in, node_shaped, nodes_at}
 use Rattle.log_states.specs.LogInvariant.{LogInv}
-use Rattle.log_states.specs.Logs.{Record, IsRecorded, HasLog, nothing_recorded}
+use Rattle.log_states.specs.Logs.{Record, IsRecord, IsRecorded, HasLog, nothing_recorded}
 use Rattle.log_states.specs.Laws.{ResumesRecord}
 use Rattle.log_states.specs.Machines.{config_of}
 use Rattle.log_states.proofs.Public.{crashes_standing, ends, log_facts}
@@ -58,8 +61,11 @@ module _ (y : System) (s : IsSystem y) (w : World) (stands : Simulates y s w) wh
   unfolding happens after_crash_of
   words_are = refl
 
+  logs_after : after.log ≡ y.plan.log
+  logs_after = log_stays y.runs.program w Crash stands.machine.sound ∙ sym stands.machine.log
+
   abbrev kept : FlowState
-  kept = kept_of y stands.before_commit.abstract
+  kept = kept_of y stands.abstract
 
   module _ (n : ℕ) (below : n < thread_count y) where
     abbrev r : Record
@@ -67,17 +73,21 @@ module _ (y : System) (s : IsSystem y) (w : World) (stands : Simulates y s w) wh
 
     standing : LogInv n nothing_recorded r after []
     standing =
-        let c = stands.before_commit.ghosts n in
-        crashes_standing y.runs.program n c.old c.new w c.rest (s.count ∙ sym stands.before_commit.count) (log_of y s w stands n below)
+        let c = stands.ghosts n in
+        crashes_standing y.runs.program n c.old c.new w c.rest (s.count ∙ sym stands.machine.count) (log_of y s w stands n below)
 
-    recorded : IsRecorded n r after.words
-    recorded = ends n nothing_recorded r (config_of after standing.hart []) standing.log refl
+    recorded : IsRecorded y.plan.log n r after.words
+    recorded =
+        subst (λ (l : Log). IsRecorded l n r after.words) logs_after
+        (ends after.log n nothing_recorded r (config_of after standing.hart []) standing.log refl)
 
-    pub has_log : HasLog n ws
-    has_log = subst (HasLog n) words_are standing.log.log
+    pub has_log : HasLog y.plan.log n ws
+    has_log = subst (HasLog y.plan.log n) words_are (subst (λ (l : Log). HasLog l n after.words) logs_after standing.log.log)
 
-    pub resumes_record : ResumesRecord n r ws
-    resumes_record = subst (ResumesRecord n r) words_are (log_facts.registers_resumed.between n r after.words standing.log.follows.new_is recorded)
+    pub resumes_record : ResumesRecord y.plan.log n r ws
+    resumes_record =
+        let is : IsRecord y.plan.log r = subst (λ (l : Log). IsRecord l r) logs_after standing.log.follows.new_is in
+        subst (ResumesRecord y.plan.log n r) words_are (log_facts.registers_resumed.between y.plan.log n r after.words is recorded)
 
     abbrev code : Code y.plan
     code = s.codes.each n below
@@ -85,8 +95,8 @@ module _ (y : System) (s : IsSystem y) (w : World) (stands : Simulates y s w) wh
     abbrev t : Thread
     t = code.thread
 
-    resumes_own : ResumesRecord t.number r ws
-    resumes_own = subst (λ (k : ℕ). ResumesRecord k r ws) (sym (s.codes.number n below)) resumes_record
+    resumes_own : ResumesRecord y.plan.log t.number r ws
+    resumes_own = subst (λ (k : ℕ). ResumesRecord y.plan.log k r ws) (sym (s.codes.number n below)) resumes_record
 
     module _ (i : IsInside y.plan code kept r) where
       abbrev at : ℕ
@@ -126,7 +136,7 @@ module _ (y : System) (s : IsSystem y) (w : World) (stands : Simulates y s w) wh
 
         stored : (variable next : ℕ) (kind : Kind) → is.action ≡ Store variable kind next → Has
         stored variable next kind does =
-            let good = kept_good y s stands.before_commit.abstract in
+            let good = kept_good y s stands.abstract in
             let owed = owes_here (flat_of y) s.plan.formed kept good.source t.number good.matches i.graph_thread i.there is flat_there
             (record { variable = variable; kind = kind; next = next; is = does }) in
             let store : Pending = owed.0 in
@@ -177,17 +187,19 @@ module _ (y : System) (s : IsSystem y) (w : World) (stands : Simulates y s w) wh
     pub thread_shape : HasThreadShape y.plan code ws
     thread_shape = shape_by (left_describes y s w stands n below)
 
-  locks_there : (g : ℕ) → (gb : g < thread_count y) → (lock : ℕ) → has_lock (record_of ws g) lock ≡ true → has_lock (locks_of (left y s w stands g)) lock ≡ true
+  locks_there : (g : ℕ) → (gb : g < thread_count y) → (lock : ℕ) → has_lock (record_of y.plan.log ws g) lock ≡ true →
+      has_lock (locks_of (left y s w stands g)) lock ≡ true
   locks_there g gb lock h = ap (λ (ls : List ℕ). has_lock ls lock) (sym (resumes_record g gb).locks) ∙ h
 
   pub has_shape : HasShape y.plan s.codes (map durable_value w.words)
   has_shape = record {
-    size = let all = stands.before_commit.sound.size in let count = stands.before_commit.count in let mapped = length-map w.words durable_value in
-        omega (arith, all, count, mapped);
+    size =
+        length-map w.words durable_value ∙ stands.machine.sound.size
+        ∙ (ap (λ (l : Log). word_count l (length w.harts)) (sym stands.machine.log) ∙ ap (word_count y.plan.log) stands.machine.count);
     logs = has_log;
     threads = thread_shape;
     apart = λ g h lock gb hb gl hl.
-        records_are_apart y.plan s.codes kept (left y s w stands) s.plan (orderly y s stands.before_commit.abstract) (left_describes y s w stands)
+        records_are_apart y.plan s.codes kept (left y s w stands) s.plan (orderly y s stands.abstract) (left_describes y s w stands)
         g h lock gb hb (locks_there g gb lock gl) (locks_there h hb lock hl);
   }
 

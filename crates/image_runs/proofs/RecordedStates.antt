@@ -7,9 +7,10 @@ use Rattle.std.proofs.Math.Bridge.{le_prop}
 use Rattle.std.proofs.lemmas.Bool.{cases_Bool, cases_lt, cond-true, cond-false, true≢false, ne_eqb}
 use Rattle.std.proofs.lemmas.List.{length-replicate}
 use Rattle.std.proofs.lemmas.Option.{none-some, same_Some, slice_get_within}
+use Rattle.ido_base.specs.declared.log.Log.{Log}
 use Rattle.ido_base.specs.declared.event.Event.TheVariants.{Crash}
 use Rattle.ido_base.specs.declared.location.Shape.{Shape}
-use Rattle.ido_base.specs.Layout.{byte_number, variable_at}
+use Rattle.ido_base.specs.Layout.{byte_number, variable_at, word_count}
 use Rattle.ido_base.specs.Locks.{has_lock, holds_none, is_held_by}
 use Rattle.ido_base.specs.Words.{Word, word_of, durable_value}
 use Rattle.ido_ints.specs.declared.kinds.Kind.{Kind}
@@ -39,7 +40,7 @@ use Rattle.variable_words.specs.Variables.{durable_variables, number_of_byte, va
 use Rattle.log_states.specs.Logs.{Record, HasLog, IsRecord, IsRecorded, nothing_recorded}
 use Rattle.log_states.specs.Machines.{config_of}
 use Rattle.log_states.specs.Stages.{Over, is_committed}
-use Rattle.log_states.proofs.Public.{ends_committed}
+use Rattle.log_states.proofs.Public.{ends_committed, nothing_is_record}
 use Rattle.thread_code.specs.Plans.{locks_held}
 use Rattle.thread_code.proofs.Public.{has_held}
 use Rattle.recovered_threads.specs.RecordDescriptions.{AllDescribe, Describes}
@@ -51,7 +52,6 @@ use Rattle.crash_simulation.specs.Systems.{System, IsSystem, flat_of, thread_cou
 use Rattle.crash_simulation.proofs.Public.{row_of}
 use Rattle.image_runs.specs.Shapes.{HasShape}
 use Rattle.image_runs.specs.Laws.{ShapesAreStates}
-use Rattle.image_runs.proofs.RecordedWords.{nothing_is_record}
 use Rattle.image_runs.proofs.ResumedThreads.{IsSaid, said}
 
 -- ---- Rows
@@ -174,20 +174,24 @@ words_back : (words : List ℕ) → map durable_value (map word_of words) ≡ wo
 words_back [] = refl
 words_back (w ∷ words) = ap (λ (ws : List ℕ). w ∷ ws) (words_back words)
 
-module _ (program : List (List Slot)) (locks : ℕ) (words : List ℕ) where
+module _ (log : Log) (program : List (List Slot)) (locks : ℕ) (words : List ℕ) where
   abbrev world : World
-  world = after_crash_of program locks words
+  world = after_crash_of log program locks words
 
   words_are : world.words ≡ map word_of words
   unfolding after_crash_of
   words_are = refl
+
+  log_is : world.log ≡ log
+  unfolding after_crash_of
+  log_is = refl
 
   harts_count : length world.harts ≡ length program
   unfolding after_crash_of
   harts_count = count_of _ 0 (length program)
 
   abbrev first_hart : ℕ → Hart
-  first_hart h = fresh_hart program (phase_after_crash (durable_point (map word_of words) h)) h
+  first_hart h = fresh_hart program (phase_after_crash (durable_point log (map word_of words) h)) h
 
   hart_there : (h : ℕ) → h < length program → slice_get world.harts h ≡ Some (first_hart h)
   unfolding after_crash_of
@@ -197,11 +201,11 @@ module _ (program : List (List Slot)) (locks : ℕ) (words : List ℕ) where
   again : after_event program world Crash ≡ world
   unfolding happens after_crash_of
   again =
-      ap (λ (count : ℕ). after_crash_of program count (map durable_value (map word_of words))) (length-replicate locks None)
-      ∙ ap (after_crash_of program locks) (words_back words)
+      ap (λ (count : ℕ). after_crash_of log program count (map durable_value (map word_of words))) (length-replicate locks None)
+      ∙ ap (after_crash_of log program locks) (words_back words)
 
-  module _ (records : ℕ → Record) (logs : (h : ℕ) → h < length program → HasLog h (map word_of words))
-      (are : (h : ℕ) → h < length program → IsRecord (records h) × IsRecorded h (records h) (map word_of words)) where
+  module _ (records : ℕ → Record) (logs : (h : ℕ) → h < length program → HasLog log h (map word_of words))
+      (are : (h : ℕ) → h < length program → IsRecord log (records h) × IsRecorded log h (records h) (map word_of words)) where
     log_there : (h : ℕ) → h < length world.harts → HasRecord world h (records h)
     log_there h inside =
         let count = harts_count in
@@ -210,10 +214,15 @@ module _ (program : List (List Slot)) (locks : ℕ) (words : List ℕ) where
           hart = first_hart h;
           here = hart_there h below;
           log = record {
-            follows = record { old_is = nothing_is_record; new_is = (are h below).0; apart = λ none some. absurd (none refl) };
-            log = subst (HasLog h) (sym words_are) (logs h below);
+            follows = record {
+              old_is = nothing_is_record world.log;
+              new_is = subst (λ (l : Log). IsRecord l (records h)) (sym log_is) (are h below).0;
+              apart = λ none some. absurd (none refl);
+            };
+            log = subst (λ (l : Log). HasLog l h world.words) (sym log_is) (subst (HasLog log h) (sym words_are) (logs h below));
             queue = tt;
-            stage = Over refl (subst (IsRecorded h (records h)) (sym words_are) (are h below).1);
+            stage = Over refl (subst (λ (l : Log). IsRecorded l h (records h) world.words) (sym log_is)
+                (subst (IsRecorded log h (records h)) (sym words_are) (are h below).1));
           };
         }
 
@@ -221,8 +230,8 @@ module _ (program : List (List Slot)) (locks : ℕ) (words : List ℕ) where
     gathers =
         subst (λ (w : World). AreGathering w records) again
         (crashes_gather program world (λ h. nothing_recorded) records records (λ h. []) (sym harts_count) log_there
-        (λ h below. sym (cond-true (is_committed h (config_of world (log_there h below).hart [])) (records h) nothing_recorded
-        (ends_committed h nothing_recorded (records h) (config_of world (log_there h below).hart []) (log_there h below).log refl))))
+        (λ h below. sym (cond-true (is_committed world.log h (config_of world (log_there h below).hart [])) (records h) nothing_recorded
+        (ends_committed world.log h nothing_recorded (records h) (config_of world (log_there h below).hart []) (log_there h below).log refl))))
 
 -- ---- The state
 
@@ -238,7 +247,7 @@ module _ (locked : ChosenAreLocked) (y : System) (s : IsSystem y) (words : List 
 
   of : (n : ℕ) (below : n < count) → IsSaid y.plan (s.codes.each n below) words
   of n below = said locked y.plan s.plan (s.codes.each n below) words
-      (subst (λ (k : ℕ). HasLog k ws) (sym (s.codes.number n below)) (shape.logs n below)) (shape.threads n below)
+      (subst (λ (k : ℕ). HasLog y.plan.log k ws) (sym (s.codes.number n below)) (shape.logs n below)) (shape.threads n below)
 
   -- ---- Threads
 
@@ -267,7 +276,7 @@ module _ (locked : ChosenAreLocked) (y : System) (s : IsSystem y) (words : List 
   -- ---- Holders
 
   abbrev has : ℕ → (lock : ℕ) → Bool
-  has n lock = has_lock (record_of ws n) lock
+  has n lock = has_lock (record_of y.plan.log ws n) lock
 
   abbrev mutexes : ℕ
   mutexes = length x.mutexes
@@ -281,7 +290,7 @@ module _ (locked : ChosenAreLocked) (y : System) (s : IsSystem y) (words : List 
       let o = of n below in
       row_held has count shape.apart n 0 mutexes o.set below o.long
       (λ i. (let e : 0 + i ≡ i = omega arith in ap (has n) e)
-      ∙ (ap (λ (k : ℕ). has_lock (record_of ws k) i) (sym (s.codes.number n below))
+      ∙ (ap (λ (k : ℕ). has_lock (record_of y.plan.log ws k) i) (sym (s.codes.number n below))
       ∙ (ap (λ (ls : List ℕ). has_lock ls i) o.locks ∙ has_held o.set i)))
 
   holders_below : (lock n : ℕ) → slice_get holders lock ≡ Some (Some n) → n < count
@@ -387,17 +396,18 @@ module _ (locked : ChosenAreLocked) (y : System) (s : IsSystem y) (words : List 
       (o.describes kept (ap (slice_get kept.graph_threads) number ∙ graph_thread_there n below)
       (ap (holds_none holders) number ∙ (none_where n holders ∙ ap (λ (h : Held). is_empty (locks_held h)) (held_is n below))))
 
-  recovers : RecoversTo y.plan s.codes kept (after_crash_of y.runs.program y.runs.mutexes words)
+  recovers : RecoversTo y.plan s.codes kept (after_crash_of y.runs.log y.runs.program y.runs.mutexes words)
   recovers = record {
     records = entry;
-    gathering = gathers y.runs.program y.runs.mutexes words entry
-        (λ h below. shape.logs h (let c = s.count in omega (arith, below, c)))
+    gathering = gathers y.runs.log y.runs.program y.runs.mutexes words entry
+        (λ h below. subst (λ (l : Log). HasLog l h ws) s.log (shape.logs h (let c = s.count in omega (arith, below, c))))
         (λ h inside.
         let c = s.count in
         let below : h < count = omega (arith, inside, c) in
         let o = of h below in
-        subst (λ (r : Record). IsRecord r × IsRecorded h r ws) (sym (entry_is h below))
-        (o.is_record, subst (λ (k : ℕ). IsRecorded k o.entry ws) (s.codes.number h below) o.is_recorded));
+        subst (λ (l : Log). IsRecord l (entry h) × IsRecorded l h (entry h) ws) s.log
+        (subst (λ (r : Record). IsRecord y.plan.log r × IsRecorded y.plan.log h r ws) (sym (entry_is h below))
+        (o.is_record, subst (λ (k : ℕ). IsRecorded y.plan.log k o.entry ws) (s.codes.number h below) o.is_recorded)));
     describe = describes;
   }
 
@@ -412,7 +422,7 @@ module _ (locked : ChosenAreLocked) (y : System) (s : IsSystem y) (words : List 
       holders = λ lock n there. (let b = holders_below lock n there in let c = count_of thread 0 count in omega (arith, b, c));
       pending = pending_there;
     },
-    record { size = shape.size; recovers = recovers; variables = refl },
+    record { size = shape.size ∙ ap (λ (l : Log). word_count l (thread_count y)) s.log; recovers = recovers; variables = refl },
   )
 
 pub shapes_are_states : ChosenAreLocked → ShapesAreStates

@@ -1,40 +1,27 @@
--- Registers of locals have a slot, and a log can hold the locks before a node.
+-- A log can keep the registers of locals and the locks before a node.
 use Rattle.std.proofs.Common.{◌≡◌, ℕ, zero, suc, ◌+◌, ◌-◌, ◌<◌, ◌≤◌, List, [], ◌∷◌, length, get_or, refl, ap, arith, sym, ◌∙◌, subst, true, Some, inl, inr}
-use Rattle.std.proofs.Common.{map, cond, add-zero}
 use Rattle.std.specs.Prelude.{slice_get, slice_index, slice_index_or, ◌==◌, ◌*◌}
 use Rattle.std.specs.List.{list_all}
-use Rattle.std.proofs.lemmas.Bool.{and_parts, cases_lt, cond-false, ne_eqb}
-use Rattle.std.proofs.lemmas.Bool.Decides.{nat_tests}
+use Rattle.std.proofs.lemmas.Bool.{and_parts, cases_lt}
 use Rattle.std.proofs.lemmas.List.{get_or-map, get_or_past}
 use Rattle.std.proofs.lemmas.List.Elements.{Contains-get_or}
 use Rattle.std.proofs.lemmas.Option.{none-some, same_Some, slice_get_within, slice_get-get_or, get_or_from_slice_get}
-use Rattle.ido_base.specs.Words.{Word}
-use Rattle.ido_base.specs.Locks.{locks_in, mask_with}
 use Rattle.ido_ints.specs.declared.kinds.Kind.{Kind}
 use Rattle.c_tree.specs.Flats as f
 use Rattle.c_tree.specs.LockDiscipline.{Held}
 use Rattle.memory_layout.specs.declared.roles.TheConstants.{LOCALS}
 use Rattle.memory_layout.specs.Roles.{is_kept}
-use Rattle.rv64_isa.specs.Rows.{read}
-use Rattle.rv64_isa.specs.Machine.{bank_of, durable_point, recorded, resumed_register, numbers_from}
 use Rattle.flow_graph.specs.declared.graph.Part.{Part}
 use Rattle.flow_graph.specs.Nodes.{Graph}
 use Rattle.flow_graph.specs.Lowering.{thread_count, part, parts}
 use Rattle.flow_graph.proofs.Public.{found_in, lowered_threads}
 use Rattle.lock_discipline.proofs.Public.{held_length}
-use Rattle.log_states.specs.Logs.{IsKeepable}
-use Rattle.log_states.specs.Laws.{resumed_registers}
+use Rattle.log_states.specs.Logs.{AreOfMask, AreLoggable, IsKeepable}
+use Rattle.log_states.proofs.Public.{kept_are_keepable, scheme}
 use Rattle.thread_code.specs.Plans.{Plan, Thread, IsThread, IsPlan, set_before, locks_before}
-use Rattle.thread_code.proofs.Public.{held_read_back}
+use Rattle.thread_code.proofs.Public.{held_fits, held_read_back}
 
 -- ---- Registers that have a slot
-
-pub keepable : (register : ℕ) → is_kept register ≡ true → IsKeepable register
-keepable register h = record {
-  is_register = grind (arith, nat_tests);
-  exists = grind (arith, nat_tests);
-  not_offset = λ e. (let z : is_kept 3 ≡ true = ap (λ (n : ℕ). is_kept n) (sym e) ∙ h in cc z);
-}
 
 one_kept : (xs : List ℕ) (at : ℕ) → list_all is_kept xs ≡ true → at < length xs → is_kept (slice_index xs at) ≡ true
 one_kept [] at h below = absurd (let z : ⊥ = omega (arith, below) in z)
@@ -63,8 +50,8 @@ module _ (p : Plan) (plan : IsPlan p) (t : Thread) (is : IsThread p t) where
       ap (λ (rs : List ℕ). slice_index rs local) is.registers ∙ get_or-map (λ (c : ℕ). slice_index LOCALS c) is.colours local 0 0 inside in
       ap is_kept at ∙ one_kept LOCALS colour refl exists
 
-  pub local_keepable : (local : ℕ) (k : Kind) → slice_get t.kinds local ≡ Some k → IsKeepable (slice_index t.registers local)
-  local_keepable local k there = keepable (slice_index t.registers local) (local_kept local (slice_get_within t.kinds local k there))
+  pub local_keepable : (local : ℕ) (k : Kind) → slice_get t.kinds local ≡ Some k → IsKeepable p.log (slice_index t.registers local)
+  local_keepable local k there = kept_are_keepable p.log (slice_index t.registers local) (local_kept local (slice_get_within t.kinds local k there))
 
   -- ---- Locks before a node
 
@@ -83,21 +70,8 @@ module _ (p : Plan) (plan : IsPlan p) (t : Thread) (is : IsThread p t) where
         | inr past ↦ subst (λ (held : Held). length held ≤ 64) (sym (get_or_past table.0 step [] past)) (omega arith)
       ])
 
-  pub read_back : (node : ℕ) → locks_in (mask_with (locks_before p t node)) ≡ locks_before p t node
-  read_back node = held_read_back (set_before p t node) (few_set node)
+  pub of_mask : (node : ℕ) → AreOfMask (locks_before p t node)
+  of_mask node = record { fits = held_fits (set_before p t node) (few_set node); read_back = held_read_back (set_before p t node) (few_set node) }
 
--- ---- Registers that are resumed
-
-mapped : (f : ℕ → ℕ) (at count i : ℕ) → i < count → get_or (map f (numbers_from at count)) i 0 ≡ f (at + i)
-mapped f at zero i below = absurd (omega (arith, below))
-mapped f at (suc count) zero below = ap f (sym (add-zero at))
-mapped f at (suc count) (suc i) below = let next : at + 1 + i ≡ at + suc i = omega arith in mapped f (at + 1) count i (omega (arith, below)) ∙ ap f next
-
-pub resumed_there : (words : List Word) (thread slot : ℕ) → IsKeepable slot → read (resumed_registers words thread) slot ≡ recorded words thread slot
-resumed_there words thread slot k =
-    let at : 0 + slot ≡ slot = omega arith in
-    mapped (resumed_register words thread) 0 32 slot k.exists
-    ∙ (ap (resumed_register words thread) at
-    ∙ (cond-false (slot == 0) 0 (cond (slot == 3) (256 * bank_of (durable_point words thread)) (recorded words thread slot))
-    (ne_eqb slot 0 (λ e. omega (arith, e, k.is_register)))
-    ∙ cond-false (slot == 3) (256 * bank_of (durable_point words thread)) (recorded words thread slot) (ne_eqb slot 3 k.not_offset)))
+  pub loggable : (node : ℕ) → AreLoggable p.log (locks_before p t node)
+  loggable node = (scheme p.log).keeps.masks (locks_before p t node) (of_mask node)

@@ -4,14 +4,13 @@ use Rattle.std.proofs.Common.{subst, arith, Option, Some, None, Bool, true, fals
 use Rattle.std.specs.Prelude.{slice_get, slice_index, slice_index_or, Contains, is_some, ◌^◌, ◌==◌, ℤ, pos}
 use Rattle.std.specs.List.{AllZip}
 use Rattle.std.specs.Option.{option_map}
-use Rattle.std.proofs.lemmas.Bool.{cond-true, cond-false, ne_eqb, eq-eqb}
 use Rattle.std.proofs.lemmas.Bool.Decides.{nat_tests}
 use Rattle.std.proofs.lemmas.List.{length-replicate}
 use Rattle.std.proofs.lemmas.Option.{none-some, same_Some, slice_get-map}
+use Rattle.ido_base.specs.declared.log.Log.TheVariants.{V1}
 use Rattle.ido_base.specs.Layout.{in_range, point_at, variable_at, word_number}
-use Rattle.ido_base.specs.Locks.{holds_none, locks_in, mask_with}
+use Rattle.ido_base.specs.Locks.{holds_none}
 use Rattle.ido_base.specs.Words.{Word, word_of}
-use Rattle.ido_base.proofs.Public.{mask_of_locks}
 use Rattle.ido_ints.specs.declared.kinds.Kind.{Kind}
 use Rattle.ido_ints.specs.declared.kinds.Kind.TheVariants.{Char, UnsignedChar, SignedChar, Short, UnsignedShort, Int, UnsignedInt, Long, UnsignedLong}
 use Rattle.ido_ints.specs.Kinds.{Holds, bytes_of, modulus_of}
@@ -30,8 +29,8 @@ use Rattle.source_machine.specs.ElementLocks.{element_lock}
 use Rattle.source_machine.proofs.Public.{holds_each, keep_opened_all}
 use Rattle.memory_layout.specs.Roles.{pending_address, pending_value}
 use Rattle.rv64_isa.specs.Rows.{read}
-use Rattle.rv64_isa.specs.Machine.{bank_of, durable_point, recorded, record_of}
-use Rattle.boundary_code.specs.Boundaries.{is_empty}
+use Rattle.rv64_isa.specs.Machine.{bank_of, durable_point, recorded, record_of, resumed_registers}
+use Rattle.boundary_code.specs.Boundaries.{is_empty, kept_locks}
 use Rattle.operator_code.specs.ComputingCode.{Carries}
 use Rattle.variable_words.proofs.Public.{addresses_reach, well_formed_placed}
 use Rattle.flow_graph.specs.Actions.{FlowState, GraphThread, Seen, graph_thread_start, seen_by}
@@ -42,19 +41,20 @@ use Rattle.flow_graph.specs.Nodes.{Action, Eval, Store, Test, Lock, Unlock, End,
 use Rattle.flow_graph.proofs.Public.{ActionLeads, Tests, all_at, begins_lockstep, chooses, nodes_at, repeats}
 use Rattle.region_attempts.specs.Origins.{IsPendingAt}
 use Rattle.region_cutter.specs.LocksAtBoundaries.{ChosenAreLocked}
-use Rattle.log_states.specs.Logs.{Record, side_of, IsKeepable, IsRecord, IsDurable, IsRecorded, HasLog, nothing_recorded, slot_in, value_of, bank_word}
-use Rattle.log_states.specs.Laws.{ResumesRecord, resumed_registers}
-use Rattle.log_states.proofs.Public.{contains_cases, log_facts}
+use Rattle.log_states.specs.Logs.{Record, side_of, IsKeepable, IsRecord, IsDurable, IsRecorded, HasLog, nothing_recorded, slot_in, slots_of, value_of, kept_in}
+use Rattle.log_states.specs.Logs.{bank_word}
+use Rattle.log_states.specs.Schemes.{HasKept}
+use Rattle.log_states.specs.Laws.{ResumesRecord}
+use Rattle.log_states.proofs.Public.{kept_are_keepable, log_facts, nothing_is_record, scheme, slot_cases}
 use Rattle.thread_code.specs.Plans.{Plan, Thread, IsPlan, IsKept, of_local, of_address, of_value, locks_held, locks_held_from, set_before, locks_before}
 use Rattle.thread_code.specs.RegistersAtNodes.{HasPending, IsPendingIn, Enters}
-use Rattle.thread_code.proofs.Public.{held_fits}
 use Rattle.recovered_threads.specs.RecordDescriptions.{Code, Describes, between, inside}
 use Rattle.image_checks.specs.Checks.{IsElementOf}
 use Rattle.image_runs.specs.Shapes.{GoesOnAt, HasThreadShape, idle, resumes}
 use Rattle.image_runs.proofs.HeldAtNodes.{all, node_is, lowered_is, stands, keeps, long, left_is, sets, resumed_hold, resumed_store_locked}
 use Rattle.image_runs.proofs.LeftStatements.{opened_all_left}
-use Rattle.image_runs.proofs.RecordedWords.{durable_word, nothing_is_record, nothing_is_recorded, point_small, recorded_small}
-use Rattle.image_runs.proofs.ResumedLocals.{few_set, keepable, local_keepable, read_back, resumed_there}
+use Rattle.image_runs.proofs.RecordedWords.{durable_word, nothing_is_recorded, point_small, recorded_small, register_small, record_none}
+use Rattle.image_runs.proofs.ResumedLocals.{local_keepable, loggable}
 use Rattle.image_runs.proofs.StoredElements.{StoresAs, StoresElements, stores_elements}
 
 -- ---- Numbers in words
@@ -80,7 +80,7 @@ low_bytes k w =
     sym (same_low (modulus_of k) (positive k) (register_of k z) w
     (Same_trans (modulus_of k) (pos (register_of k z)) z (pos w) (register-Same k z) (Same-reduced k (pos w))))
 
-address_small : (address bytes : ℕ) → in_range 0 address bytes ≡ true → address < 2 ^ 64
+address_small : (address bytes : ℕ) → in_range V1 0 address bytes ≡ true → address < 2 ^ 64
 address_small address bytes is_in = grind (arith, nat_tests)
 
 tests_free : (ss : List Standing) (condition : Placed) (to other : ℕ) (s : Standing) → Tests ss condition to other s → s.owes ≡ false
@@ -110,14 +110,15 @@ pub record IsSaid (p : Plan) (code : Code p) (words : List ℕ) : Type 0 where
   pub pending : (q : Pending) → thread.pending ≡ Some q → holds set (element_lock p.flat.variables q.variable q.element) ≡ true
   -- its node writes where its pending store goes
   pub stored : (q : Pending) → graph_thread.pending ≡ Some q → IsPendingAt p.flat graph_thread.at q
-  pub locks : record_of (map word_of words) code.thread.number ≡ locks_held set
+  pub locks : record_of p.log (map word_of words) code.thread.number ≡ locks_held set
   pub entry : Record
-  pub is_record : IsRecord entry
-  pub is_recorded : IsRecorded code.thread.number entry (map word_of words)
+  pub is_record : IsRecord p.log entry
+  pub is_recorded : IsRecorded p.log code.thread.number entry (map word_of words)
   pub describes : (kept : FlowState) → slice_get kept.graph_threads code.thread.number ≡ Some graph_thread →
       holds_none kept.holders code.thread.number ≡ is_empty (locks_held set) → Describes p code kept entry
 
-module _ (locked : ChosenAreLocked) (p : Plan) (plan : IsPlan p) (code : Code p) (words : List ℕ) (log : HasLog code.thread.number (map word_of words)) where
+module _ (locked : ChosenAreLocked) (p : Plan) (plan : IsPlan p) (code : Code p) (words : List ℕ)
+    (log : HasLog p.log code.thread.number (map word_of words)) where
   abbrev ws : List Word
   ws = map word_of words
 
@@ -132,7 +133,7 @@ module _ (locked : ChosenAreLocked) (p : Plan) (plan : IsPlan p) (code : Code p)
 
   -- ---- Between two sections
 
-  module _ (none : durable_point ws n ≡ 0) where
+  module _ (none : durable_point p.log ws n ≡ 0) where
     begun : GraphThreadMatches x (graph_thread_start t.part) (m.thread_start code.of.text)
     begun =
         (begins_lockstep x plan.formed).each n (graph_thread_start t.part) (m.thread_start code.of.text)
@@ -160,20 +161,20 @@ module _ (locked : ChosenAreLocked) (p : Plan) (plan : IsPlan p) (code : Code p)
       pending = λ q some. absurd (none-some q some);
       stored = λ q some. absurd (none-some q some);
       locks =
-          cond-true (durable_point ws n == 0) [] (locks_in (recorded ws n 0)) (eq-eqb (durable_point ws n) 0 none)
+          record_none p.log ws n none
           ∙ sym (no_locks_from 0 (length x.mutexes));
       entry = nothing_recorded;
-      is_record = nothing_is_record;
-      is_recorded = nothing_is_recorded n words none;
+      is_record = nothing_is_record p.log;
+      is_recorded = nothing_is_recorded p.log n words none;
       describes = λ kept there holds.
           between (holds ∙ ap is_empty (no_locks_from 0 (length x.mutexes))) refl;
     }
 
   -- ---- At a node
 
-  module _ (node : ℕ) (some : durable_point ws n ≢ 0) (g : GoesOnAt p code ws node) where
+  module _ (node : ℕ) (some : durable_point p.log ws n ≢ 0) (g : GoesOnAt p code ws node) where
     abbrev registers : List ℕ
-    registers = resumed_registers ws n
+    registers = resumed_registers p.log ws n
 
     abbrev is : Node
     is = (node_is p plan t code.of node g.own).0
@@ -276,13 +277,12 @@ module _ (locked : ChosenAreLocked) (p : Plan) (plan : IsPlan p) (code : Code p)
         variable_is = refl;
         address = at_element.is ∙ ap (λ (v : ℕ). variable_at (map shape_of x.variables) v store.element) stores.variable_is;
         below =
-            let reach = addresses_reach x.variables 0 variable store.element stores.it (well_formed_placed x plan.formed).room stores.found exists in
+            let reach = addresses_reach V1 x.variables 0 variable store.element stores.it (well_formed_placed x plan.formed).room stores.found exists in
             address_small (variable_at (map shape_of x.variables) variable store.element) (bytes_of stores.it.kind) reach.inside;
         value = record {
           held = Holds-reduced kind (pos (read registers pending_value));
           below =
-              subst (λ (v : ℕ). v < 2 ^ 64) (sym (resumed_there ws n pending_value (keepable pending_value refl)))
-              (recorded_small n ws log pending_value (omega arith));
+              register_small p.log n ws log pending_value (kept_are_keepable p.log pending_value refl);
           low = low_bytes kind (read registers pending_value);
         };
       }
@@ -354,56 +354,48 @@ module _ (locked : ChosenAreLocked) (p : Plan) (plan : IsPlan p) (code : Code p)
     -- ---- The record
 
     abbrev entry : Record
-    entry = record { point = durable_point ws n; locks = locks_before p t node; live = code.is.places.live node; registers = registers }
+    entry = record { point = durable_point p.log ws n; locks = locks_before p t node; live = code.is.places.live node; registers = registers }
 
-    kept_keepable : (slot : ℕ) → IsKept p t node slot → IsKeepable slot
+    kept_keepable : (slot : ℕ) → IsKept p t node slot → IsKeepable p.log slot
     kept_keepable slot (of_local local k there live) = local_keepable p plan t code.of local k there
-    kept_keepable slot (of_address stores) = keepable pending_address refl
-    kept_keepable slot (of_value stores) = keepable pending_value refl
+    kept_keepable slot (of_address own) = kept_are_keepable p.log pending_address refl
+    kept_keepable slot (of_value own) = kept_are_keepable p.log pending_value refl
 
-    live_keepable : (slot : ℕ) → Contains entry.live slot → IsKeepable slot
+    live_keepable : (slot : ℕ) → Contains entry.live slot → IsKeepable p.log slot
     live_keepable slot c = kept_keepable slot ((code.is.kept node g.own slot).0 c)
 
-    is_record : IsRecord entry
+    is_record : IsRecord p.log entry
     is_record = record {
-      point = point_small n ws log;
-      locks = record {
-        fits = held_fits set (few_set p plan t code.of node);
-        read_back = read_back p plan t code.of node;
-      };
+      point = point_small p.log n ws log;
+      locks = loggable p plan t code.of node;
       live = live_keepable;
-      registers = λ slot c.
-          let k = live_keepable slot c in
-          let e = k.exists in
-          subst (λ (v : ℕ). v < 2 ^ 64) (sym (resumed_there ws n slot k)) (recorded_small n ws log slot e);
+      registers = λ slot c. register_small p.log n ws log slot (live_keepable slot c);
     }
 
-    mask_locks : locks_in (recorded ws n 0) ≡ locks_before p t node
-    mask_locks = sym (cond-false (durable_point ws n == 0) [] (locks_in (recorded ws n 0)) (ne_eqb (durable_point ws n) 0 some)) ∙ g.locks
+    locks_kept : HasKept p.log ws n (locks_before p t node)
+    locks_kept =
+        subst (HasKept p.log ws n) g.locks ((scheme p.log).reads.said ws n some (λ slot inside. recorded_small p.log n ws log slot inside))
 
-    slot_is : (slot : ℕ) → Contains (0 ∷ entry.live) slot → recorded ws n slot ≡ value_of entry slot
-    slot_is slot c = elim (contains_cases 0 entry.live slot c) [
-      | inl zeroth ↦
-          subst (λ (k : ℕ). recorded ws n k ≡ value_of entry k) (sym zeroth)
-          (sym (mask_of_locks (recorded ws n 0) (recorded_small n ws log 0 (omega arith))) ∙ ap mask_with mask_locks)
-      | inr more ↦ (
+    slot_is : (slot : ℕ) → Contains (slots_of p.log entry) slot → recorded p.log ws n slot ≡ value_of p.log entry slot
+    slot_is slot c = elim (slot_cases p.log entry slot c) [
+      | inl h ↦
+          let keeps = (scheme p.log).keeps.locks entry.locks h.pair (loggable p plan t code.of node) h.own in
+          subst (λ (k : ℕ). recorded p.log ws n k ≡ kept_in (kept_locks p.log entry.locks) k (read registers slot)) (sym h.is)
+          (locks_kept h.pair h.own ∙ sym (keeps.alone (read registers slot)))
+      | inr more ↦
           let k = live_keepable slot more in
-          let above = k.is_register in
-          sym (resumed_there ws n slot k)
-          ∙ sym (cond-false (slot == 0) (mask_with entry.locks) (read registers slot) (ne_eqb slot 0 (λ e. omega (arith, e, above)))))
+          sym ((scheme p.log).reads.registers ws n slot k) ∙ sym (((scheme p.log).keeps.registers slot k).alone entry.locks (read registers slot))
     ]
 
-    is_recorded : IsRecorded n entry ws
+    is_recorded : IsRecorded p.log n entry ws
     is_recorded = record {
-      point = durable_word words (word_number (point_at n));
+      point = durable_word words (word_number (point_at p.log n));
       bank = λ slot c.
-          let own : Contains (0 ∷ entry.live) slot =
-          subst (λ (slots : List ℕ). Contains slots slot) (cond-false (entry.point == 0) [] (0 ∷ entry.live) (ne_eqb entry.point 0 some)) c in
-          subst (λ (v : ℕ). IsDurable (slot_in ws n entry slot) v) (slot_is slot own) (durable_word words (bank_word n (bank_of entry.point) slot));
+          subst (λ (v : ℕ). IsDurable (slot_in p.log ws n entry slot) v) (slot_is slot c) (durable_word words (bank_word p.log n (bank_of entry.point) slot));
     }
 
-    resumed_record : ResumesRecord n entry ws
-    resumed_record = log_facts.registers_resumed.between n entry ws is_record is_recorded
+    resumed_record : ResumesRecord p.log n entry ws
+    resumed_record = log_facts.registers_resumed.between p.log n entry ws is_record is_recorded
 
     enters : (kept : FlowState) → Enters p t node (seen_by kept graph_thread) (side_of entry) registers
     enters kept = record {

@@ -6,12 +6,11 @@ use Rattle.ido_base.specs.Layout.{word_count}
 use Rattle.ido_base.specs.Locks.{has_lock}
 use Rattle.ido_ints.specs.declared.kinds.Kind.{Kind}
 use Rattle.rv64_isa.specs.Rows.{read}
-use Rattle.rv64_isa.specs.Machine.{durable_point, resume_of, record_of}
+use Rattle.rv64_isa.specs.Machine.{durable_point, resume_of, record_of, resumed_registers}
 use Rattle.memory_layout.specs.Roles.{pending_address}
 use Rattle.flow_graph.specs.Nodes.{Node}
 use Rattle.flow_graph.specs.Liveness.{NodeAt, IsLive}
 use Rattle.log_states.specs.Logs.{HasLog}
-use Rattle.log_states.specs.Laws.{resumed_registers}
 use Rattle.thread_code.specs.Plans.{Plan, IsNodeOf, locks_before}
 use Rattle.recovered_threads.specs.RecordDescriptions.{Code, Codes, ResumesAt}
 use Rattle.image_checks.specs.Checks.{IsForm, IsElementOf}
@@ -19,14 +18,14 @@ use Rattle.image_checks.specs.Checks.{IsForm, IsElementOf}
 module _ (p : Plan) (code : Code p) (words : List Word) where
   -- the registers with which recovery resumes the thread
   abbrev pub resumed : List ℕ
-  resumed = resumed_registers words code.thread.number
+  resumed = resumed_registers p.log words code.thread.number
 
   -- the thread goes on at the node: it is resumed where a boundary before it does that, and finds what it needs there
   pub record GoesOnAt (node : ℕ) : Type 0 where
     pub own : IsNodeOf code.thread node
-    pub resumes : ResumesAt p code node (resume_of (durable_point words code.thread.number))
+    pub resumes : ResumesAt p code node (resume_of (durable_point p.log words code.thread.number))
     -- the locks that it takes first are those that it holds there
-    pub locks : record_of words code.thread.number ≡ locks_before p code.thread node
+    pub locks : record_of p.log words code.thread.number ≡ locks_before p code.thread node
     -- each live local has a number of its kind
     pub locals : (local : ℕ) (k : Kind) → slice_get code.thread.kinds local ≡ Some k → IsLive p.graph local node →
         IsForm k (read resumed (slice_index code.thread.registers local))
@@ -36,13 +35,13 @@ module _ (p : Plan) (code : Code p) (words : List Word) where
 
   -- the thread stands between two sections, or goes on at a node
   pub data HasThreadShape : Type 0 where
-    idle : durable_point words code.thread.number ≡ 0 → HasThreadShape
-    resumes : (node : ℕ) → durable_point words code.thread.number ≢ 0 → GoesOnAt node → HasThreadShape
+    idle : durable_point p.log words code.thread.number ≡ 0 → HasThreadShape
+    resumes : (node : ℕ) → durable_point p.log words code.thread.number ≢ 0 → GoesOnAt node → HasThreadShape
 
 -- as many words as the machine has, those of logs of 64 bits; each thread can be resumed; and no two threads have recorded the same lock
 pub record HasShape (p : Plan) (codes : Codes p) (words : List ℕ) : Type 0 where
-  pub size : length words ≡ word_count (length p.graph.threads)
-  pub logs : (n : ℕ) → n < length p.graph.threads → HasLog n (map word_of words)
+  pub size : length words ≡ word_count p.log (length p.graph.threads)
+  pub logs : (n : ℕ) → n < length p.graph.threads → HasLog p.log n (map word_of words)
   pub threads : (n : ℕ) (below : n < length p.graph.threads) → HasThreadShape p (codes.each n below) (map word_of words)
-  pub apart : (g h lock : ℕ) → g < length p.graph.threads → h < length p.graph.threads → has_lock (record_of (map word_of words) g) lock ≡ true →
-      has_lock (record_of (map word_of words) h) lock ≡ true → g ≡ h
+  pub apart : (g h lock : ℕ) → g < length p.graph.threads → h < length p.graph.threads → has_lock (record_of p.log (map word_of words) g) lock ≡ true →
+      has_lock (record_of p.log (map word_of words) h) lock ≡ true → g ≡ h

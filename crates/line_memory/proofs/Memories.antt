@@ -52,7 +52,8 @@ known_stored old new words number count value cell stores s added kept known = �
       | inr again ↦ kept (number / 8) (known (number / 8) (omega (arith, s.version, again)))
     ]
 
-pub represents-from : (memory : LineMemory) (words : List Word) (cells : List Cell) → memory.cells.items ≡ cells → length words ≡ word_count memory.threads →
+pub represents-from : (memory : LineMemory) (words : List Word) (cells : List Cell) → memory.cells.items ≡ cells →
+    length words ≡ word_count memory.log memory.threads →
     CellsStand cells words memory.stores → AreKnown memory.changes words → Represents memory words
 represents-from memory words cells same size stand known = record {
   size = size;

@@ -4,8 +4,9 @@ use Rattle.std.proofs.Common.{◌∙◌, ap, subst, inl, inr, arith, add-one, ap
 use Rattle.std.proofs.lemmas.Bool.{cases_eq}
 use Rattle.std.proofs.lemmas.List.{get_or-map, length-map, map-append, take_all, drop-drop, get_or_past}
 use Rattle.std.specs.Int.{w64, from_le_bytes}
+use Rattle.ido_base.specs.declared.log.Log.{Log}
 use Rattle.ido_base.specs.Words.{word_of}
-use Rattle.ido_base.specs.Layout.{words_of_bytes, word_count, variable_lines, log_lines, initial_words, spread_words}
+use Rattle.ido_base.specs.Layout.{words_of_bytes, word_count, variable_lines, log_words, initial_words, spread_words}
 use Rattle.line_memory.specs.declared.memory.LineMemory.{LineMemory}
 use Rattle.line_memory.specs.links.MemoryRepresentation.{Represents}
 use Rattle.line_memory.specs.declared.cell.Cell.{Cell}
@@ -108,7 +109,7 @@ CellsStand-of ns = record {
 
 -- ---- New memories
 
-length-made : (memory : LineMemory) (ns : List ℕ) → memory.cells.items ≡ map cell_of ns → length (map word_of ns) ≡ word_count memory.threads
+length-made : (memory : LineMemory) (ns : List ℕ) → memory.cells.items ≡ map cell_of ns → length (map word_of ns) ≡ word_count memory.log memory.threads
 length-made memory ns same = length-map ns word_of ∙ sym (length-map ns cell_of) ∙ ap length (sym same) ∙ sym memory.cells.ok.0 ∙ memory.sized
 
 pub represents-of : (memory : LineMemory) (ns : List ℕ) → memory.stores ≡ 0 → memory.cells.items ≡ map cell_of ns → Represents memory (map word_of ns)
@@ -127,18 +128,18 @@ parts all first second a b d e f g =
     let ab : second ≡ map cell_of (a ++ b) = f ∙ ap (λ (xs : List Cell). xs ++ map cell_of b) e ∙ sym (map-append cell_of a b) in
     g ∙ ap (λ (xs : List Cell). xs ++ map cell_of d) ab ∙ sym (map-append cell_of (a ++ b) d)
 
-initial_words-at : (threads : ℕ) (bytes : List ℕ) (n m : ℕ) → n ≡ 8 * variable_lines → m ≡ 8 * log_lines * threads →
-    words_of_bytes bytes n ++ replicate m 0 ≡ initial_words threads bytes
+initial_words-at : (log : Log) (threads : ℕ) (bytes : List ℕ) (n m : ℕ) → n ≡ 8 * variable_lines → m ≡ log_words log * threads →
+    words_of_bytes bytes n ++ replicate m 0 ≡ initial_words log threads bytes
 unfolding initial_words
-initial_words-at threads bytes n m variables logs =
-    ap (λ (k : ℕ). words_of_bytes bytes n ++ replicate k 0) logs ∙ ap (λ (k : ℕ). words_of_bytes bytes k ++ replicate (8 * log_lines * threads) 0) variables
+initial_words-at log threads bytes n m variables logs =
+    ap (λ (k : ℕ). words_of_bytes bytes n ++ replicate k 0) logs ∙ ap (λ (k : ℕ). words_of_bytes bytes k ++ replicate (log_words log * threads) 0) variables
 
 -- the words at the start
-pub initial_cells : (all second first : List Cell) (threads : ℕ) (bytes : List ℕ) (n m : ℕ) → n ≡ 8 * variable_lines → m ≡ 8 * log_lines * threads →
+pub initial_cells : (all second first : List Cell) (log : Log) (threads : ℕ) (bytes : List ℕ) (n m : ℕ) → n ≡ 8 * variable_lines → m ≡ log_words log * threads →
     first ≡ [] → second ≡ first ++ map cell_of (words_of_bytes bytes n) → all ≡ second ++ map cell_of (replicate m 0) →
-    all ≡ map cell_of (initial_words threads bytes)
-initial_cells all second first threads bytes n m variables logs e f g =
-    parts all first second [] (words_of_bytes bytes n) (replicate m 0) e f g ∙ ap (map cell_of) (initial_words-at threads bytes n m variables logs)
+    all ≡ map cell_of (initial_words log threads bytes)
+initial_cells all second first log threads bytes n m variables logs e f g =
+    parts all first second [] (words_of_bytes bytes n) (replicate m 0) e f g ∙ ap (map cell_of) (initial_words-at log threads bytes n m variables logs)
 
 -- the words that are given
 pub spread_cells : (all third second first : List Cell) (variable_words : ℕ) (words : List ℕ) (n : ℕ) → n ≡ 8 * variable_lines - variable_words → first ≡ [] →

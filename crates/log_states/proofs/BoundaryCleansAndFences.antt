@@ -1,6 +1,7 @@
 -- A boundary's own cleans and fences.
-use Rattle.std.proofs.Common.{◌≡◌, inl, inr, ℕ, ◌+◌, ◌*◌, ◌/◌, ◌%◌, ◌<◌, ◌≤◌, List, [], ◌∷◌, ◌++◌, length, ap, arith, sym, ◌∙◌, subst}
+use Rattle.std.proofs.Common.{◌≡◌, inl, inr, ℕ, ◌+◌, ◌*◌, ◌/◌, ◌%◌, ◌<◌, ◌≤◌, List, [], ◌∷◌, ◌++◌, length, refl, ap, arith, sym, ◌∙◌, subst}
 use Rattle.std.specs.List.{Contains}
+use Rattle.ido_base.specs.declared.log.Log.{Log}
 use Rattle.ido_base.specs.Words.{Word, Entry, word_at, last_position, live_value, entry_of}
 use Rattle.ido_base.specs.Growth.{AreEntries, PersistsThrough}
 use Rattle.ido_base.specs.Layout.{point_at, slot_at, byte_number, word_number}
@@ -12,7 +13,7 @@ use Rattle.log_states.specs.Stages.{LogConfig, IsComing, ToStore, ToClean, Queue
 use Rattle.log_states.specs.Stages.{MayOverwrite}
 use Rattle.log_states.proofs.Lists.{contains_none, contains_cases, contains_first, contains_later}
 use Rattle.log_states.proofs.Heads.{no_head, not_done, same_address, same_rest}
-use Rattle.log_states.proofs.Numbers.{word_of_slot, word_of_point, line_of_slots, line_of_point}
+use Rattle.log_states.proofs.Numbers.{bank_line, bank_line_exists, slot_in_line, point_line, point_line_exists}
 use Rattle.log_states.proofs.UnstoredLogStays.{bank_below, of_slot, of_point}
 
 -- ---- A clean
@@ -31,7 +32,7 @@ cleaned_line words queue line exists entries = record {
   stays = λ j position h. reach_stays words words queue (entry_of words line ∷ []) j position (changed_refl words) h;
 }
 
-module _ (thread : ℕ) (old new : Record) (m n : LogConfig) (f : MayOverwrite old new) (log : HasLog thread m.words)
+module _ (log : Log) (thread : ℕ) (old new : Record) (m n : LogConfig) (f : MayOverwrite log old new) (has : HasLog log thread m.words)
     (entries : AreEntries m.words m.queue) (address : ℕ)
     (does : m.rest ≡ Cleans address ∷ n.rest) (words : n.words ≡ m.words) (queue : n.queue ≡ m.queue ++ entry_of m.words (byte_number address / 64) ∷ []) where
   does_clean : (place line : ℕ) → address ≡ place → byte_number place / 64 ≡ line → 8 * line + 8 ≤ length m.words → IsCleaned n.words m.queue n.queue line
@@ -46,37 +47,37 @@ module _ (thread : ℕ) (old new : Record) (m n : LogConfig) (f : MayOverwrite o
   cleaned_words P h = subst P (sym words) h
 
   -- a slot of the line, and one of another
-  cleaned_slot : (line : ℕ) (lines : List ℕ) (slot : ℕ) → IsCleaned n.words m.queue n.queue (1025 + 16 * thread + 4 * bank_of new.point + line)
-      → IsComing thread new [] (line ∷ lines) m slot → IsComing thread new [] lines n slot
+  cleaned_slot : (line : ℕ) (lines : List ℕ) (slot : ℕ) → IsCleaned n.words m.queue n.queue (bank_line log thread (bank_of new.point) line)
+      → IsComing log thread new [] (line ∷ lines) m slot → IsComing log thread new [] lines n slot
   cleaned_slot line lines slot c (ToStore h) = absurd (contains_none slot h)
   cleaned_slot line lines slot c (ToClean live h) =
-      let holds : live_value (slot_in n.words thread new slot) ≡ value_of new slot =
-      cleaned_words (λ ws. live_value (slot_in ws thread new slot) ≡ value_of new slot) live in
+      let holds : live_value (slot_in log n.words thread new slot) ≡ value_of log new slot =
+      cleaned_words (λ ws. live_value (slot_in log ws thread new slot) ≡ value_of log new slot) live in
       elim (contains_cases line lines (slot / 8) h) [
         | inl is ↦
-            let place : 8 * (1025 + 16 * thread + 4 * bank_of new.point + line) + slot % 8 ≡ bank_word thread (bank_of new.point) slot =
-            omega (arith, is, word_of_slot thread (bank_of new.point) slot) in
+            let place : 8 * bank_line log thread (bank_of new.point) line + slot % 8 ≡ bank_word log thread (bank_of new.point) slot =
+            slot_in_line log thread (bank_of new.point) slot line is in
             Queued holds (subst (λ (j : ℕ). PersistsThrough n.words n.queue j (last_position (word_at n.words j))) place (c.here (slot % 8) (omega arith)))
         | inr more ↦ ToClean holds more
       ]
   cleaned_slot line lines slot c (Queued live h) =
-      Queued (cleaned_words (λ ws. live_value (slot_in ws thread new slot) ≡ value_of new slot) live)
-      (c.stays (bank_word thread (bank_of new.point) slot) (last_position (slot_in n.words thread new slot))
-      (cleaned_words (λ ws. PersistsThrough ws m.queue (bank_word thread (bank_of new.point) slot) (last_position (slot_in ws thread new slot))) h))
+      Queued (cleaned_words (λ ws. live_value (slot_in log ws thread new slot) ≡ value_of log new slot) live)
+      (c.stays (bank_word log thread (bank_of new.point) slot) (last_position (slot_in log n.words thread new slot))
+      (cleaned_words (λ ws. PersistsThrough ws m.queue (bank_word log thread (bank_of new.point) slot) (last_position (slot_in log ws thread new slot))) h))
 
-  cleaned_stage : AreEntries n.words n.queue → Stage thread old new n → AreEntries n.words n.queue × Stage thread old new n
+  cleaned_stage : AreEntries n.words n.queue → Stage log thread old new n → AreEntries n.words n.queue × Stage log thread old new n
   cleaned_stage e s = (e, s)
 
-  cleans : (slots lines : List ℕ) → IsWriting thread new slots lines m → IsRecorded thread old m.words → AreEntries n.words n.queue × Stage thread old new n
+  cleans : (slots lines : List ℕ) → IsWriting log thread new slots lines m → IsRecorded log thread old m.words →
+      AreEntries n.words n.queue × Stage log thread old new n
   cleans (slot ∷ slots) lines w h = absurd (no_head _ _ _ _ (sym does ∙ w.rest) (omega arith))
   cleans [] [] w h = absurd (no_head _ _ _ _ (sym does ∙ w.rest) (omega arith))
   cleans [] (line ∷ lines) w h =
       let e = sym does ∙ w.rest in
       let bank : ℕ = bank_of new.point in
-      let exists : 8 * (1025 + 16 * thread + 4 * bank + line) + 8 ≤ length m.words =
-      omega (arith, log.exists, bank_below new.point, w.exist line (contains_first line lines)) in
-      let c = does_clean (slot_at thread bank (8 * line)) (1025 + 16 * thread + 4 * bank + line) (same_address _ _ _ _ e)
-      (line_of_slots thread bank line) exists in (
+      let exists : 8 * bank_line log thread bank line + 8 ≤ length m.words =
+      omega (arith, has.exists, bank_line_exists log thread bank line (bank_below new.point) (w.exist line (contains_first line lines))) in
+      let c = does_clean (slot_at log thread bank (8 * line)) (bank_line log thread bank line) (same_address _ _ _ _ e) refl exists in (
         c.entries,
         Writing [] lines (record {
           rest = same_rest _ _ _ _ e;
@@ -84,20 +85,23 @@ module _ (thread : ℕ) (old new : Record) (m n : LogConfig) (f : MayOverwrite o
           after = λ slot d. absurd (contains_none slot d);
           exist = λ l d. w.exist l (contains_later line lines l d);
           each = λ slot d. cleaned_slot line lines slot c (w.each slot d);
-        }) (cleaned_words (IsRecorded thread old) h),
+        }) (cleaned_words (IsRecorded log thread old) h),
       )
 
-  point_cleaned : m.rest ≡ Cleans (point_at thread) ∷ Fences ∷ [] → IsPointed thread old new m.words → AreEntries n.words n.queue × Stage thread old new n
+  point_cleaned : m.rest ≡ Cleans (point_at log thread) ∷ Fences ∷ [] → IsPointed log thread old new m.words →
+      AreEntries n.words n.queue × Stage log thread old new n
   point_cleaned rest h =
       let e = sym does ∙ rest in
-      let c = does_clean (point_at thread) (1024 + 16 * thread) (same_address _ _ _ _ e) (line_of_point thread) (omega (arith, log.exists)) in
-      let place : 8 * (1024 + 16 * thread) + 0 ≡ word_number (point_at thread) = omega (arith, word_of_point thread) in (
+      let line : ℕ = byte_number (point_at log thread) / 64 in
+      let exists : 8 * line + 8 ≤ length m.words = omega (arith, has.exists, point_line_exists log thread) in
+      let c = does_clean (point_at log thread) line (same_address _ _ _ _ e) refl exists in
+      let place : 8 * line + 0 ≡ word_number (point_at log thread) = omega (arith, point_line log thread) in (
         c.entries,
-        PointQueued (same_rest _ _ _ _ e) (cleaned_words (IsPointed thread old new) h)
+        PointQueued (same_rest _ _ _ _ e) (cleaned_words (IsPointed log thread old new) h)
             (subst (λ (j : ℕ). PersistsThrough n.words n.queue j (last_position (word_at n.words j))) place (c.here 0 (omega arith))),
       )
 
-  pub own_clean : Stage thread old new m → AreEntries n.words n.queue × Stage thread old new n
+  pub own_clean : Stage log thread old new m → AreEntries n.words n.queue × Stage log thread old new n
   own_clean (Writing slots lines w h) = cleans slots lines w h
   own_clean (Written rest h bank) = absurd (no_head _ _ _ _ (sym does ∙ rest) (omega arith))
   own_clean (Pointed rest h) = point_cleaned rest h
@@ -112,37 +116,40 @@ pub reached_durable : (words : List Word) (j value : ℕ) → IsWord (word_at wo
     IsDurable (word_at words j) value
 reached_durable words j value is live h = record { durable = omega (arith, is.durable, h); live = live }
 
-module _ (thread : ℕ) (old new : Record) (m n : LogConfig) (f : MayOverwrite old new) (log : HasLog thread m.words) (does : m.rest ≡ Fences ∷ n.rest)
+module _ (log : Log) (thread : ℕ) (old new : Record) (m n : LogConfig) (f : MayOverwrite log old new) (has : HasLog log thread m.words)
+    (does : m.rest ≡ Fences ∷ n.rest)
     (words : n.words ≡ m.words)
     (empty : m.queue ≡ []) where
   fenced_words : (P : List Word → Type 0) → P m.words → P n.words
   fenced_words P h = subst P (sym words) h
 
-  fenced_slot : (slot : ℕ) → Contains (slots_of new) slot → IsComing thread new [] [] m slot → IsDurable (slot_in m.words thread new slot) (value_of new slot)
+  fenced_slot : (slot : ℕ) → Contains (slots_of log new) slot → IsComing log thread new [] [] m slot →
+      IsDurable (slot_in log m.words thread new slot) (value_of log new slot)
   fenced_slot slot c (ToStore h) = absurd (contains_none slot h)
   fenced_slot slot c (ToClean live h) = absurd (contains_none (slot / 8) h)
   fenced_slot slot c (Queued live h) =
-      reached_durable m.words (bank_word thread (bank_of new.point) slot) (value_of new slot)
-      (of_slot thread (λ j. IsWord (word_at m.words j)) log.each new slot f.new_is c) live
-      (subst (λ (q : List Entry). PersistsThrough m.words q (bank_word thread (bank_of new.point) slot) (last_position (slot_in m.words thread new slot))) empty
+      reached_durable m.words (bank_word log thread (bank_of new.point) slot) (value_of log new slot)
+      (of_slot log thread (λ j. IsWord (word_at m.words j)) has.each new slot f.new_is c) live
+      (subst (λ (q : List Entry). PersistsThrough m.words q (bank_word log thread (bank_of new.point) slot)
+      (last_position (slot_in log m.words thread new slot))) empty
       h)
 
-  fences : (slots lines : List ℕ) → IsWriting thread new slots lines m → IsRecorded thread old m.words → Stage thread old new n
+  fences : (slots lines : List ℕ) → IsWriting log thread new slots lines m → IsRecorded log thread old m.words → Stage log thread old new n
   fences (slot ∷ slots) lines w h = absurd (no_head _ _ _ _ (sym does ∙ w.rest) (omega arith))
   fences [] (line ∷ lines) w h = absurd (no_head _ _ _ _ (sym does ∙ w.rest) (omega arith))
   fences [] [] w h =
-      Written (same_rest _ _ _ _ (sym does ∙ w.rest)) (fenced_words (IsRecorded thread old) h)
-      (fenced_words (HasBank thread new) (λ slot c. fenced_slot slot c (w.each slot c)))
+      Written (same_rest _ _ _ _ (sym does ∙ w.rest)) (fenced_words (IsRecorded log thread old) h)
+      (fenced_words (HasBank log thread new) (λ slot c. fenced_slot slot c (w.each slot c)))
 
-  point_fenced : m.rest ≡ Fences ∷ [] → IsPointed thread old new m.words →
-      PersistsThrough m.words m.queue (word_number (point_at thread)) (last_position (point_in m.words thread)) → Stage thread old new n
+  point_fenced : m.rest ≡ Fences ∷ [] → IsPointed log thread old new m.words →
+      PersistsThrough m.words m.queue (word_number (point_at log thread)) (last_position (point_in log m.words thread)) → Stage log thread old new n
   point_fenced rest h r =
-      let is : IsWord (point_in m.words thread) = of_point thread (λ j. IsWord (word_at m.words j)) log.each in
-      let point : IsDurable (point_in m.words thread) new.point = reached_durable m.words (word_number (point_at thread)) new.point is h.last
-      (subst (λ (q : List Entry). PersistsThrough m.words q (word_number (point_at thread)) (last_position (point_in m.words thread))) empty r) in
-      Over (same_rest _ _ _ _ (sym does ∙ rest)) (fenced_words (IsRecorded thread new) (record { point = point; bank = h.new_bank }))
+      let is : IsWord (point_in log m.words thread) = of_point log thread (λ j. IsWord (word_at m.words j)) has.each in
+      let point : IsDurable (point_in log m.words thread) new.point = reached_durable m.words (word_number (point_at log thread)) new.point is h.last
+      (subst (λ (q : List Entry). PersistsThrough m.words q (word_number (point_at log thread)) (last_position (point_in log m.words thread))) empty r) in
+      Over (same_rest _ _ _ _ (sym does ∙ rest)) (fenced_words (IsRecorded log thread new) (record { point = point; bank = h.new_bank }))
 
-  pub own_fence : Stage thread old new m → Stage thread old new n
+  pub own_fence : Stage log thread old new m → Stage log thread old new n
   own_fence (Writing slots lines w h) = fences slots lines w h
   own_fence (Written rest h bank) = absurd (no_head _ _ _ _ (sym does ∙ rest) (omega arith))
   own_fence (Pointed rest h) = absurd (no_head _ _ _ _ (sym does ∙ rest) (omega arith))

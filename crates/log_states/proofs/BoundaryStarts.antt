@@ -1,48 +1,25 @@
 -- How a boundary begins, and what its record says.
 use Rattle.std.proofs.Common.{◌≡◌, ◌≢◌, ℕ, ◌+◌, ◌-◌, ◌*◌, ◌%◌, ◌^◌, ◌<◌, List, [], ◌∷◌, ◌++◌, map, refl, ap, arith, sym, ◌∙◌, Bool, true, false, eqb}
 use Rattle.std.specs.List.{Contains}
-use Rattle.std.proofs.Common.{◌≤◌, inl, inr, true}
-use Rattle.std.specs.Prelude.{nat_le, not, ◌==◌, ◌&&◌, ◌||◌}
-use Rattle.memory_layout.specs.Roles.{is_local}
-use Rattle.std.proofs.lemmas.Bool.{or_cases, and_parts, leb-true, eqb-true}
 use Rattle.std.proofs.lemmas.Bool.{cond_both, cond-true, cond-false, ne_eqb}
-use Rattle.ido_base.specs.Locks.{mask_with}
+use Rattle.ido_base.specs.declared.log.Log.{Log}
 use Rattle.ido_base.specs.Layout.{slot_at}
 use Rattle.rv64_isa.specs.Rows.{Effect, Stores, Cleans, read}
 use Rattle.rv64_isa.specs.Machine.{bank_of}
-use Rattle.boundary_code.specs.Boundaries.{Boundary, is_empty, lines_in_use, bank_effects, commit_effects, boundary_effects, other_side}
+use Rattle.boundary_code.specs.Boundaries.{Boundary, is_empty, kept_locks, slots_kept, bank_lines}
+use Rattle.boundary_code.specs.Boundaries.{lines_in_use, bank_effects, commit_effects, boundary_effects, other_side}
 use Rattle.boundary_code.proofs.Public.{not_empty, some_there}
-use Rattle.log_states.specs.Logs.{Record, slots_of, value_of, IsKeepable, IsRecord}
+use Rattle.log_states.specs.Logs.{Record, slots_of, value_of, IsRecord}
 use Rattle.log_states.specs.Stages.{LogConfig, stores_of, cleans_of, ToStore, IsWriting, Writing}
 use Rattle.log_states.specs.Laws.{KeptAreKeepable, recorded_by, IsRecoverable, BoundaryBegins, SideFollows, PointSays}
-use Rattle.log_states.proofs.Lists.{contains_first, contains_later, slot_has_line, lines_below}
-use Rattle.log_states.proofs.UnstoredLogStays.{slot_below}
+use Rattle.log_states.proofs.Lists.{contains_first, contains_later, slots_in, slot_has_line, lines_of_bank, no_lines}
+use Rattle.log_states.proofs.Schemes.{scheme}
+use Rattle.log_states.proofs.UnstoredLogStays.{slot_in_bank}
 
 -- ---- Registers that are kept
 
 pub kept_are_keepable : KeptAreKeepable
-kept_are_keepable register kept = elim (or_cases (is_local register || register == 28) (register == 29) kept) [
-  | inl one ↦ elim (or_cases (is_local register) (register == 28) one) [
-    | inl is ↦
-        let parts = and_parts (nat_le 8 register && nat_le register 27 && not (register == 10)) (not (register == 17)) is in
-        let ends = and_parts (nat_le 8 register) (nat_le register 27) (and_parts (nat_le 8 register && nat_le register 27) (not (register == 10)) parts.0).0 in
-        let low : 8 ≤ register = leb-true 8 register ends.0 in
-        let high : register ≤ 27 = leb-true register 27 ends.1 in
-        record { is_register = omega (arith, low); exists = omega (arith, high); not_offset = λ e. omega (arith, e, low) }
-    | inr is ↦ let e : register ≡ 28 = eqb-true register 28 is in record {
-      is_register = omega (arith, e);
-      exists = omega
-          (arith, e);
-      not_offset = λ f. omega (arith, e, f);
-    }
-  ]
-  | inr is ↦ let e : register ≡ 29 = eqb-true register 29 is in record {
-    is_register = omega (arith, e);
-    exists = omega
-        (arith, e);
-    not_offset = λ f. omega (arith, e, f);
-  }
-]
+kept_are_keepable log register kept = (scheme log).keeps.locals register kept
 
 -- ---- The point
 
@@ -70,72 +47,87 @@ side_follows b side resume x r some =
 
 -- ---- What a boundary does, as its record has it
 
-effects_of : (thread : ℕ) → Record → List Effect
-effects_of thread r = stores_of thread r (slots_of r) ++ cleans_of thread r (lines_in_use (slots_of r)) ++ commit_effects thread r.point
+effects_of : Log → (thread : ℕ) → Record → List Effect
+effects_of log thread r =
+    stores_of log thread r (slots_of log r) ++ cleans_of log thread r (lines_in_use log (slots_of log r)) ++ commit_effects log thread r.point
 
-map_same : {A : Type 0} (f g : ℕ → A) (xs : List ℕ) → ((x : ℕ) → Contains xs x → f x ≡ g x) → map f xs ≡ map g xs
-map_same f g [] same = refl
-map_same {A} f g (x ∷ xs) same =
-    ap (λ (y : A). y ∷ map f xs) (same x (contains_first x xs)) ∙ ap (λ (ys : List A). g x ∷ ys) (map_same f g xs (λ y c. same y (contains_later x xs y c)))
+-- the stores of a bank, and then these effects: each slot gets its value
+module _ (at value own : ℕ → ℕ) (cleans commit : List Effect) where
+  registers_stored : (live : List ℕ) → ((r : ℕ) → Contains live r → value r ≡ own r) →
+      (map (λ r. Stores (at r) 8 (own r)) live ++ cleans) ++ commit ≡ map (λ s. Stores (at s) 8 (value s)) live ++ cleans ++ commit
+  registers_stored [] same = refl
+  registers_stored (r ∷ rs) same =
+      ap (λ (n : ℕ). Stores (at r) 8 n ∷ (map (λ r. Stores (at r) 8 (own r)) rs ++ cleans) ++ commit) (sym (same r (contains_first r rs)))
+      ∙ ap (λ (es : List Effect). Stores (at r) 8 (value r) ∷ es) (registers_stored rs (λ s c. same s (contains_later r rs s c)))
 
--- with a bank of this number, where the point isn't 0
-banked : (b : Boundary) (bank point : ℕ) (x : List ℕ) → ((register : ℕ) → Contains b.live register → IsKeepable register) → point ≢ 0 → bank_of point ≡ bank →
-    bank_effects b bank x ++ commit_effects b.thread point
-    ≡ effects_of b.thread (record { point = point; locks = b.locks; live = b.live; registers = x })
-unfolding effects_of
-banked b bank point x live some is =
-    let r : Record = record { point = point; locks = b.locks; live = b.live; registers = x } in
-    let slots : slots_of r ≡ 0 ∷ b.live = cond-false (eqb point 0) [] (0 ∷ b.live) (ne_eqb point 0 some) in
-    let stores : map (λ s. Stores (slot_at b.thread (bank_of point) s) 8 (read x s)) b.live ≡ map
-    (λ s. Stores (slot_at b.thread (bank_of point) s) 8 (value_of r s)) b.live =
-    map_same (λ s. Stores (slot_at b.thread (bank_of point) s) 8 (read x s)) (λ s. Stores (slot_at b.thread (bank_of point) s) 8 (value_of r s)) b.live
-    (λ s c. ap (λ (n : ℕ). Stores (slot_at b.thread (bank_of point) s) 8 n)
-    (sym (cond-false (eqb s 0) (mask_with b.locks) (read x s) (ne_eqb s 0 (λ none. omega (arith, none, (live s c).is_register)))))) in
-    ap (λ (k : ℕ). bank_effects b k x ++ commit_effects b.thread point) (sym is)
-    ∙ ap (λ (es : List Effect). (Stores (slot_at b.thread (bank_of point) 0) 8 (mask_with b.locks) ∷ es ++ map
-    (λ line. Cleans (slot_at b.thread (bank_of point) (8 * line))) (lines_in_use (0 ∷ b.live))) ++ commit_effects b.thread point) stores
-    ∙ ap (λ (ss : List ℕ). stores_of b.thread r ss ++ cleans_of b.thread r (lines_in_use ss) ++ commit_effects b.thread point) (sym slots)
-
--- with none
-unbanked : (b : Boundary) (x : List ℕ) →
-    commit_effects b.thread 0 ≡ effects_of b.thread (record { point = 0; locks = b.locks; live = b.live; registers = x })
-unfolding effects_of
-unbanked b x = refl
+  locks_stored : (live : List ℕ) (kept : List (ℕ × ℕ)) → ((r : ℕ) → Contains live r → value r ≡ own r) →
+      ((one : ℕ × ℕ) → Contains kept one → value one.0 ≡ one.1) →
+      (map (λ (one : ℕ × ℕ). Stores (at one.0) 8 one.1) kept ++ map (λ r. Stores (at r) 8 (own r)) live ++ cleans) ++ commit
+      ≡ map (λ s. Stores (at s) 8 (value s)) (slots_in kept ++ live) ++ cleans ++ commit
+  locks_stored live [] same has = registers_stored live same
+  locks_stored live (first ∷ kept) same has =
+      ap (λ (n : ℕ). Stores (at first.0) 8 n ∷ (map (λ (one : ℕ × ℕ). Stores (at one.0) 8 one.1) kept ++ map (λ r. Stores (at r) 8 (own r)) live ++ cleans)
+      ++ commit)
+      (sym (has first (contains_first first kept)))
+      ∙ ap (λ (es : List Effect). Stores (at first.0) 8 (value first.0) ∷ es) (locks_stored live kept same (λ one c. has one (contains_later first kept one c)))
 
 with_point : Boundary → List ℕ → ℕ → Record
 with_point b x point = record { point = point; locks = b.locks; live = b.live; registers = x }
 
+-- with a bank of this number, where the point isn't 0
+banked : (b : Boundary) (resume bank point : ℕ) (x : List ℕ) → IsRecoverable b resume x → point ≢ 0 → bank_of point ≡ bank →
+    bank_effects b bank x ++ commit_effects b.log b.thread point ≡ effects_of b.log b.thread (with_point b x point)
+unfolding effects_of with_point
+banked b resume bank point x is some named =
+    let r : Record = record { point = point; locks = b.locks; live = b.live; registers = x } in
+    let slots : slots_of b.log r ≡ slots_kept b.log b.locks b.live = cond-false (eqb point 0) [] (slots_kept b.log b.locks b.live) (ne_eqb point 0 some) in
+    let cleans = map (λ line. Cleans (slot_at b.log b.thread (bank_of point) (8 * line))) (lines_in_use b.log (slots_kept b.log b.locks b.live)) in
+    ap (λ (k : ℕ). bank_effects b k x ++ commit_effects b.log b.thread point) (sym named)
+    ∙ locks_stored (slot_at b.log b.thread (bank_of point)) (value_of b.log r) (λ k. read x k) cleans (commit_effects b.log b.thread point) b.live
+    (kept_locks b.log b.locks) (λ k c. ((scheme b.log).keeps.registers k (is.live k c)).alone b.locks (read x k))
+    (λ one c. ((scheme b.log).keeps.locks b.locks one is.locks c).alone (read x one.0))
+    ∙ ap (λ (ss : List ℕ). stores_of b.log b.thread r ss ++ cleans_of b.log b.thread r (lines_in_use b.log ss) ++ commit_effects b.log b.thread point)
+    (sym slots)
+
+-- with none
+unbanked : (b : Boundary) (x : List ℕ) → commit_effects b.log b.thread 0 ≡ effects_of b.log b.thread (with_point b x 0)
+unfolding effects_of with_point
+unbanked b x = ap (λ (lines : List ℕ). cleans_of b.log b.thread (record { point = 0; locks = b.locks; live = b.live; registers = x }) lines
+    ++ commit_effects b.log b.thread 0) (sym (no_lines (bank_lines b.log)))
+
 boundary_does : (b : Boundary) (side resume : ℕ) (x : List ℕ) → IsRecoverable b resume x →
-    boundary_effects b side resume x ≡ effects_of b.thread (recorded_by b side resume x)
+    boundary_effects b side resume x ≡ effects_of b.log b.thread (recorded_by b side resume x)
 unfolding with_point
 boundary_does b side resume x r = by (is_empty b.locks) refl
   where
-    by : (t : Bool) → is_empty b.locks ≡ t → boundary_effects b side resume x ≡ effects_of b.thread (recorded_by b side resume x)
+    by : (t : Bool) → is_empty b.locks ≡ t → boundary_effects b side resume x ≡ effects_of b.log b.thread (recorded_by b side resume x)
     by true e =
-        cond-true (is_empty b.locks) (commit_effects b.thread 0) (bank_effects b (1 - side) x ++ commit_effects b.thread ((resume + (1 - side)) % 2 ^ 64)) e
+        cond-true (is_empty b.locks) (commit_effects b.log b.thread 0)
+        (bank_effects b (1 - side) x ++ commit_effects b.log b.thread ((resume + (1 - side)) % 2 ^ 64)) e
         ∙ unbanked b x
-        ∙ ap (λ (p : ℕ). effects_of b.thread (with_point b x p)) (sym (cond-true (is_empty b.locks) 0 ((resume + (1 - side)) % 2 ^ 64) e))
+        ∙ ap (λ (p : ℕ). effects_of b.log b.thread (with_point b x p)) (sym (cond-true (is_empty b.locks) 0 ((resume + (1 - side)) % 2 ^ 64) e))
     by false e =
         let same : (recorded_by b side resume x).point ≡ (resume + (1 - side)) % 2 ^ 64 = cond-false (is_empty b.locks) 0 ((resume + (1 - side)) % 2 ^ 64) e in
         let says = point_says b side resume x r (some_there b.locks e) in
-        cond-false (is_empty b.locks) (commit_effects b.thread 0) (bank_effects b (1 - side) x ++ commit_effects b.thread ((resume + (1 - side)) % 2 ^ 64)) e
-        ∙ banked b (1 - side) ((resume + (1 - side)) % 2 ^ 64) x r.live (λ none. says.0 (same ∙ none)) (ap bank_of (sym same) ∙ says.1)
-        ∙ ap (λ (p : ℕ). effects_of b.thread (with_point b x p)) (sym same)
+        cond-false (is_empty b.locks) (commit_effects b.log b.thread 0)
+        (bank_effects b (1 - side) x ++ commit_effects b.log b.thread ((resume + (1 - side)) % 2 ^ 64)) e
+        ∙ banked b resume (1 - side) ((resume + (1 - side)) % 2 ^ 64) x r (λ none. says.0 (same ∙ none)) (ap bank_of (sym same) ∙ says.1)
+        ∙ ap (λ (p : ℕ). effects_of b.log b.thread (with_point b x p)) (sym same)
 
 -- ---- The beginning
 
-writing_begins : (thread : ℕ) (new : Record) (m : LogConfig) → IsRecord new → m.rest ≡ effects_of thread new →
-    IsWriting thread new (slots_of new) (lines_in_use (slots_of new)) m
+writing_begins : (log : Log) (thread : ℕ) (new : Record) (m : LogConfig) → IsRecord log new → m.rest ≡ effects_of log thread new →
+    IsWriting log thread new (slots_of log new) (lines_in_use log (slots_of log new)) m
 unfolding effects_of
-writing_begins thread new m is rest = record {
+writing_begins log thread new m is rest = record {
   rest = rest;
   own = λ slot c. c;
-  after = λ slot c. slot_has_line (slots_of new) slot c (slot_below new slot is c);
-  exist = λ line c. lines_below (slots_of new) line c;
+  after = λ slot c. slot_has_line log (slots_of log new) slot c (slot_in_bank log new slot is c);
+  exist = λ line c. lines_of_bank log (slots_of log new) line c;
   each = λ slot c. ToStore c;
 }
 
-is_record : (b : Boundary) (side resume : ℕ) (x : List ℕ) → IsRecoverable b resume x → IsRecord (recorded_by b side resume x)
+is_record : (b : Boundary) (side resume : ℕ) (x : List ℕ) → IsRecoverable b resume x → IsRecord b.log (recorded_by b side resume x)
 is_record b side resume x r = record {
   point = cond_both (is_empty b.locks) 0 ((resume + other_side side) % 2 ^ 64) (λ n. n < 2 ^ 64) (λ _. omega arith) (λ _. omega arith);
   locks = r.locks;
@@ -144,9 +136,9 @@ is_record b side resume x r = record {
 }
 
 pub begins : BoundaryBegins
-begins b old side resume x words queue log entries old_is recorded at r =
+begins b old side resume x words queue has entries old_is recorded at r =
     let new : Record = recorded_by b side resume x in
-    let new_is : IsRecord new = is_record b side resume x r in
+    let new_is : IsRecord b.log new = is_record b side resume x r in
     let m : LogConfig = record { words = words; queue = queue; rest = boundary_effects b side resume x } in
     record {
       follows = record {
@@ -156,8 +148,8 @@ begins b old side resume x words queue log entries old_is recorded at r =
             let says = point_says b side resume x r (has_locks b side resume x other) in
             omega (arith, same, at.is one, says.1, at.registers.exists);
       };
-      log = log;
+      log = has;
       queue = entries;
-      stage = Writing (slots_of new) (lines_in_use (slots_of new)) (writing_begins b.thread new m new_is
+      stage = Writing (slots_of b.log new) (lines_in_use b.log (slots_of b.log new)) (writing_begins b.log b.thread new m new_is
           (boundary_does b side resume x r)) recorded;
     }

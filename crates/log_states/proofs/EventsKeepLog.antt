@@ -1,17 +1,17 @@
 -- Every event keeps a log on its way, and between boundaries its record.
-use Rattle.std.proofs.Common.{◌≡◌, ℕ, List, [], ◌∷◌, ◌++◌, length, refl, arith, sym, ◌∙◌, subst}
+use Rattle.std.proofs.Common.{◌≡◌, ℕ, List, [], ◌∷◌, ◌++◌, length, refl, sym, ◌∙◌, subst}
+use Rattle.ido_base.specs.declared.log.Log.{Log}
 use Rattle.ido_base.specs.Words.{Word, Entry, word_at, drained}
 use Rattle.ido_base.specs.Growth.{AreChanged, ArePersisted, IsPersisted, AreEntries, PersistsThrough}
 use Rattle.ido_base.specs.Layout.{byte_number}
 use Rattle.ido_base.proofs.Public.{entries_stay, reach_stays, stores_change, write_backs_raise, changed_by_persisted, persisted_refl}
 use Rattle.boundary_code.specs.Boundaries.{commit_effects}
-use Rattle.ido_base.proofs.Public.{no_locks}
 use Rattle.log_states.specs.Logs.{Record, IsRecord, HasLog, IsUnstored, IsRecorded, log_word}
 use Rattle.log_states.specs.Stages.{LogConfig, stores_of, cleans_of, Stored, Cleaned, Fenced, Drained, Elsewhere, Stage, Writing, Written, Pointed, PointQueued}
 use Rattle.log_states.specs.Stages.{Over, LogIs}
 use Rattle.log_states.specs.Laws.{Keeps, Rests, StaysRecorded, BoundaryEnds, StoresElsewhere}
-use Rattle.log_states.proofs.Lists.{contains_none}
 use Rattle.log_states.proofs.Heads.{not_done}
+use Rattle.log_states.proofs.Schemes.{nothing_is_record}
 use Rattle.log_states.proofs.Words.{word_beside}
 use Rattle.log_states.proofs.UnstoredLogStays.{log_stays, recorded_stays, stage_stays}
 use Rattle.log_states.proofs.BoundaryStores.{own_store}
@@ -24,31 +24,33 @@ more_entries words [] more h g = g
 more_entries words (e ∷ es) more h g = (h.0, more_entries words es more h.1 g)
 
 -- a move that leaves the log unstored
-pub record IsQuiet (thread : ℕ) (m n : LogConfig) : Type 0 where
+pub record IsQuiet (log : Log) (thread : ℕ) (m n : LogConfig) : Type 0 where
   pub size : length n.words ≡ length m.words
-  pub unstored : IsUnstored thread m.words n.words
+  pub unstored : IsUnstored log thread m.words n.words
   pub reach : (j position : ℕ) → PersistsThrough m.words m.queue j position → PersistsThrough n.words n.queue j position
   pub entries : AreEntries n.words n.queue
   pub rest : n.rest ≡ m.rest
 
-pub drained_quiet : (thread : ℕ) (m n : LogConfig) (entry : Entry) → AreEntries m.words m.queue → n.rest ≡ m.rest → n.words ≡ drained m.words entry →
-    m.queue ≡ entry ∷ n.queue → IsQuiet thread m n
-drained_quiet thread m n entry entries rest words queue =
+pub drained_quiet : (log : Log) (thread : ℕ) (m n : LogConfig) (entry : Entry) → AreEntries m.words m.queue → n.rest ≡ m.rest →
+    n.words ≡ drained m.words entry →
+    m.queue ≡ entry ∷ n.queue → IsQuiet log thread m n
+drained_quiet log thread m n entry entries rest words queue =
     let all : AreEntries m.words (entry ∷ n.queue) = subst (λ (q : List Entry). AreEntries m.words q) queue entries in
     let persisted : ArePersisted m.words n.words = subst (λ (ws : List Word). ArePersisted m.words ws) (sym words) (write_backs_raise m.words entry all.0) in
     record {
       size = persisted.size;
-      unstored = λ i below. persisted.each (log_word thread i);
+      unstored = λ i below. persisted.each (log_word log thread i);
       reach = λ j position h. subst (λ (ws : List Word). PersistsThrough ws n.queue j position) (sym words)
           (subst (λ (q : List Entry). PersistsThrough m.words q j position) queue h);
       entries = entries_stay m.words n.words n.queue (changed_by_persisted m.words n.words persisted) all.1;
       rest = rest;
     }
 
-pub elsewhere_quiet : (thread : ℕ) (m n : LogConfig) (more : List Entry) → AreEntries m.words m.queue → n.rest ≡ m.rest → AreChanged m.words n.words →
-    IsUnstored thread m.words n.words →
-    n.queue ≡ m.queue ++ more → AreEntries n.words more → IsQuiet thread m n
-elsewhere_quiet thread m n more entries rest changed unstored queue added = record {
+pub elsewhere_quiet : (log : Log) (thread : ℕ) (m n : LogConfig) (more : List Entry) → AreEntries m.words m.queue → n.rest ≡ m.rest →
+    AreChanged m.words n.words →
+    IsUnstored log thread m.words n.words →
+    n.queue ≡ m.queue ++ more → AreEntries n.words more → IsQuiet log thread m n
+elsewhere_quiet log thread m n more entries rest changed unstored queue added = record {
   size = changed.size;
   unstored = unstored;
   reach =
@@ -61,90 +63,86 @@ elsewhere_quiet thread m n more entries rest changed unstored queue added = reco
 
 -- ---- At each moment of a boundary
 
-quiet_keeps : (thread : ℕ) (old new : Record) (m n : LogConfig) → LogIs thread old new m → IsQuiet thread m n → LogIs thread old new n
-quiet_keeps thread old new m n l q = record {
+quiet_keeps : (log : Log) (thread : ℕ) (old new : Record) (m n : LogConfig) → LogIs log thread old new m → IsQuiet log thread m n → LogIs log thread old new n
+quiet_keeps log thread old new m n l q = record {
   follows = l.follows;
-  log = log_stays thread m.words n.words q.size q.unstored l.log;
+  log = log_stays log thread m.words n.words q.size q.unstored l.log;
   queue = q.entries;
-  stage = stage_stays thread m n q.size q.unstored q.reach q.rest old new l.follows l.stage;
+  stage = stage_stays log thread m n q.size q.unstored q.reach q.rest old new l.follows l.stage;
 }
 
 pub keeps : Keeps
-keeps thread old new m n l (Stored address value does words queue) =
+keeps log thread old new m n l (Stored address value does words queue) =
     let changed : AreChanged m.words n.words = subst (λ (ws : List Word). AreChanged m.words ws) (sym words)
     (stores_change m.words (byte_number address) 8 value) in
-    let own = own_store thread old new m n l.follows l.log address value does words queue l.stage in
+    let own = own_store log thread old new m n l.follows l.log address value does words queue l.stage in
     record {
       follows = l.follows;
       log = own.0;
       queue = subst (λ (q : List Entry). AreEntries n.words q) (sym queue) (entries_stay m.words n.words m.queue changed l.queue);
       stage = own.1;
     }
-keeps thread old new m n l (Cleaned address does words queue) =
-    let own = own_clean thread old new m n l.follows l.log l.queue address does words queue l.stage in
-    record { follows = l.follows; log = subst (HasLog thread) (sym words) l.log; queue = own.0; stage = own.1 }
-keeps thread old new m n l (Fenced does words before after) = record {
+keeps log thread old new m n l (Cleaned address does words queue) =
+    let own = own_clean log thread old new m n l.follows l.log l.queue address does words queue l.stage in
+    record { follows = l.follows; log = subst (HasLog log thread) (sym words) l.log; queue = own.0; stage = own.1 }
+keeps log thread old new m n l (Fenced does words before after) = record {
   follows = l.follows;
-  log = subst (HasLog thread) (sym words) l.log;
+  log = subst (HasLog log thread) (sym words) l.log;
   queue = subst (λ (q : List Entry). AreEntries n.words q) (sym after) tt;
-  stage = own_fence thread old new m n l.follows l.log does words before l.stage;
+  stage = own_fence log thread old new m n l.follows l.log does words before l.stage;
 }
-keeps thread old new m n l (Drained entry rest words queue) = quiet_keeps thread old new m n l (drained_quiet thread m n entry l.queue rest words queue)
-keeps thread old new m n l (Elsewhere more rest changed unstored queue added) = quiet_keeps thread old new m n l
-    (elsewhere_quiet thread m n more l.queue rest changed unstored queue added)
+keeps log thread old new m n l (Drained entry rest words queue) =
+    quiet_keeps log thread old new m n l (drained_quiet log thread m n entry l.queue rest words queue)
+keeps log thread old new m n l (Elsewhere more rest changed unstored queue added) = quiet_keeps log thread old new m n l
+    (elsewhere_quiet log thread m n more l.queue rest changed unstored queue added)
 
 -- ---- Between boundaries
 
 pub rests : Rests
-rests thread r m done log entries is h = record {
+rests log thread r m done has entries is h = record {
   follows = record {
-    old_is = record {
-      point = omega arith;
-      locks = record { fits = omega arith; read_back = no_locks };
-      live = λ slot c. absurd (contains_none slot c);
-      registers = λ slot c. absurd
-          (contains_none slot c);
-    };
+    old_is = nothing_is_record log;
     new_is = is;
     apart = λ some other same. absurd (some refl);
   };
-  log = log;
+  log = has;
   queue = entries;
   stage = Over done h;
 }
 
-pub something_left : (thread : ℕ) (new : Record) (slots lines : List ℕ) →
-    [] ≡ stores_of thread new slots ++ cleans_of thread new lines ++ commit_effects thread new.point → ⊥
-something_left thread new [] [] e = not_done _ _ e
-something_left thread new [] (line ∷ lines) e = not_done _ _ e
-something_left thread new (slot ∷ slots) lines e = not_done _ _ e
+pub something_left : (log : Log) (thread : ℕ) (new : Record) (slots lines : List ℕ) →
+    [] ≡ stores_of log thread new slots ++ cleans_of log thread new lines ++ commit_effects log thread new.point → ⊥
+something_left log thread new [] [] e = not_done _ _ e
+something_left log thread new [] (line ∷ lines) e = not_done _ _ e
+something_left log thread new (slot ∷ slots) lines e = not_done _ _ e
 
 pub ends : BoundaryEnds
-ends thread old new m l done = end l.stage
+ends log thread old new m l done = end l.stage
   where
-    end : Stage thread old new m → IsRecorded thread new m.words
-    end (Writing slots lines w h) = absurd (something_left thread new slots lines (sym done ∙ w.rest))
+    end : Stage log thread old new m → IsRecorded log thread new m.words
+    end (Writing slots lines w h) = absurd (something_left log thread new slots lines (sym done ∙ w.rest))
     end (Written rest h bank) = absurd (not_done _ _ (sym done ∙ rest))
     end (Pointed rest h) = absurd (not_done _ _ (sym done ∙ rest))
     end (PointQueued rest h r) = absurd (not_done _ _ (sym done ∙ rest))
     end (Over rest h) = h
 
-quiet_recorded : (thread : ℕ) (r : Record) (m n : LogConfig) → IsRecord r → HasLog thread m.words → IsRecorded thread r m.words → IsQuiet thread m n →
-    HasLog thread n.words × AreEntries n.words n.queue × IsRecorded thread r n.words
-quiet_recorded thread r m n is log h q =
-    (log_stays thread m.words n.words q.size q.unstored log, q.entries, recorded_stays thread m.words n.words q.size q.unstored r is h)
+quiet_recorded : (log : Log) (thread : ℕ) (r : Record) (m n : LogConfig) → IsRecord log r → HasLog log thread m.words → IsRecorded log thread r m.words →
+    IsQuiet log thread m n →
+    HasLog log thread n.words × AreEntries n.words n.queue × IsRecorded log thread r n.words
+quiet_recorded log thread r m n is has h q =
+    (log_stays log thread m.words n.words q.size q.unstored has, q.entries, recorded_stays log thread m.words n.words q.size q.unstored r is h)
 
 pub stays_recorded : StaysRecorded
-stays_recorded thread r m n is done log entries h (Stored address value does words queue) = absurd (not_done _ _ (sym done ∙ does))
-stays_recorded thread r m n is done log entries h (Cleaned address does words queue) = absurd (not_done _ _ (sym done ∙ does))
-stays_recorded thread r m n is done log entries h (Fenced does words before after) = absurd (not_done _ _ (sym done ∙ does))
-stays_recorded thread r m n is done log entries h (Drained entry rest words queue) = quiet_recorded thread r m n is log h
-    (drained_quiet thread m n entry entries rest words queue)
-stays_recorded thread r m n is done log entries h (Elsewhere more rest changed unstored queue added) =
-    quiet_recorded thread r m n is log h (elsewhere_quiet thread m n more entries rest changed unstored queue added)
+stays_recorded log thread r m n is done has entries h (Stored address value does words queue) = absurd (not_done _ _ (sym done ∙ does))
+stays_recorded log thread r m n is done has entries h (Cleaned address does words queue) = absurd (not_done _ _ (sym done ∙ does))
+stays_recorded log thread r m n is done has entries h (Fenced does words before after) = absurd (not_done _ _ (sym done ∙ does))
+stays_recorded log thread r m n is done has entries h (Drained entry rest words queue) = quiet_recorded log thread r m n is has h
+    (drained_quiet log thread m n entry entries rest words queue)
+stays_recorded log thread r m n is done has entries h (Elsewhere more rest changed unstored queue added) =
+    quiet_recorded log thread r m n is has h (elsewhere_quiet log thread m n more entries rest changed unstored queue added)
 
 pub stores_elsewhere : StoresElsewhere
-stores_elsewhere thread number count value words apart i below =
-    subst (λ (w : Word). IsPersisted (word_at words (log_word thread i)) w)
-    (sym (word_beside words number count value (log_word thread i) (λ e. apart i below (sym e))))
-    (persisted_refl (word_at words (log_word thread i)))
+stores_elsewhere log thread number count value words apart i below =
+    subst (λ (w : Word). IsPersisted (word_at words (log_word log thread i)) w)
+    (sym (word_beside words number count value (log_word log thread i) (λ e. apart i below (sym e))))
+    (persisted_refl (word_at words (log_word log thread i)))

@@ -1,6 +1,7 @@
 pub mod Public
-mod Numbers
 mod Lists
+mod Schemes
+mod Numbers
 mod Words
 mod UnstoredLogStays
 mod Heads

@@ -1,9 +1,11 @@
 -- What a list contains.
-use Rattle.std.proofs.Common.{◌≡◌, ◌⊎◌, inl, inr, ℕ, zero, suc, ◌/◌, ◌<◌, List, [], ◌∷◌, refl, ap, arith, sym, ◌∙◌, subst, Bool, true}
+use Rattle.std.proofs.Common.{◌≡◌, ◌⊎◌, inl, inr, ℕ, zero, suc, ◌/◌, List, [], ◌∷◌, map, refl, ap, arith, sym, ◌∙◌, subst, Bool, true}
 use Rattle.std.specs.Prelude.{filter, ◌==◌}
 use Rattle.std.specs.List.{Contains, list_any}
 use Rattle.std.proofs.lemmas.Bool.{cond-true, cond_both, or_left, or_right, eq-eqb}
-use Rattle.boundary_code.specs.Boundaries.{lines_in_use}
+use Rattle.ido_base.specs.declared.log.Log.{Log}
+use Rattle.boundary_code.specs.Boundaries.{bank_lines, lines_in_use}
+use Rattle.log_states.specs.Logs.{IsInBank}
 
 pub contains_none : {A : Type 0} (y : A) → Contains [] y → ⊥
 contains_none y c = omega (arith, c.1)
@@ -43,34 +45,41 @@ any_of p (x ∷ xs) y c e = elim (contains_cases x xs y c) [
   | inr more ↦ or_right (p x) (list_any p xs) (any_of p xs y more e)
 ]
 
+-- ---- The slots of pairs of a slot and a value
+
+abbrev pub slots_in : List (ℕ × ℕ) → List ℕ
+slots_in kept = map (λ (one : ℕ × ℕ). one.0) kept
+
+-- a pair of the list has this slot
+pub record HasSlot (kept : List (ℕ × ℕ)) (slot : ℕ) : Type 0 where
+  pub pair : ℕ × ℕ
+  pub own : Contains kept pair
+  pub is : slot ≡ pair.0
+
+pub has_slot : (kept : List (ℕ × ℕ)) (slot : ℕ) → Contains (slots_in kept) slot → HasSlot kept slot
+has_slot [] slot c = absurd (contains_none slot c)
+has_slot (first ∷ kept) slot c = elim (contains_cases first.0 (slots_in kept) slot c) [
+  | inl is ↦ record { pair = first; own = contains_first first kept; is = is }
+  | inr more ↦ let h = has_slot kept slot more in record { pair = h.pair; own = contains_later first kept h.pair h.own; is = h.is }
+]
+
+pub slot_listed : (kept : List (ℕ × ℕ)) (pair : ℕ × ℕ) → Contains kept pair → Contains (slots_in kept) pair.0
+slot_listed [] pair c = absurd (contains_none pair c)
+slot_listed (first ∷ kept) pair c = elim (contains_cases first kept pair c) [
+  | inl is ↦ subst (λ (one : ℕ × ℕ). Contains (slots_in (first ∷ kept)) one.0) (sym is) (contains_first first.0 (slots_in kept))
+  | inr more ↦ contains_later first.0 (slots_in kept) pair.0 (slot_listed kept pair more)
+]
+
 -- ---- The lines of slots
 
-four_lines : (line : ℕ) → line < 4 → Contains (0 ∷ 1 ∷ 2 ∷ 3 ∷ []) line
-four_lines zero below = (0, omega arith, refl)
-four_lines (suc zero) below = (1, omega arith, refl)
-four_lines (suc (suc zero)) below = (2, omega arith, refl)
-four_lines (suc (suc (suc zero))) below = (3, omega arith, refl)
-four_lines (suc (suc (suc (suc n)))) below = absurd (omega (arith, below))
-
-pub slot_has_line : (slots : List ℕ) (slot : ℕ) → Contains slots slot → slot < 32 → Contains (lines_in_use slots) (slot / 8)
-slot_has_line slots slot c below = contains_filter (λ line. list_any (λ s. s / 8 == line) slots) (0 ∷ 1 ∷ 2 ∷ 3 ∷ []) (slot / 8)
-    (four_lines (slot / 8) (omega (arith, below)))
+pub slot_has_line : (log : Log) (slots : List ℕ) (slot : ℕ) → Contains slots slot → IsInBank log slot → Contains (lines_in_use log slots) (slot / 8)
+slot_has_line log slots slot c inside = contains_filter (λ line. list_any (λ s. s / 8 == line) slots) (bank_lines log) (slot / 8) inside
     (any_of (λ s. s / 8 == slot / 8) slots slot c (eq-eqb (slot / 8) (slot / 8) refl))
 
-pub lines_below : (slots : List ℕ) (line : ℕ) → Contains (lines_in_use slots) line → line < 4
-lines_below slots = filter_contains (λ line. line < 4) (λ line. list_any (λ s. s / 8 == line) slots) (0 ∷ 1 ∷ 2 ∷ 3 ∷ []) (λ line c. below_four line c)
-  where
-    below_four : (line : ℕ) → Contains (0 ∷ 1 ∷ 2 ∷ 3 ∷ []) line → line < 4
-    below_four line c = elim (contains_cases 0 (1 ∷ 2 ∷ 3 ∷ []) line c) [
-      | inl is ↦ omega (arith, is)
-      | inr c1 ↦ elim (contains_cases 1 (2 ∷ 3 ∷ []) line c1) [
-        | inl is ↦ omega (arith, is)
-        | inr c2 ↦ elim (contains_cases 2 (3 ∷ []) line c2) [
-          | inl is ↦ omega (arith, is)
-          | inr c3 ↦ elim (contains_cases 3 [] line c3) [
-            | inl is ↦ omega (arith, is)
-            | inr c4 ↦ absurd (contains_none line c4)
-          ]
-        ]
-      ]
-    ]
+pub lines_of_bank : (log : Log) (slots : List ℕ) (line : ℕ) → Contains (lines_in_use log slots) line → Contains (bank_lines log) line
+lines_of_bank log slots = filter_contains (λ line. Contains (bank_lines log) line) (λ line. list_any (λ s. s / 8 == line) slots) (bank_lines log) (λ line c. c)
+
+-- no slots are in no line
+pub no_lines : (lines : List ℕ) → filter (λ line. list_any (λ (s : ℕ). s / 8 == line) []) lines ≡ []
+no_lines [] = refl
+no_lines (line ∷ lines) = no_lines lines

@@ -1,7 +1,7 @@
 -- The live point of a log on its way from the one record to the other.
 use Rattle.std.proofs.Common.{◌≡◌, ◌⊎◌, inl, inr, ℕ, ap, sym, ◌∙◌, false}
-use Rattle.std.specs.Prelude.{if◌then◌else◌}
 use Rattle.std.proofs.lemmas.Bool.{cases_Bool, cond-true}
+use Rattle.ido_base.specs.declared.log.Log.{Log}
 use Rattle.ido_base.specs.Layout.{point_at}
 use Rattle.rv64_isa.specs.Machine.{durable_point, live_at}
 use Rattle.log_states.specs.Logs.{Record, point_in, IsRecorded}
@@ -10,22 +10,22 @@ use Rattle.log_states.specs.Laws.{LivePointIs}
 use Rattle.log_states.proofs.FactsByName.{log_facts}
 use Rattle.log_states.proofs.Words.{durable_is}
 
-module _ (thread : ℕ) (old new : Record) (m : LogConfig) (l : LogIs thread old new m) where
+module _ (log : Log) (thread : ℕ) (old new : Record) (m : LogConfig) (l : LogIs log thread old new m) where
   Is : Type 0
-  Is = (live_at m.words (point_at thread) ≡ new.point) ⊎ ((live_at m.words (point_at thread) ≡ old.point) × (is_committed thread m ≡ false))
+  Is = (live_at m.words (point_at log thread) ≡ new.point) ⊎ ((live_at m.words (point_at log thread) ≡ old.point) × (is_committed log thread m ≡ false))
 
-  from_old : IsRecorded thread old m.words → Is
+  from_old : IsRecorded log thread old m.words → Is
   unfolding Is
-  from_old h = elim (cases_Bool (is_committed thread m)) [
+  from_old h = elim (cases_Bool (is_committed log thread m)) [
     | inl committed ↦
-        let durable : durable_point m.words thread ≡ old.point = durable_is (point_in m.words thread) old.point h.point in
-        let new_is : durable_point m.words thread ≡ new.point =
-        log_facts.record_follows_locks.point thread old new m l ∙ ap (λ (r : Record). r.point) (cond-true (is_committed thread m) new old committed) in
+        let durable : durable_point log m.words thread ≡ old.point = durable_is (point_in log m.words thread) old.point h.point in
+        let new_is : durable_point log m.words thread ≡ new.point =
+        log_facts.record_follows_locks.point log thread old new m l ∙ ap (λ (r : Record). r.point) (cond-true (is_committed log thread m) new old committed) in
         inl (h.point.live ∙ (sym durable ∙ new_is))
     | inr not_yet ↦ inr (h.point.live, not_yet)
   ]
 
-  by_stage : Stage thread old new m → Is
+  by_stage : Stage log thread old new m → Is
   unfolding Is
   by_stage (Writing slots lines writing h) = from_old h
   by_stage (Written rest h bank) = from_old h
@@ -35,4 +35,4 @@ module _ (thread : ℕ) (old new : Record) (m : LogConfig) (l : LogIs thread old
 
 pub live_is : LivePointIs
 unfolding Is
-live_is thread old new m l = by_stage thread old new m l l.stage
+live_is log thread old new m l = by_stage log thread old new m l l.stage

@@ -3,6 +3,9 @@ use Rattle.std.proofs.Common.{◌≡◌, inl, inr, ℕ, zero, suc, ◌+◌, ◌<
 use Rattle.std.proofs.Common.{Bool, true, false, Option, Some}
 use Rattle.std.specs.Prelude.{slice_get, ◌==◌, if◌then◌else◌}
 use Rattle.std.proofs.lemmas.Bool.{cond_both, true≢false}
+use Rattle.log_states.specs.Laws.{recorded_by, IsAtRecord}
+use Rattle.boundary_code.specs.Boundaries.{boundary_effects}
+use Rattle.ido_base.specs.declared.log.Log.{Log}
 use Rattle.ido_base.specs.declared.event.Event.TheVariants.{Step, Evict, Crash}
 use Rattle.ido_base.specs.declared.event.Reply.TheVariants.{Moved}
 use Rattle.ido_base.specs.Words.{Word, crashed}
@@ -29,11 +32,12 @@ use Rattle.log_states.proofs.BoundaryEffectsInLog.{boundaries_stay_in, log_effec
 
 -- what moves the log keeps it on its way
 moved_stands : (thread : ℕ) (old new : Record) (w : World) (hart : Hart) (rest : List Effect) (after : World) (rest_after : List Effect) →
-    LogIs thread old new (config_of w hart rest) → MovesTo thread w hart rest after rest_after → LogInv thread old new after rest_after
+    LogIs w.log thread old new (config_of w hart rest) → MovesTo thread w hart rest after rest_after → LogInv thread old new after rest_after
 moved_stands thread old new w hart rest after rest_after l m = record {
   hart = m.next;
   here = m.there;
-  log = keeps thread old new (config_of w hart rest) (config_of after m.next rest_after) l m.moves;
+  log = subst (λ (log : Log). LogIs log thread old new (config_of after m.next rest_after)) (sym m.log)
+      (keeps w.log thread old new (config_of w hart rest) (config_of after m.next rest_after) l m.moves);
 }
 
 pub steps_keep : StepsKeep
@@ -46,11 +50,14 @@ evictions_keep program line mask thread old new w rest s =
     (evictions_move program w line mask thread s.hart rest s.here)
 
 pub begins_standing : BeginsStanding
-begins_standing b older old side resume x w s at r = record {
+begins_standing b older old side resume x w same s at r = record {
   hart = s.hart;
   here = s.here;
-  log = begins b old side resume x w.words s.hart.queue s.log.log s.log.queue s.log.follows.new_is
-      (ends b.thread older old (config_of w s.hart []) s.log refl) at r;
+  log = subst (λ (log : Log). LogIs log b.thread old (recorded_by b side resume x) (config_of w s.hart (boundary_effects b side resume x))) same
+      (begins b old side resume x w.words s.hart.queue (subst (λ (log : Log). HasLog log b.thread w.words) (sym same) s.log.log) s.log.queue
+      (subst (λ (log : Log). IsRecord log old) (sym same) s.log.follows.new_is)
+      (subst (λ (log : Log). IsRecorded log b.thread old w.words) (sym same) (ends w.log b.thread older old (config_of w s.hart []) s.log refl))
+      (subst (λ (log : Log). IsAtRecord log old side x) (sym same) at) r);
 }
 
 -- ---- An instruction of a boundary
@@ -59,9 +66,9 @@ module _ (program : List (List Slot)) (thread : ℕ) (old new : Record) (w : Wor
     (sound : IsWellFormedWorld w)
     (is : IsNext program w thread hart effect) where
   -- an instruction of the boundary makes the next effect
-  makes : LogIs thread old new (config_of w hart (effect ∷ later)) → Advances program (passage thread old new) w (effect ∷ []) later
+  makes : LogIs w.log thread old new (config_of w hart (effect ∷ later)) → Advances program (passage thread old new) w (effect ∷ []) later
   makes l =
-      let own = boundaries_stay_in thread old new (config_of w hart (effect ∷ later)) effect later l refl in
+      let own = boundaries_stay_in w.log thread old new (config_of w hart (effect ∷ later)) effect later l refl in
       let to = own_steps_move program w thread hart effect later is own.1 in
       let stands : LogInv thread old new (after_event program w (Step thread))
       (if has_moved (reply_to program w (Step thread)) then later else effect ∷ later) =
@@ -104,8 +111,8 @@ module _ (program : List (List Slot)) (thread : ℕ) (old new : Record) (w : Wor
   made e same s =
       let one : s.hart ≡ hart = some_same s.hart hart (sym s.here ∙ is.here) in
       subst (λ (f : Effect). Advances program (passage thread old new) w (f ∷ []) later) same
-      (makes (subst (λ (x : Hart). LogIs thread old new (config_of w x (effect ∷ later))) one
-      (subst (λ (f : Effect). LogIs thread old new (config_of w s.hart (f ∷ later))) (sym same) s.log)))
+      (makes (subst (λ (x : Hart). LogIs w.log thread old new (config_of w x (effect ∷ later))) one
+      (subst (λ (f : Effect). LogIs w.log thread old new (config_of w s.hart (f ∷ later))) (sym same) s.log)))
 
   by_effect : (e : Effect) → effect ≡ e → LogInv thread old new w (seen hart.pc e ++ later) →
       Advances program (passage thread old new) w (seen hart.pc e) later
@@ -114,15 +121,15 @@ module _ (program : List (List Slot)) (thread : ℕ) (old new : Record) (w : Wor
       by : (b : Bool) → LogInv thread old new w ((if b then [] else Continues registers to ∷ []) ++ later) →
           Advances program (passage thread old new) w (if b then [] else Continues registers to ∷ []) later
       by true stands = computes registers to e stands
-      by false stands = absurd (true≢false (sym (boundaries_stay_in thread old new (config_of w stands.hart (Continues registers to ∷ later))
+      by false stands = absurd (true≢false (sym (boundaries_stay_in w.log thread old new (config_of w stands.hart (Continues registers to ∷ later))
           (Continues registers to) later stands.log refl).1))
   by_effect (Loads address bytes signed register) e s =
-      absurd (true≢false (sym (boundaries_stay_in thread old new (config_of w s.hart (Loads address bytes signed register ∷ later))
+      absurd (true≢false (sym (boundaries_stay_in w.log thread old new (config_of w s.hart (Loads address bytes signed register ∷ later))
       (Loads address bytes signed register) later s.log refl).1))
   by_effect (Stores address bytes value) e s = made (Stores address bytes value) e s
   by_effect (Cleans address) e s = made (Cleans address) e s
   by_effect Fences e s = made Fences e s
-  by_effect Calls e s = absurd (true≢false (sym (boundaries_stay_in thread old new (config_of w s.hart (Calls ∷ later)) Calls later s.log refl).1))
+  by_effect Calls e s = absurd (true≢false (sym (boundaries_stay_in w.log thread old new (config_of w s.hart (Calls ∷ later)) Calls later s.log refl).1))
 
 pub own_steps_keep : OwnStepsKeep
 own_steps_keep program thread old new w hart effect later sound is s = by_effect program thread old new w hart effect later sound is effect refl s
@@ -137,31 +144,31 @@ row_of {A} f at (suc count) (suc i) below =
     row_of f (at + 1) count i (omega (arith, below)) ∙ ap (λ (n : ℕ). Some (f n)) same
 
 -- a hart that begins, with an empty queue
-begins_with : (thread : ℕ) (r : Record) (w : World) (hart : Hart) → slice_get w.harts thread ≡ Some hart → hart.queue ≡ [] → IsRecord r →
-    HasLog thread w.words →
-    IsRecorded thread r w.words → LogInv thread nothing_recorded r w []
+begins_with : (thread : ℕ) (r : Record) (w : World) (hart : Hart) → slice_get w.harts thread ≡ Some hart → hart.queue ≡ [] → IsRecord w.log r →
+    HasLog w.log thread w.words →
+    IsRecorded w.log thread r w.words → LogInv thread nothing_recorded r w []
 begins_with thread r w hart here empty is log recorded = record {
   hart = hart;
   here = here;
-  log = rests thread r (config_of w hart []) refl log (subst (λ q. AreEntries w.words q) (sym empty) tt) is recorded;
+  log = rests w.log thread r (config_of w hart []) refl log (subst (λ q. AreEntries w.words q) (sym empty) tt) is recorded;
 }
 
 pub starts_standing : StartsStanding
 unfolding start_of
-starts_standing program locks thread initial inside =
-    let e = starts_empty program locks thread initial inside in
-    begins_with thread nothing_recorded (start_of program locks initial) (fresh_hart program Run (0 + thread))
+starts_standing log program locks thread initial inside =
+    let e = starts_empty log program locks thread initial inside in
+    begins_with thread nothing_recorded (start_of log program locks initial) (fresh_hart program Run (0 + thread))
     (row_of (fresh_hart program Run) 0 (length program) thread inside) refl e.0 e.1 e.2
 
 pub crashes_standing : CrashesStanding
 unfolding happens after_crash_of
 crashes_standing program thread old new w rest count s =
     let m : LogConfig = config_of w s.hart rest in
-    let left = left_by_crash thread old new m in
-    let leaves = crashes_leave thread old new m s.log in
+    let left = left_by_crash w.log thread old new m in
+    let leaves = crashes_leave w.log thread old new m s.log in
     let words : crashed w.words ≡ (after_event program w Crash).words = sym (crashes_crash program w) in
     let inside : thread < length program = omega (arith, count, there_below w.harts thread s.hart s.here) in
-    let fresh : ℕ → Hart = λ t. fresh_hart program (phase_after_crash (durable_point (after_event program w Crash).words t)) t in
+    let fresh : ℕ → Hart = λ t. fresh_hart program (phase_after_crash (durable_point w.log (after_event program w Crash).words t)) t in
     begins_with thread left (after_event program w Crash) (fresh (0 + thread)) (row_of fresh 0 (length program) thread inside) refl
-    (cond_both (is_committed thread m) new old IsRecord (λ _. s.log.follows.new_is) (λ _. s.log.follows.old_is))
-    (subst (λ (ws : List Word). HasLog thread ws) words leaves.1) (subst (λ (ws : List Word). IsRecorded thread left ws) words leaves.0)
+    (cond_both (is_committed w.log thread m) new old (IsRecord w.log) (λ _. s.log.follows.new_is) (λ _. s.log.follows.old_is))
+    (subst (λ (ws : List Word). HasLog w.log thread ws) words leaves.1) (subst (λ (ws : List Word). IsRecorded w.log thread left ws) words leaves.0)

@@ -3,11 +3,12 @@ use Rattle.std.proofs.Common.{◌≡◌, ◌≢◌, inl, inr, ℕ, ◌/◌, ◌<
 use Rattle.std.specs.Prelude.{slice_get, nat_lt, ◌==◌, if◌then◌else◌}
 use Rattle.std.proofs.lemmas.Bool.{cases_eq, cond_both, eqb-true, true≢false}
 use Rattle.std.proofs.lemmas.List.{append-nil}
+use Rattle.ido_base.specs.declared.log.Log.{Log}
 use Rattle.ido_base.specs.declared.event.Event.TheVariants.{Step}
 use Rattle.ido_base.specs.declared.event.Reply.TheVariants.{Moved, Waits}
 use Rattle.ido_base.specs.Words.{Word, Entry, word_of, word_at, entry_of, stored, drained, after_crash, durable_value}
 use Rattle.ido_base.specs.Growth.{AreChanged, AreEntries, IsPersisted}
-use Rattle.ido_base.specs.Layout.{in_range, aligned, byte_number}
+use Rattle.ido_base.specs.Layout.{log_words, in_range, aligned, byte_number}
 use Rattle.ido_base.specs.Locks.{is_held_by, least_held, first_missing}
 use Rattle.ido_base.proofs.Public.{changed_refl, changed_by_persisted, evictions_raise, write_backs_raise, persisted_refl}
 use Rattle.rv64_isa.specs.declared.object.Slot.{Slot}
@@ -43,14 +44,15 @@ some_same {A} x y e = ap (λ (o : Option A). or_else o) e
 
 -- nothing has changed for the log
 pub no_move : (h : ℕ) (w : World) (hart : Hart) (rest : List Effect) (after : World) (further : Hart) → slice_get after.harts h ≡ Some further →
-    after.words ≡ w.words → further.queue ≡ hart.queue →
+    after.words ≡ w.words → after.log ≡ w.log → further.queue ≡ hart.queue →
     MovesTo h w hart rest after rest
-no_move h w hart rest after further there words queue = record {
+no_move h w hart rest after further there words log queue = record {
   next = further;
   there = there;
+  log = log;
   moves = Elsewhere [] refl (subst (λ (ws : List Word). AreChanged w.words ws) (sym words) (changed_refl w.words))
-      (λ i below. subst (λ (ws : List Word). IsPersisted (word_at w.words (log_word h i)) (word_at ws (log_word h i))) (sym words)
-      (persisted_refl (word_at w.words (log_word h i))))
+      (λ i below. subst (λ (ws : List Word). IsPersisted (word_at w.words (log_word w.log h i)) (word_at ws (log_word w.log h i))) (sym words)
+      (persisted_refl (word_at w.words (log_word w.log h i))))
       (queue ∙ sym (append-nil hart.queue)) tt;
 }
 
@@ -65,19 +67,20 @@ module _ (h : ℕ) (w : World) (hart : Hart) (here : slice_get w.harts h ≡ Som
 
   own_drain : (queue : List Entry) → hart.queue ≡ queue → Own (drain_one w h hart queue)
   unfolding Own
-  own_drain [] e = no_move h w hart (effect ∷ later) w hart here refl refl
+  own_drain [] e = no_move h w hart (effect ∷ later) w hart here refl refl refl
   own_drain (e ∷ es) same = record {
     next = record hart { queue = es };
     there = set_there (drained w.words e) (record hart { queue = es });
+    log = refl;
     moves = Drained e refl refl same;
   }
 
   own_access : (address bytes : ℕ) (o : Outcome) → Own o → Own (access w address bytes o)
   unfolding Own
   own_access address bytes o own =
-      cond_both (in_range (length w.harts) address bytes) _ _ Own (λ _. cond_both (aligned address bytes) _ _ Own (λ _. own)
-      (λ _. no_move h w hart (effect ∷ later) w hart here refl refl))
-      (λ _. no_move h w hart (effect ∷ later) w hart here refl refl)
+      cond_both (in_range w.log (length w.harts) address bytes) _ _ Own (λ _. cond_both (aligned address bytes) _ _ Own (λ _. own)
+      (λ _. no_move h w hart (effect ∷ later) w hart here refl refl refl))
+      (λ _. no_move h w hart (effect ∷ later) w hart here refl refl refl)
 
   own_applied : is_boundary_effect effect ≡ true → (e : Effect) → e ≡ effect → Own (applied w h hart e)
   unfolding Own
@@ -89,6 +92,7 @@ module _ (h : ℕ) (w : World) (hart : Hart) (here : slice_get w.harts h ≡ Som
       own_access address bytes _ (record {
         next = record hart { pc = next hart.pc };
         there = set_there ws (record hart { pc = next hart.pc });
+        log = refl;
         moves = Stored address value (ap (λ (e : Effect). e ∷ later) (sym same) ∙ ap (λ (n : ℕ). Stores address n value ∷ later) eight)
             (ap (λ (n : ℕ). stored w.words (byte_number address) n value) eight) refl;
       })
@@ -96,6 +100,7 @@ module _ (h : ℕ) (w : World) (hart : Hart) (here : slice_get w.harts h ≡ Som
       own_access address 1 _ (cond_both (nat_lt (length hart.queue) 16) _ _ Own (λ _. record {
         next = record hart { pc = next hart.pc; queue = hart.queue ++ entry_of w.words (byte_number address / 64) ∷ [] };
         there = set_there w.words (record hart { pc = next hart.pc; queue = hart.queue ++ entry_of w.words (byte_number address / 64) ∷ [] });
+        log = refl;
         moves = Cleaned address (ap (λ (e : Effect). e ∷ later) (sym same)) refl refl;
       }) (λ _. own_drain hart.queue refl))
   own_applied own Fences same = own_fence hart.queue refl
@@ -104,6 +109,7 @@ module _ (h : ℕ) (w : World) (hart : Hart) (here : slice_get w.harts h ≡ Som
       own_fence [] empty = record {
         next = record hart { pc = next hart.pc };
         there = set_there w.words (record hart { pc = next hart.pc });
+        log = refl;
         moves = Fenced (ap (λ (e : Effect). e ∷ later) (sym same)) refl empty empty;
       }
       own_fence (e ∷ es) more = own_drain (e ∷ es) more
@@ -126,9 +132,10 @@ settled h w hart rest further v m g = by (slice_get v.harts g) refl
             next = record other { phase = Done };
             there = ap (λ (i : ℕ). slice_get (set v.harts g (record other { phase = Done })) i) same
                 ∙ get-set_same v.harts g (record other { phase = Done }) other e;
-            moves = subst (λ (x : Hart). Moves h (config_of w hart rest) (record { words = v.words; queue = x.queue; rest = further })) is m.moves;
+            log = m.log;
+            moves = subst (λ (x : Hart). Moves w.log h (config_of w hart rest) (record { words = v.words; queue = x.queue; rest = further })) is m.moves;
           }
-      | inr ne ↦ record { next = m.next; there = get-set_other v.harts g h (record other { phase = Done }) ne ∙ m.there; moves = m.moves }
+      | inr ne ↦ record { next = m.next; there = get-set_other v.harts g h (record other { phase = Done }) ne ∙ m.there; log = m.log; moves = m.moves }
     ]) (λ _. m)
 
 -- ---- The own hart's step
@@ -182,6 +189,7 @@ data Works (effect : Option Effect) (words : List Word) (queue : List Entry) (wo
 record WorksTo (effect : Option Effect) (g : ℕ) (w : World) (hart : Hart) (after : World) : Type 0 where
   next : Hart
   there : slice_get after.harts g ≡ Some next
+  log : after.log ≡ w.log
   works : Works effect w.words hart.queue after.words next.queue
 
 module _ (g : ℕ) (w : World) (hart : Hart) (here : slice_get w.harts g ≡ Some hart) (code : Option Effect) where
@@ -190,11 +198,11 @@ module _ (g : ℕ) (w : World) (hart : Hart) (here : slice_get w.harts g ≡ Som
 
   rests : Worked (w, Moved)
   unfolding Worked
-  rests = record { next = hart; there = here; works = Rests refl refl }
+  rests = record { next = hart; there = here; log = refl; works = Rests refl refl }
 
   goes_on : (holders : List (Option ℕ)) (further : Hart) → further.queue ≡ hart.queue →
       WorksTo code g w hart (with_hart (record w { holders = holders }) g further)
-  goes_on holders further same = record { next = further; there = get-set_same w.harts g further hart here; works = Rests refl same }
+  goes_on holders further same = record { next = further; there = get-set_same w.harts g further hart here; log = refl; works = Rests refl same }
 
   drains : (queue : List Entry) → hart.queue ≡ queue → Worked (drain_one w g hart queue)
   unfolding Worked
@@ -203,13 +211,15 @@ module _ (g : ℕ) (w : World) (hart : Hart) (here : slice_get w.harts g ≡ Som
     next = record hart { queue = es };
     there = get-set_same w.harts g
         (record hart { queue = es }) hart here;
+    log = refl;
     works = Drains e refl same;
   }
 
   accesses : (address bytes : ℕ) (o : Outcome) → Worked o → Worked (access w address bytes o)
   unfolding Worked
   accesses address bytes o works =
-      cond_both (in_range (length w.harts) address bytes) _ _ Worked (λ _. cond_both (aligned address bytes) _ _ Worked (λ _. works) (λ _. rests)) (λ _. rests)
+      cond_both (in_range w.log (length w.harts) address bytes) _ _ Worked (λ _. cond_both (aligned address bytes) _ _ Worked (λ _. works) (λ _. rests))
+      (λ _. rests)
 
   acquires : (lock : ℕ) (holder : Option (Option ℕ)) → Worked (acquired w g hart lock holder)
   unfolding Worked
@@ -242,11 +252,13 @@ module _ (g : ℕ) (w : World) (hart : Hart) (here : slice_get w.harts g ≡ Som
   applies (Stores address bytes value) is = accesses address bytes _ (record {
     next = record hart { pc = next hart.pc };
     there = get-set_same w.harts g (record hart { pc = next hart.pc }) hart here;
+    log = refl;
     works = StoresTo address bytes value is refl refl;
   })
   applies (Cleans address) is = accesses address 1 _ (cond_both (nat_lt (length hart.queue) 16) _ _ Worked (λ _. record {
     next = record hart { pc = next hart.pc; queue = hart.queue ++ entry_of w.words (byte_number address / 64) ∷ [] };
     there = get-set_same w.harts g (record hart { pc = next hart.pc; queue = hart.queue ++ entry_of w.words (byte_number address / 64) ∷ [] }) hart here;
+    log = refl;
     works = CleansLine (byte_number address / 64) refl refl;
   }) (λ _. drains hart.queue refl))
   applies Fences is = fenced_by hart.queue refl
@@ -284,6 +296,7 @@ done_works code g w hart v m = subst (λ (x : Option Hart). WorksTo code g w har
     (cond_both (over_after w v g) _ _ (λ (u : World). WorksTo code g w hart u) (λ _. record {
       next = record m.next { phase = Done };
       there = get-set_same v.harts g (record m.next { phase = Done }) m.next m.there;
+      log = m.log;
       works = m.works;
     }) (λ _. m))
 
@@ -309,7 +322,7 @@ steps_work program w g hart here = subst (λ (x : Option Hart). WorksTo (effect_
     by_slot (Some (Row instr)) e = applies g w hart here (effect_of program g hart) (row instr hart.registers hart.pc) e
 
     by_phase : (phase : Phase) → hart.phase ≡ phase → WorksTo (effect_of program g hart) g w hart (phase_step program w g hart phase).0
-    by_phase Take e = takes g w hart here (effect_of program g hart) (first_missing w.holders (record_of w.words g) g)
+    by_phase Take e = takes g w hart here (effect_of program g hart) (first_missing w.holders (record_of w.log w.words g) g)
     by_phase Wait e = waits g w hart here (effect_of program g hart) (taking_from 0 w.harts)
     by_phase Resume e = goes_on g w hart here (effect_of program g hart) w.holders _ refl
     by_phase Run e = done_works (effect_of program g hart) g w hart (hart_step program w g hart).0
@@ -320,20 +333,20 @@ steps_work program w g hart here = subst (λ (x : Option Hart). WorksTo (effect_
 -- ---- What that is to a log
 
 -- what a step does to a log that it doesn't store to: words are persisted
-unstored_by : (h : ℕ) (effect : Option Effect) (words : List Word) (queue : List Entry) (words_after : List Word) (queue_after : List Entry) →
+unstored_by : (log : Log) (h : ℕ) (effect : Option Effect) (words : List Word) (queue : List Entry) (words_after : List Word) (queue_after : List Entry) →
     Works effect words queue words_after queue_after →
-    AreEntries words queue → ((address bytes value : ℕ) → effect ≡ Some (Stores address bytes value) → (i : ℕ) → i < 128 →
-    byte_number address / 8 ≢ log_word h i) → IsUnstored h words words_after
-unstored_by h effect words queue words_after queue_after (Rests same q) entries elsewhere =
-    subst (λ (ws : List Word). IsUnstored h words ws) (sym same) (λ i below. persisted_refl (word_at words (log_word h i)))
-unstored_by h effect words queue words_after queue_after (Drains entry after q) entries elsewhere =
+    AreEntries words queue → ((address bytes value : ℕ) → effect ≡ Some (Stores address bytes value) → (i : ℕ) → i < log_words log →
+    byte_number address / 8 ≢ log_word log h i) → IsUnstored log h words words_after
+unstored_by log h effect words queue words_after queue_after (Rests same q) entries elsewhere =
+    subst (λ (ws : List Word). IsUnstored log h words ws) (sym same) (λ i below. persisted_refl (word_at words (log_word log h i)))
+unstored_by log h effect words queue words_after queue_after (Drains entry after q) entries elsewhere =
     let all : AreEntries words (entry ∷ queue_after) = subst (λ (es : List Entry). AreEntries words es) q entries in
-    subst (λ (ws : List Word). IsUnstored h words ws) (sym after) (λ i below. (write_backs_raise words entry all.0).each (log_word h i))
-unstored_by h effect words queue words_after queue_after (StoresTo address bytes value is after q) entries elsewhere =
-    subst (λ (ws : List Word). IsUnstored h words ws) (sym after) (stores_elsewhere h (byte_number address) bytes value words
+    subst (λ (ws : List Word). IsUnstored log h words ws) (sym after) (λ i below. (write_backs_raise words entry all.0).each (log_word log h i))
+unstored_by log h effect words queue words_after queue_after (StoresTo address bytes value is after q) entries elsewhere =
+    subst (λ (ws : List Word). IsUnstored log h words ws) (sym after) (stores_elsewhere log h (byte_number address) bytes value words
     (elsewhere address bytes value is))
-unstored_by h effect words queue words_after queue_after (CleansLine line same q) entries elsewhere =
-    subst (λ (ws : List Word). IsUnstored h words ws) (sym same) (λ i below. persisted_refl (word_at words (log_word h i)))
+unstored_by log h effect words queue words_after queue_after (CleansLine line same q) entries elsewhere =
+    subst (λ (ws : List Word). IsUnstored log h words ws) (sym same) (λ i below. persisted_refl (word_at words (log_word log h i)))
 
 entries_after : (words : List Word) (queue more : List Entry) → AreEntries words (queue ++ more) → AreEntries words more
 entries_after words [] more h = h
@@ -342,10 +355,10 @@ entries_after words (e ∷ es) more h = entries_after words es more h.1
 -- a store elsewhere is one that its hart doesn't make to the log
 elsewhere_of : (program : List (List Slot)) (w : World) (g h : ℕ) (hart : Hart) → slice_get w.harts g ≡ Some hart → IsElsewhere program w g h →
     (address bytes value : ℕ) →
-    effect_of program g hart ≡ Some (Stores address bytes value) → (i : ℕ) → i < 128 → byte_number address / 8 ≢ log_word h i
+    effect_of program g hart ≡ Some (Stores address bytes value) → (i : ℕ) → i < log_words w.log → byte_number address / 8 ≢ log_word w.log h i
 elsewhere_of program w g h hart here elsewhere address bytes value =
     cond_both (is_running hart.phase) (effect_at program g hart) None
-    (λ (x : Option Effect). x ≡ Some (Stores address bytes value) → (i : ℕ) → i < 128 → byte_number address / 8 ≢ log_word h i)
+    (λ (x : Option Effect). x ≡ Some (Stores address bytes value) → (i : ℕ) → i < log_words w.log → byte_number address / 8 ≢ log_word w.log h i)
     (λ runs is. elsewhere hart address bytes value (record { here = here; runs = runs; is = is }))
     (λ _ is. absurd (none_some (Stores address bytes value) is))
 
@@ -358,23 +371,26 @@ own_elsewhere program w h hart rest sound here elsewhere = by (steps_work progra
     by : WorksTo (effect_of program h hart) h w hart (after_event program w (Step h)) → MovesTo h w hart rest (after_event program w (Step h)) rest
     by to =
         by_works to.next to.there to.works
-        (unstored_by h (effect_of program h hart) w.words hart.queue (after_event program w (Step h)).words to.next.queue to.works (sound.queues h hart here)
+        (unstored_by w.log h (effect_of program h hart) w.words hart.queue (after_event program w (Step h)).words to.next.queue to.works
+        (sound.queues h hart here)
         (elsewhere_of program w h h hart here elsewhere))
       where
         by_works : (x : Hart) → slice_get (after_event program w (Step h)).harts h ≡ Some x
             → Works (effect_of program h hart) w.words hart.queue (after_event program w (Step h)).words x.queue →
-            IsUnstored h w.words (after_event program w (Step h)).words
+            IsUnstored w.log h w.words (after_event program w (Step h)).words
             → MovesTo h w hart rest (after_event program w (Step h)) rest
-        by_works x there (Rests words queue) unstored = no_move h w hart rest (after_event program w (Step h)) x there words queue
-        by_works x there (Drains entry words queue) unstored = record { next = x; there = there; moves = Drained entry refl words queue }
+        by_works x there (Rests words queue) unstored = no_move h w hart rest (after_event program w (Step h)) x there words to.log queue
+        by_works x there (Drains entry words queue) unstored = record { next = x; there = there; log = to.log; moves = Drained entry refl words queue }
         by_works x there (StoresTo address bytes value is words queue) unstored = record {
           next = x;
           there = there;
+          log = to.log;
           moves = Elsewhere [] refl (steps_touch program w h sound).words unstored (queue ∙ sym (append-nil hart.queue)) tt;
         }
         by_works x there (CleansLine line words queue) unstored = record {
           next = x;
           there = there;
+          log = to.log;
           moves = Elsewhere (entry_of w.words line ∷ []) refl (steps_touch program w h sound).words unstored queue
               (entries_after (after_event program w (Step h)).words hart.queue (entry_of w.words line ∷ [])
               (subst (λ (q : List Entry). AreEntries (after_event program w (Step h)).words q) queue ((step_goes program h w sound).own x there)));
@@ -388,15 +404,17 @@ other_elsewhere : (program : List (List Slot)) (w : World) (g h : ℕ) (hart : H
 unfolding happens
 other_elsewhere program w g h hart rest sound here ne elsewhere None none =
     no_move h w hart rest (after_event program w (Step g)) hart ((steps_touch program w g sound).others h ne ∙ here)
-    (ap (λ (x : Option Hart). (stepped program w g x).0.words) none) refl
+    (ap (λ (x : Option Hart). (stepped program w g x).0.words) none)
+    (ap (λ (x : Option Hart). (stepped program w g x).0.log) none) refl
 other_elsewhere program w g h hart rest sound here ne elsewhere (Some other) there =
     let to = steps_work program w g other there in
     let touches = steps_touch program w g sound in
     record {
       next = hart;
       there = touches.others h ne ∙ here;
+      log = touches.log;
       moves = Elsewhere [] refl touches.words
-          (unstored_by h (effect_of program g other) w.words other.queue (after_event program w (Step g)).words to.next.queue to.works
+          (unstored_by w.log h (effect_of program g other) w.words other.queue (after_event program w (Step g)).words to.next.queue to.works
           (sound.queues g other there)
           (elsewhere_of program w g h other there elsewhere)) (sym (append-nil hart.queue)) tt;
     }
@@ -417,7 +435,8 @@ evictions_move program w line mask h hart rest here =
     record {
       next = hart;
       there = here;
-      moves = Elsewhere [] refl (changed_by_persisted w.words _ persisted) (λ i below. persisted.each (log_word h i))
+      log = refl;
+      moves = Elsewhere [] refl (changed_by_persisted w.words _ persisted) (λ i below. persisted.each (log_word w.log h i))
           (sym (append-nil hart.queue)) tt;
     }
 

@@ -1,5 +1,5 @@
 -- Steps that store nothing to a thread's log.
-use Rattle.std.proofs.Common.{◌≡◌, ◌≢◌, ℕ, ◌+◌, ◌*◌, ◌/◌, List, ap, arith, sym, ◌∙◌, subst}
+use Rattle.std.proofs.Common.{◌≡◌, ◌≢◌, ℕ, ◌+◌, ◌*◌, ◌/◌, List, ap, sym, ◌∙◌, subst}
 use Rattle.std.proofs.lemmas.Bool.{true≢false}
 use Rattle.ido_base.specs.Layout.{log_of, byte_number}
 use Rattle.rv64_isa.specs.declared.object.Slot.{Slot}
@@ -10,7 +10,7 @@ use Rattle.log_states.specs.Logs.{log_word}
 use Rattle.log_states.specs.Stages.{is_store}
 use Rattle.log_states.specs.Machines.{IsNext, IsLogEffect, StoresWord, CleansLine, PassesFence, StoresNothing, StoresToVariable, StoresToOtherLog}
 use Rattle.log_states.proofs.Heads.{address_of}
-use Rattle.log_states.proofs.Numbers.{byte_of_log, word_of_point, variables_are_apart, logs_are_apart}
+use Rattle.log_states.proofs.Numbers.{word_of_log, variables_are_apart, logs_are_apart}
 use Rattle.log_states.proofs.Machines.{some_same}
 
 -- a hart has one next effect
@@ -29,17 +29,17 @@ pub stores_to_variable : StoresToVariable
 stores_to_variable program w g thread hart place count stored one inside other address bytes value two i below =
     let same : Stores place count stored ≡ Stores address bytes value =
     one_effect program w g hart other (Stores place count stored) (Stores address bytes value) one two in
-    subst (λ (a : ℕ). byte_number a / 8 ≢ log_word thread i) (ap address_of same) (variables_are_apart thread place i inside)
+    subst (λ (a : ℕ). byte_number a / 8 ≢ log_word w.log thread i) (ap address_of same) (variables_are_apart w.log thread place i inside)
 
 pub stores_to_other_log : StoresToOtherLog
 stores_to_other_log program w g thread hart effect apart one is other address bytes value two i below =
     by is (one_effect program w g hart other effect (Stores address bytes value) one two)
   where
-    by : IsLogEffect g effect → effect ≡ Stores address bytes value → byte_number address / 8 ≢ log_word thread i
+    by : IsLogEffect w.log g effect → effect ≡ Stores address bytes value → byte_number address / 8 ≢ log_word w.log thread i
     by (StoresWord k v inside here) same =
-        let place : address ≡ log_of g + 8 * k = ap address_of (sym same ∙ here) in
-        let word : byte_number (log_of g + 8 * k) / 8 ≡ log_word g k = omega (arith, byte_of_log g k, word_of_point g) in
-        subst (λ (a : ℕ). byte_number a / 8 ≢ log_word thread i) (sym place)
-        (λ meets. logs_are_apart thread g i k apart below inside (sym word ∙ meets))
+        let place : address ≡ log_of w.log g + 8 * k = ap address_of (sym same ∙ here) in
+        let word : byte_number (log_of w.log g + 8 * k) / 8 ≡ log_word w.log g k = word_of_log w.log g k in
+        subst (λ (a : ℕ). byte_number a / 8 ≢ log_word w.log thread i) (sym place)
+        (λ meets. logs_are_apart w.log thread g i k apart below inside (sym word ∙ meets))
     by (CleansLine k inside here) same = absurd (true≢false (sym (ap is_store same) ∙ ap is_store here))
     by (PassesFence here) same = absurd (true≢false (sym (ap is_store same) ∙ ap is_store here))

@@ -1,124 +1,153 @@
 -- Whatever leaves a log unstored keeps it: words are persisted, and what is queued still reaches as far.
-use Rattle.std.proofs.Common.{◌≡◌, ◌≢◌, inl, inr, ℕ, ◌+◌, ◌*◌, ◌<◌, List, [], ◌∷◌, length, arith, sym, ◌∙◌, subst, add-zero, cond, eqb}
+use Rattle.std.proofs.Common.{◌≡◌, ◌≢◌, ◌⊎◌, inl, inr, ℕ, ◌^◌, ◌<◌, List, [], length, arith, ap, sym, ◌∙◌, subst, add-zero, cond, eqb}
 use Rattle.std.proofs.lemmas.Bool.{cond_both}
+use Rattle.std.proofs.lemmas.List.Elements.{Contains-append_cases}
 use Rattle.std.specs.List.{Contains}
+use Rattle.ido_base.specs.declared.log.Log.{Log}
 use Rattle.ido_base.specs.Words.{Word, word_at, last_position}
 use Rattle.ido_base.specs.Growth.{IsPersisted, PersistsThrough}
-use Rattle.ido_base.specs.Layout.{point_at, word_number}
+use Rattle.ido_base.specs.Layout.{log_words, point_at, word_number}
 use Rattle.ido_base.proofs.Public.{same_last}
+use Rattle.rv64_isa.specs.Rows.{read}
 use Rattle.rv64_isa.specs.Machine.{bank_of}
-use Rattle.log_states.specs.Logs.{Record, slots_of, value_of, IsRecord, log_word, bank_word, point_in, slot_in, HasLog, IsUnstored, HasBank, IsRecorded}
+use Rattle.boundary_code.specs.Boundaries.{kept_locks, slots_kept}
+use Rattle.log_states.specs.Logs.{Record, slots_of, value_of, kept_in, slot_index, IsInBank, IsRecord, log_word, bank_word, point_in, slot_in, HasLog}
+use Rattle.log_states.specs.Logs.{IsUnstored, HasBank, IsRecorded}
 use Rattle.log_states.specs.Stages.{LogConfig, IsComing, ToStore, ToClean, Queued, IsPointed, Stage, Writing, Written, Pointed, PointQueued, Over, MayOverwrite}
-use Rattle.log_states.proofs.Lists.{contains_none, contains_cases}
-use Rattle.log_states.proofs.Numbers.{slot_in_log}
+use Rattle.log_states.proofs.Lists.{contains_none, slots_in, HasSlot, has_slot}
+use Rattle.log_states.proofs.Schemes.{scheme}
+use Rattle.log_states.proofs.Numbers.{slot_in_log, some_words}
 use Rattle.log_states.proofs.Words.{persisted_live, persisted_at, persisted_word, persisted_durable}
 
 -- ---- Slots of a record
 
-pub slot_below : (r : Record) (slot : ℕ) → IsRecord r → Contains (slots_of r) slot → slot < 32
-slot_below r slot is = cond_both (eqb r.point 0) [] (0 ∷ r.live) (λ slots. Contains slots slot → slot < 32)
+-- a slot keeps locks, or a register
+pub slot_cases : (log : Log) (r : Record) (slot : ℕ) → Contains (slots_of log r) slot → HasSlot (kept_locks log r.locks) slot ⊎ Contains r.live slot
+slot_cases log r slot = cond_both (eqb r.point 0) [] (slots_kept log r.locks r.live)
+    (λ slots. Contains slots slot → HasSlot (kept_locks log r.locks) slot ⊎ Contains r.live slot)
     (λ _ c. absurd (contains_none slot c))
-    (λ _ c. elim (contains_cases 0 r.live slot c) [
-      | inl zeroth ↦ omega (arith, zeroth)
-      | inr more ↦ (is.live slot more).exists
+    (λ _ c. elim (Contains-append_cases (slots_in (kept_locks log r.locks)) r.live slot c) [
+      | inl locks ↦ inl (has_slot (kept_locks log r.locks) slot locks)
+      | inr live ↦ inr live
     ])
 
-pub has_point : (r : Record) (slot : ℕ) → Contains (slots_of r) slot → r.point ≢ 0
-has_point r slot c is = contains_none slot (subst (λ (n : ℕ). Contains (cond (eqb n 0) [] (0 ∷ r.live)) slot) is c)
+pub has_point : (log : Log) (r : Record) (slot : ℕ) → Contains (slots_of log r) slot → r.point ≢ 0
+has_point log r slot c is = contains_none slot (subst (λ (n : ℕ). Contains (cond (eqb n 0) [] (slots_kept log r.locks r.live)) slot) is c)
 
 pub bank_below : (point : ℕ) → bank_of point < 2
 bank_below point = omega arith
 
--- a slot of a record's bank is a word of the log
-pub slot_index : (thread : ℕ) (r : Record) (slot : ℕ) → IsRecord r → Contains (slots_of r) slot →
-    (i : ℕ) × (i < 128) × (bank_word thread (bank_of r.point) slot ≡ log_word thread i)
-slot_index thread r slot is c = (
-  8 + 32 * bank_of r.point + slot,
-  omega (arith, slot_below r slot is c, bank_below r.point),
-  slot_in_log thread
-      (bank_of r.point) slot,
-)
+module _ (log : Log) (r : Record) (slot : ℕ) (is : IsRecord log r) (c : Contains (slots_of log r) slot) where
+  pub slot_in_bank : IsInBank log slot
+  slot_in_bank = elim (slot_cases log r slot c) [
+    | inl h ↦ subst (IsInBank log) (sym h.is) ((scheme log).keeps.locks r.locks h.pair is.locks h.own).slot
+    | inr live ↦ ((scheme log).keeps.registers slot (is.live slot live)).slot
+  ]
 
-pub point_index : (thread : ℕ) → word_number (point_at thread) ≡ log_word thread 0
-point_index thread = sym (add-zero (word_number (point_at thread)))
+  pub value_below : value_of log r slot < 2 ^ 64
+  value_below = elim (slot_cases log r slot c) [
+    | inl h ↦
+        let keeps = (scheme log).keeps.locks r.locks h.pair is.locks h.own in
+        let has : value_of log r slot ≡ h.pair.1 =
+        ap (λ (s : ℕ). kept_in (kept_locks log r.locks) s (read r.registers slot)) h.is ∙ keeps.alone (read r.registers slot) in
+        omega (arith, has, keeps.value)
+    | inr live ↦
+        let has : value_of log r slot ≡ read r.registers slot =
+        ((scheme log).keeps.registers slot (is.live slot live)).alone r.locks (read r.registers slot) in
+        omega (arith, has, is.registers slot live)
+  ]
+
+  -- a slot of a record's bank is a word of the log
+  pub slot_word : (thread : ℕ) → (i : ℕ) × (i < log_words log) × (bank_word log thread (bank_of r.point) slot ≡ log_word log thread i)
+  slot_word thread = (
+    slot_index log (bank_of r.point) slot,
+    (scheme log).stands.inside (bank_of r.point) slot (bank_below r.point) slot_in_bank,
+    slot_in_log log thread (bank_of r.point) slot,
+  )
+
+pub point_index : (log : Log) (thread : ℕ) → word_number (point_at log thread) ≡ log_word log thread 0
+point_index log thread = sym (add-zero (word_number (point_at log thread)))
 
 -- ---- What holds of all words of the log
 
-module _ (thread : ℕ) (P : ℕ → Type 0) (all : (i : ℕ) → i < 128 → P (log_word thread i)) where
-  pub of_point : P (word_number (point_at thread))
-  of_point = subst P (sym (point_index thread)) (all 0 (omega arith))
+module _ (log : Log) (thread : ℕ) (P : ℕ → Type 0) (all : (i : ℕ) → i < log_words log → P (log_word log thread i)) where
+  pub of_point : P (word_number (point_at log thread))
+  of_point = subst P (sym (point_index log thread)) (all 0 (some_words log))
 
-  pub of_slot : (r : Record) (slot : ℕ) → IsRecord r → Contains (slots_of r) slot → P (bank_word thread (bank_of r.point) slot)
-  of_slot r slot is c = let i = slot_index thread r slot is c in subst P (sym i.2) (all i.0 i.1)
+  pub of_slot : (r : Record) (slot : ℕ) → IsRecord log r → Contains (slots_of log r) slot → P (bank_word log thread (bank_of r.point) slot)
+  of_slot r slot is c = let i = slot_word log r slot is c thread in subst P (sym i.2) (all i.0 i.1)
 
 -- ---- A log that isn't stored to
 
-module _ (thread : ℕ) (old new : List Word) (size : length new ≡ length old) (unstored : IsUnstored thread old new) where
-  point_persisted : IsPersisted (point_in old thread) (point_in new thread)
-  point_persisted = of_point thread (λ j. IsPersisted (word_at old j) (word_at new j)) unstored
+module _ (log : Log) (thread : ℕ) (old new : List Word) (size : length new ≡ length old) (unstored : IsUnstored log thread old new) where
+  point_persisted : IsPersisted (point_in log old thread) (point_in log new thread)
+  point_persisted = of_point log thread (λ j. IsPersisted (word_at old j) (word_at new j)) unstored
 
-  slot_persisted : (r : Record) (slot : ℕ) → IsRecord r → Contains (slots_of r) slot → IsPersisted (slot_in old thread r slot) (slot_in new thread r slot)
-  slot_persisted = of_slot thread (λ j. IsPersisted (word_at old j) (word_at new j)) unstored
+  slot_persisted : (r : Record) (slot : ℕ) → IsRecord log r → Contains (slots_of log r) slot →
+      IsPersisted (slot_in log old thread r slot) (slot_in log new thread r slot)
+  slot_persisted = of_slot log thread (λ j. IsPersisted (word_at old j) (word_at new j)) unstored
 
-  pub log_stays : HasLog thread old → HasLog thread new
+  pub log_stays : HasLog log thread old → HasLog log thread new
   log_stays h = record {
     exists = omega (arith, h.exists, size);
-    each = λ i below. persisted_word (word_at old (log_word thread i))
-        (word_at new (log_word thread i)) (unstored i below) (h.each i below);
+    each = λ i below. persisted_word (word_at old (log_word log thread i))
+        (word_at new (log_word log thread i)) (unstored i below) (h.each i below);
   }
 
-  pub bank_stays : (r : Record) → IsRecord r → HasBank thread r old → HasBank thread r new
-  bank_stays r is b slot c = persisted_durable (slot_in old thread r slot) (slot_in new thread r slot) (value_of r slot) (slot_persisted r slot is c) (b slot c)
+  pub bank_stays : (r : Record) → IsRecord log r → HasBank log thread r old → HasBank log thread r new
+  bank_stays r is b slot c =
+      persisted_durable (slot_in log old thread r slot) (slot_in log new thread r slot) (value_of log r slot) (slot_persisted r slot is c) (b slot c)
 
-  pub recorded_stays : (r : Record) → IsRecord r → IsRecorded thread r old → IsRecorded thread r new
+  pub recorded_stays : (r : Record) → IsRecord log r → IsRecorded log thread r old → IsRecorded log thread r new
   recorded_stays r is h = record {
-    point = persisted_durable (point_in old thread)
-        (point_in new thread) r.point point_persisted h.point;
+    point = persisted_durable (point_in log old thread)
+        (point_in log new thread) r.point point_persisted h.point;
     bank = bank_stays r is h.bank;
   }
 
-  pointed_stays : (one other : Record) → MayOverwrite one other → IsPointed thread one other old → IsPointed thread one other new
+  pointed_stays : (one other : Record) → MayOverwrite log one other → IsPointed log thread one other old → IsPointed log thread one other new
   pointed_stays one other f h = record {
-    before = λ p from below. persisted_at (point_in old thread) (point_in new thread) point_persisted p
+    before = λ p from below. persisted_at (point_in log old thread) (point_in log new thread) point_persisted p
         ∙ h.before p (omega (arith, from, point_persisted.no_lower))
-        (omega (arith, below, same_last (point_in old thread) (point_in new thread) point_persisted));
-    last = persisted_live (point_in old thread) (point_in new thread) point_persisted ∙ h.last;
+        (omega (arith, below, same_last (point_in log old thread) (point_in log new thread) point_persisted));
+    last = persisted_live (point_in log old thread) (point_in log new thread) point_persisted ∙ h.last;
     old_bank = bank_stays one f.old_is h.old_bank;
     new_bank = bank_stays other f.new_is h.new_bank;
   }
 
 -- ---- Where what is queued reaches as far
 
-module _ (thread : ℕ) (m n : LogConfig) (size : length n.words ≡ length m.words) (unstored : IsUnstored thread m.words n.words)
+module _ (log : Log) (thread : ℕ) (m n : LogConfig) (size : length n.words ≡ length m.words) (unstored : IsUnstored log thread m.words n.words)
     (reach : (j position : ℕ) → PersistsThrough m.words m.queue j position → PersistsThrough n.words n.queue j position) (rest : n.rest ≡ m.rest) where
-  coming_stays : (r : Record) (slots lines : List ℕ) (slot : ℕ) → IsRecord r → Contains (slots_of r) slot → IsComing thread r slots lines m slot →
-      IsComing thread r slots lines n slot
+  coming_stays : (r : Record) (slots lines : List ℕ) (slot : ℕ) → IsRecord log r → Contains (slots_of log r) slot → IsComing log thread r slots lines m slot →
+      IsComing log thread r slots lines n slot
   coming_stays r slots lines slot is c (ToStore h) = ToStore h
   coming_stays r slots lines slot is c (ToClean live h) =
-      ToClean (persisted_live (slot_in m.words thread r slot) (slot_in n.words thread r slot)
-      (slot_persisted thread m.words n.words size unstored r slot is c) ∙ live) h
+      ToClean (persisted_live (slot_in log m.words thread r slot) (slot_in log n.words thread r slot)
+      (slot_persisted log thread m.words n.words size unstored r slot is c) ∙ live) h
   coming_stays r slots lines slot is c (Queued live h) =
-      let persisted = slot_persisted thread m.words n.words size unstored r slot is c in
-      Queued (persisted_live (slot_in m.words thread r slot) (slot_in n.words thread r slot) persisted ∙ live)
-      (subst (λ (p : ℕ). PersistsThrough n.words n.queue (bank_word thread (bank_of r.point) slot) p)
-      (sym (same_last (slot_in m.words thread r slot) (slot_in n.words thread r slot) persisted))
-      (reach (bank_word thread (bank_of r.point) slot) (last_position (slot_in m.words thread r slot)) h))
+      let persisted = slot_persisted log thread m.words n.words size unstored r slot is c in
+      Queued (persisted_live (slot_in log m.words thread r slot) (slot_in log n.words thread r slot) persisted ∙ live)
+      (subst (λ (p : ℕ). PersistsThrough n.words n.queue (bank_word log thread (bank_of r.point) slot) p)
+      (sym (same_last (slot_in log m.words thread r slot) (slot_in log n.words thread r slot) persisted))
+      (reach (bank_word log thread (bank_of r.point) slot) (last_position (slot_in log m.words thread r slot)) h))
 
-  pub stage_stays : (old new : Record) → MayOverwrite old new → Stage thread old new m → Stage thread old new n
+  pub stage_stays : (old new : Record) → MayOverwrite log old new → Stage log thread old new m → Stage log thread old new n
   stage_stays old new f (Writing slots lines w h) = Writing slots lines (record {
     rest = rest ∙ w.rest;
     own = w.own;
     after = w.after;
     exist = w.exist;
     each = λ slot c. coming_stays new slots lines slot f.new_is c (w.each slot c);
-  }) (recorded_stays thread m.words n.words size unstored old f.old_is h)
+  }) (recorded_stays log thread m.words n.words size unstored old f.old_is h)
   stage_stays old new f (Written e h b) =
-      Written (rest ∙ e) (recorded_stays thread m.words n.words size unstored old f.old_is h) (bank_stays thread m.words n.words size unstored new f.new_is b)
-  stage_stays old new f (Pointed e h) = Pointed (rest ∙ e) (pointed_stays thread m.words n.words size unstored old new f h)
+      Written (rest ∙ e) (recorded_stays log thread m.words n.words size unstored old f.old_is h)
+      (bank_stays log thread m.words n.words size unstored new f.new_is b)
+  stage_stays old new f (Pointed e h) = Pointed (rest ∙ e) (pointed_stays log thread m.words n.words size unstored old new f h)
   stage_stays old new f (PointQueued e h r) =
-      let persisted = point_persisted thread m.words n.words size unstored in
-      PointQueued (rest ∙ e) (pointed_stays thread m.words n.words size unstored old new f h)
-      (subst (λ (p : ℕ). PersistsThrough n.words n.queue (word_number (point_at thread)) p)
-      (sym (same_last (point_in m.words thread) (point_in n.words thread) persisted))
-      (reach (word_number (point_at thread)) (last_position (point_in m.words thread)) r))
-  stage_stays old new f (Over e h) = Over (rest ∙ e) (recorded_stays thread m.words n.words size unstored new f.new_is h)
+      let persisted = point_persisted log thread m.words n.words size unstored in
+      PointQueued (rest ∙ e) (pointed_stays log thread m.words n.words size unstored old new f h)
+      (subst (λ (p : ℕ). PersistsThrough n.words n.queue (word_number (point_at log thread)) p)
+      (sym (same_last (point_in log m.words thread) (point_in log n.words thread) persisted))
+      (reach (word_number (point_at log thread)) (last_position (point_in log m.words thread)) r))
+  stage_stays old new f (Over e h) = Over (rest ∙ e) (recorded_stays log thread m.words n.words size unstored new f.new_is h)

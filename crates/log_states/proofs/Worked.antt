@@ -2,6 +2,7 @@
 -- nothing was recorded before it. A crash comes after each of its effects, with or without an eviction of the point's line.
 use Rattle.std.proofs.Common.{◌≡◌, ℕ, zero, suc, ◌+◌, ◌*◌, ◌/◌, List, [], ◌∷◌, ◌++◌, map, refl, pos, Bool, true, false, take, drop, replicate}
 use Rattle.std.specs.Prelude.{slice_set, if◌then◌else◌}
+use Rattle.ido_base.specs.declared.log.Log.TheVariants.{V1}
 use Rattle.ido_base.specs.Words.{Word, word_of, entry_of, stored, evicted, crashed}
 use Rattle.ido_base.specs.Growth.{drained_all}
 use Rattle.ido_base.specs.Locks.{locks_in, mask_with}
@@ -13,7 +14,7 @@ use Rattle.log_states.specs.Stages.{LogConfig, is_committed}
 use Rattle.log_states.specs.Laws.{recorded_by}
 
 b : Boundary
-b = record { thread = 0; locks = 0 ∷ []; live = 8 ∷ 9 ∷ []; resume = pos 0 }
+b = record { log = V1; thread = 0; locks = 0 ∷ []; live = 8 ∷ 9 ∷ []; resume = pos 0 }
 
 registers : List ℕ
 registers = slice_set (slice_set (replicate 32 0) 8 7) 9 5
@@ -46,7 +47,7 @@ after (suc count) (e ∷ es) m = after count es (made m e es)
 
 first : LogConfig
 unfolding effects
-first = record { words = replicate (8 * (variable_lines + log_lines)) (word_of 0); queue = []; rest = effects }
+first = record { words = replicate (8 * (variable_lines + log_lines V1)) (word_of 0); queue = []; rest = effects }
 
 -- the line of the point is evicted
 with_eviction : Bool → LogConfig → LogConfig
@@ -58,7 +59,8 @@ left m = left_in (crashed m.words)
   where
     left_in : List Word → List ℕ
     left_in words =
-        durable_point words 0 ∷ mask_with (record_of words 0) ∷ resumed_register words 0 8 ∷ resumed_register words 0 9 ∷ resumed_register words 0 3 ∷ []
+        durable_point V1 words 0 ∷ mask_with (record_of V1 words 0) ∷ resumed_register V1 words 0 8 ∷ resumed_register V1 words 0 9
+        ∷ resumed_register V1 words 0 3 ∷ []
 
 evicted_after : (count : ℕ) → Bool → LogConfig
 unfolding after first effects with_eviction
@@ -87,11 +89,11 @@ unfolding left locks_in evicted_after after made first effects b registers with_
 with_evictions = refl
 
 uncommitted_without : map
-    (λ count. is_committed 0 (evicted_after count false)) counts ≡ false ∷ false ∷ false ∷ false ∷ false ∷ false ∷ false ∷ false ∷ false ∷ true ∷ []
+    (λ count. is_committed V1 0 (evicted_after count false)) counts ≡ false ∷ false ∷ false ∷ false ∷ false ∷ false ∷ false ∷ false ∷ false ∷ true ∷ []
 unfolding evicted_after after made first effects b registers with_eviction counts
 uncommitted_without = refl
 
-committed_with : map (λ count. is_committed 0 (evicted_after count true)) counts
+committed_with : map (λ count. is_committed V1 0 (evicted_after count true)) counts
     ≡ false ∷ false ∷ false ∷ false ∷ false ∷ false ∷ false ∷ true ∷ true ∷ true ∷ []
 unfolding evicted_after after made first effects b registers with_eviction counts
 committed_with = refl
@@ -107,7 +109,7 @@ no_first_fence = refl
 
 -- the next boundary holds locks 0 and 1, and an eviction makes its mask durable before its point is stored
 next : (side : ℕ) → List Effect
-next side = boundary_effects (record { thread = 0; locks = 0 ∷ 1 ∷ []; live = []; resume = pos 0 }) side 0x1_0080 (replicate 32 0)
+next side = boundary_effects (record { log = V1; thread = 0; locks = 0 ∷ 1 ∷ []; live = []; resume = pos 0 }) side 0x1_0080 (replicate 32 0)
 
 mask_evicted : (line : ℕ) → LogConfig → LogConfig
 mask_evicted line m = record { words = evicted m.words line 1; queue = m.queue; rest = m.rest }

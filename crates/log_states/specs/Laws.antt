@@ -1,18 +1,19 @@
 -- What holds of a log at each moment of a boundary, between boundaries, and after a crash.
-use Rattle.std.specs.Prelude.{◌≡◌, ◌≢◌, ◌⊎◌, ℕ, ◌+◌, ◌*◌, ◌/◌, ◌%◌, ◌^◌, ◌<◌, ◌≤◌, List, [], length, map, replicate, ◌∷◌, true, false, not, nat_le, ◌==◌}
+use Rattle.std.specs.Prelude.{◌≡◌, ◌≢◌, ◌⊎◌, ℕ, ◌+◌, ◌*◌, ◌/◌, ◌%◌, ◌^◌, ◌<◌, ◌≤◌, List, [], length, replicate, ◌∷◌, true, false, not, nat_le, ◌==◌}
 use Rattle.std.specs.Prelude.{if◌then◌else◌}
 use Rattle.std.specs.List.{Contains, list_any}
+use Rattle.ido_base.specs.declared.log.Log.{Log}
 use Rattle.ido_base.specs.Words.{Word, Entry, word_at, last_position, stored, crashed}
 use Rattle.ido_base.specs.Growth.{Stable, AreEntries, PersistsThrough}
-use Rattle.ido_base.specs.Layout.{variables_base, variable_lines, line_bytes, bank_bytes, log_lines, point_at, byte_number}
+use Rattle.ido_base.specs.Layout.{variables_base, variable_lines, line_bytes, log_words, point_at, byte_number}
 use Rattle.rv64_isa.specs.declared.object.Slot.{Slot}
 use Rattle.rv64_isa.specs.Rows.{Effect, Stores, read}
-use Rattle.rv64_isa.specs.Machine.{durable_point, live_at, resume_of, record_of, resumed_register, numbers_from, start_of}
+use Rattle.rv64_isa.specs.Machine.{durable_point, live_at, resume_of, record_of, resumed_registers, start_of}
 use Rattle.rv64_isa.specs.Schedule.{is_point_store}
-use Rattle.memory_layout.specs.Roles.{bank_offset, is_kept}
+use Rattle.memory_layout.specs.Roles.{is_kept}
 use Rattle.boundary_code.specs.Boundaries.{Boundary, boundary_effects, is_empty, IsOnSide, other_side, side_after}
 use Rattle.log_states.specs.Logs.{Record, nothing_recorded, side_of, IsSideOf, IsKeepable, AreLoggable, IsRecord, log_word}
-use Rattle.log_states.specs.Logs.{bank_word, point_in, HasLog, IsUnstored, IsDurable, IsRecorded}
+use Rattle.log_states.specs.Logs.{bank_word, slot_index, point_in, HasLog, IsUnstored, IsDurable, IsRecorded}
 use Rattle.log_states.specs.Stages.{LogConfig, Moves, LogSteps, LogIs, fences_ahead, is_store, is_committed, left_by_crash}
 
 -- ---- Boundaries
@@ -26,35 +27,37 @@ recorded_by b side resume x = record {
   registers = x;
 }
 
--- a boundary that can be recovered from: it resumes at an instruction, keeps registers of 64 bits that have a slot, and its locks can be logged
+-- a boundary that can be recovered from: it resumes at an instruction, and its log can keep its locks and its registers, of 64 bits
 pub record IsRecoverable (b : Boundary) (resume : ℕ) (x : List ℕ) : Type 0 where
-  pub locks : AreLoggable b.locks
-  pub live : (register : ℕ) → Contains b.live register → IsKeepable register
+  pub locks : AreLoggable b.log b.locks
+  pub live : (register : ℕ) → Contains b.live register → IsKeepable b.log register
   pub registers : (register : ℕ) → Contains b.live register → read x register < 2 ^ 64
   pub aligned : resume % 4 ≡ 0
   pub somewhere : 0 < resume
   pub below : resume < 2 ^ 64
 
--- every register that a boundary may keep is one of 1 to 31, and not the one of the bank's offset
+-- a log can keep every register that a boundary may keep
 abbrev pub KeptAreKeepable : Type 0
-KeptAreKeepable = (register : ℕ) → is_kept register ≡ true → IsKeepable register
+KeptAreKeepable = (log : Log) (register : ℕ) → is_kept register ≡ true → IsKeepable log register
 
 -- by these registers the log is on this side, which is the record's
-pub record IsAtRecord (r : Record) (side : ℕ) (x : List ℕ) : Type 0 where
-  pub registers : IsOnSide side x
+pub record IsAtRecord (log : Log) (r : Record) (side : ℕ) (x : List ℕ) : Type 0 where
+  pub registers : IsOnSide log side x
   pub is : IsSideOf r side
 
 -- a log begins a boundary from its record
 abbrev pub BoundaryBegins : Type 0
 BoundaryBegins = (b : Boundary) (old : Record) (side resume : ℕ) (x : List ℕ) (words : List Word) (queue : List Entry) →
-    HasLog b.thread words → AreEntries words queue → IsRecord old → IsRecorded b.thread old words → IsAtRecord old side x → IsRecoverable b resume x →
-    LogIs b.thread old (recorded_by b side resume x) (record { words = words; queue = queue; rest = boundary_effects b side resume x })
+    HasLog b.log b.thread words → AreEntries words queue → IsRecord b.log old → IsRecorded b.log b.thread old words → IsAtRecord b.log old side x →
+    IsRecoverable b resume x →
+    LogIs b.log b.thread old (recorded_by b side resume x) (record { words = words; queue = queue; rest = boundary_effects b side resume x })
 
 -- a log that has a record is one on its way that has arrived
 abbrev pub Rests : Type 0
 Rests =
-    (thread : ℕ) (r : Record) (m : LogConfig) → m.rest ≡ [] → HasLog thread m.words → AreEntries m.words m.queue → IsRecord r → IsRecorded thread r m.words →
-    LogIs thread nothing_recorded r m
+    (log : Log) (thread : ℕ) (r : Record) (m : LogConfig) → m.rest ≡ [] → HasLog log thread m.words → AreEntries m.words m.queue → IsRecord log r →
+    IsRecorded log thread r m.words →
+    LogIs log thread nothing_recorded r m
 
 -- the side goes with the record: the one after a boundary is that of what it has recorded
 abbrev pub SideFollows : Type 0
@@ -64,13 +67,14 @@ SideFollows = (b : Boundary) (side resume : ℕ) (x : List ℕ) → IsRecoverabl
 
 -- whatever happens in a boundary, its log stays on its way from the one record to the other
 abbrev pub Keeps : Type 0
-Keeps = (thread : ℕ) (old new : Record) (m n : LogConfig) → LogIs thread old new m → Moves thread m n → LogIs thread old new n
+Keeps = (log : Log) (thread : ℕ) (old new : Record) (m n : LogConfig) → LogIs log thread old new m → Moves log thread m n → LogIs log thread old new n
 
 -- between boundaries the log keeps its record
 abbrev pub StaysRecorded : Type 0
-StaysRecorded = (thread : ℕ) (r : Record) (m n : LogConfig) → IsRecord r → m.rest ≡ [] → HasLog thread m.words → AreEntries m.words m.queue →
-    IsRecorded thread r m.words → Moves thread m n →
-    HasLog thread n.words × AreEntries n.words n.queue × IsRecorded thread r n.words
+StaysRecorded =
+    (log : Log) (thread : ℕ) (r : Record) (m n : LogConfig) → IsRecord log r → m.rest ≡ [] → HasLog log thread m.words → AreEntries m.words m.queue →
+    IsRecorded log thread r m.words → Moves log thread m n →
+    HasLog log thread n.words × AreEntries n.words n.queue × IsRecorded log thread r n.words
 
 -- what is recorded is stable: its bytes are these whatever a crash leaves
 abbrev pub DurableIsStable : Type 0
@@ -78,67 +82,71 @@ DurableIsStable = (w : Word) (value : ℕ) → value < 2 ^ 64 → IsDurable w va
 
 -- a boundary ends with its record
 abbrev pub BoundaryEnds : Type 0
-BoundaryEnds = (thread : ℕ) (old new : Record) (m : LogConfig) → LogIs thread old new m → m.rest ≡ [] → IsRecorded thread new m.words
+BoundaryEnds = (log : Log) (thread : ℕ) (old new : Record) (m : LogConfig) → LogIs log thread old new m → m.rest ≡ [] → IsRecorded log thread new m.words
 
 -- a store elsewhere leaves a log as it is, as one to another thread's log does
 abbrev pub StoresElsewhere : Type 0
-StoresElsewhere = (thread number count value : ℕ) (words : List Word) → ((i : ℕ) → i < 8 * log_lines → number / 8 ≢ log_word thread i) →
-    IsUnstored thread words (stored words number count value)
+StoresElsewhere = (log : Log) (thread number count value : ℕ) (words : List Word) → ((i : ℕ) → i < log_words log → number / 8 ≢ log_word log thread i) →
+    IsUnstored log thread words (stored words number count value)
 
 abbrev pub LogsAreApart : Type 0
-LogsAreApart = (thread other i j : ℕ) → other ≢ thread → i < 8 * log_lines → j < 8 * log_lines → log_word other j ≢ log_word thread i
+LogsAreApart = (log : Log) (thread other i j : ℕ) → other ≢ thread → i < log_words log → j < log_words log → log_word log other j ≢ log_word log thread i
 
 -- the slots of its banks are words of a log
 abbrev pub SlotsAreIn : Type 0
-SlotsAreIn = (thread bank slot : ℕ) → bank_word thread bank slot ≡ log_word thread (8 + 32 * bank + slot)
+SlotsAreIn = (log : Log) (thread bank slot : ℕ) → bank_word log thread bank slot ≡ log_word log thread (slot_index log bank slot)
 
 -- no byte of a variable is in a word of a log
 abbrev pub VariablesAreApart : Type 0
-VariablesAreApart = (thread address i : ℕ) → address < variables_base + line_bytes * variable_lines → byte_number address / 8 ≢ log_word thread i
+VariablesAreApart =
+    (log : Log) (thread address i : ℕ) → address < variables_base + line_bytes * variable_lines → byte_number address / 8 ≢ log_word log thread i
 
 -- ---- Commitment
 
 -- the durable point is the old one until the new one's store is durable
 abbrev pub PointIs : Type 0
-PointIs = (thread : ℕ) (old new : Record) (m : LogConfig) → LogIs thread old new m → durable_point m.words thread ≡ (left_by_crash thread old new m).point
+PointIs = (log : Log) (thread : ℕ) (old new : Record) (m : LogConfig) → LogIs log thread old new m →
+    durable_point log m.words thread ≡ (left_by_crash log thread old new m).point
 
 -- the live point is the new one, or the old one's where that isn't committed
 abbrev pub LivePointIs : Type 0
-LivePointIs = (thread : ℕ) (old new : Record) (m : LogConfig) → LogIs thread old new m →
-    (live_at m.words (point_at thread) ≡ new.point) ⊎ ((live_at m.words (point_at thread) ≡ old.point) × (is_committed thread m ≡ false))
+LivePointIs = (log : Log) (thread : ℕ) (old new : Record) (m : LogConfig) → LogIs log thread old new m →
+    (live_at m.words (point_at log thread) ≡ new.point) ⊎ ((live_at m.words (point_at log thread) ≡ old.point) × (is_committed log thread m ≡ false))
 
 -- a boundary isn't committed at its beginning
 abbrev pub BeginsUncommitted : Type 0
 BeginsUncommitted = (b : Boundary) (side resume : ℕ) (x : List ℕ) (words : List Word) (queue : List Entry) →
-    is_committed b.thread (record { words = words; queue = queue; rest = boundary_effects b side resume x }) ≡ false
+    is_committed b.log b.thread (record { words = words; queue = queue; rest = boundary_effects b side resume x }) ≡ false
 
 -- a boundary that is committed stays so
 abbrev pub StaysCommitted : Type 0
-StaysCommitted = (thread : ℕ) (old new : Record) (m n : LogConfig) → LogIs thread old new m → Moves thread m n → is_committed thread m ≡ true →
-    is_committed thread n ≡ true
+StaysCommitted =
+    (log : Log) (thread : ℕ) (old new : Record) (m n : LogConfig) → LogIs log thread old new m → Moves log thread m n → is_committed log thread m ≡ true →
+    is_committed log thread n ≡ true
 
 -- at the latest at its end a boundary is committed
 abbrev pub EndsCommitted : Type 0
-EndsCommitted = (thread : ℕ) (old new : Record) (m : LogConfig) → LogIs thread old new m → m.rest ≡ [] → is_committed thread m ≡ true
+EndsCommitted = (log : Log) (thread : ℕ) (old new : Record) (m : LogConfig) → LogIs log thread old new m → m.rest ≡ [] → is_committed log thread m ≡ true
 
 -- the last store of a boundary, and no other, is that of its point
 abbrev pub PointStoreIsLast : Type 0
-PointStoreIsLast = (thread : ℕ) (old new : Record) (m : LogConfig) (address bytes value : ℕ) (later : List Effect) → LogIs thread old new m →
-    m.rest ≡ Stores address bytes value ∷ later → is_point_store thread (Stores address bytes value) ≡ not (list_any is_store later)
+PointStoreIsLast = (log : Log) (thread : ℕ) (old new : Record) (m : LogConfig) (address bytes value : ℕ) (later : List Effect) → LogIs log thread old new m →
+    m.rest ≡ Stores address bytes value ∷ later → is_point_store log thread (Stores address bytes value) ≡ not (list_any is_store later)
 
 -- from the store of its point on, the last position of the point stays the same
 abbrev pub PositionStays : Type 0
-PositionStays = (thread : ℕ) (old new : Record) (m n : LogConfig) → LogIs thread old new m → Moves thread m n → list_any is_store m.rest ≡ false →
-    last_position (point_in n.words thread) ≡ last_position (point_in m.words thread)
+PositionStays =
+    (log : Log) (thread : ℕ) (old new : Record) (m n : LogConfig) → LogIs log thread old new m → Moves log thread m n → list_any is_store m.rest ≡ false →
+    last_position (point_in log n.words thread) ≡ last_position (point_in log m.words thread)
 
 -- once its point is stored, a boundary is committed exactly where the durable position is no less than the last
 abbrev pub CommittedWhere : Type 0
-CommittedWhere = (thread : ℕ) (old new : Record) (m : LogConfig) → LogIs thread old new m → list_any is_store m.rest ≡ false →
-    is_committed thread m ≡ nat_le (last_position (point_in m.words thread)) (point_in m.words thread).durable
+CommittedWhere = (log : Log) (thread : ℕ) (old new : Record) (m : LogConfig) → LogIs log thread old new m → list_any is_store m.rest ≡ false →
+    is_committed log thread m ≡ nat_le (last_position (point_in log m.words thread)) (point_in log m.words thread).durable
 
 -- what is durable stays so
 abbrev pub DurableStays : Type 0
-DurableStays = (thread : ℕ) (m n : LogConfig) (word : ℕ) → Moves thread m n → (word_at m.words word).durable ≤ (word_at n.words word).durable
+DurableStays = (log : Log) (thread : ℕ) (m n : LogConfig) (word : ℕ) → Moves log thread m n → (word_at m.words word).durable ≤ (word_at n.words word).durable
 
 -- the fence is still ahead, and the queue still reaches that far
 pub record AwaitsFence (m n : LogConfig) (word position : ℕ) : Type 0 where
@@ -147,12 +155,12 @@ pub record AwaitsFence (m n : LogConfig) (word position : ℕ) : Type 0 where
 
 -- what the queue reaches it goes on to reach, up to a fence, after which that is durable
 abbrev pub ReachGoesOn : Type 0
-ReachGoesOn = (thread : ℕ) (m n : LogConfig) (word position : ℕ) → Moves thread m n → PersistsThrough m.words m.queue word position →
+ReachGoesOn = (log : Log) (thread : ℕ) (m n : LogConfig) (word position : ℕ) → Moves log thread m n → PersistsThrough m.words m.queue word position →
     AwaitsFence m n word position ⊎ (position ≤ (word_at n.words word).durable)
 
 -- what the queue reaches is durable once one more fence is passed
 abbrev pub FencesSettle : Type 0
-FencesSettle = (thread : ℕ) (m n : LogConfig) (word position : ℕ) → LogSteps thread m n → PersistsThrough m.words m.queue word position →
+FencesSettle = (log : Log) (thread : ℕ) (m n : LogConfig) (word position : ℕ) → LogSteps log thread m n → PersistsThrough m.words m.queue word position →
     fences_ahead n.rest < fences_ahead m.rest → position ≤ (word_at n.words word).durable
 
 -- a boundary has two
@@ -161,39 +169,37 @@ BoundariesFence = (b : Boundary) (side resume : ℕ) (x : List ℕ) → fences_a
 
 -- a boundary that is committed has passed its first fence: what was queued before that is durable
 abbrev pub CommittedAfterFence : Type 0
-CommittedAfterFence = (thread : ℕ) (old new : Record) (m : LogConfig) → LogIs thread old new m → is_committed thread m ≡ true → fences_ahead m.rest < 2
+CommittedAfterFence =
+    (log : Log) (thread : ℕ) (old new : Record) (m : LogConfig) → LogIs log thread old new m → is_committed log thread m ≡ true → fences_ahead m.rest < 2
 
 -- ---- Crashes and starts
 
 -- a crash leaves the new record where it is committed, and the old one where it isn't
 abbrev pub CrashesLeave : Type 0
-CrashesLeave = (thread : ℕ) (old new : Record) (m : LogConfig) → LogIs thread old new m →
-    IsRecorded thread (left_by_crash thread old new m) (crashed m.words) × HasLog thread (crashed m.words)
+CrashesLeave = (log : Log) (thread : ℕ) (old new : Record) (m : LogConfig) → LogIs log thread old new m →
+    IsRecorded log thread (left_by_crash log thread old new m) (crashed m.words) × HasLog log thread (crashed m.words)
 
 -- between boundaries a crash leaves the record
 abbrev pub CrashesKeep : Type 0
-CrashesKeep = (thread : ℕ) (r : Record) (words : List Word) → HasLog thread words → IsRecorded thread r words →
-    IsRecorded thread r (crashed words) × HasLog thread (crashed words)
-
--- what a hart is resumed with
-abbrev pub resumed_registers : List Word → (thread : ℕ) → List ℕ
-resumed_registers words thread = map (resumed_register words thread) (numbers_from 0 32)
+CrashesKeep = (log : Log) (thread : ℕ) (r : Record) (words : List Word) → HasLog log thread words → IsRecorded log thread r words →
+    IsRecorded log thread r (crashed words) × HasLog log thread (crashed words)
 
 -- what recovery makes of a record
-pub record ResumesRecord (thread : ℕ) (r : Record) (words : List Word) : Type 0 where
-  pub point : durable_point words thread ≡ r.point
-  pub live_point : live_at words (point_at thread) ≡ r.point
-  pub locks : record_of words thread ≡ (if r.point == 0 then [] else r.locks)
-  pub registers : r.point ≢ 0 → (register : ℕ) → Contains r.live register → read (resumed_registers words thread) register ≡ read r.registers register
-  pub side : IsAtRecord r (side_of r) (resumed_registers words thread)
+pub record ResumesRecord (log : Log) (thread : ℕ) (r : Record) (words : List Word) : Type 0 where
+  pub point : durable_point log words thread ≡ r.point
+  pub live_point : live_at words (point_at log thread) ≡ r.point
+  pub locks : record_of log words thread ≡ (if r.point == 0 then [] else r.locks)
+  pub registers : r.point ≢ 0 → (register : ℕ) → Contains r.live register → read (resumed_registers log words thread) register ≡ read r.registers register
+  pub side : IsAtRecord log r (side_of r) (resumed_registers log words thread)
 
 abbrev pub RecordIsResumed : Type 0
-RecordIsResumed = (thread : ℕ) (r : Record) (words : List Word) → IsRecord r → IsRecorded thread r words → ResumesRecord thread r words
+RecordIsResumed = (log : Log) (thread : ℕ) (r : Record) (words : List Word) → IsRecord log r → IsRecorded log thread r words → ResumesRecord log thread r words
 
 -- a crash in a boundary is recovered from as the old record says, or as the new one
 abbrev pub CrashesResume : Type 0
 CrashesResume =
-    (thread : ℕ) (old new : Record) (m : LogConfig) → LogIs thread old new m → ResumesRecord thread (left_by_crash thread old new m) (crashed m.words)
+    (log : Log) (thread : ℕ) (old new : Record) (m : LogConfig) → LogIs log thread old new m →
+    ResumesRecord log thread (left_by_crash log thread old new m) (crashed m.words)
 
 -- the point of a boundary says its side and where it resumes
 abbrev pub PointSays : Type 0
@@ -202,6 +208,6 @@ PointSays = (b : Boundary) (side resume : ℕ) (x : List ℕ) → IsRecoverable 
 
 -- at the start nothing is recorded, and registers of 0 are on the first side
 abbrev pub StartsEmpty : Type 0
-StartsEmpty = (program : List (List Slot)) (locks thread : ℕ) (initial : List ℕ) → thread < length program →
-    let words = (start_of program locks initial).words in
-    IsRecord nothing_recorded × HasLog thread words × IsRecorded thread nothing_recorded words × IsAtRecord nothing_recorded 0 (replicate 32 0)
+StartsEmpty = (log : Log) (program : List (List Slot)) (locks thread : ℕ) (initial : List ℕ) → thread < length program →
+    let words = (start_of log program locks initial).words in
+    IsRecord log nothing_recorded × HasLog log thread words × IsRecorded log thread nothing_recorded words × IsAtRecord log nothing_recorded 0 (replicate 32 0)

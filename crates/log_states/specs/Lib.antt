@@ -1,4 +1,5 @@
 pub mod Logs
+pub mod Schemes
 pub mod Stages
 pub mod Machines
 pub mod Laws

@@ -1,10 +1,11 @@
 -- The facts of a log that recovery rests on, by name. One more is none of a log's but of regions, whatever the log: one that is run again reads nothing
 -- that an earlier attempt has overwritten (`rerun_reads_nothing_overwritten` of region_attempts).
-use Rattle.std.specs.Prelude.{◌≡◌, ◌≢◌, ◌⊎◌, ℕ, ◌/◌, ◌<◌, List, [], ◌∷◌, ◌==◌, if◌then◌else◌}
+use Rattle.std.specs.Prelude.{◌≡◌, ◌≢◌, ◌⊎◌, ℕ, ◌/◌, List, [], ◌∷◌, ◌==◌, if◌then◌else◌}
+use Rattle.ido_base.specs.declared.log.Log.{Log}
 use Rattle.ido_base.specs.Layout.{byte_number, point_at}
 use Rattle.rv64_isa.specs.Rows.{Effect, Stores}
 use Rattle.rv64_isa.specs.Machine.{durable_point, live_at, bank_of, record_of}
-use Rattle.log_states.specs.Logs.{Record, bank_word, HasBank}
+use Rattle.log_states.specs.Logs.{Record, bank_word, IsInBank, HasBank}
 use Rattle.log_states.specs.Stages.{LogConfig, LogIs, left_by_crash}
 use Rattle.log_states.specs.Laws.{PointIs, CommittedAfterFence, FencesSettle, RecordIsResumed, CrashesResume}
 
@@ -12,8 +13,8 @@ use Rattle.log_states.specs.Laws.{PointIs, CommittedAfterFence, FencesSettle, Re
 
 -- where the store of a point is a boundary's next effect, it is that of the record, whose bank is durable
 abbrev pub PointsFindBank : Type 0
-PointsFindBank = (thread : ℕ) (old new : Record) (m : LogConfig) (point : ℕ) (later : List Effect) → LogIs thread old new m →
-    m.rest ≡ Stores (point_at thread) 8 point ∷ later → (point ≡ new.point) × HasBank thread new m.words
+PointsFindBank = (log : Log) (thread : ℕ) (old new : Record) (m : LogConfig) (point : ℕ) (later : List Effect) → LogIs log thread old new m →
+    m.rest ≡ Stores (point_at log thread) 8 point ∷ later → (point ≡ new.point) × HasBank log thread new m.words
 
 pub record BankBeforePoint : Type 0 where
   pub bank : PointsFindBank
@@ -24,14 +25,14 @@ pub record BankBeforePoint : Type 0 where
 -- ---- Bank kept
 
 -- the point is the live or the durable one of a thread
-abbrev pub IsNamed : LogConfig → (thread point : ℕ) → Type 0
-IsNamed m thread point = (point ≡ live_at m.words (point_at thread)) ⊎ (point ≡ durable_point m.words thread)
+abbrev pub IsNamed : Log → LogConfig → (thread point : ℕ) → Type 0
+IsNamed log m thread point = (point ≡ live_at m.words (point_at log thread)) ⊎ (point ≡ durable_point log m.words thread)
 
 -- a boundary stores to no word of a bank that the live or the durable point names
 abbrev pub BankKept : Type 0
-BankKept = (thread : ℕ) (old new : Record) (m : LogConfig) (address bytes value : ℕ) (later : List Effect) → LogIs thread old new m →
-    m.rest ≡ Stores address bytes value ∷ later → (point : ℕ) → IsNamed m thread point → point ≢ 0 → (slot : ℕ) → slot < 32 →
-    byte_number address / 8 ≢ bank_word thread (bank_of point) slot
+BankKept = (log : Log) (thread : ℕ) (old new : Record) (m : LogConfig) (address bytes value : ℕ) (later : List Effect) → LogIs log thread old new m →
+    m.rest ≡ Stores address bytes value ∷ later → (point : ℕ) → IsNamed log m thread point → point ≢ 0 → (slot : ℕ) → IsInBank log slot →
+    byte_number address / 8 ≢ bank_word log thread (bank_of point) slot
 
 -- ---- Registers resumed
 
@@ -44,8 +45,8 @@ pub record RegistersResumed : Type 0 where
 
 -- at each moment the durable locks are those of the record that a crash would leave
 abbrev pub LocksAreLeft : Type 0
-LocksAreLeft = (thread : ℕ) (old new : Record) (m : LogConfig) → LogIs thread old new m →
-    let left = left_by_crash thread old new m in record_of m.words thread ≡ (if left.point == 0 then [] else left.locks)
+LocksAreLeft = (log : Log) (thread : ℕ) (old new : Record) (m : LogConfig) → LogIs log thread old new m →
+    let left = left_by_crash log thread old new m in record_of log m.words thread ≡ (if left.point == 0 then [] else left.locks)
 
 -- that is the old record until the store of the new one's point is durable, and the new one from then on
 pub record RecordFollowsLocks : Type 0 where

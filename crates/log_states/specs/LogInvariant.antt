@@ -1,5 +1,6 @@
 -- A thread's log in a machine: how it stands at each moment, whatever happens.
 use Rattle.std.specs.Prelude.{◌≡◌, ℕ, ◌<◌, List, [], ◌++◌, length, slice_get, Some}
+use Rattle.ido_base.specs.declared.log.Log.{Log}
 use Rattle.ido_base.specs.declared.event.Event.TheVariants.{Step, Evict, Crash}
 use Rattle.ido_base.specs.declared.event.Reply.TheVariants.{Moved, Drained}
 use Rattle.rv64_isa.specs.declared.object.Slot.{Slot}
@@ -18,7 +19,7 @@ use Rattle.log_states.specs.Laws.{recorded_by, IsRecoverable, IsAtRecord}
 pub record LogInv (thread : ℕ) (old new : Record) (w : World) (rest : List Effect) : Type 0 where
   pub hart : Hart
   pub here : slice_get w.harts thread ≡ Some hart
-  pub log : LogIs thread old new (config_of w hart rest)
+  pub log : LogIs w.log thread old new (config_of w hart rest)
 
 -- the log's way from the one record to the other
 pub record Passage : Type 0 where
@@ -41,13 +42,13 @@ pub data Advances (program : List (List Slot)) (p : Passage) (w : World) (made l
 
 -- at the start
 abbrev pub StartsStanding : Type 0
-StartsStanding = (program : List (List Slot)) (locks thread : ℕ) (initial : List ℕ) → thread < length program →
-    LogInv thread nothing_recorded nothing_recorded (start_of program locks initial) []
+StartsStanding = (log : Log) (program : List (List Slot)) (locks thread : ℕ) (initial : List ℕ) → thread < length program →
+    LogInv thread nothing_recorded nothing_recorded (start_of log program locks initial) []
 
 -- a boundary begins
 abbrev pub BeginsStanding : Type 0
-BeginsStanding = (b : Boundary) (older old : Record) (side resume : ℕ) (x : List ℕ) (w : World) → LogInv b.thread older old w [] → IsAtRecord old side x →
-    IsRecoverable b resume x → LogInv b.thread old (recorded_by b side resume x) w (boundary_effects b side resume x)
+BeginsStanding = (b : Boundary) (older old : Record) (side resume : ℕ) (x : List ℕ) (w : World) → b.log ≡ w.log → LogInv b.thread older old w [] →
+    IsAtRecord w.log old side x → IsRecoverable b resume x → LogInv b.thread old (recorded_by b side resume x) w (boundary_effects b side resume x)
 
 -- an instruction of it
 abbrev pub OwnStepsKeep : Type 0
@@ -70,4 +71,4 @@ EvictionsKeep = (program : List (List Slot)) (line mask thread : ℕ) (old new :
 abbrev pub CrashesStanding : Type 0
 CrashesStanding = (program : List (List Slot)) (thread : ℕ) (old new : Record) (w : World) (rest : List Effect) → length program ≡ length w.harts →
     (s : LogInv thread old new w rest) →
-    LogInv thread nothing_recorded (left_by_crash thread old new (config_of w s.hart rest)) (after_event program w Crash) []
+    LogInv thread nothing_recorded (left_by_crash w.log thread old new (config_of w s.hart rest)) (after_event program w Crash) []

@@ -1,13 +1,16 @@
 -- What a thread's log has recorded: the point of its last boundary, and what the point's bank keeps, but where the point is 0.
-use Rattle.std.specs.Prelude.{◌≡◌, ◌≢◌, ℕ, ◌+◌, ◌*◌, ◌^◌, ◌<◌, ◌≤◌, List, [], ◌∷◌, length, slice_index, ◌==◌, if◌then◌else◌}
+use Rattle.std.specs.Prelude.{◌≡◌, ◌≢◌, ℕ, ◌+◌, ◌*◌, ◌/◌, ◌^◌, ◌<◌, ◌≤◌, List, [], ◌∷◌, length, slice_index, ◌==◌, if◌then◌else◌}
 use Rattle.std.specs.List.{Contains}
+use Rattle.ido_base.specs.declared.log.Log.{Log}
+use Rattle.ido_base.specs.declared.log.Log.TheVariants.{V1}
 use Rattle.ido_base.specs.Words.{Word, word_at, last_position, live_value}
 use Rattle.ido_base.specs.Locks.{locks_in, mask_with}
 use Rattle.ido_base.specs.Growth.{IsPersisted}
-use Rattle.ido_base.specs.Layout.{log_lines, word_count, word_number, point_at, slot_at}
+use Rattle.ido_base.specs.Layout.{bank_bytes, log_words, word_count, word_number, point_at, slot_at}
 use Rattle.rv64_isa.specs.Rows.{read}
 use Rattle.rv64_isa.specs.Machine.{bank_of}
 use Rattle.memory_layout.specs.Roles.{bank_offset}
+use Rattle.boundary_code.specs.Boundaries.{bank_lines, kept_locks, slots_kept}
 
 -- what a boundary writes
 pub record Record : Type 0 where
@@ -31,47 +34,72 @@ side_of r = bank_of r.point
 abbrev pub IsSideOf : Record → (side : ℕ) → Type 0
 IsSideOf r side = r.point ≢ 0 → side_of r ≡ side
 
--- the slots that it keeps: slot 0 is the mask of its locks, slot r register r
-abbrev pub slots_of : Record → List ℕ
-slots_of r = if r.point == 0 then [] else 0 ∷ r.live
+-- ---- What a bank keeps
 
-abbrev pub value_of : Record → (slot : ℕ) → ℕ
-value_of r slot = if slot == 0 then mask_with r.locks else read r.registers slot
+-- the slots that a record needs: those of its locks, and slot r for register r
+abbrev pub slots_of : Log → Record → List ℕ
+slots_of log r = if r.point == 0 then [] else slots_kept log r.locks r.live
 
--- a slot of a bank, but not that of x0, which is the mask's, nor that of the bank offset, which the point gives
-pub record IsKeepable (slot : ℕ) : Type 0 where
-  pub is_register : 0 < slot
-  pub exists : slot < 32
-  pub not_offset : slot ≢ bank_offset
+-- the value that these slots have at one of them, and this one at any other
+abbrev pub kept_in : (kept : List (ℕ × ℕ)) → (slot other : ℕ) → ℕ
+kept_in [] slot other = other
+kept_in (first ∷ kept) slot other = if slot == first.0 then first.1 else kept_in kept slot other
 
--- slot 0 can hold the locks: they are those of a mask of 64 bits
-pub record AreLoggable (locks : List ℕ) : Type 0 where
+abbrev pub value_of : Log → Record → (slot : ℕ) → ℕ
+value_of log r slot = kept_in (kept_locks log r.locks) slot (read r.registers slot)
+
+-- a slot of a bank: all words of the bank's lines are
+abbrev pub IsInBank : Log → (slot : ℕ) → Type 0
+IsInBank log slot = Contains (bank_lines log) (slot / 8)
+
+-- ---- Which records a log can hold
+
+-- the locks are those of a mask of 64 bits
+pub record AreOfMask (locks : List ℕ) : Type 0 where
   pub fits : mask_with locks < 2 ^ 64
   pub read_back : locks_in (mask_with locks) ≡ locks
 
--- values of 64 bits, in slots that a bank has
-pub record IsRecord (r : Record) : Type 0 where
+-- one of 32 registers, but not x0, in whose slot the mask is, nor that of the bank offset, which the point gives
+pub record HasOwnSlot (register : ℕ) : Type 0 where
+  pub is_register : 0 < register
+  pub exists : register < 32
+  pub not_offset : register ≢ bank_offset
+
+-- a bank can keep these locks
+abbrev pub AreLoggable : Log → (locks : List ℕ) → Type 0
+AreLoggable V1 locks = AreOfMask locks
+
+-- a bank can keep this register
+abbrev pub IsKeepable : Log → (register : ℕ) → Type 0
+IsKeepable V1 register = HasOwnSlot register
+
+-- values of 64 bits, of locks and registers that the log can hold
+pub record IsRecord (log : Log) (r : Record) : Type 0 where
   pub point : r.point < 2 ^ 64
-  pub locks : AreLoggable r.locks
-  pub live : (slot : ℕ) → Contains r.live slot → IsKeepable slot
-  pub registers : (slot : ℕ) → Contains r.live slot → read r.registers slot < 2 ^ 64
+  pub locks : AreLoggable log r.locks
+  pub live : (register : ℕ) → Contains r.live register → IsKeepable log register
+  pub registers : (register : ℕ) → Contains r.live register → read r.registers register < 2 ^ 64
 
 -- ---- Words of a log
 
 -- the numbers of its words
-abbrev pub log_word : (thread i : ℕ) → ℕ
-log_word thread i = word_number (point_at thread) + i
+abbrev pub log_word : (log : Log) (thread i : ℕ) → ℕ
+log_word log thread i = word_number (point_at log thread) + i
 
-abbrev pub bank_word : (thread bank slot : ℕ) → ℕ
-bank_word thread bank slot = word_number (slot_at thread bank slot)
+abbrev pub bank_word : (log : Log) (thread bank slot : ℕ) → ℕ
+bank_word log thread bank slot = word_number (slot_at log thread bank slot)
+
+-- how many words a slot lies after the point
+abbrev pub slot_index : Log → (bank slot : ℕ) → ℕ
+slot_index log bank slot = 8 + bank_bytes log / 8 * bank + slot
 
 -- the word of the point
-abbrev pub point_in : List Word → (thread : ℕ) → Word
-point_in words thread = word_at words (word_number (point_at thread))
+abbrev pub point_in : Log → List Word → (thread : ℕ) → Word
+point_in log words thread = word_at words (word_number (point_at log thread))
 
 -- the word of a slot of this record's bank
-abbrev pub slot_in : List Word → (thread : ℕ) → Record → (slot : ℕ) → Word
-slot_in words thread r slot = word_at words (bank_word thread (bank_of r.point) slot)
+abbrev pub slot_in : Log → List Word → (thread : ℕ) → Record → (slot : ℕ) → Word
+slot_in log words thread r slot = word_at words (bank_word log thread (bank_of r.point) slot)
 
 -- values of 64 bits, and a durable position that is there
 pub record IsWord (w : Word) : Type 0 where
@@ -79,13 +107,13 @@ pub record IsWord (w : Word) : Type 0 where
   pub values : (p : ℕ) → slice_index w.values p < 2 ^ 64
 
 -- memory has the thread's log, of such words
-pub record HasLog (thread : ℕ) (words : List Word) : Type 0 where
-  pub exists : word_count (thread + 1) ≤ length words
-  pub each : (i : ℕ) → i < 8 * log_lines → IsWord (word_at words (log_word thread i))
+pub record HasLog (log : Log) (thread : ℕ) (words : List Word) : Type 0 where
+  pub exists : word_count log (thread + 1) ≤ length words
+  pub each : (i : ℕ) → i < log_words log → IsWord (word_at words (log_word log thread i))
 
 -- no store is made to the thread's log
-abbrev pub IsUnstored : (thread : ℕ) → (old new : List Word) → Type 0
-IsUnstored thread old new = (i : ℕ) → i < 8 * log_lines → IsPersisted (word_at old (log_word thread i)) (word_at new (log_word thread i))
+abbrev pub IsUnstored : (log : Log) (thread : ℕ) → (old new : List Word) → Type 0
+IsUnstored log thread old new = (i : ℕ) → i < log_words log → IsPersisted (word_at old (log_word log thread i)) (word_at new (log_word log thread i))
 
 -- ---- What is recorded
 
@@ -95,10 +123,10 @@ pub record IsDurable (w : Word) (value : ℕ) : Type 0 where
   pub live : live_value w ≡ value
 
 -- the record's bank has its slots
-abbrev pub HasBank : (thread : ℕ) → Record → List Word → Type 0
-HasBank thread r words = (slot : ℕ) → Contains (slots_of r) slot → IsDurable (slot_in words thread r slot) (value_of r slot)
+abbrev pub HasBank : (log : Log) (thread : ℕ) → Record → List Word → Type 0
+HasBank log thread r words = (slot : ℕ) → Contains (slots_of log r) slot → IsDurable (slot_in log words thread r slot) (value_of log r slot)
 
 -- the log has this record, and no other
-pub record IsRecorded (thread : ℕ) (r : Record) (words : List Word) : Type 0 where
-  pub point : IsDurable (point_in words thread) r.point
-  pub bank : HasBank thread r words
+pub record IsRecorded (log : Log) (thread : ℕ) (r : Record) (words : List Word) : Type 0 where
+  pub point : IsDurable (point_in log words thread) r.point
+  pub bank : HasBank log thread r words

@@ -1,9 +1,10 @@
 -- What the machine's events are to a thread's log.
 use Rattle.std.specs.Prelude.{◌≡◌, ◌≢◌, ◌⊎◌, ℕ, ◌+◌, ◌*◌, ◌/◌, ◌<◌, List, ◌∷◌, slice_get, Some, Bool, true, false, ◌==◌, if◌then◌else◌}
+use Rattle.ido_base.specs.declared.log.Log.{Log}
 use Rattle.ido_base.specs.declared.event.Event.TheVariants.{Step, Evict, Crash}
 use Rattle.ido_base.specs.declared.event.Reply.TheVariants.{Moved, Drained}
 use Rattle.ido_base.specs.Words.{crashed}
-use Rattle.ido_base.specs.Layout.{variables_base, variable_lines, line_bytes, log_lines, log_of, byte_number}
+use Rattle.ido_base.specs.Layout.{variables_base, variable_lines, line_bytes, log_words, log_of, byte_number}
 use Rattle.rv64_isa.specs.declared.object.Slot.{Slot}
 use Rattle.rv64_isa.specs.Rows.{Effect, Continues, Loads, Stores, Cleans, Fences, Calls}
 use Rattle.rv64_isa.specs.Machine.{Hart, World, after_event, reply_to}
@@ -19,7 +20,8 @@ config_of w hart rest = record { words = w.words; queue = hart.queue; rest = res
 pub record MovesTo (h : ℕ) (w : World) (hart : Hart) (rest : List Effect) (after : World) (rest_after : List Effect) : Type 0 where
   pub next : Hart
   pub there : slice_get after.harts h ≡ Some next
-  pub moves : Moves h (config_of w hart rest) (config_of after next rest_after)
+  pub log : after.log ≡ w.log
+  pub moves : Moves w.log h (config_of w hart rest) (config_of after next rest_after)
 
 -- an effect such as a boundary has
 abbrev pub is_boundary_effect : Effect → Bool
@@ -39,7 +41,7 @@ pub record IsNext (program : List (List Slot)) (w : World) (h : ℕ) (hart : Har
 -- the step of hart g stores nothing to the thread's log
 abbrev pub IsElsewhere : List (List Slot) → World → (g thread : ℕ) → Type 0
 IsElsewhere program w g thread = (hart : Hart) (address bytes value : ℕ) → IsNext program w g hart (Stores address bytes value) →
-    (i : ℕ) → i < 8 * log_lines → byte_number address / 8 ≢ log_word thread i
+    (i : ℕ) → i < log_words w.log → byte_number address / 8 ≢ log_word w.log thread i
 
 -- ---- Laws
 
@@ -64,20 +66,20 @@ abbrev pub CrashesCrash : Type 0
 CrashesCrash = (program : List (List Slot)) (w : World) → (after_event program w Crash).words ≡ crashed w.words
 
 -- a store of a word of the thread's log, the clean of one of its lines, or a fence
-pub data IsLogEffect (thread : ℕ) (effect : Effect) : Type 0 where
-  StoresWord : (i value : ℕ) → i < 8 * log_lines → effect ≡ Stores (log_of thread + 8 * i) 8 value → IsLogEffect thread effect
-  CleansLine : (i : ℕ) → i < 8 * log_lines → effect ≡ Cleans (log_of thread + 8 * i) → IsLogEffect thread effect
-  PassesFence : effect ≡ Fences → IsLogEffect thread effect
+pub data IsLogEffect (log : Log) (thread : ℕ) (effect : Effect) : Type 0 where
+  StoresWord : (i value : ℕ) → i < log_words log → effect ≡ Stores (log_of log thread + 8 * i) 8 value → IsLogEffect log thread effect
+  CleansLine : (i : ℕ) → i < log_words log → effect ≡ Cleans (log_of log thread + 8 * i) → IsLogEffect log thread effect
+  PassesFence : effect ≡ Fences → IsLogEffect log thread effect
 
 -- a boundary has no other effects
 abbrev pub BoundariesStayIn : Type 0
-BoundariesStayIn = (thread : ℕ) (old new : Record) (m : LogConfig) (effect : Effect) (later : List Effect) → LogIs thread old new m →
-    m.rest ≡ effect ∷ later → IsLogEffect thread effect × (is_boundary_effect effect ≡ true)
+BoundariesStayIn = (log : Log) (thread : ℕ) (old new : Record) (m : LogConfig) (effect : Effect) (later : List Effect) → LogIs log thread old new m →
+    m.rest ≡ effect ∷ later → IsLogEffect log thread effect × (is_boundary_effect effect ≡ true)
 
 -- a hart with an effect of its log ahead is never stuck: its next instruction is completed, or an entry written back first
 abbrev pub LogEffectsGo : Type 0
 LogEffectsGo = (program : List (List Slot)) (w : World) (h : ℕ) (hart : Hart) (effect : Effect) → IsNext program w h hart effect →
-    IsLogEffect h effect → (reply_to program w (Step h) ≡ Moved) ⊎ (reply_to program w (Step h) ≡ Drained)
+    IsLogEffect w.log h effect → (reply_to program w (Step h) ≡ Moved) ⊎ (reply_to program w (Step h) ≡ Drained)
 
 -- a step elsewhere: one that stores nothing, one that stores to a variable, and a boundary of another thread
 abbrev pub StoresNothing : Type 0
@@ -90,4 +92,4 @@ StoresToVariable = (program : List (List Slot)) (w : World) (g thread : ℕ) (ha
 
 abbrev pub StoresToOtherLog : Type 0
 StoresToOtherLog = (program : List (List Slot)) (w : World) (g thread : ℕ) (hart : Hart) (effect : Effect) → g ≢ thread → IsNext program w g hart effect →
-    IsLogEffect g effect → IsElsewhere program w g thread
+    IsLogEffect w.log g effect → IsElsewhere program w g thread

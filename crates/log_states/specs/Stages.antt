@@ -1,12 +1,13 @@
 -- How far a boundary has come, seen from its log: a state machine over the effects that it has still to make.
 use Rattle.std.specs.Prelude.{◌≡◌, ◌≢◌, ℕ, ◌+◌, ◌*◌, ◌/◌, ◌<◌, ◌≤◌, List, [], ◌∷◌, ◌++◌, map, slice_index, Bool, true, false, not, ◌==◌, ◌&&◌, if◌then◌else◌}
 use Rattle.std.specs.List.{Contains, list_any}
+use Rattle.ido_base.specs.declared.log.Log.{Log}
 use Rattle.ido_base.specs.Words.{Word, Entry, last_position, live_value, stored, entry_of, drained}
 use Rattle.ido_base.specs.Growth.{AreChanged, AreEntries, PersistsThrough}
 use Rattle.ido_base.specs.Layout.{line_bytes, byte_number, word_number, point_at, slot_at}
 use Rattle.rv64_isa.specs.Rows.{Effect, Continues, Loads, Stores, Cleans, Fences, Calls}
 use Rattle.rv64_isa.specs.Machine.{bank_of}
-use Rattle.boundary_code.specs.Boundaries.{commit_effects}
+use Rattle.boundary_code.specs.Boundaries.{bank_lines, commit_effects}
 use Rattle.log_states.specs.Logs.{Record, slots_of, value_of, bank_word, point_in, slot_in, IsRecord, HasLog, IsUnstored, HasBank, IsRecorded}
 
 -- memory, what the thread's hart has queued, and what its boundary has still to do: nothing between boundaries
@@ -17,23 +18,23 @@ pub record LogConfig : Type 0 where
 
 -- ---- What can happen
 
-pub data Moves (thread : ℕ) (m n : LogConfig) : Type 0 where
+pub data Moves (log : Log) (thread : ℕ) (m n : LogConfig) : Type 0 where
   -- the boundary stores, cleans, or passes a fence, with an empty queue
   Stored : (address value : ℕ) → m.rest ≡ Stores address 8 value ∷ n.rest → n.words ≡ stored m.words (byte_number address) 8 value →
-      n.queue ≡ m.queue → Moves thread m n
+      n.queue ≡ m.queue → Moves log thread m n
   Cleaned : (address : ℕ) → m.rest ≡ Cleans address ∷ n.rest → n.words ≡ m.words →
-      n.queue ≡ m.queue ++ entry_of m.words (byte_number address / line_bytes) ∷ [] → Moves thread m n
-  Fenced : m.rest ≡ Fences ∷ n.rest → n.words ≡ m.words → m.queue ≡ [] → n.queue ≡ [] → Moves thread m n
+      n.queue ≡ m.queue ++ entry_of m.words (byte_number address / line_bytes) ∷ [] → Moves log thread m n
+  Fenced : m.rest ≡ Fences ∷ n.rest → n.words ≡ m.words → m.queue ≡ [] → n.queue ≡ [] → Moves log thread m n
   -- the oldest entry of the queue is written back
-  Drained : (entry : Entry) → n.rest ≡ m.rest → n.words ≡ drained m.words entry → m.queue ≡ entry ∷ n.queue → Moves thread m n
+  Drained : (entry : Entry) → n.rest ≡ m.rest → n.words ≡ drained m.words entry → m.queue ≡ entry ∷ n.queue → Moves log thread m n
   -- anybody else steps, a line is evicted, or the hart itself stores elsewhere or cleans more lines
-  Elsewhere : (more : List Entry) → n.rest ≡ m.rest → AreChanged m.words n.words → IsUnstored thread m.words n.words → n.queue ≡ m.queue ++ more →
-      AreEntries n.words more → Moves thread m n
+  Elsewhere : (more : List Entry) → n.rest ≡ m.rest → AreChanged m.words n.words → IsUnstored log thread m.words n.words → n.queue ≡ m.queue ++ more →
+      AreEntries n.words more → Moves log thread m n
 
 -- any number of such moves
-pub data LogSteps (thread : ℕ) (m : LogConfig) : LogConfig → Type 0 where
-  Here : LogSteps thread m m
-  Then : (by n : LogConfig) → LogSteps thread m by → Moves thread by n → LogSteps thread m n
+pub data LogSteps (log : Log) (thread : ℕ) (m : LogConfig) : LogConfig → Type 0 where
+  Here : LogSteps log thread m m
+  Then : (by n : LogConfig) → LogSteps log thread m by → Moves log thread by n → LogSteps log thread m n
 
 -- how many fences a boundary has still to pass
 abbrev pub fences_ahead : List Effect → ℕ
@@ -50,62 +51,62 @@ fences_ahead (e ∷ es) = fence_in e + fences_ahead es
 
 -- ---- Where a boundary stands
 
-abbrev pub stores_of : (thread : ℕ) → Record → (slots : List ℕ) → List Effect
-stores_of thread r slots = map (λ slot. Stores (slot_at thread (bank_of r.point) slot) 8 (value_of r slot)) slots
+abbrev pub stores_of : (log : Log) (thread : ℕ) → Record → (slots : List ℕ) → List Effect
+stores_of log thread r slots = map (λ slot. Stores (slot_at log thread (bank_of r.point) slot) 8 (value_of log r slot)) slots
 
-abbrev pub cleans_of : (thread : ℕ) → Record → (lines : List ℕ) → List Effect
-cleans_of thread r lines = map (λ line. Cleans (slot_at thread (bank_of r.point) (8 * line))) lines
+abbrev pub cleans_of : (log : Log) (thread : ℕ) → Record → (lines : List ℕ) → List Effect
+cleans_of log thread r lines = map (λ line. Cleans (slot_at log thread (bank_of r.point) (8 * line))) lines
 
 -- a slot of the new bank, where these slots have still to be stored, and these lines of the bank cleaned
-pub data IsComing (thread : ℕ) (new : Record) (slots lines : List ℕ) (m : LogConfig) (slot : ℕ) : Type 0 where
-  ToStore : Contains slots slot → IsComing thread new slots lines m slot
-  ToClean : live_value (slot_in m.words thread new slot) ≡ value_of new slot → Contains lines (slot / 8) → IsComing thread new slots lines m slot
-  Queued : live_value (slot_in m.words thread new slot) ≡ value_of new slot →
-      PersistsThrough m.words m.queue (bank_word thread (bank_of new.point) slot) (last_position (slot_in m.words thread new slot)) →
-      IsComing thread new slots lines m slot
+pub data IsComing (log : Log) (thread : ℕ) (new : Record) (slots lines : List ℕ) (m : LogConfig) (slot : ℕ) : Type 0 where
+  ToStore : Contains slots slot → IsComing log thread new slots lines m slot
+  ToClean : live_value (slot_in log m.words thread new slot) ≡ value_of log new slot → Contains lines (slot / 8) → IsComing log thread new slots lines m slot
+  Queued : live_value (slot_in log m.words thread new slot) ≡ value_of log new slot →
+      PersistsThrough m.words m.queue (bank_word log thread (bank_of new.point) slot) (last_position (slot_in log m.words thread new slot)) →
+      IsComing log thread new slots lines m slot
 
 -- the new bank is being written
-pub record IsWriting (thread : ℕ) (new : Record) (slots lines : List ℕ) (m : LogConfig) : Type 0 where
-  pub rest : m.rest ≡ stores_of thread new slots ++ cleans_of thread new lines ++ commit_effects thread new.point
-  pub own : (slot : ℕ) → Contains slots slot → Contains (slots_of new) slot
+pub record IsWriting (log : Log) (thread : ℕ) (new : Record) (slots lines : List ℕ) (m : LogConfig) : Type 0 where
+  pub rest : m.rest ≡ stores_of log thread new slots ++ cleans_of log thread new lines ++ commit_effects log thread new.point
+  pub own : (slot : ℕ) → Contains slots slot → Contains (slots_of log new) slot
   -- the clean of a slot's line comes after its store
   pub after : (slot : ℕ) → Contains slots slot → Contains lines (slot / 8)
-  pub exist : (line : ℕ) → Contains lines line → line < 4
-  pub each : (slot : ℕ) → Contains (slots_of new) slot → IsComing thread new slots lines m slot
+  pub exist : (line : ℕ) → Contains lines line → Contains (bank_lines log) line
+  pub each : (slot : ℕ) → Contains (slots_of log new) slot → IsComing log thread new slots lines m slot
 
 -- the point has been stored: after the old one, wherever that is still durable
-pub record IsPointed (thread : ℕ) (old new : Record) (words : List Word) : Type 0 where
-  pub before : (p : ℕ) → (point_in words thread).durable ≤ p → p < last_position (point_in words thread) →
-      slice_index (point_in words thread).values p ≡ old.point
-  pub last : live_value (point_in words thread) ≡ new.point
+pub record IsPointed (log : Log) (thread : ℕ) (old new : Record) (words : List Word) : Type 0 where
+  pub before : (p : ℕ) → (point_in log words thread).durable ≤ p → p < last_position (point_in log words thread) →
+      slice_index (point_in log words thread).values p ≡ old.point
+  pub last : live_value (point_in log words thread) ≡ new.point
   -- the banks of both records are there
-  pub old_bank : HasBank thread old words
-  pub new_bank : HasBank thread new words
+  pub old_bank : HasBank log thread old words
+  pub new_bank : HasBank log thread new words
 
 -- how far a boundary has come, from before its first effect to after its last
-pub data Stage (thread : ℕ) (old new : Record) (m : LogConfig) : Type 0 where
-  Writing : (slots lines : List ℕ) → IsWriting thread new slots lines m → IsRecorded thread old m.words → Stage thread old new m
+pub data Stage (log : Log) (thread : ℕ) (old new : Record) (m : LogConfig) : Type 0 where
+  Writing : (slots lines : List ℕ) → IsWriting log thread new slots lines m → IsRecorded log thread old m.words → Stage log thread old new m
   -- the first fence is passed
-  Written : m.rest ≡ Stores (point_at thread) 8 new.point ∷ Cleans (point_at thread) ∷ Fences ∷ [] → IsRecorded thread old m.words →
-      HasBank thread new m.words → Stage thread old new m
-  Pointed : m.rest ≡ Cleans (point_at thread) ∷ Fences ∷ [] → IsPointed thread old new m.words → Stage thread old new m
-  PointQueued : m.rest ≡ Fences ∷ [] → IsPointed thread old new m.words →
-      PersistsThrough m.words m.queue (word_number (point_at thread)) (last_position (point_in m.words thread)) → Stage thread old new m
+  Written : m.rest ≡ Stores (point_at log thread) 8 new.point ∷ Cleans (point_at log thread) ∷ Fences ∷ [] → IsRecorded log thread old m.words →
+      HasBank log thread new m.words → Stage log thread old new m
+  Pointed : m.rest ≡ Cleans (point_at log thread) ∷ Fences ∷ [] → IsPointed log thread old new m.words → Stage log thread old new m
+  PointQueued : m.rest ≡ Fences ∷ [] → IsPointed log thread old new m.words →
+      PersistsThrough m.words m.queue (word_number (point_at log thread)) (last_position (point_in log m.words thread)) → Stage log thread old new m
   -- the second fence is passed
-  Over : m.rest ≡ [] → IsRecorded thread new m.words → Stage thread old new m
+  Over : m.rest ≡ [] → IsRecorded log thread new m.words → Stage log thread old new m
 
 -- the one record may be written over the other: in the other bank, where both have one
-pub record MayOverwrite (old new : Record) : Type 0 where
-  pub old_is : IsRecord old
-  pub new_is : IsRecord new
+pub record MayOverwrite (log : Log) (old new : Record) : Type 0 where
+  pub old_is : IsRecord log old
+  pub new_is : IsRecord log new
   pub apart : old.point ≢ 0 → new.point ≢ 0 → bank_of old.point ≢ bank_of new.point
 
 -- a log on its way from the one record to the other
-pub record LogIs (thread : ℕ) (old new : Record) (m : LogConfig) : Type 0 where
-  pub follows : MayOverwrite old new
-  pub log : HasLog thread m.words
+pub record LogIs (how : Log) (thread : ℕ) (old new : Record) (m : LogConfig) : Type 0 where
+  pub follows : MayOverwrite how old new
+  pub log : HasLog how thread m.words
   pub queue : AreEntries m.words m.queue
-  pub stage : Stage thread old new m
+  pub stage : Stage how thread old new m
 
 -- ---- Commitment
 
@@ -118,9 +119,9 @@ is_store Fences = false
 is_store Calls = false
 
 -- the boundary has stored its point, and that is durable
-abbrev pub is_committed : (thread : ℕ) → LogConfig → Bool
-is_committed thread m = not (list_any is_store m.rest) && (point_in m.words thread).durable == last_position (point_in m.words thread)
+abbrev pub is_committed : (log : Log) (thread : ℕ) → LogConfig → Bool
+is_committed log thread m = not (list_any is_store m.rest) && (point_in log m.words thread).durable == last_position (point_in log m.words thread)
 
 -- what a crash leaves, where the boundary was on its way from the one record to the other
-abbrev pub left_by_crash : (thread : ℕ) → (old new : Record) → LogConfig → Record
-left_by_crash thread old new m = if is_committed thread m then new else old
+abbrev pub left_by_crash : (log : Log) (thread : ℕ) → (old new : Record) → LogConfig → Record
+left_by_crash log thread old new m = if is_committed log thread m then new else old

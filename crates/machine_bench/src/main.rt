@@ -5,6 +5,7 @@
 #![tactic(auto)]
 
 use ido_base::event::Event;
+use ido_base::log::Log;
 use ido_machine::machine::Machine;
 use rv64_isa::object::Object;
 use std::io;
@@ -29,6 +30,7 @@ fn main(rt: HostRuntime) -> io::Result<()> {
         code: vec![in alloc; CODE.to_vec(alloc)?]?,
         initial: vec![in alloc; 0; 8]?,
         mutexes: 1,
+        log: Log::V1,
     };
     let Ok(mut machine) = Machine::start(alloc, &object) else {
         return Ok(());

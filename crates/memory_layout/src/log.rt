@@ -2,17 +2,14 @@
 ghost use Rattle.std.specs.Prelude.{◌≡◌};
 ghost use Rattle.ido_base.specs.Layout.{log_of, point_at, slot_at};
 
+use ido_base::limits::LINE_BYTES;
+use ido_base::log::Log;
+
 /// The address of the first thread's log.
 pub const LOGS_BASE: u64 = 0x2000_0000;
 
-/// Bytes of a thread's log.
-pub const LOG_BYTES: u64 = 1024;
-
 /// How far the first bank lies after the point.
 pub const FIRST_BANK: u64 = 64;
-
-/// How far the second bank lies after the first.
-pub const BANK_BYTES: u64 = 256;
 
 /// Bytes of a slot.
 pub const SLOT_BYTES: u64 = 8;
@@ -27,22 +24,25 @@ pub const BANK_LINES: u8 = 4;
 pub const MASK_SLOT: u32 = 0;
 
 /// The address of a thread's log.
-pub fn log_of(thread: u32) -> u64
-    ensures { result ≡ log_of thread }
+pub fn log_of(log: Log, thread: u32) -> u64
+    ensures { result ≡ log_of log thread }
 {
-    LOGS_BASE + LOG_BYTES * u64::from(thread)
+    LOGS_BASE + LINE_BYTES * u64::from(log.lines()) * u64::from(thread)
 }
 
 /// The address of a thread's point, the first word of its log.
-pub fn point_at(thread: u32) -> u64
-    ensures { result ≡ point_at thread }
+pub fn point_at(log: Log, thread: u32) -> u64
+    ensures { result ≡ point_at log thread }
 {
-    log_of(thread)
+    log_of(log, thread)
 }
 
 /// The address of a slot of a bank, 0 or 1.
-pub fn slot_at(thread: u32, bank: u32, slot: u32) -> u64
-    ensures { result ≡ slot_at thread bank slot }
+pub fn slot_at(log: Log, thread: u32, bank: u32, slot: u32) -> u64
+    ensures { result ≡ slot_at log thread bank slot }
 {
-    log_of(thread) + FIRST_BANK + BANK_BYTES * u64::from(bank) + SLOT_BYTES * u64::from(slot)
+    log_of(log, thread)
+        + FIRST_BANK
+        + log.bank_bytes() * u64::from(bank)
+        + SLOT_BYTES * u64::from(slot)
 }

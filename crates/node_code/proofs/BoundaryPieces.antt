@@ -3,6 +3,7 @@ use Rattle.std.proofs.Common.{◌≡◌, ℕ, ◌+◌, ◌-◌, ◌*◌, ◌%◌
 use Rattle.std.proofs.Common.{false, ◌==◌, ◌≤◌}
 use Rattle.std.specs.Prelude.{sum_by, if◌then◌else◌, slice_set, pos, ℤ}
 use Rattle.std.specs.List.{list_any}
+use Rattle.ido_base.specs.declared.log.Log.{Log}
 use Rattle.rv64_isa.specs.Signed.{twos_complement}
 use Rattle.std.proofs.Math.Nat.{mod-eq_of_lt}
 use Rattle.std.proofs.lemmas.List.{length-set, length-append}
@@ -15,7 +16,8 @@ use Rattle.rv64_isa.specs.declared.object.CodeItem.{CodeItem}
 use Rattle.rv64_isa.specs.declared.object.CodeItem.TheVariants.{ResumeNext}
 use Rattle.rv64_isa.specs.Rows.{Effect, Stores, Cleans, row, read, written}
 use Rattle.rv64_link.specs.LabelledCode.{most_words_of, stands_here, is_mark, is_resume, positions_from}
-use Rattle.boundary_code.specs.Boundaries.{Boundary, IsOnSide, boundary_effects, bank_effects, commit_effects, lines_in_use, resume_address, is_empty}
+use Rattle.boundary_code.specs.Boundaries.{Boundary, IsOnSide, boundary_effects, bank_effects, commit_effects}
+use Rattle.boundary_code.specs.Boundaries.{lines_in_use, kept_locks, slots_kept, resume_address, is_empty}
 use Rattle.operator_code.specs.StraightLineCode.{registers_after, left_by}
 use Rattle.operator_code.proofs.Public as s
 use Rattle.code_runs.specs.CodeTraces.{GoesThrough, AreMemory}
@@ -75,38 +77,46 @@ cleans_memory : (f : ℕ → ℕ) (lines : List ℕ) → AreMemory (map (λ line
 cleans_memory f [] = tt
 cleans_memory f (line ∷ lines) = (refl, cleans_memory f lines)
 
-commit_memory : (thread point : ℕ) → AreMemory (commit_effects thread point)
-commit_memory thread point = (refl, (refl, (refl, (refl, tt))))
+locks_memory : (f : ℕ → ℕ) (kept : List (ℕ × ℕ)) → AreMemory (map (λ (k : ℕ × ℕ). Stores (f k.0) 8 k.1) kept)
+locks_memory f [] = tt
+locks_memory f (k ∷ kept) = (refl, locks_memory f kept)
+
+commit_memory : (log : Log) (thread point : ℕ) → AreMemory (commit_effects log thread point)
+commit_memory log thread point = (refl, (refl, (refl, (refl, tt))))
+
+bank_memory : (b : Boundary) (bank : ℕ) (x : List ℕ) → AreMemory (bank_effects b bank x)
+bank_memory b bank x =
+    let lines = lines_in_use b.log (slots_kept b.log b.locks b.live) in
+    let locked = map (λ (k : ℕ × ℕ). Stores (slot_at b.log b.thread bank k.0) 8 k.1) (kept_locks b.log b.locks) in
+    let stored = map (λ r. Stores (slot_at b.log b.thread bank r) 8 (read x r)) b.live in
+    let cleaned = map (λ line. Cleans (slot_at b.log b.thread bank (8 * line))) lines in
+    memory_both (locked ++ stored) cleaned
+    (memory_both locked stored (locks_memory (slot_at b.log b.thread bank) (kept_locks b.log b.locks))
+    (stores_memory (λ r. slot_at b.log b.thread bank r) (λ r. read x r) b.live))
+    (cleans_memory (λ line. slot_at b.log b.thread bank (8 * line)) lines)
 
 pub boundary_memory : (b : Boundary) (side resume : ℕ) (x : List ℕ) → AreMemory (boundary_effects b side resume x)
 boundary_memory b side resume x = by (is_empty b.locks)
   where
-    by : (m : Bool) → AreMemory (if m then commit_effects b.thread 0
-        else bank_effects b (1 - side) x ++ commit_effects b.thread ((resume + (1 - side)) % 2 ^ 64))
-    by true = commit_memory b.thread 0
-    by false = (
-      refl,
-      memory_both (map (λ r. Stores (slot_at b.thread (1 - side) r) 8 (read x r)) b.live ++ map (λ line. Cleans (slot_at b.thread (1 - side) (8 * line)))
-          (lines_in_use (0 ∷ b.live)))
-          (commit_effects b.thread ((resume + (1 - side)) % 2 ^ 64))
-          (memory_both (map (λ r. Stores (slot_at b.thread (1 - side) r) 8 (read x r)) b.live)
-          (map (λ line. Cleans (slot_at b.thread (1 - side) (8 * line))) (lines_in_use (0 ∷ b.live)))
-          (stores_memory (λ r. slot_at b.thread (1 - side) r) (λ r. read x r) b.live) (cleans_memory (λ line. slot_at b.thread (1 - side) (8 * line))
-          (lines_in_use (0 ∷ b.live))))
-          (commit_memory b.thread ((resume + (1 - side)) % 2 ^ 64)),
-    )
+    by : (m : Bool) → AreMemory (if m then commit_effects b.log b.thread 0 else bank_effects b (1 - side) x ++ commit_effects b.log b.thread
+        ((resume + (1 - side)) % 2 ^ 64))
+    by true = commit_memory b.log b.thread 0
+    by false = memory_both (bank_effects b (1 - side) x) (commit_effects b.log b.thread ((resume + (1 - side)) % 2 ^ 64)) (bank_memory b (1 - side) x)
+        (commit_memory b.log b.thread ((resume + (1 - side)) % 2 ^ 64))
 
 -- ---- Code of a boundary
 
-pub some_code : (b : Boundary) (x : List ℕ) (side : ℕ) → IsOnSide side x → IsCodeOf b [] → ⊥
+pub some_code : (b : Boundary) (x : List ℕ) (side : ℕ) → IsOnSide b.log side x → IsCodeOf b [] → ⊥
 some_code b x side a h = by (is_empty b.locks) (h.effects_are.does x 0 side a)
   where
-    by : (m : Bool) → [] ≡ (if m then commit_effects b.thread 0 else bank_effects b (1 - side) x ++ commit_effects b.thread
+    by : (m : Bool) → [] ≡ (if m then commit_effects b.log b.thread 0 else bank_effects b (1 - side) x ++ commit_effects b.log b.thread
         ((resume_address b [] 0 + (1 - side)) % 2 ^ 64)) → ⊥
     by true e = cc e
-    by false e = cc e
+    by false e =
+        let all = length-append (bank_effects b (1 - side) x) (commit_effects b.log b.thread ((resume_address b [] 0 + (1 - side)) % 2 ^ 64)) in
+        absurd (omega (arith, ap (λ (es : List Effect). length es) e, all))
 
-pub left_is : (b : Boundary) (code : List Instr) (x : List ℕ) (pc side : ℕ) → IsCodeOf b code → IsOnSide side x →
+pub left_is : (b : Boundary) (code : List Instr) (x : List ℕ) (pc side : ℕ) → IsCodeOf b code → IsOnSide b.log side x →
     LeavesRegisters b side x (registers_after code x pc)
 left_is b code x pc side h a = record {
   at_side = record {
@@ -129,7 +139,7 @@ module _ (all : List CodeItem) (n : Linking all) where
   -- a boundary's code, after the mark that waits for it
   pub boundary_leg : (k : ℕ) (b : Boundary) (code : List Instr) (p : IsPart all k (plain code)) (x : List ℕ) (side resume : ℕ) (w : Bool) →
       mark_waits false p.before ≡ w →
-      IsCodeOf b code → IsOnSide side x → resume_address b code (at k) ≡ resume →
+      IsCodeOf b code → IsOnSide b.log side x → resume_address b code (at k) ≡ resume →
       GoesThrough n.environment (fragment x (at k) (at (k + length (plain code))) (length code)) (waiting w ++ boundary_observations b side resume x)
       (LeavesRegisters b side x)
   boundary_leg k b [] p x side resume w waits h a e = absurd (some_code b x side a h)
@@ -161,7 +171,7 @@ module _ (all : List CodeItem) (n : Linking all) where
 
   pub boundary_items_leg : (k : ℕ) (b : Boundary) (code : List Instr) (p : IsPart all k (boundary_items code)) (x : List ℕ) (side : ℕ) →
       mark_waits false p.before ≡ false →
-      IsCodeOf b code → b.resume ≡ pos 0 → IsOnSide side x →
+      IsCodeOf b code → b.resume ≡ pos 0 → IsOnSide b.log side x →
       GoesThrough n.environment (fragment x (at k) (at (k + length (boundary_items code))) (length code))
       (boundary_observations b side (at (k + length (boundary_items code))) x)
       (LeavesRegisters b side x)

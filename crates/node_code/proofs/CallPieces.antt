@@ -6,6 +6,7 @@ use Rattle.std.specs.List.{list_any}
 use Rattle.std.proofs.Math.Nat.{mod-eq_of_lt}
 use Rattle.std.proofs.lemmas.List.{length-append, get_or-set_other}
 use Rattle.std.proofs.lemmas.List.Sums.{sum_by-append}
+use Rattle.ido_base.specs.declared.log.Log.{Log}
 use Rattle.rv64_isa.specs.declared.instr.Instr.{Instr}
 use Rattle.rv64_isa.specs.declared.instr.Instr.TheVariants.{OpImmediate, Ecall}
 use Rattle.rv64_isa.specs.declared.instr.ImmediateOperation.TheVariants.{Addi}
@@ -72,8 +73,8 @@ asks_for mutex number x are =
       others = λ r not_lock not_call. get_or-set_other y 17 r number 0 not_call ∙ get_or-set_other x 10 r mutex 0 not_lock;
     }
 
-registers_at : (side : ℕ) (x : List ℕ) → IsOnSide side x → AreRegisters x
-registers_at side x a = record { count = a.count; zero_is = a.zero_is }
+registers_at : (log : Log) (side : ℕ) (x : List ℕ) → IsOnSide log side x → AreRegisters x
+registers_at log side x a = record { count = a.count; zero_is = a.zero_is }
 
 module _ (all : List CodeItem) (n : Linking all) where
   abbrev at : ℕ → ℕ
@@ -295,7 +296,7 @@ module _ (b : Boundary) (mutex : ℕ) (code : List Instr) (small : mutex < 2048)
         let fits : too (k' + 1 + length (plain code)) + 12 < 2 ^ 64 = omega (arith, after_call_is, asking_ends) in
         resumed_at site.items site.linking (k' + 1) b 12 code q resume fits ∙ omega (arith, f, after_call_is, asking_ends)
 
-    marked_boundary : (x : List ℕ) (side : ℕ) → IsOnSide side x →
+    marked_boundary : (x : List ℕ) (side : ℕ) → IsOnSide b.log side x →
         GoesThrough site.linking.environment (fragment x (too k') (too k₂) (length code)) (Mark ∷ boundary_observations b side (end_of given site) x)
         (LeavesRegisters b side x)
     marked_boundary x side a =
@@ -309,7 +310,7 @@ module _ (b : Boundary) (mutex : ℕ) (code : List Instr) (small : mutex < 2048)
         (mark_waits_there site.items site.linking k' (plain code) first_part) h a resumes_after)
 
     -- a boundary has code, so no mark waits after it
-    asking_closed : (x : List ℕ) (side : ℕ) → IsOnSide side x → mark_waits false asking_part.before ≡ false
+    asking_closed : (x : List ℕ) (side : ℕ) → IsOnSide b.log side x → mark_waits false asking_part.before ≡ false
     unfolding asking_part
     asking_closed x side a =
         waits_right site.items k' (MarkNext ∷ plain code) from_asking site.is_part ∙ ap (λ (w : Bool). mark_waits w (MarkNext ∷ plain code)) site.closed ∙
@@ -319,7 +320,7 @@ module _ (b : Boundary) (mutex : ℕ) (code : List Instr) (small : mutex < 2048)
         by [] h = absurd (some_code b x side a h)
         by (i ∷ is) h = waits_plain true i is
 
-    gives_it : (x : List ℕ) (side : ℕ) → IsOnSide side x →
+    gives_it : (x : List ℕ) (side : ℕ) → IsOnSide b.log side x →
         PieceLeads site x (begin_of given site) (too (k₂ + 2)) (Mark ∷ boundary_observations b side (end_of given site) x)
         (λ y. (z : List ℕ) × LeavesRegisters b side x z × Asks gives mutex z y)
     gives_it x side a =
@@ -331,7 +332,7 @@ module _ (b : Boundary) (mutex : ℕ) (code : List Instr) (small : mutex < 2048)
         (λ z left. weaker site.linking.environment (fragment z (too k₂) (too (k₂ + 2)) 2) [] (Asks gives mutex z) P (λ y asks. (z, left, asks))
         (asking_leg site.items site.linking k₂ mutex 2 (part_left site.items k₂ (plain (asking mutex 2)) from_call asking_part) z
         (waits_left site.items k₂ (plain (asking mutex 2)) from_call asking_part ∙ asking_closed x side a) small (lit< tt)
-        (registers_at (side_after b side) z left.at_side))) in
+        (registers_at b.log (side_after b side) z left.at_side))) in
         more_room site.linking.environment x (too k') (too (k₂ + 2)) (length code + 2) (words_in given site)
         (Mark ∷ boundary_observations b side (end_of given site) x) P (omega (arith, given_words))
         (subst (λ (ss : List Observation). GoesThrough site.linking.environment (fragment x (too k') (too (k₂ + 2)) (length code + 2)) ss P)

@@ -16,7 +16,8 @@ use Rattle.rv64_isa.specs.Rows.{Effect, Continues, Loads, Stores, Cleans, Fences
 use Rattle.rv64_link.specs.LabelledCode.{is_fence, one_if, fences_of, fences_in}
 use Rattle.rv64_link.specs.LinkedCode.{AreInstructions}
 use Rattle.rv64_link.proofs.Public.{no_instructions, more_instructions, within, some_at}
-use Rattle.boundary_code.specs.Boundaries.{Boundary, IsOnSide, HasEffects, boundary_effects, bank_effects, commit_effects, lines_in_use, resume_address}
+use Rattle.boundary_code.specs.Boundaries.{Boundary, IsOnSide, HasEffects, boundary_effects, bank_effects}
+use Rattle.boundary_code.specs.Boundaries.{commit_effects, lines_in_use, kept_locks, slots_kept, resume_address}
 use Rattle.operator_code.specs.StraightLineCode.{effects, seen, left_by}
 use Rattle.operator_code.specs.declared.branches.Test.{Test}
 use Rattle.node_code.specs.Sites.{Linking, IsPart, Site, begin_of, end_of}
@@ -95,23 +96,32 @@ cleans_have_none : (lines : List ℕ) (address : ℕ → ℕ) → fences_seen (m
 cleans_have_none [] address = refl
 cleans_have_none (l ∷ ls) address = let h = cleans_have_none ls address in omega (arith, h)
 
+locks_have_none : (kept : List (ℕ × ℕ)) (address : ℕ → ℕ) → fences_seen (map (λ (k : ℕ × ℕ). Stores (address k.0) 8 k.1) kept) ≡ 0
+locks_have_none [] address = refl
+locks_have_none (k ∷ kept) address = let h = locks_have_none kept address in omega (arith, h)
+
 bank_has_none : (b : Boundary) (bank : ℕ) (x : List ℕ) → fences_seen (bank_effects b bank x) ≡ 0
 bank_has_none b bank x =
-    let stored = map (λ (r : ℕ). Stores (slot_at b.thread bank r) 8 (read x r)) b.live in
-    let cleaned = map (λ (line : ℕ). Cleans (slot_at b.thread bank (8 * line))) (lines_in_use (0 ∷ b.live)) in
-    let first : fences_seen stored ≡ 0 = stores_have_none b.live (slot_at b.thread bank) (read x) in
-    let last : fences_seen cleaned ≡ 0 = cleans_have_none (lines_in_use (0 ∷ b.live)) (λ line. slot_at b.thread bank (8 * line)) in
-    let both : fences_seen (stored ++ cleaned) ≡ fences_seen stored + fences_seen cleaned = seen_append stored cleaned in
-    omega (arith, first, last, both)
+    let at : ℕ → ℕ = slot_at b.log b.thread bank in
+    let lines : List ℕ = lines_in_use b.log (slots_kept b.log b.locks b.live) in
+    let locked = map (λ (k : ℕ × ℕ). Stores (at k.0) 8 k.1) (kept_locks b.log b.locks) in
+    let stored = map (λ (r : ℕ). Stores (at r) 8 (read x r)) b.live in
+    let cleaned = map (λ (line : ℕ). Cleans (at (8 * line))) lines in
+    let zeroth : fences_seen locked ≡ 0 = locks_have_none (kept_locks b.log b.locks) at in
+    let first : fences_seen stored ≡ 0 = stores_have_none b.live at (read x) in
+    let last : fences_seen cleaned ≡ 0 = cleans_have_none lines (λ line. at (8 * line)) in
+    let both : fences_seen (locked ++ stored) ≡ fences_seen locked + fences_seen stored = seen_append locked stored in
+    let all : fences_seen ((locked ++ stored) ++ cleaned) ≡ fences_seen (locked ++ stored) + fences_seen cleaned = seen_append (locked ++ stored) cleaned in
+    omega (arith, zeroth, first, last, both, all)
 
 two_seen : (b : Boundary) (side resume : ℕ) (x : List ℕ) → fences_seen (boundary_effects b side resume x) ≡ 2
 two_seen b side resume x = by (is_empty b.locks)
   where
-    by : (z : Bool) → fences_seen (if z then commit_effects b.thread 0
-        else bank_effects b (1 - side) x ++ commit_effects b.thread ((resume + (1 - side)) % 2 ^ 64)) ≡ 2
+    by : (z : Bool) → fences_seen (if z then commit_effects b.log b.thread 0
+        else bank_effects b (1 - side) x ++ commit_effects b.log b.thread ((resume + (1 - side)) % 2 ^ 64)) ≡ 2
     by true = refl
     by false =
-        let both = seen_append (bank_effects b (1 - side) x) (commit_effects b.thread ((resume + (1 - side)) % 2 ^ 64)) in
+        let both = seen_append (bank_effects b (1 - side) x) (commit_effects b.log b.thread ((resume + (1 - side)) % 2 ^ 64)) in
         let none = bank_has_none b (1 - side) x in
         omega (arith, both, none)
 
@@ -120,7 +130,7 @@ zeros = 0 ∷ 0 ∷ 0 ∷ 0 ∷ 0 ∷ 0 ∷ 0 ∷ 0 ∷ 0 ∷ 0 ∷ 0 ∷ 0 ∷ 
 
 pub boundary_fences : (b : Boundary) (code : List Instr) → HasEffects b code → fences_in (plain code) ≡ 2
 boundary_fences b code h =
-    sym (fences_are_seen code zeros 0) ∙ ap fences_seen (h.does zeros 0 0 fresh_on_side) ∙ two_seen b 0 (resume_address b code 0) zeros
+    sym (fences_are_seen code zeros 0) ∙ ap fences_seen (h.does zeros 0 0 (fresh_on_side b.log)) ∙ two_seen b 0 (resume_address b code 0) zeros
 
 pub boundary_items_fences : (b : Boundary) (code : List Instr) → HasEffects b code → fences_in (boundary_items code) ≡ 2
 boundary_items_fences b code h = let two = boundary_fences b code h in let sum = fences_append (plain code) (ResumeNext ∷ []) in omega (arith, two, sum)

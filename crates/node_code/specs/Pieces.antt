@@ -79,19 +79,19 @@ pub record IsStorePiece (kind : Kind) (cleans : Bool) (piece : List CodeItem) : 
 
 -- the boundary that keeps these, and resumes so many bytes after its end
 abbrev pub boundary_of : kept.Kept → (resume : ℕ) → Boundary
-boundary_of k resume = record { thread = k.thread; locks = locks_in k.mask; live = k.live.now; resume = pos resume }
+boundary_of k resume = record { log = k.log; thread = k.thread; locks = locks_in k.mask; live = k.live.now; resume = pos resume }
 
 abbrev pub boundary_observations : Boundary → (side resume : ℕ) → (x : List ℕ) → List Observation
 boundary_observations b side resume x = seen_effects (boundary_effects b side resume x)
 
 -- registers y after a boundary at which they were x: only x3 and the temporaries may differ
 pub record LeavesRegisters (b : Boundary) (side : ℕ) (x y : List ℕ) : Type 0 where
-  pub at_side : IsOnSide (side_after b side) y
+  pub at_side : IsOnSide b.log (side_after b side) y
   pub others : (r : ℕ) → is_temporary r ≡ false → r ≢ roles.bank_offset → read y r ≡ read x r
 
 -- the point gets the address of the piece's end, from where the thread may be resumed
 pub record Keeps (b : Boundary) (piece : List CodeItem) (at : Site piece) : Type 0 where
-  pub keeps : (x : List ℕ) (side : ℕ) → IsOnSide side x →
+  pub keeps : (x : List ℕ) (side : ℕ) → IsOnSide b.log side x →
       PieceLeads at x (begin_of piece at) (end_of piece at) (boundary_observations b side (end_of piece at) x) (LeavesRegisters b side x)
   pub marks : marks_in piece at ≡ []
   pub resumes : resumes_in piece at ≡ end_of piece at ∷ []
@@ -127,7 +127,7 @@ pub record Locks (b : Boundary) (mutex : ℕ) (piece : List CodeItem) (at : Site
   pub call : ℕ
   pub asks : (x : List ℕ) → AreRegisters x → PieceLeads at x (begin_of piece at) call [] (Asks takes mutex x)
   pub stands : IsInstructionAt at.linking.program.start at.linking.program.code call Ecall
-  pub keeps : (x : List ℕ) (side : ℕ) → IsOnSide side x → PieceLeads at x (call + 4) (end_of piece at) (boundary_observations b side (end_of piece at) x)
+  pub keeps : (x : List ℕ) (side : ℕ) → IsOnSide b.log side x → PieceLeads at x (call + 4) (end_of piece at) (boundary_observations b side (end_of piece at) x)
       (LeavesRegisters b side x)
   pub marks : marks_in piece at ≡ call ∷ []
   pub resumes : resumes_in piece at ≡ end_of piece at ∷ []
@@ -143,7 +143,7 @@ pub record IsLockPiece (b : Boundary) (mutex : ℕ) (piece : List CodeItem) : Ty
 -- holds a mutex
 pub record Unlocks (b : Boundary) (mutex : ℕ) (piece : List CodeItem) (at : Site piece) : Type 0 where
   pub call : ℕ
-  pub asks : (x : List ℕ) (side : ℕ) → IsOnSide side x →
+  pub asks : (x : List ℕ) (side : ℕ) → IsOnSide b.log side x →
       PieceLeads at x (begin_of piece at) call (Mark ∷ boundary_observations b side (end_of piece at) x)
       (λ y. (z : List ℕ) × LeavesRegisters b side x z × Asks gives mutex z y)
   pub stands : IsInstructionAt at.linking.program.start at.linking.program.code call Ecall

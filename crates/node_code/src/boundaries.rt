@@ -10,6 +10,7 @@ ghost use Rattle.node_code.specs.links.BoundaryCode.{IsCodeOf};
 use crate::items::push_plain;
 use crate::kept::Kept;
 use boundary_code::boundary;
+use ido_base::log::Log;
 use ido_base::memory::OutOfMemory;
 use rv64_isa::instr::Instr;
 use rv64_isa::object::CodeItem;
@@ -25,7 +26,9 @@ pub(crate) fn boundary_code(
     requires live { IsTrue (list_all is_kept kept.now.live.now) }
     ensures { IfOk result (λ code. IsCodeOf (boundary_of kept.now resume) code.items) }
 {
-    boundary(alloc, kept.thread, kept.mask, kept.live, i32::from(resume))
+    match kept.log {
+        Log::V1 => boundary(alloc, kept.thread, kept.mask, kept.live, i32::from(resume)),
+    }
 }
 
 /// Appends a boundary's code, after which recovery may resume.

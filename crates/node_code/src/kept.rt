@@ -1,9 +1,12 @@
 //! What a boundary keeps.
+use ido_base::log::Log;
 use rv64_isa::field::Register;
 
 /// What a boundary keeps of a thread, so that it may be resumed after it.
 #[derive(Clone, Copy)]
 pub struct Kept<'a> {
+    /// How the thread logs.
+    pub log: Log,
     /// The number of the thread, below 8.
     pub thread: u32,
     /// The mutexes that are held after the boundary, bit i for mutex i. 0 ends a section.

@@ -1,5 +1,6 @@
 //! Bytes read as an object.
 ghost use Rattle.std.specs.Prelude.{◌≡◌, ◌≤◌, ℕ, List, length, map, IfOk, Ok};
+ghost use Rattle.ido_base.specs.declared.log.Log.TheVariants.{V1};
 ghost use Rattle.ido_base.specs.declared.limits.TheConstants.{MOST_INPUT_BYTES};
 ghost use Rattle.file_fields.specs.Fields.{repeated};
 ghost use Rattle.file_fields.specs.links.ReaderResults.{Gives};
@@ -13,6 +14,7 @@ use crate::limits::LEAST_WORDS;
 use file_fields::error::ReadError;
 use file_fields::reading::{Reader, magic_at, number_within, place_of, repeated, version_at};
 use ido_base::limits::{MOST_CODE_WORDS, MOST_MUTEXES, MOST_THREADS};
+use ido_base::log::Log;
 use ido_base::memory::OutOfMemory;
 use rv64_isa::object::Object;
 use std::alloc::Global;
@@ -133,7 +135,8 @@ fn copy(alloc: Global, bytes: &[u8]) -> Result<Vec<u8>, OutOfMemory>
 #[tactic(auto, unfolding(crate::specs::ObjectDecoder::read))]
 fn read(alloc: Global, bytes: &[u8]) -> Result<Object, ReadError>
     requires { length bytes.now ≤ MOST_INPUT_BYTES }
-    ensures { Gives contents_of result (read bytes.now) }
+    ensures exact { Gives contents_of result (read bytes.now) }
+    ensures log { IfOk result (λ object. object.log ≡ V1) }
 {
     let total = bytes.len() as u32;
     let (head, rest) = head_at(total, bytes)?;
@@ -145,6 +148,7 @@ fn read(alloc: Global, bytes: &[u8]) -> Result<Object, ReadError>
         code,
         initial: copy(alloc, head.initial)?,
         mutexes: head.mutexes,
+        log: Log::V1,
     })
 }
 
@@ -162,6 +166,7 @@ pub fn read_object(alloc: Global, bytes: &[u8]) -> Result<Object, ReadError>
     ensures only { (o : Contents) → IsWithinLimits o → bytes.now ≡ spelling o → Gives contents_of result (Ok o) }
     // Which fault it is: the first in the order of the bytes.
     ensures exact { Gives contents_of result (read bytes.now) }
+    ensures log { IfOk result (λ object. object.log ≡ V1) }
 {
     read(alloc, bytes)
 }

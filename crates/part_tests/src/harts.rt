@@ -6,6 +6,7 @@ use hart_core::hart::Hart;
 use hart_core::program::Program;
 use hart_core::step::step;
 use ido_base::event::{Cause, Reply};
+use ido_base::log::Log;
 use ido_base::memory::OutOfMemory;
 use line_memory::memory::LineMemory;
 use lock_table::LockTable;
@@ -26,6 +27,7 @@ fn program_of(alloc: Global, words: &[u32]) -> Result<Program, OutOfMemory>
         code,
         initial: Vec::new(alloc),
         mutexes: 2,
+        log: Log::V1,
     };
     Program::of(alloc, &object)
 }
@@ -307,7 +309,7 @@ const BYTES: [u8; 8] = [0x80, 0x81, 0x82, 0x83, 0x84, 0x85, 0x86, 0x87];
 fn single_steps(rt: HostRuntime) -> Result<(), Fail> {
     for (word, x5, x6, reply, x7, pc) in ROWS {
         let program = program_of(rt.alloc(), &[word])?;
-        let mut memory = LineMemory::new(rt.alloc(), &BYTES, 1)?;
+        let mut memory = LineMemory::new(rt.alloc(), &BYTES, Log::V1, 1)?;
         let mut locks = LockTable::new(rt.alloc(), 2)?;
         let _ = (locks.try_take(0, 0), locks.try_take(1, 1));
         let mut phase = Phase::Run;
@@ -341,7 +343,7 @@ fn no_code(rt: HostRuntime) -> Result<(), Fail> {
     for (pc, cause) in PLACES {
         // addi x7, x5, -1
         let program = program_of(rt.alloc(), &[0xfff2_8393])?;
-        let mut memory = LineMemory::new(rt.alloc(), &BYTES, 1)?;
+        let mut memory = LineMemory::new(rt.alloc(), &BYTES, Log::V1, 1)?;
         let mut locks = LockTable::new(rt.alloc(), 0)?;
         let mut phase = Phase::Run;
         let mut hart = Hart::new(pc);

@@ -2,6 +2,7 @@
 ghost use Rattle.std.specs.Prelude.{◌≡◌, ◌+◌, ◌<◌, ◌≤◌, ℕ, [], length, IfOk};
 
 use ido_base::event::{Event, Reply};
+use ido_base::log::Log;
 use ido_base::machine::Core;
 use ido_base::memory::OutOfMemory;
 use run_tracker::life::Life;
@@ -34,6 +35,7 @@ fn life_of(alloc: Global) -> Result<Life, OutOfMemory>
         code,
         initial: Vec::new(alloc),
         mutexes: 0,
+        log: Log::V1,
     };
     Life::new(alloc, &object, &Marks { threads }, 8)
 }
@@ -103,6 +105,7 @@ fn straight_life(alloc: Global) -> Result<Life, OutOfMemory>
         code,
         initial: Vec::new(alloc),
         mutexes: 0,
+        log: Log::V1,
     };
     Life::new(alloc, &object, &Marks { threads }, 8)
 }

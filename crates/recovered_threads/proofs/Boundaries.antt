@@ -59,7 +59,7 @@ module _ (p : Plan) (plan : IsPlan p) (t : Thread) (is : IsThread p t) where
 pub boundaries_recover : BoundariesRecover
 boundaries_recover p code s side resume x plan orderly b = record {
   locks = are_loggable p s plan orderly code.thread code.of b.graph_thread b.there b.own;
-  live = λ register has. kept_are_keepable register
+  live = λ register has. kept_are_keepable p.log register
       (kept_is p plan code.thread code.of b.graph_thread.at register ((code.is.kept b.graph_thread.at b.own register).0 has));
   registers = λ register has. b.registers register;
   aligned = b.aligned;

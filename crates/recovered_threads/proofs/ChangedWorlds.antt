@@ -48,7 +48,7 @@ log_stays w holders g old new h r here queue s = elim (same_or_other h g) [
       record {
         hart = new;
         here = ap (slice_get (set w.harts g new)) same ∙ get-set_same w.harts g new old here;
-        log = subst (λ (q : List Entry). LogIs h nothing_recorded r (record { words = w.words; queue = q; rest = [] })) queues s.log;
+        log = subst (λ (q : List Entry). LogIs w.log h nothing_recorded r (record { words = w.words; queue = q; rest = [] })) queues s.log;
       }
   | inr other ↦ record { hart = s.hart; here = get-set_other w.harts g h new other ∙ s.here; log = s.log }
 ]

@@ -68,7 +68,7 @@ module _ (w : World) (h : ℕ) (hart : Hart) (here : slice_get w.harts h ≡ Som
 
   accesses : (address bytes : ℕ) (o : Outcome) → HasGoneOn h o.0 → HasGoneOn h (access w address bytes o).0
   accesses address bytes o k =
-      cond_both (in_range (length w.harts) address bytes) _ _ (λ (x : Outcome). HasGoneOn h x.0)
+      cond_both (in_range w.log (length w.harts) address bytes) _ _ (λ (x : Outcome). HasGoneOn h x.0)
       (λ _. cond_both (aligned address bytes) _ _ (λ (x : Outcome). HasGoneOn h x.0) (λ _. k) (λ _. stays))
       (λ _. stays)
 

@@ -91,14 +91,14 @@ point_holds p code kept r (between none point) = (λ e. none, λ e. point)
 point_holds p code kept r (inside some i) = (λ e. absurd (i.point e), λ e. absurd (true≢false (sym e ∙ some)))
 
 pub points_settle : PointsSettle
-points_settle p codes kept records words orderly describe points = (free, settled)
+points_settle log p codes kept records words orderly describe points = (free, settled)
   where
     of : (n : ℕ) (below : n < length p.graph.threads) → ((records n).point ≡ 0) ↔ (holds_none kept.holders n ≡ true)
     of n below =
         subst (λ (k : ℕ). ((records n).point ≡ 0) ↔ (holds_none kept.holders k ≡ true)) (codes.number n below)
         (point_holds p (codes.each n below) kept (records n) (describe n below))
 
-    free : ((n : ℕ) → n < length p.graph.threads → durable_point words n ≡ 0) → (lock : ℕ) (holder : Option ℕ) → slice_get kept.holders lock ≡ Some holder →
+    free : ((n : ℕ) → n < length p.graph.threads → durable_point log words n ≡ 0) → (lock : ℕ) (holder : Option ℕ) → slice_get kept.holders lock ≡ Some holder →
         holder ≡ None
     free zeros lock None there = refl
     free zeros lock (Some n) there =
@@ -106,6 +106,6 @@ points_settle p codes kept records words orderly describe points = (free, settle
         absurd (holds_none_is n kept.holders lock ((of n below).0 (sym (points n below) ∙ zeros n below)) there)
 
     settled : ((lock : ℕ) (holder : Option ℕ) → slice_get kept.holders lock ≡ Some holder → holder ≡ None) → (n : ℕ) → n < length p.graph.threads →
-        durable_point words n ≡ 0
+        durable_point log words n ≡ 0
     settled none n below =
         points n below ∙ (of n below).1 (none_if 0 n kept.holders (λ lock there. none-some n (sym (none lock (Some n) there))))

@@ -21,9 +21,9 @@ use Rattle.recovered_threads.specs.Laws.{AreRecordsApart, TakesNeverWait, WaitsF
 use Rattle.recovered_threads.proofs.ChangedWorlds.{same_there, same_or_other, changed, each_hart, count_changed, log_stays, leads}
 
 -- the locks that recovery reads are the record's
-pub record_locks : (w : World) (h : ℕ) (r : Record) → HasRecord w h r → record_of w.words h ≡ locks_of r
+pub record_locks : (w : World) (h : ℕ) (r : Record) → HasRecord w h r → record_of w.log w.words h ≡ locks_of r
 record_locks w h r s =
-    (log_facts.registers_resumed.between h r w.words s.log.follows.new_is (ends h nothing_recorded r (config_of w s.hart []) s.log refl)).locks
+    (log_facts.registers_resumed.between w.log h r w.words s.log.follows.new_is (ends w.log h nothing_recorded r (config_of w s.hart []) s.log refl)).locks
 
 -- what a hart gathers, where it goes on to hold what it held
 pub gathers_on : (w v : World) (h : ℕ) (r : Record) (phase : Phase) → (HoldsAll w h r → HoldsAll v h r) → Gathers w h r phase → Gathers v h r phase
@@ -61,10 +61,10 @@ module _ (program : List (List Slot)) (w : World) (records : ℕ → Record) (h 
   inside : h < length w.harts
   inside = slice_get_within w.harts h i.hart i.here
 
-  own : (lock : ℕ) → has_lock (record_of w.words h) lock ≡ true → has_lock (locks_of (records h)) lock ≡ true
+  own : (lock : ℕ) → has_lock (record_of w.log w.words h) lock ≡ true → has_lock (locks_of (records h)) lock ≡ true
   own lock has = ap (λ (locks : List ℕ). has_lock locks lock) (sym (record_locks w h (records h) (gathering.logs h inside))) ∙ has
 
-  recorded : (lock : ℕ) → has_lock (locks_of (records h)) lock ≡ true → has_lock (record_of w.words h) lock ≡ true
+  recorded : (lock : ℕ) → has_lock (locks_of (records h)) lock ≡ true → has_lock (record_of w.log w.words h) lock ≡ true
   recorded lock has = ap (λ (locks : List ℕ). has_lock locks lock) (record_locks w h (records h) (gathering.logs h inside)) ∙ has
 
   some : (records h).point ≢ 0

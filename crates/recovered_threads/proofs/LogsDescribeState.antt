@@ -25,12 +25,13 @@ use Rattle.recovered_threads.proofs.OrderlyStates.{starts_told}
 
 -- what a crash would leave
 left : (p : Plan) (code : Code p) (kept : FlowState) (w : World) → LogDescribes p code kept w → Record
-left p code kept w t = left_by_crash code.thread.number t.old t.new (config_of w t.log.hart t.rest)
+left p code kept w t = left_by_crash w.log code.thread.number t.old t.new (config_of w t.log.hart t.rest)
 
 -- a log that has a record would keep it
-left_is : (thread : ℕ) (r : Record) (w : World) (s : HasRecord w thread r) → left_by_crash thread nothing_recorded r (config_of w s.hart []) ≡ r
+left_is : (thread : ℕ) (r : Record) (w : World) (s : HasRecord w thread r) → left_by_crash w.log thread nothing_recorded r (config_of w s.hart []) ≡ r
 left_is thread r w s =
-    cond-true (is_committed thread (config_of w s.hart [])) r nothing_recorded (ends_committed thread nothing_recorded r (config_of w s.hart []) s.log refl)
+    cond-true (is_committed w.log thread (config_of w s.hart [])) r nothing_recorded
+    (ends_committed w.log thread nothing_recorded r (config_of w s.hart []) s.log refl)
 
 -- a log with a record that describes the kept state
 describes_by : (p : Plan) (code : Code p) (kept : FlowState) (w : World) (r : Record) → HasRecord w code.thread.number r → Describes p code kept r →
@@ -44,11 +45,11 @@ describes_by p code kept w r s describes = record {
 }
 
 pub starts_describe : StartsDescribe
-starts_describe program locks initial p codes count n below =
+starts_describe log program locks initial p codes count n below =
     let code = codes.each n below in
     let inside : code.thread.number < length program = omega (arith, below, count, codes.number n below) in
-    describes_by p code (graph_start p.graph p.flat) (start_of program locks initial) nothing_recorded
-    (starts_standing program locks code.thread.number initial inside) (starts_told p codes n below)
+    describes_by p code (graph_start p.graph p.flat) (start_of log program locks initial) nothing_recorded
+    (starts_standing log program locks code.thread.number initial inside) (starts_told p codes n below)
 
 pub durable_locks_are_held : DurableLocksAreHeld
 unfolding left
@@ -63,9 +64,9 @@ durable_locks_are_apart p codes kept w plan orderly describe g h lock gb hb eg e
     let other = held h hb eh in
     same_Some g h (same_Some (Some g) (Some h) (sym one ∙ other))
   where
-    held : (n : ℕ) (below : n < length p.graph.threads) → has_lock (record_of w.words n) lock ≡ true → slice_get kept.holders lock ≡ Some (Some n)
+    held : (n : ℕ) (below : n < length p.graph.threads) → has_lock (record_of w.log w.words n) lock ≡ true → slice_get kept.holders lock ≡ Some (Some n)
     held n below has =
-        (subst (λ (k : ℕ). (has_lock (record_of w.words k) lock ≡ true) ↔ (slice_get kept.holders lock ≡ Some (Some k))) (codes.number n below)
+        (subst (λ (k : ℕ). (has_lock (record_of w.log w.words k) lock ≡ true) ↔ (slice_get kept.holders lock ≡ Some (Some k))) (codes.number n below)
         (durable_locks_are_held p (codes.each n below) kept w plan orderly (describe n below) lock)).0 has
 
 -- ---- Records by their numbers
@@ -92,13 +93,13 @@ module _ (p : Plan) (codes : Codes p) (kept : FlowState) (w : World) (describe :
   unfolding left
   records_describe n below = subst (λ (r : Record). Describes p (codes.each n below) kept r) (sym (record_is n below)) (describe n below).describes
 
-  points : (n : ℕ) (below : n < length p.graph.threads) → durable_point w.words n ≡ (records n).point
+  points : (n : ℕ) (below : n < length p.graph.threads) → durable_point w.log w.words n ≡ (records n).point
   unfolding left
   points n below =
       let t = describe n below in
       let k = (codes.each n below).thread.number in
-      subst (λ (m : ℕ). durable_point w.words m ≡ (left p (codes.each n below) kept w t).point) (codes.number n below)
-      (log_facts.record_follows_locks.point k t.old t.new (config_of w t.log.hart t.rest) t.log.log)
+      subst (λ (m : ℕ). durable_point w.log w.words m ≡ (left p (codes.each n below) kept w t).point) (codes.number n below)
+      (log_facts.record_follows_locks.point w.log k t.old t.new (config_of w t.log.hart t.rest) t.log.log)
       ∙ ap (λ (r : Record). r.point) (sym (record_is n below))
 
   -- the logs, by the numbers of harts
@@ -118,7 +119,8 @@ module _ (p : Plan) (codes : Codes p) (kept : FlowState) (w : World) (describe :
 
 pub durable_points_settle : DurablePointsSettle
 durable_points_settle p codes kept w orderly describe =
-    points_settle p codes kept (records p codes kept w describe) w.words orderly (records_describe p codes kept w describe) (points p codes kept w describe)
+    points_settle w.log p codes kept (records p codes kept w describe) w.words orderly (records_describe p codes kept w describe)
+    (points p codes kept w describe)
 
 pub crashes_recover : CrashesRecover
 crashes_recover program p codes kept w count threads describe = record {

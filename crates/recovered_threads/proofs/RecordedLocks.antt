@@ -20,6 +20,7 @@ use Rattle.flow_graph.proofs.Public.{found_in, lowered_threads}
 use Rattle.boundary_code.specs.Boundaries.{is_empty}
 use Rattle.boundary_code.proofs.Public.{none_there}
 use Rattle.log_states.specs.Logs.{Record, AreLoggable}
+use Rattle.log_states.proofs.Public.{scheme}
 use Rattle.thread_code.specs.Plans.{Plan, Thread, IsThread, IsNodeOf, IsPlan, locks_held, locks_held_from, set_before, locks_before}
 use Rattle.thread_code.proofs.Public.{has_held, held_fits, held_read_back}
 use Rattle.recovered_threads.specs.RecordDescriptions.{Code, IsOrderly, Describes, between, inside, locks_of}
@@ -107,9 +108,9 @@ module _ (p : Plan) (kept : FlowState) (plan : IsPlan p) (orderly : IsOrderly p 
   few_held = omega (arith, length-map kept.holders (λ o. is_held_by t.number o), orderly.locks, plan.formed.shared.mutexes)
 
   -- a log can hold the locks before the node
-  pub are_loggable : AreLoggable (locks_before p t graph_thread.at)
-  are_loggable = subst AreLoggable (sym locks_is)
-      (record { fits = held_fits (held_by t.number kept.holders) few_held; read_back = held_read_back (held_by t.number kept.holders) few_held })
+  pub are_loggable : AreLoggable p.log (locks_before p t graph_thread.at)
+  are_loggable = subst (AreLoggable p.log) (sym locks_is) ((scheme p.log).keeps.masks (locks_held (held_by t.number kept.holders))
+      (record { fits = held_fits (held_by t.number kept.holders) few_held; read_back = held_read_back (held_by t.number kept.holders) few_held }))
 
 -- ---- Records
 

@@ -39,7 +39,7 @@ gathers_first v h (suc point) r same = by (suc point == 0) none
     by false e = λ zero_is. let z : suc point ≡ 0 = same ∙ zero_is in omega (arith, z)
 
 module _ (program : List (List Slot)) (w : World) (records : ℕ → Record) (count : length program ≡ length w.harts)
-    (points : (h : ℕ) → h < length w.harts → durable_point w.words h ≡ (records h).point)
+    (points : (h : ℕ) → h < length w.harts → durable_point w.log w.words h ≡ (records h).point)
     (logs : (h : ℕ) → h < length w.harts → HasRecord (after_event program w Crash) h (records h)) where
   abbrev after : World
   after = after_event program w Crash
@@ -53,10 +53,10 @@ module _ (program : List (List Slot)) (w : World) (records : ℕ → Record) (co
   each_gathers : (h : ℕ) (hart : Hart) → slice_get after.harts h ≡ Some hart → Gathers after h (records h) hart.phase
   each_gathers h hart there =
       let inside = slice_get_within after.harts h hart there in
-      let is : fresh_hart program (phase_after_crash (durable_point w.words h)) h ≡ hart =
+      let is : fresh_hart program (phase_after_crash (durable_point w.log w.words h)) h ≡ hart =
       same_there (slice_get after.harts h) _ hart (crashed.harts h (omega (arith, inside, count_after program w))) there in
       subst (λ (x : Hart). Gathers after h (records h) x.phase) is
-      (gathers_first after h (durable_point w.words h) (records h) (points h (before h inside)))
+      (gathers_first after h (durable_point w.log w.words h) (records h) (points h (before h inside)))
 
   free : (lock h : ℕ) → slice_get after.holders lock ≡ Some (Some h) → ⊥
   free lock h there = none-some h (sym (crashed.free lock (Some h) there))
@@ -67,7 +67,7 @@ module _ (program : List (List Slot)) (w : World) (records : ℕ → Record) (co
 
 pub crashes_gather : CrashesGather
 crashes_gather program w old new records rest count logs left = gathers program w records count
-    (λ h below. log_facts.record_follows_locks.point h (old h) (new h) (config_of w (logs h below).hart (rest h)) (logs h below).log
+    (λ h below. log_facts.record_follows_locks.point w.log h (old h) (new h) (config_of w (logs h below).hart (rest h)) (logs h below).log
     ∙ ap (λ (r : Record). r.point) (sym (left h below)))
     (λ h below. subst (λ (r : Record). HasRecord (after_event program w Crash) h r) (sym (left h below))
     (crashes_standing program h (old h) (new h) w (rest h) count (logs h below)))
@@ -75,10 +75,10 @@ crashes_gather program w old new records rest count logs left = gathers program 
 pub crashes_again : CrashesAgain
 crashes_again program w records count gathering =
     crashes_gather program w (λ h. nothing_recorded) records records (λ h. []) count gathering.logs
-    (λ h below. sym (cond-true (is_committed h (config_of w (gathering.logs h below).hart [])) (records h) nothing_recorded
-    (ends_committed h nothing_recorded (records h) (config_of w (gathering.logs h below).hart []) (gathering.logs h below).log refl)))
+    (λ h below. sym (cond-true (is_committed w.log h (config_of w (gathering.logs h below).hart [])) (records h) nothing_recorded
+    (ends_committed w.log h nothing_recorded (records h) (config_of w (gathering.logs h below).hart []) (gathering.logs h below).log refl)))
 
 -- ---- What the durable log has
 
 pub logs_have_locks : LogsHaveLocks
-logs_have_locks thread old new w rest s = log_facts.record_follows_locks.locks thread old new (config_of w s.hart rest) s.log
+logs_have_locks thread old new w rest s = log_facts.record_follows_locks.locks w.log thread old new (config_of w s.hart rest) s.log

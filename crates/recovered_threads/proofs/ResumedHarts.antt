@@ -1,16 +1,17 @@
 -- A hart that is resumed goes on where its record says.
 use Rattle.std.proofs.Common.{◌≡◌, ℕ, ◌+◌, ◌*◌, ◌<◌, List, [], refl, ap, arith, sym, ◌∙◌, subst}
 use Rattle.std.specs.List.{Contains}
+use Rattle.ido_base.specs.declared.log.Log.{Log}
 use Rattle.rv64_isa.specs.declared.object.Slot.{Slot}
 use Rattle.rv64_isa.specs.declared.phase.Phase.TheVariants.{Resume}
 use Rattle.rv64_isa.specs.Rows.{read}
-use Rattle.rv64_isa.specs.Machine.{World, resume_of, resumed_register}
+use Rattle.rv64_isa.specs.Machine.{World, resume_of, resumed_registers}
 use Rattle.boundary_code.specs.Boundaries.{IsOnSide}
 use Rattle.boundary_code.proofs.Public.{stays_on_side}
 use Rattle.log_states.specs.Logs.{Record, nothing_recorded, side_of, IsRecord}
 use Rattle.log_states.specs.Machines.{config_of}
 use Rattle.log_states.specs.Laws as log
-use Rattle.log_states.proofs.Public.{ends, log_facts, mapped}
+use Rattle.log_states.proofs.Public.{ends, log_facts}
 use Rattle.hart_runs.specs.Calls as runs
 use Rattle.hart_runs.proofs.Public.{moved_harts_begin, resumes_step}
 use Rattle.flow_graph.specs.Actions.{FlowState, seen_by}
@@ -28,30 +29,30 @@ resumed_there p code node address own (at_chosen chosen) = c.at_chosen node own 
 resumed_there p code node address own (past_lock from mutex is from_own at locks) = c.past_lock from mutex node is from_own at locks
 resumed_there p code node address own (past_unlock from mutex is from_own at unlocks holds) = c.past_unlock from mutex node is from_own at unlocks holds
 
-module _ (program : List (List Slot)) (p : Plan) (code : Code p) (kept : FlowState) (w : World) (r : Record) (told : IsInside p code kept r)
+module _ (program : List (List Slot)) (p : Plan) (code : Code p) (kept : FlowState) (w : World) (r : Record) (logs : p.log ≡ w.log)
+    (told : IsInside p code kept r)
     (ready : IsRecoveredHart w code.thread.number r) (i : runs.IsInPhase w code.thread.number Resume) where
   abbrev h : ℕ
   h = code.thread.number
 
-  is_record : IsRecord r
+  is_record : IsRecord w.log r
   is_record = ready.log.log.follows.new_is
 
-  recovered : log.ResumesRecord h r w.words
-  recovered = log_facts.registers_resumed.between h r w.words is_record (ends h nothing_recorded r (config_of w ready.log.hart []) ready.log.log refl)
+  recovered : log.ResumesRecord w.log h r w.words
+  recovered =
+      log_facts.registers_resumed.between w.log h r w.words is_record (ends w.log h nothing_recorded r (config_of w ready.log.hart []) ready.log.log refl)
 
   step : runs.ResumesHart program w h i.hart
   step = resumes_step program w h i
 
   -- each register is the one that the record says
-  read_at : (register : ℕ) → register < 32 → read step.after.registers register ≡ read (log.resumed_registers w.words h) register
-  read_at register below =
-      let e : 0 + register ≡ register = omega arith in
-      step.registers register below ∙ sym (mapped (resumed_register w.words h) 0 32 register below ∙ ap (resumed_register w.words h) e)
+  read_at : (register : ℕ) → read step.after.registers register ≡ read (resumed_registers w.log w.words h) register
+  read_at register = ap (λ (x : List ℕ). read x register) step.registers
 
-  at_side : IsOnSide (side_of r) step.after.registers
+  at_side : IsOnSide w.log (side_of r) step.after.registers
   at_side =
       let on = recovered.side.registers in
-      stays_on_side (side_of r) _ step.after.registers on step.count (read_at 0 (omega arith) ∙ on.zero_is) (read_at _ (omega arith))
+      stays_on_side w.log (side_of r) _ step.after.registers on step.count (read_at 0 ∙ on.zero_is) (read_at _)
 
   pc_is : step.after.pc ≡ resume_of r.point
   pc_is = step.pc ∙ ap resume_of recovered.point
@@ -60,7 +61,7 @@ module _ (program : List (List Slot)) (p : Plan) (code : Code p) (kept : FlowSta
   same : (register : ℕ) → Contains (code.is.places.live told.graph_thread.at) register → read step.after.registers register ≡ read r.registers register
   same register live =
       let mine : Contains r.live register = subst (λ (rs : List ℕ). Contains rs register) (sym told.live) live in
-      read_at register (is_record.live register mine).exists ∙ recovered.registers ready.inside register mine
+      read_at register ∙ recovered.registers ready.inside register mine
 
   goes_on : ResumesThread program code kept w i.hart r
   goes_on = record {
@@ -72,12 +73,13 @@ module _ (program : List (List Slot)) (p : Plan) (code : Code p) (kept : FlowSta
     listed = (code.is.resumes step.after.pc).1 (subst (λ (a : ℕ). c.IsResumeAddress p code.thread code.is.places a) (sym pc_is)
         (resumed_there p code told.graph_thread.at (resume_of r.point) told.own told.resumes));
     enters = enters_again p code.thread told.graph_thread.at (seen_by kept told.graph_thread) told.side (side_of r) r.registers step.after.registers
-        (code.is.places.live told.graph_thread.at) (code.is.kept told.graph_thread.at told.own) told.enters at_side same;
+        (code.is.places.live told.graph_thread.at) (code.is.kept told.graph_thread.at told.own) told.enters
+        (subst (λ (l : Log). IsOnSide l (side_of r) step.after.registers) (sym logs) at_side) same;
     at_record = record { registers = at_side; is = recovered.side.is };
     queue = step.queue;
     begins = moved_harts_begin program w w h i.hart step.after i.here step.does step.runs;
   }
 
 pub harts_go_on : HartsGoOn
-harts_go_on program p code kept w r (between none point) ready i = absurd (ready.inside point)
-harts_go_on program p code kept w r (inside some told) ready i = goes_on program p code kept w r told ready i
+harts_go_on program p code kept w r logs (between none point) ready i = absurd (ready.inside point)
+harts_go_on program p code kept w r logs (inside some told) ready i = goes_on program p code kept w r logs told ready i

@@ -2,6 +2,8 @@
 use Rattle.std.proofs.Common.{◌≡◌, ℕ, zero, suc, List, [], ◌∷◌, length, refl, arith, sym, cond, Bool, true, false, Option, Some, None}
 use Rattle.std.proofs.lemmas.Bool.{true≢false}
 use Rattle.std.proofs.lemmas.Option.{none-some, same_Some}
+use Rattle.ido_base.specs.declared.log.Log.TheVariants.{V1}
+use Rattle.ido_base.specs.declared.log.Log.{Log}
 use Rattle.ido_base.specs.declared.event.Event.TheVariants.{Crash}
 use Rattle.source_machine.specs.Mutexes.{held_by}
 use Rattle.rv64_isa.specs.declared.object.Slot.{Slot}
@@ -42,7 +44,7 @@ holds_two : locks_held (held_by 3 (Some 3 ∷ Some 1 ∷ Some 3 ∷ None ∷ [])
 holds_two = refl
 
 abbrev with_holders : List (Option ℕ) → World
-with_holders holders = record { words = []; harts = []; holders = holders; recovering = true }
+with_holders holders = record { log = V1; words = []; harts = []; holders = holders; recovering = true }
 
 -- hart 0 holds both locks, and another hart the one between them
 has_both : HoldsAll (with_holders (Some 0 ∷ Some 1 ∷ Some 0 ∷ [])) 0 two_locks
@@ -77,11 +79,12 @@ same_both true x = refl
 same_both false x = refl
 
 -- a crash right at the start leaves harts that are done
-crash_at_start : (program : List (List Slot)) (locks : ℕ) (initial : List ℕ) →
-    AreGathering (after_event program (start_of program locks initial) Crash) (λ n. nothing_recorded)
-crash_at_start program locks initial =
-    let w : World = start_of program locks initial in
-    let count : length w.harts ≡ length program = (starts_simulate program locks initial).1 in
+crash_at_start : (log : Log) (program : List (List Slot)) (locks : ℕ) (initial : List ℕ) →
+    AreGathering (after_event program (start_of log program locks initial) Crash) (λ n. nothing_recorded)
+crash_at_start log program locks initial =
+    let w : World = start_of log program locks initial in
+    let count : length w.harts ≡ length program = (starts_simulate log program locks initial).1 in
     crashes_gather program w (λ n. nothing_recorded) (λ n. nothing_recorded) (λ n. nothing_recorded) (λ n. []) (sym count)
-    (λ h below. starts_standing program locks h initial (omega (arith, below, count)))
-    (λ h below. same_both (is_committed h (config_of w (starts_standing program locks h initial (omega (arith, below, count))).hart [])) nothing_recorded)
+    (λ h below. starts_standing log program locks h initial (omega (arith, below, count)))
+    (λ h below. same_both (is_committed w.log h (config_of w (starts_standing log program locks h initial (omega (arith, below, count))).hart []))
+    nothing_recorded)

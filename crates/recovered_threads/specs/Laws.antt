@@ -1,5 +1,6 @@
 -- What follows from what the records of threads say of the kept state.
 use Rattle.std.specs.Prelude.{◌≡◌, ◌≢◌, ◌⊎◌, ◌↔◌, ℕ, ◌%◌, ◌^◌, ◌<◌, List, [], length, slice_get, Option, Some, None, true, false}
+use Rattle.ido_base.specs.declared.log.Log.{Log}
 use Rattle.ido_base.specs.declared.event.Event.{Event}
 use Rattle.ido_base.specs.declared.event.Event.TheVariants.{Step, Crash}
 use Rattle.ido_base.specs.declared.event.Reply.TheVariants.{Moved}
@@ -58,7 +59,7 @@ PointsHaveLocks = (p : Plan) (code : Code p) (kept : FlowState) (r : Record) →
 -- at each moment of a boundary they are what the durable log has, and a crash would leave
 abbrev pub LogsHaveLocks : Type 0
 LogsHaveLocks = (thread : ℕ) (old new : Record) (w : World) (rest : List Effect) → (s : LogInv thread old new w rest) →
-    record_of w.words thread ≡ locks_of (left_by_crash thread old new (config_of w s.hart rest))
+    record_of w.log w.words thread ≡ locks_of (left_by_crash w.log thread old new (config_of w s.hart rest))
 
 -- no two records have one in common
 abbrev pub AreRecordsApart : (count : ℕ) → (records : ℕ → Record) → Type 0
@@ -75,7 +76,7 @@ RecordsAreApart = (p : Plan) (codes : Codes p) (kept : FlowState) (records : ℕ
 abbrev pub CrashesGather : Type 0
 CrashesGather = (program : List (List Slot)) (w : World) (old new records : ℕ → Record) (rest : ℕ → List Effect) → length program ≡ length w.harts →
     (logs : (h : ℕ) → h < length w.harts → LogInv h (old h) (new h) w (rest h)) →
-    ((h : ℕ) (below : h < length w.harts) → records h ≡ left_by_crash h (old h) (new h) (config_of w (logs h below).hart (rest h))) →
+    ((h : ℕ) (below : h < length w.harts) → records h ≡ left_by_crash w.log h (old h) (new h) (config_of w (logs h below).hart (rest h))) →
     AreGathering (after_event program w Crash) records
 
 -- a crash while they do leaves the same records
@@ -118,7 +119,7 @@ ReadyAsKept = (p : Plan) (code : Code p) (kept : FlowState) (w : World) (r : Rec
 
 -- a hart is resumed where its record says, in the kept state
 abbrev pub HartsGoOn : Type 0
-HartsGoOn = (program : List (List Slot)) (p : Plan) (code : Code p) (kept : FlowState) (w : World) (r : Record) → Describes p code kept r →
+HartsGoOn = (program : List (List Slot)) (p : Plan) (code : Code p) (kept : FlowState) (w : World) (r : Record) → p.log ≡ w.log → Describes p code kept r →
     IsRecoveredHart w code.thread.number r → (i : IsInPhase w code.thread.number Resume) → ResumesThread program code kept w i.hart r
 
 -- ---- Boundaries
@@ -167,33 +168,35 @@ OthersDescribe = (p : Plan) (code : Code p) (kept after : FlowState) (r : Record
 -- all durable points are 0 exactly where no mutex is held in the kept state
 abbrev pub PointsSettle : Type 0
 PointsSettle =
-    (p : Plan) (codes : Codes p) (kept : FlowState) (records : ℕ → Record) (words : List Word) → IsOrderly p kept → AllDescribe p codes kept records →
-    ((n : ℕ) → n < length p.graph.threads → durable_point words n ≡ (records n).point) →
-    ((n : ℕ) → n < length p.graph.threads → durable_point words n ≡ 0) ↔
+    (log : Log) (p : Plan) (codes : Codes p) (kept : FlowState) (records : ℕ → Record) (words : List Word) → IsOrderly p kept →
+    AllDescribe p codes kept records →
+    ((n : ℕ) → n < length p.graph.threads → durable_point log words n ≡ (records n).point) →
+    ((n : ℕ) → n < length p.graph.threads → durable_point log words n ≡ 0) ↔
     ((lock : ℕ) (holder : Option ℕ) → slice_get kept.holders lock ≡ Some holder → holder ≡ None)
 
 -- ---- Machines
 
 -- at the start the logs describe the first state
 abbrev pub StartsDescribe : Type 0
-StartsDescribe = (program : List (List Slot)) (locks : ℕ) (initial : List ℕ) (p : Plan) (codes : Codes p) → length program ≡ length p.graph.threads →
-    LogsDescribe p codes (graph_start p.graph p.flat) (start_of program locks initial)
+StartsDescribe =
+    (log : Log) (program : List (List Slot)) (locks : ℕ) (initial : List ℕ) (p : Plan) (codes : Codes p) → length program ≡ length p.graph.threads →
+    LogsDescribe p codes (graph_start p.graph p.flat) (start_of log program locks initial)
 
 -- where logs describe the kept state, the locks in the durable log of a thread are those that it holds in the kept state
 abbrev pub DurableLocksAreHeld : Type 0
 DurableLocksAreHeld = (p : Plan) (code : Code p) (kept : FlowState) (w : World) → IsPlan p → IsOrderly p kept → LogDescribes p code kept w →
-    (lock : ℕ) → (has_lock (record_of w.words code.thread.number) lock ≡ true) ↔ (slice_get kept.holders lock ≡ Some (Some code.thread.number))
+    (lock : ℕ) → (has_lock (record_of w.log w.words code.thread.number) lock ≡ true) ↔ (slice_get kept.holders lock ≡ Some (Some code.thread.number))
 
 -- no two have one in common
 abbrev pub DurableLocksAreApart : Type 0
 DurableLocksAreApart = (p : Plan) (codes : Codes p) (kept : FlowState) (w : World) → IsPlan p → IsOrderly p kept → LogsDescribe p codes kept w →
-    (g h lock : ℕ) → g < length p.graph.threads → h < length p.graph.threads → has_lock (record_of w.words g) lock ≡ true →
-    has_lock (record_of w.words h) lock ≡ true → g ≡ h
+    (g h lock : ℕ) → g < length p.graph.threads → h < length p.graph.threads → has_lock (record_of w.log w.words g) lock ≡ true →
+    has_lock (record_of w.log w.words h) lock ≡ true → g ≡ h
 
 -- all durable points are 0 exactly where no mutex is held
 abbrev pub DurablePointsSettle : Type 0
 DurablePointsSettle = (p : Plan) (codes : Codes p) (kept : FlowState) (w : World) → IsOrderly p kept → LogsDescribe p codes kept w →
-    ((n : ℕ) → n < length p.graph.threads → durable_point w.words n ≡ 0) ↔
+    ((n : ℕ) → n < length p.graph.threads → durable_point w.log w.words n ≡ 0) ↔
     ((lock : ℕ) (holder : Option ℕ) → slice_get kept.holders lock ≡ Some holder → holder ≡ None)
 
 -- a crash leaves harts that recover to the kept state

@@ -17,7 +17,7 @@ pub record LogDescribes (p : Plan) (code : Code p) (kept : FlowState) (w : World
   pub new : Record
   pub rest : List Effect
   pub log : LogInv code.thread.number old new w rest
-  pub describes : Describes p code kept (left_by_crash code.thread.number old new (config_of w log.hart rest))
+  pub describes : Describes p code kept (left_by_crash w.log code.thread.number old new (config_of w log.hart rest))
 
 -- the logs of all threads describe the kept state
 abbrev pub LogsDescribe : (p : Plan) → Codes p → FlowState → World → Type 0

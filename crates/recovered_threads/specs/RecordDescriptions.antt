@@ -60,7 +60,7 @@ pub record IsInside (p : Plan) (code : Code p) (kept : FlowState) (r : Record) :
   pub resumes : ResumesAt p code graph_thread.at (resume_of r.point)
   pub locks : r.locks ≡ locks_before p code.thread graph_thread.at
   pub live : r.live ≡ code.is.places.live graph_thread.at
-  -- the registers are those at the boundary, where the point was in a side before
+  -- the registers are those at the boundary, before which this side was in use
   pub side : ℕ
   pub enters : Enters p code.thread graph_thread.at (seen_by kept graph_thread) side r.registers
 

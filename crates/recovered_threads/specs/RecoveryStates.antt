@@ -103,7 +103,7 @@ pub record ResumesThread {p : Plan} (program : List (List Slot)) (code : Code p)
   -- an address of the object's table
   pub listed : Contains code.program.resumes after.pc
   pub enters : Enters p code.thread told.graph_thread.at (seen_by kept told.graph_thread) (side_of r) after.registers
-  pub at_record : IsAtRecord r (side_of r) after.registers
+  pub at_record : IsAtRecord w.log r (side_of r) after.registers
   pub queue : after.queue ≡ hart.queue
   -- a run begins from where the thread is resumed
   pub begins : IsRunningAt (after_event program w (Step code.thread.number)) code.thread.number (config after.registers after.pc)

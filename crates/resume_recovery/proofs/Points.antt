@@ -1,6 +1,8 @@
 -- A point says at once what the machine's definitions say apart: where recovery goes on, and the bank.
-use Rattle.std.proofs.Common.{◌≡◌, ℕ, ◌-◌, ◌*◌, ◌%◌, ◌<◌, ◌==◌, eqb, List, [], Bool, true, false, refl, sym, ◌∙◌, ap, arith, if◌then◌else◌}
+use Rattle.std.proofs.Common.{◌≡◌, ℕ, ◌-◌, ◌*◌, ◌%◌, ◌<◌, ◌==◌, eqb, List, [], map, Bool, true, false, refl, sym, ◌∙◌, ap, arith, if◌then◌else◌}
 use Rattle.std.proofs.lemmas.Bool.{cond-true, cond-false, eq-eqb, ne_eqb}
+use Rattle.ido_base.specs.declared.log.Log.{Log}
+use Rattle.ido_base.specs.declared.log.Log.TheVariants.{V1}
 use Rattle.ido_base.specs.Layout.{bank_bytes, slot_at}
 use Rattle.ido_base.specs.Locks.{locks_in}
 use Rattle.ido_base.proofs.Public.{no_locks}
@@ -8,7 +10,8 @@ use Rattle.ido_base.specs.Words.{Word}
 use Rattle.memory_layout.specs.declared.point.Point.TheVariants.{Idle, At}
 use Rattle.memory_layout.specs.Points.{point_of}
 use Rattle.rv64_isa.specs.declared.phase.Phase.TheVariants.{Take, Done}
-use Rattle.rv64_isa.specs.Machine.{bank_of, resume_of, durable_at, durable_point, record_of, resumed_register, phase_after_crash}
+use Rattle.rv64_isa.specs.Machine.{bank_of, resume_of, durable_at, durable_point, record_of}
+use Rattle.rv64_isa.specs.Machine.{resumed_register, resumed_registers, numbers_from, phase_after_crash}
 use Rattle.resume_recovery.specs.links.Points.{bank_in}
 
 -- a word that isn't 0, and where it says to go on
@@ -47,24 +50,26 @@ bank-below word = omega (arith, bank-is word)
 -- ---- What a thread's log says durably, by its point
 
 module _ (words : List Word) (hart : ℕ) where
-  pub idle_record : durable_point words hart ≡ 0 → locks_in 0 ≡ record_of words hart
-  idle_record none = no_locks ∙ sym (cond-true (eqb (durable_point words hart) 0) [] _ (eq-eqb _ 0 none))
+  pub idle_record : (log : Log) → durable_point log words hart ≡ 0 → locks_in 0 ≡ record_of log words hart
+  idle_record log none = no_locks ∙ sym (cond-true (eqb (durable_point log words hart) 0) [] _ (eq-eqb _ 0 none))
 
-  pub kept_record : (address bank mask : ℕ) → IsPointTo (durable_point words hart) address bank → mask ≡ durable_at words (slot_at hart bank 0) →
-      locks_in mask ≡ record_of words hart
-  kept_record address bank mask at is =
-      ap locks_in (is ∙ ap (λ (b : ℕ). durable_at words (slot_at hart b 0)) at.in_bank) ∙ sym (cond-false (eqb (durable_point words hart) 0) [] _ at.other)
+  pub kept_record : (log : Log) (address bank mask : ℕ) → IsPointTo (durable_point log words hart) address bank →
+      mask ≡ durable_at words (slot_at log hart bank 0) →
+      locks_in mask ≡ record_of log words hart
+  kept_record V1 address bank mask at is =
+      ap locks_in (is ∙ ap (λ (b : ℕ). durable_at words (slot_at V1 hart b 0)) at.in_bank)
+      ∙ sym (cond-false (eqb (durable_point V1 words hart) 0) [] _ at.other)
 
-  pub register_0 : (r : ℕ) → r ≡ 0 → 0 ≡ resumed_register words hart r
-  register_0 r zero_ = sym (ap (resumed_register words hart) zero_)
+  pub register_0 : (log : Log) (r : ℕ) → r ≡ 0 → 0 ≡ resumed_register log words hart r
+  register_0 log r zero_ = sym (ap (resumed_register log words hart) zero_)
 
-  pub register_3 : (r bank : ℕ) → r ≡ 3 → bank ≡ bank_of (durable_point words hart) → bank_bytes * bank ≡ resumed_register words hart r
-  register_3 r bank three is = ap (λ (b : ℕ). bank_bytes * b) is ∙ sym (ap (resumed_register words hart) three)
+  pub register_3 : (log : Log) (r bank : ℕ) → r ≡ 3 → bank ≡ bank_of (durable_point log words hart) → bank_bytes log * bank ≡ resumed_register log words hart r
+  register_3 log r bank three is = ap (λ (b : ℕ). bank_bytes log * b) is ∙ sym (ap (resumed_register log words hart) three)
 
-  pub register_other : (r bank value : ℕ) → (r ≡ 0 → ⊥) → (r ≡ 3 → ⊥) → bank ≡ bank_of (durable_point words hart) →
-      value ≡ durable_at words (slot_at hart bank r) → value ≡ resumed_register words hart r
-  register_other r bank value not_0 not_3 is read =
-      read ∙ ap (λ (b : ℕ). durable_at words (slot_at hart b r)) is
+  pub register_other : (log : Log) (r bank value : ℕ) → (r ≡ 0 → ⊥) → (r ≡ 3 → ⊥) → bank ≡ bank_of (durable_point log words hart) →
+      value ≡ durable_at words (slot_at log hart bank r) → value ≡ resumed_register log words hart r
+  register_other log r bank value not_0 not_3 is read =
+      read ∙ ap (λ (b : ℕ). durable_at words (slot_at log hart b r)) is
       ∙ sym (cond-false (eqb r 0) _ _ (ne_eqb r 0 not_0) ∙ cond-false (eqb r 3) _ _ (ne_eqb r 3 not_3))
 
 pub idle_phase : (point : ℕ) → point ≡ 0 → Done ≡ phase_after_crash point
@@ -72,3 +77,8 @@ idle_phase point none = sym (ap phase_after_crash none)
 
 pub taking_phase : (point : ℕ) → (point == 0) ≡ false → Take ≡ phase_after_crash point
 taking_phase point other = sym (cond-false (eqb point 0) Done Take other)
+
+-- all registers, one by one
+pub registers_are : (log : Log) (words : List Word) (hart : ℕ) (registers : List ℕ) → registers ≡ map (resumed_register log words hart) (numbers_from 0 32) →
+    registers ≡ resumed_registers log words hart
+registers_are V1 words hart registers are = are

@@ -5,14 +5,15 @@ use Rattle.ido_base.specs.declared.event.Reply.{Reply}
 use Rattle.ido_base.specs.declared.event.Reply.TheVariants.{Moved, Waits, Barrier, Still}
 use Rattle.ido_base.specs.Cores.{is_idle}
 use Rattle.ido_base.specs.Locks.{first_missing, locks_in}
+use Rattle.ido_base.specs.declared.log.Log.{Log}
 use Rattle.ido_base.specs.Words.{Word}
 use Rattle.line_memory.specs.declared.memory.LineMemory.{LineMemory}
-use Rattle.line_memory.specs.links.MemoryRepresentation.{Represents}
+use Rattle.line_memory.specs.links.MemoryRepresentation.{Represents, Logs, log_in}
 use Rattle.rv64_isa.specs.declared.object.Slot.{Slot}
 use Rattle.rv64_isa.specs.declared.phase.Phase.{Phase}
 use Rattle.rv64_isa.specs.declared.phase.Phase.TheVariants.{Take, Wait, Resume, Run, Done, Ended}
 use Rattle.rv64_isa.specs.Machine.{Hart as HartModel, World, Outcome, record_of, taken, waited, taking_from, is_taking}
-use Rattle.rv64_isa.specs.Machine.{resumed, resumed_register, resume_of, durable_point, numbers_from, phase_step}
+use Rattle.rv64_isa.specs.Machine.{resumed, resumed_registers, resume_of, durable_point, numbers_from, phase_step}
 use Rattle.hart_core.specs.declared.hart.Hart.{Hart}
 use Rattle.hart_core.specs.StepsOnParts.{Parts, PartsStand, PartsEnd, IsStep}
 use Rattle.hart_core.proofs.Public.{same_end, changed_end}
@@ -22,23 +23,25 @@ use Rattle.resume_recovery.specs.links.LeastLockTaker.{taking_among}
 -- ---- Take
 
 -- the lock that a hart lacks, by the record that was read and the table
-missing_is : (number mask : ℕ) (parts : Parts) (w : World) (model : HartModel) → locks_in mask ≡ record_of w.words number → PartsStand parts number w model →
-    first_missing w.holders (record_of w.words number) number ≡ first_missing parts.locks (locks_in mask) number
+missing_is : (number mask : ℕ) (parts : Parts) (w : World) (model : HartModel) → locks_in mask ≡ record_of (log_in parts.memory) w.words number →
+    PartsStand parts number w model →
+    first_missing w.holders (record_of w.log w.words number) number ≡ first_missing parts.locks (locks_in mask) number
 missing_is number mask parts w model is s =
-    ap (λ (holders : List (Option ℕ)). first_missing holders (record_of w.words number) number) s.holders
+    ap (λ (holders : List (Option ℕ)). first_missing holders (record_of w.log w.words number) number) s.holders
+    ∙ ap (λ (log : Log). first_missing parts.locks (record_of log w.words number) number) (ap (λ (l : Logs). l.log) s.logs)
     ∙ ap (λ (ls : List ℕ). first_missing parts.locks ls number) (sym is)
 
 module _ (number mask : ℕ) (hart : Hart) (memory : LineMemory) (locks : List (Option ℕ))
-    (is_record : (words : List Word) → Represents memory words → locks_in mask ≡ record_of words number) where
+    (is_record : (words : List Word) → Represents memory words → locks_in mask ≡ record_of (log_in memory) words number) where
   -- the hart lacks a lock that has a holder
   pub take_waits : (lock holder : ℕ) → first_missing locks (locks_in mask) number ≡ Some lock → slice_get locks lock ≡ Some (Some holder) →
-      IsStep (λ w model. taken w number model (first_missing w.holders (record_of w.words number) number)) number
+      IsStep (λ w model. taken w number model (first_missing w.holders (record_of w.log w.words number) number)) number
       (record { phase = Take; hart = hart; memory = memory; locks = locks }) (record { phase = Take; hart = hart; memory = memory; locks = locks })
       (Waits lock holder)
   take_waits lock holder lacks held = record {
     each = λ w model s.
         let parts : Parts = record { phase = Take; hart = hart; memory = memory; locks = locks } in
-        let found : first_missing w.holders (record_of w.words number) number ≡ Some lock =
+        let found : first_missing w.holders (record_of w.log w.words number) number ≡ Some lock =
         missing_is number mask parts w model (is_record w.words s.words) s ∙ lacks in
         let there : slice_get w.holders lock ≡ Some (Some holder) = ap (λ (holders : List (Option ℕ)). slice_get holders lock) s.holders ∙ held in
         subst (λ (o : Option ℕ). PartsEnd parts (Waits lock holder) number w (taken w number model o)) (sym found)
@@ -48,13 +51,13 @@ module _ (number mask : ℕ) (hart : Hart) (memory : LineMemory) (locks : List (
   -- the hart lacks a lock that is free
   pub take_takes : (lock : ℕ) (locks' : List (Option ℕ)) → first_missing locks (locks_in mask) number ≡ Some lock → slice_get locks lock ≡ Some None →
       locks' ≡ slice_set locks lock (Some number) →
-      IsStep (λ w model. taken w number model (first_missing w.holders (record_of w.words number) number)) number
+      IsStep (λ w model. taken w number model (first_missing w.holders (record_of w.log w.words number) number)) number
       (record { phase = Take; hart = hart; memory = memory; locks = locks }) (record { phase = Take; hart = hart; memory = memory; locks = locks' }) Moved
   take_takes lock locks' lacks free is = record {
     each = λ w model s.
         let parts : Parts = record { phase = Take; hart = hart; memory = memory; locks = locks } in
         let after : Parts = record { phase = Take; hart = hart; memory = memory; locks = locks' } in
-        let found : first_missing w.holders (record_of w.words number) number ≡ Some lock =
+        let found : first_missing w.holders (record_of w.log w.words number) number ≡ Some lock =
         missing_is number mask parts w model (is_record w.words s.words) s ∙ lacks in
         let there : slice_get w.holders lock ≡ Some None = ap (λ (holders : List (Option ℕ)). slice_get holders lock) s.holders ∙ free in
         let holders : slice_set w.holders lock (Some number) ≡ locks' = ap (λ (hs : List (Option ℕ)). slice_set hs lock (Some number)) s.holders ∙ sym is in
@@ -92,8 +95,8 @@ module _ (number : ℕ) (hart : Hart) (memory : LineMemory) (locks : List (Optio
 -- ---- Resume
 
 pub resume_step : (number : ℕ) (hart : Hart) (memory : LineMemory) (locks : List (Option ℕ)) (registers : List ℕ) (pc : ℕ) →
-    ((words : List Word) → Represents memory words → registers ≡ map (resumed_register words number) (numbers_from 0 32)) →
-    ((words : List Word) → Represents memory words → pc ≡ resume_of (durable_point words number)) → (hart' : Hart) →
+    ((words : List Word) → Represents memory words → registers ≡ resumed_registers (log_in memory) words number) →
+    ((words : List Word) → Represents memory words → pc ≡ resume_of (durable_point (log_in memory) words number)) → (hart' : Hart) →
     hart'.registers ≡ registers → hart'.pc ≡ pc →
     hart'.queue ≡ hart.queue → IsStep (λ w model. resumed w number model) number (record { phase = Resume; hart = hart; memory = memory; locks = locks })
     (record { phase = Run; hart = hart'; memory = memory; locks = locks }) Moved
@@ -102,10 +105,10 @@ resume_step number hart memory locks registers pc are is hart' registers' pc' qu
       let before : Parts = record { phase = Resume; hart = hart; memory = memory; locks = locks } in
       let after : Parts = record { phase = Run; hart = hart'; memory = memory; locks = locks } in
       changed_end before after Moved number w model
-      (record model { registers = map (resumed_register w.words number) (numbers_from 0 32); pc = resume_of (durable_point w.words number); phase = Run })
+      (record model { registers = resumed_registers w.log w.words number; pc = resume_of (durable_point w.log w.words number); phase = Run })
       w.words w.holders s s.words refl s.holders refl (record {
-        registers = sym (registers' ∙ are w.words s.words);
-        pc = sym (pc' ∙ is w.words s.words);
+        registers = ap (λ (l : Logs). resumed_registers l.log w.words number) s.logs ∙ sym (registers' ∙ are w.words s.words);
+        pc = ap (λ (l : Logs). resume_of (durable_point l.log w.words number)) s.logs ∙ sym (pc' ∙ is w.words s.words);
         queue = rw queue' s.hart.queue;
       }) (λ any entries q. q);
 }

@@ -3,7 +3,7 @@ ghost use Rattle.std.specs.Prelude.{◌≡◌, ◌<◌, ◌^◌, ℕ, List, Opti
 ghost use Rattle.ido_base.specs.Cores.{is_idle};
 ghost use Rattle.ido_base.specs.Locks.{first_missing};
 ghost use Rattle.line_memory.specs.declared.memory.LineMemory.{LineMemory};
-ghost use Rattle.line_memory.specs.links.MemoryRepresentation.{Represents, threads_of};
+ghost use Rattle.line_memory.specs.links.MemoryRepresentation.{Represents, log_in, threads_of};
 ghost use Rattle.rv64_isa.specs.declared.object.Slot.{Slot};
 ghost use Rattle.rv64_isa.specs.declared.phase.Phase.TheVariants.{Take, Wait, Resume, Run};
 ghost use Rattle.rv64_isa.specs.Machine.{Hart as HartModel, World, record_of, taken, waited, taking_from, resumed, phase_step};
@@ -23,7 +23,7 @@ use rv64_isa::phase::Phase;
 /// on to wait for the others. The phase that it comes to, and the reply.
 fn take(hart: u32, memory: &LineMemory, locks: &mut LockTable) -> (Phase, Reply)
     requires { hart < threads_of memory.now }
-    ensures step { (it : Hart) → IsStep (λ w model. taken w hart model (first_missing w.holders (record_of w.words hart) hart)) hart
+    ensures step { (it : Hart) → IsStep (λ w model. taken w hart model (first_missing w.holders (record_of w.log w.words hart) hart)) hart
         (record { phase = Take; hart = it; memory = memory.now; locks = locks.old })
         (record { phase = result.0; hart = it; memory = memory.now; locks = locks.new }) result.1 }
     ensures locks { length locks.new ≡ length locks.old }
@@ -66,8 +66,8 @@ fn resume(number: u32, hart: &mut Hart, memory: &LineMemory) -> (Phase, Reply)
 /// The hart's next step, in which it takes locks, would wait for one.
 fn take_waits(hart: u32, memory: &LineMemory, locks: &LockTable) -> bool
     requires { hart < threads_of memory.now }
-    ensures { (w : World) (model : HartModel) → Represents memory.now w.words → w.holders ≡ locks.now →
-        result ≡ is_idle (taken w hart model (first_missing w.holders (record_of w.words hart) hart)).1 }
+    ensures { (w : World) (model : HartModel) → Represents memory.now w.words → w.log ≡ log_in memory.now → w.holders ≡ locks.now →
+        result ≡ is_idle (taken w hart model (first_missing w.holders (record_of w.log w.words hart) hart)).1 }
 {
     match locks.least_missing(record_of(hart, memory), hart) {
         None => false,
@@ -91,7 +91,7 @@ pub fn would_wait(number: u32, phases: &[Phase], memory: &LineMemory, locks: &Lo
     requires few { length phases.now < 2 ^ 32 }
     requires logged { number < threads_of memory.now }
     requires recovering { phase_at phases.now number ≡ Run → ⊥ }
-    ensures { (program : List (List Slot)) (w : World) (model : HartModel) → Represents memory.now w.words → w.holders ≡ locks.now →
+    ensures { (program : List (List Slot)) (w : World) (model : HartModel) → Represents memory.now w.words → w.log ≡ log_in memory.now → w.holders ≡ locks.now →
         phases_of w ≡ phases.now → result ≡ is_idle (phase_step program w number model (phase_at phases.now number)).1 }
 {
     match phases[number as usize] {

@@ -3,6 +3,7 @@ use Rattle.std.proofs.Common.{◌≡◌, ℕ, ◌+◌, ◌<◌, ◌≤◌, List,
 use Rattle.std.specs.Prelude.{◌==◌, if◌then◌else◌}
 use Rattle.std.specs.List.{AllByRecursion, prefix_len}
 use Rattle.std.proofs.lemmas.Bool.{ltb-true, leb-true}
+use Rattle.ido_base.specs.declared.log.Log.TheVariants.{V1}
 use Rattle.ido_base.specs.Layout.{line_count}
 use Rattle.run_scripts.specs.Pieces.{Piece, lines_at}
 use Rattle.run_scripts.specs.Schedules.{is_digit, number_limit}
@@ -26,10 +27,10 @@ hart_fits harts place n e =
     let inner = kept (nat_lt n number_limit) _ _ e in
     ltb-true n harts (kept (nat_lt n harts) _ _ inner.1).0
 
-line_fits : (harts place n : ℕ) → line_number harts place n ≡ None → n < line_count harts
+line_fits : (harts place n : ℕ) → line_number harts place n ≡ None → n < line_count V1 harts
 line_fits harts place n e =
     let inner = kept (nat_lt n number_limit) _ _ e in
-    ltb-true n (line_count harts) (kept (nat_lt n (line_count harts)) _ _ inner.1).0
+    ltb-true n (line_count V1 harts) (kept (nat_lt n (line_count V1 harts)) _ _ inner.1).0
 
 mask_fits : (place n : ℕ) → mask_number place n ≡ None → n ≤ 255
 mask_fits place n e = leb-true n 255 (kept (nat_le n 255) _ _ e).0

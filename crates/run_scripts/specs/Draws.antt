@@ -4,12 +4,14 @@ use Rattle.rand_core.specs.Steps.{first_words}
 use Rattle.rand_xoshiro.specs.SplitMix64.{mix_u64}
 use Rattle.ido_base.specs.declared.event.Event.{Event}
 use Rattle.ido_base.specs.declared.event.Event.TheVariants.{Step, Evict, Crash}
-use Rattle.ido_base.specs.declared.limits.TheConstants.{LOG_LINES, VARIABLE_LINES}
+use Rattle.ido_base.specs.declared.limits.TheConstants.{VARIABLE_LINES}
+use Rattle.ido_base.specs.declared.log.Log.TheVariants.{V1}
+use Rattle.ido_base.specs.Layout.{log_lines}
 
 -- the line that a word of 64 bits draws, of so many lines of variables and of the logs of so many threads
 abbrev pub drawn_line : (threads lines word : ℕ) → ℕ
 drawn_line threads lines word =
-    let k = word / 2 ^ 8 % (lines + LOG_LINES * threads) in
+    let k = word / 2 ^ 8 % (lines + log_lines V1 * threads) in
     if nat_lt k lines then k else VARIABLE_LINES + (k - lines)
 
 -- the words of that line that it draws

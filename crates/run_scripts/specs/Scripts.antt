@@ -2,6 +2,7 @@
 use Rattle.std.specs.Prelude.{ℕ, ◌+◌, ◌<◌, ◌≤◌, List, [], ◌∷◌, Option, Some, None, nat_lt, nat_le, ◌==◌, if◌then◌else◌, take, drop}
 use Rattle.std.specs.List.{prefix_len}
 use Rattle.std.specs.Str.Parse.{digits_value}
+use Rattle.ido_base.specs.declared.log.Log.TheVariants.{V1}
 use Rattle.ido_base.specs.Layout.{line_count}
 use Rattle.run_scripts.specs.Pieces.{Piece, lines_at}
 use Rattle.run_scripts.specs.Schedules.{is_digit, number_limit}
@@ -37,7 +38,7 @@ abbrev pub hart_number : (harts : ℕ) → Rule
 hart_number harts place n = if nat_lt n number_limit then (if nat_lt n harts then None else Some (NoHart place)) else Some (BadNumber place)
 
 abbrev pub line_number : (harts : ℕ) → Rule
-line_number harts place n = if nat_lt n number_limit then (if nat_lt n (line_count harts) then None else Some (NoLine place)) else Some (BadNumber place)
+line_number harts place n = if nat_lt n number_limit then (if nat_lt n (line_count V1 harts) then None else Some (NoLine place)) else Some (BadNumber place)
 
 abbrev pub mask_number : Rule
 mask_number place n = if nat_le n 255 then None else Some (BadNumber place)
@@ -132,4 +133,4 @@ IsDoable harts evictable Crash = Unit {0}
 
 -- the line exists, and the mask has eight bits
 abbrev pub IsEviction : (harts line mask : ℕ) → Type 0
-IsEviction harts line mask = (line < line_count harts) × (mask ≤ 255)
+IsEviction harts line mask = (line < line_count V1 harts) × (mask ≤ 255)

@@ -5,7 +5,8 @@ ghost use Rattle.ido_base.specs.declared.limits.TheConstants.{MOST_THREADS, VARI
 ghost use Rattle.run_scripts.specs.Draws.{crashes_at, drawn_event, drawn_line, drawn_mask, drawn_run};
 
 use ido_base::event::Event;
-use ido_base::limits::{LOG_LINES, VARIABLE_LINES};
+use ido_base::limits::VARIABLE_LINES;
+use ido_base::log::Log;
 use ido_base::memory::OutOfMemory;
 use rand_core::SeedableRng;
 use rand_core::utils::NextWord;
@@ -20,7 +21,7 @@ pub(crate) fn drawn_line(word: u64, threads: u32, lines: u32) -> u32
     ensures { result ≡ drawn_line threads lines word }
 {
     let own = u64::from(lines);
-    let drawn = (word >> 8) % (own + LOG_LINES * u64::from(threads));
+    let drawn = (word >> 8) % (own + u64::from(Log::V1.lines()) * u64::from(threads));
     let line = if drawn < own {
         drawn
     } else {

@@ -12,7 +12,8 @@ ghost use Rattle.run_scripts.specs.links.ScriptViews.{ending};
 
 use crate::number::{NUMBER_LIMIT, numeral};
 use crate::piece::{Gap, next_piece, piece_at};
-use ido_base::limits::{LOG_LINES, VARIABLE_LINES};
+use ido_base::limits::VARIABLE_LINES;
+use ido_base::log::Log;
 use ido_base::memory::OutOfMemory;
 use ido_base::place::Place;
 use std::alloc::Global;
@@ -121,7 +122,7 @@ fn refused(rule: Rule, place: Place, number: u64) -> Option<ScriptFault>
         Rule::Any => None,
         Rule::Hart(harts) => (number >= u64::from(harts)).then_some(ScriptFault::Hart(place)),
         Rule::Line(harts) => {
-            let lines = VARIABLE_LINES + LOG_LINES * u64::from(harts);
+            let lines = VARIABLE_LINES + u64::from(Log::V1.lines()) * u64::from(harts);
             (number >= lines).then_some(ScriptFault::Line(place))
         }
         Rule::Mask => (number > GREATEST_MASK).then_some(ScriptFault::Number(place)),

@@ -1,10 +1,10 @@
 -- Addresses of items that lie one after another: they go up by whole words, and a mark's instruction takes one.
 use Rattle.std.proofs.Common.{◌≡◌, ℕ, zero, suc, ◌+◌, ◌-◌, ◌*◌, ◌%◌, ◌^◌, ◌<◌, ◌≤◌, List, [], ◌∷◌, ◌++◌, length, map, replicate, refl, ap, sym, ◌∙◌}
-use Rattle.std.proofs.Common.{arith, subst}
+use Rattle.std.proofs.Common.{arith, subst, length-append}
 use Rattle.std.proofs.Common.{inl, inr, Bool, true, false, Some, None, lit≤}
 use Rattle.std.specs.Prelude.{slice_get, slice_index_or, Contains, if◌then◌else◌, ◌⊎◌}
 use Rattle.std.proofs.lemmas.Bool.{true≢false}
-use Rattle.std.proofs.lemmas.List.{append-nil}
+use Rattle.std.proofs.lemmas.List.{append-nil, length-map}
 use Rattle.std.proofs.lemmas.List.Elements.{Contains-append_cases}
 use Rattle.std.proofs.lemmas.Option.{none-some, same_Some}
 use Rattle.rv64_isa.specs.declared.instr.Instr.{Instr}
@@ -243,14 +243,17 @@ module _ (items : List CodeItem) (none : Weightless items) where
   nothing_seen (suc steps) m to seen walk = absurd (none-some walk.3.instr walk.3.stands)
 
   sees : (b : Boundary) (resume : ℕ) (z : Bool) →
-      map walks.Does (if z then commit_effects b.thread 0 else bank_effects b 1 (replicate 32 0) ++ commit_effects b.thread resume) ≡ [] → ⊥
+      map walks.Does (if z then commit_effects b.log b.thread 0 else bank_effects b 1 (replicate 32 0) ++ commit_effects b.log b.thread resume) ≡ [] → ⊥
   sees b resume true e = cc
-  sees b resume false e = cc
+  sees b resume false e =
+      let bank = bank_effects b 1 (replicate 32 0) in
+      let commit = commit_effects b.log b.thread resume in
+      omega (arith, length-map (bank ++ commit) walks.Does, length-append bank commit, ap (λ (os : List Observation). length os) e)
 
   no_boundary : (b : Boundary) → IsBoundaryPiece b items → ⊥
   unfolding linked
   no_boundary b is =
-      let goes = (is.at site).keeps (replicate 32 0) 0 fresh_on_side in
+      let goes = (is.at site).keeps (replicate 32 0) 0 (fresh_on_side b.log) in
       sees b (1 % 2 ^ 64) (is_empty b.locks) (nothing_seen goes.steps _ _ _ goes.walks)
 
 pub boundary_grows : (b : Boundary) (piece : List CodeItem) → IsBoundaryPiece b piece → (at : ℕ → ℕ) (k : ℕ) → Lies at k piece → at k < at (k + length piece)

@@ -4,6 +4,7 @@ use Rattle.std.proofs.Common.{Bool, true, Option, Some, None}
 use Rattle.std.specs.Prelude.{slice_get}
 use Rattle.std.proofs.lemmas.List.{get_or-map, get_or_push, get_or_append_left, length-append}
 use Rattle.std.proofs.lemmas.Option.{slice_get_within}
+use Rattle.ido_base.specs.declared.log.Log.{Log}
 use Rattle.ido_base.specs.declared.place.Place.{Place}
 use Rattle.ido_base.specs.Layout.{variable_at}
 use Rattle.ido_ints.specs.declared.kinds.Kind.{Kind}
@@ -53,8 +54,8 @@ number_at (suc n) i l = by (below_or_last i n) (number_at n i)
         let same : n ≡ i = omega (arith, l, more) in
         get_or_push (numbers_below n) n 0 i (length_numbers n ∙ same) ∙ same
 
-pub registers_at : (side : ℕ) (x : List ℕ) → IsOnSide side x → AreRegisters x
-registers_at side x a = record { count = a.count; zero_is = a.zero_is }
+pub registers_at : (log : Log) (side : ℕ) (x : List ℕ) → IsOnSide log side x → AreRegisters x
+registers_at log side x a = record { count = a.count; zero_is = a.zero_is }
 
 module _ (p : Plan) (t : Thread) (plan : IsPlan p) (of : IsThread p t) where
   abbrev vs : List v.Variable

@@ -125,7 +125,8 @@ module _ (p : Plan) (t : Thread) (c : Choices) (plan : IsPlan p) (of : IsThread 
       (met s meets) in
       let lockstep : boundary_observations b side (addr core_at) x ≡ boundary_observations (keeping p t places node) side (places.core node) x =
       ap (λ (z : ℕ). boundary_observations b side z x) (sym agrees.core) ∙
-      ap (λ (ls : List ℕ). boundary_observations (record { thread = t.number; locks = b.locks; live = ls; resume = pos 0 }) side (places.core node) x)
+      ap (λ (ls : List ℕ). boundary_observations (record { log = p.log; thread = t.number; locks = b.locks; live = ls; resume = pos 0 }) side
+      (places.core node) x)
       (sym (agrees.live node)) in
       subst (λ (ss : List Observation). GoesThrough s (fragment x (places.entry node) (places.core node) words) ss P) lockstep
       (moved s x (places.entry node) (places.entry node) (addr core_at) (places.core node) words (boundary_observations b side (addr core_at) x) P refl
@@ -288,7 +289,8 @@ module _ (p : Plan) (t : Thread) (c : Choices) (plan : IsPlan p) (of : IsThread 
       let at_call : locks.call + 4 ≡ places.call node + 4 = ap (λ (z : ℕ). z + 4) (lock_call mutex next d s (met s meets) ∙ sym call) in
       let lockstep : boundary_observations b m.side (addr on_at) x ≡ boundary_observations (keeping p t places next) m.side (places.after node) x =
       ap (λ (z : ℕ). boundary_observations b m.side z x) (sym agrees.after) ∙
-      ap (λ (ls : List ℕ). boundary_observations (record { thread = t.number; locks = b.locks; live = ls; resume = pos 0 }) m.side (places.after node) x)
+      ap (λ (ls : List ℕ). boundary_observations (record { log = p.log; thread = t.number; locks = b.locks; live = ls; resume = pos 0 }) m.side
+      (places.after node) x)
       (sym (agrees.live next)) in
       subst (λ (k : ℕ). GoesThrough s (fragment x (places.call node + 4) (places.after node) (places.words k))
       (boundary_observations (keeping p t places next) m.side (places.after node) x) P) (sym same)

@@ -5,6 +5,7 @@ use Rattle.std.specs.Prelude.{slice_get, slice_index, Contains, pos, not}
 use Rattle.std.specs.Option.{option_map}
 use Rattle.std.proofs.lemmas.Bool.{true≢false}
 use Rattle.std.proofs.lemmas.Option.{same_Some, slice_get-map, slice_get_within}
+use Rattle.ido_base.specs.declared.log.Log.{Log}
 use Rattle.ido_base.specs.Layout.{variable_at}
 use Rattle.ido_ints.specs.declared.kinds.Kind.{Kind}
 use Rattle.ido_ints.specs.Kinds.{bytes_of}
@@ -67,8 +68,8 @@ differs r k other = by (r == k) refl
     by false h = h
     by true h = absurd (other (equal_by r k h))
 
-at_side_on : (side : ℕ) (x y : List ℕ) → IsOnSide side x → AreRegisters y → read y 3 ≡ read x 3 → IsOnSide side y
-at_side_on side x y a are same = record { count = are.count; zero_is = are.zero_is; offset = same ∙ a.offset; exists = a.exists }
+at_side_on : (log : Log) (side : ℕ) (x y : List ℕ) → IsOnSide log side x → AreRegisters y → read y 3 ≡ read x 3 → IsOnSide log side y
+at_side_on log side x y a are same = record { count = are.count; zero_is = are.zero_is; offset = same ∙ a.offset; exists = a.exists }
 
 -- an assignment of a local writes its register and temporaries
 set_kept : (h : Homes) (local : ℕ) (kind : Kind) (r : ℕ) → is_temporary r ≡ false → r ≢ slice_index h.registers local →
@@ -157,7 +158,7 @@ module _ (p : Plan) (t : Thread) (c : Choices) (plan : IsPlan p) (of : IsThread 
       src = source_of p t seen
 
       are : AreRegisters x
-      are = registers_at side x enters.at_side
+      are = registers_at p.log side x enters.at_side
 
       held_all : HoldsEach h src x is.uses
       held_all = live_is_enough p.graph node is h src x at (λ local k alive there. enters.locals local k there alive)
@@ -203,7 +204,7 @@ module _ (p : Plan) (t : Thread) (c : Choices) (plan : IsPlan p) (of : IsThread 
           local kind
           (reduced kind (number_in seen val.expr)) y known.target_is.0 known.assigns
           (λ r is_one other. got.unchanged r (set_kept h local kind r (local_plain r is_one) other)) got.has (ap owes same)
-          (at_side_on side x y enters.at_side got.are
+          (at_side_on p.log side x y enters.at_side got.are
           (got.unchanged 3 (set_kept h local kind 3 refl (λ e3. local_other (slice_index t.registers local) 3 refl register (sym e3))))))
 
       -- a store is pending after it
@@ -218,7 +219,7 @@ module _ (p : Plan) (t : Thread) (c : Choices) (plan : IsPlan p) (of : IsThread 
         owes_it = eval_goes target val next same known evaluation goes_to answered _ (λ y got.
             enters_owing p t plan of node next is at (follows target val next same known evaluation goes_to answered) seen side x enters
             (record seen { pending = Some store }) y store variable kind assigns refl refl
-            (at_side_on side x y enters.at_side got.are (got.unchanged 3 (writes 3)))
+            (at_side_on p.log side x y enters.at_side got.are (got.unchanged 3 (writes 3)))
             (λ r is_one. got.unchanged r (writes r ∙ local_spare r is_one)) stores (has y got))
 
       -- ---- Stores
@@ -279,7 +280,8 @@ module _ (p : Plan) (t : Thread) (c : Choices) (plan : IsPlan p) (of : IsThread 
               (Enters p t next (record seen { pending = None }) side)
               (λ y is_x. enters_on p t plan of node next is at (subst (λ (b : Action). Contains (successors b) next) (sym same)
               (0, omega arith, refl)) seen side x enters
-              (record seen { pending = None }) side y known.assigns (ap owes same) refl (subst (λ (z : List ℕ). IsOnSide side z) (sym is_x) enters.at_side)
+              (record seen { pending = None }) side y known.assigns (ap owes same) refl
+              (subst (λ (z : List ℕ). IsOnSide p.log side z) (sym is_x) enters.at_side)
               (λ r is_one. ap (λ (z : List ℕ). read z r) is_x))
               (makes.makes x are small)))
 
@@ -306,7 +308,7 @@ module _ (p : Plan) (t : Thread) (c : Choices) (plan : IsPlan p) (of : IsThread 
         after_it : (next : ℕ) → Contains (successors (Test condition holds fails)) next → (y : List ℕ) → IsTested x y → Enters p t next seen side y
         after_it next goes_on y got =
             enters_on p t plan of node next is at (subst (λ (b : Action). Contains (successors b) next) (sym same) goes_on) seen side x enters seen side y
-            known.assigns (ap owes same) refl (at_side_on side x y enters.at_side got.are (got.unchanged 3 refl))
+            known.assigns (ap owes same) refl (at_side_on p.log side x y enters.at_side got.are (got.unchanged 3 refl))
             (λ r is_one. got.unchanged r (local_plain r is_one))
 
         of_holds : IsNodeOf t holds
@@ -366,13 +368,14 @@ module _ (p : Plan) (t : Thread) (c : Choices) (plan : IsPlan p) (of : IsThread 
 
       module _ (next : ℕ) (none : is.assigns ≡ None) (free : owes is.action ≡ false) (follows_it : Contains (successors is.action) next) where
         -- a call's registers are no local's
-        asks_enter : (number mutex other : ℕ) (z y : List ℕ) → IsOnSide other z → ((r : ℕ) → is_local r ≡ true → read z r ≡ read x r) → Asks number mutex z y →
+        asks_enter : (number mutex other : ℕ) (z y : List ℕ) → IsOnSide p.log other z → ((r : ℕ) → is_local r ≡ true → read z r ≡ read x r) →
+            Asks number mutex z y →
             Asking p t places number mutex next seen other y
         asks_enter number mutex other z y on_side kept asks = record {
           call = asks.call;
           lock = asks.lock;
           enters = enters_on p t plan of node next is at follows_it seen side x enters seen other y none free refl
-              (at_side_on other z y on_side asks.are
+              (at_side_on p.log other z y on_side asks.are
               (asks.others 3 (λ e1. let w : ⊥ = omega (arith, e1) in w) (λ e1. let w : ⊥ = omega (arith, e1) in w)))
               (λ r is_one. asks.others r (local_other r 10 refl is_one) (local_other r 17 refl is_one) ∙ kept r is_one);
         }
@@ -397,7 +400,8 @@ module _ (p : Plan) (t : Thread) (c : Choices) (plan : IsPlan p) (of : IsThread 
           let observations : List Observation = Mark ∷ boundary_observations (keeping p t places next) side (places.after node) x in
           let lockstep : Mark ∷ boundary_observations b side (to goes_at) x ≡ observations =
           ap (λ (z : ℕ). Mark ∷ boundary_observations b side z x) (sym after) ∙
-          ap (λ (ls : List ℕ). Mark ∷ boundary_observations (record { thread = t.number; locks = locks_before p t next; live = ls; resume = pos 0 }) side
+          ap (λ (ls : List ℕ). Mark ∷ boundary_observations
+          (record { log = p.log; thread = t.number; locks = locks_before p t next; live = ls; resume = pos 0 }) side
           (places.after node) x) (sym (live next)) in
           within x (places.call node) observations P
           (moved s x (to does_at) (to does_at) unlocks.call (places.call node) does_words observations P refl (sym call)

@@ -5,6 +5,7 @@ use Rattle.std.specs.Prelude.{slice_get, slice_index_or, sum_by, IsTrue, Vec, po
 use Rattle.std.specs.Global.{Global}
 use Rattle.std.specs.List.{list_all}
 use Rattle.std.proofs.lemmas.List.Sums.{sum_by-append}
+use Rattle.ido_base.specs.declared.log.Log.{Log}
 use Rattle.ido_base.specs.Locks.{locks_in}
 use Rattle.ido_base.specs.declared.limits.TheConstants.{MOST_PRICE, MOST_THREADS}
 use Rattle.c_tree.specs.Exprs as e
@@ -48,8 +49,8 @@ flagged (true ∷ xs) zero = (λ h. refl, λ h. refl)
 flagged (false ∷ xs) zero = (λ h. cc, λ h. cc)
 flagged (x ∷ xs) (suc k) = flagged xs k
 
-abbrev made : ℕ → List ℕ → List ℕ → (resume : ℕ) → Boundary
-made thread locks live resume = record { thread = thread; locks = locks; live = live; resume = pos resume }
+abbrev made : Log → ℕ → List ℕ → List ℕ → (resume : ℕ) → Boundary
+made log thread locks live resume = record { log = log; thread = thread; locks = locks; live = live; resume = pos resume }
 
 module _ (x : opened.ThreadPlan) (o : IsOpen x) where
   abbrev p : Plan
@@ -89,8 +90,10 @@ module _ (x : opened.ThreadPlan) (o : IsOpen x) where
 
   pub boundary_is : (node : ℕ) (k : kept.Kept) (resume : ℕ) → IsKeptFor x node k → boundary_of k resume ≡ boundary_before p t c node resume
   boundary_is node k resume is =
-      ap (λ (n : ℕ). made n (locks_in k.mask) k.live.now resume) is.thread_is ∙ ap (λ (ls : List ℕ). made x.number ls k.live.now resume) is.locks_are
-      ∙ ap (λ (l : List ℕ). made x.number (locks_before p t node) l resume) is.live_is
+      ap (λ (log : Log). made log k.thread (locks_in k.mask) k.live.now resume) is.log_is
+      ∙ ap (λ (n : ℕ). made p.log n (locks_in k.mask) k.live.now resume) is.thread_is
+      ∙ ap (λ (ls : List ℕ). made p.log x.number ls k.live.now resume) is.locks_are
+      ∙ ap (λ (l : List ℕ). made p.log x.number (locks_before p t node) l resume) is.live_is
 
   pub few_live : (node : ℕ) → IsNodeOf t node → length (c.live node) ≤ 20
   few_live node own = (live_at node own).few

@@ -70,7 +70,7 @@ module _ (p : Plan) (t : Thread) (plan : IsPlan p) (of : IsThread p t) (node nex
         (enters.locals local k g (live_before local (none_assigned local none) live)))
 
     -- where nothing is assigned, and no store is pending after the node
-    pub enters_on : (later : Seen) (other : ℕ) (y : List ℕ) → is.assigns ≡ None → owes is.action ≡ false → later.locals ≡ seen.locals → IsOnSide other y →
+    pub enters_on : (later : Seen) (other : ℕ) (y : List ℕ) → is.assigns ≡ None → owes is.action ≡ false → later.locals ≡ seen.locals → IsOnSide p.log other y →
         ((r : ℕ) → is_local r ≡ true → read y r ≡ read x r) → Enters p t next later other y
     enters_on later other y none free same on_side kept = record {
       at_side = on_side;
@@ -81,7 +81,7 @@ module _ (p : Plan) (t : Thread) (plan : IsPlan p) (of : IsThread p t) (node nex
 
     -- where a store is pending after it
     pub enters_owing : (later : Seen) (y : List ℕ) (store : Pending) (variable : ℕ) (kind : Kind) → is.assigns ≡ None → later.locals ≡ seen.locals →
-        later.pending ≡ Some store → IsOnSide side y → ((r : ℕ) → is_local r ≡ true → read y r ≡ read x r) →
+        later.pending ≡ Some store → IsOnSide p.log side y → ((r : ℕ) → is_local r ≡ true → read y r ≡ read x r) →
         StoresThere p.graph.nodes next variable kind → HasPending p store variable kind y → Enters p t next later side y
     enters_owing later y store variable kind none same owing on_side kept stores has = record {
       at_side = on_side;
@@ -145,7 +145,7 @@ module _ (p : Plan) (t : Thread) (plan : IsPlan p) (of : IsThread p t) (node nex
               (carries_on x y (slice_index t.registers l) (typed k (slice_index_or seen.locals l (pos 0)))
               (kept (slice_index t.registers l) (register_local p t plan of l (slice_get_within t.kinds l k g)) differ) (enters.locals l k g before))
 
-      pub enters_set : owes is.action ≡ false → IsOnSide side y → Enters p t next (record seen { locals = later }) side y
+      pub enters_set : owes is.action ≡ false → IsOnSide p.log side y → Enters p t next (record seen { locals = later }) side y
       enters_set free on_side = record {
         at_side = on_side;
         count = length-set seen.locals local number ∙ enters.count;

@@ -14,4 +14,5 @@ plan_of x = record {
   held = x.held.now;
   live = x.live.now;
   colours = colouring_of x.colours.now;
+  log = x.log;
 }

@@ -37,7 +37,7 @@ module _ (p : Plan) (t : Thread) (c : Choices) where
 
   -- the boundary that keeps what is live at the node's entry, and resumes so many bytes after its end
   abbrev pub boundary_before : (node : ℕ) → (resume : ℕ) → Boundary
-  boundary_before node resume = record { thread = t.number; locks = locks_before p t node; live = c.live node; resume = pos resume }
+  boundary_before node resume = record { log = p.log; thread = t.number; locks = locks_before p t node; live = c.live node; resume = pos resume }
 
   -- ---- A node
 

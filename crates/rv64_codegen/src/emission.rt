@@ -185,6 +185,7 @@ pub fn emit(alloc: Global, plan: &Plan) -> Result<Code, OutOfMemory>
     ensures initial { IfOk result (λ code.
         AreInitial (map shape_of (plan_of plan.now).flat.variables) (map initial_numbers (plan_of plan.now).flat.variables) code.initial.items) }
     ensures mutexes { IfOk result (λ code. code.mutexes ≡ length (plan_of plan.now).flat.mutexes) }
+    ensures log { IfOk result (λ code. code.log ≡ (plan_of plan.now).log) }
 {
     let addresses = places(alloc, plan)?;
     let initial = initial_bytes(alloc, &plan.flat.variables)?;
@@ -194,5 +195,6 @@ pub fn emit(alloc: Global, plan: &Plan) -> Result<Code, OutOfMemory>
         threads,
         initial,
         mutexes: plan.flat.mutexes.len() as u32,
+        log: plan.log,
     })
 }

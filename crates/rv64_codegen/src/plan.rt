@@ -4,6 +4,7 @@ use flow_graph::colours::Colours;
 use flow_graph::cuts::Cuts;
 use flow_graph::graph::Graph;
 use flow_graph::live_sets::LiveSets;
+use ido_base::log::Log;
 use lock_discipline::Held;
 
 /// A program's flow graph, and what was found out about it.
@@ -19,4 +20,6 @@ pub struct Plan<'a> {
     pub live: &'a LiveSets,
     /// Of each thread the registers of its locals.
     pub colours: &'a Colours,
+    /// How its threads log.
+    pub log: Log,
 }

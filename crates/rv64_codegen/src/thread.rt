@@ -40,6 +40,7 @@ impl<'a> ThreadPlan<'a, '_> {
     {
         let step = node - self.part.first;
         Kept {
+            log: self.plan.log,
             thread: self.number,
             mask: self.plan.held.held(self.number, step as u32),
             live: &self.live[step],

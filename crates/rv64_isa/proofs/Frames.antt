@@ -6,6 +6,8 @@ use Rattle.std.proofs.lemmas.Bool.{cases_lt, cases_eq, cond_both, and_parts, ltb
 use Rattle.std.proofs.Math.ListN.{length-set, length-append}
 use Rattle.std.proofs.lemmas.List.{length-map, length-replicate, set_past}
 use Rattle.ido_base.specs.declared.event.Event.{Event}
+use Rattle.ido_base.specs.declared.log.Log.{Log}
+use Rattle.ido_base.specs.declared.log.Log.TheVariants.{V1}
 use Rattle.ido_base.specs.declared.event.Event.TheVariants.{Step, Evict, Crash}
 use Rattle.ido_base.specs.declared.event.Reply.TheVariants.{Waits}
 use Rattle.ido_base.specs.Words.{Word, Entry, entry_of, stored, drained, evicted, word_of, durable_value}
@@ -23,7 +25,8 @@ use Rattle.rv64_isa.specs.Programs.{fetched}
 use Rattle.rv64_isa.specs.Machine.{Hart, World, Outcome, moved, with_hart, with_holder, drain_one, access, cleaned, fenced, acquired, released, ended, called}
 use Rattle.rv64_isa.specs.Machine.{applied, executed, hart_step, taken, waited, taking_from, record_of, over_after, done_if_over, run_step, phase_step}
 use Rattle.rv64_isa.specs.Machine.{stepped, happens, after_event, durable_point, phase_after_crash, start_of, after_crash_of, fresh_hart, numbers_from}
-use Rattle.rv64_isa.specs.Frames.{IsHeldOn, Stays, Takes, Gives, Touches, IsWellFormedWorld, StepsTouch, EvictionsTouch, QueuesStand, StartsStand, CrashesStand}
+use Rattle.rv64_isa.specs.Frames.{IsHeldOn, Stays, Takes, Gives, Touches, IsWellFormedWorld, StepsTouch}
+use Rattle.rv64_isa.specs.Frames.{EvictionsTouch, LogStays, QueuesStand, StartsStand, CrashesStand}
 
 -- ---- Lists
 
@@ -53,8 +56,8 @@ set_none (z ∷ zs) zero x e = absurd (subst (λ o. is_none_there o) e tt)
 set_none (z ∷ zs) (suc i) x e = ap (λ ys. z ∷ ys) (set_none zs i x e)
 
 -- the line of an address that is in range
-line_inside : (harts address : ℕ) → in_range harts address 1 ≡ true → 8 * (byte_number address / 64) + 8 ≤ word_count harts
-line_inside harts address inside = by_half (nat_lt address logs_base) refl (or_cases _ _ inside)
+line_inside : (log : Log) (harts address : ℕ) → in_range log harts address 1 ≡ true → 8 * (byte_number address / 64) + 8 ≤ word_count log harts
+line_inside V1 harts address inside = by_half (nat_lt address logs_base) refl (or_cases _ _ inside)
   where
     in_variables : (nat_le variables_base address && nat_le (address + 1) (variables_base + 65536)) ≡ true →
         (variables_base ≤ address) × (address + 1 ≤ variables_base + 65536)
@@ -67,7 +70,7 @@ line_inside harts address inside = by_half (nat_lt address logs_base) refl (or_c
     by_half : (b : Bool) → nat_lt address logs_base ≡ b
         → ((nat_le variables_base address && nat_le (address + 1) (variables_base + 65536)) ≡ true)
         ⊎ ((nat_le logs_base address && nat_le (address + 1) (logs_base + 1024 * harts)) ≡ true)
-        → 8 * (byte_number address / 64) + 8 ≤ word_count harts
+        → 8 * (byte_number address / 64) + 8 ≤ word_count V1 harts
     by_half true e (inl h) =
         let r = in_variables h in
         let n : byte_number address ≡ address - variables_base = ap (λ b. cond b (address - variables_base) (65536 + (address - logs_base))) e in
@@ -86,7 +89,7 @@ pub record OwnQueueStays (h : ℕ) (old new : World) : Type 0 where
   pub own : (hart : Hart) → slice_get new.harts h ≡ Some hart → AreEntries new.words hart.queue
 
 module _ (h : ℕ) (w : World) (hart : Hart) (here : slice_get w.harts h ≡ Some hart) (queued : AreEntries w.words hart.queue)
-    (size : length w.words ≡ word_count (length w.harts)) where
+    (size : length w.words ≡ word_count w.log (length w.harts)) where
   queue_of : List Word → Option Hart → Type 0
   queue_of ws None = Unit {0}
   queue_of ws (Some x) = AreEntries ws x.queue
@@ -95,7 +98,8 @@ module _ (h : ℕ) (w : World) (hart : Hart) (here : slice_get w.harts h ≡ Som
   stays : OwnQueueStays h w w
   unfolding queue_of
   stays = record {
-    touches = record { count = refl; others = λ g ne. refl; locks = refl; holders = λ lock. Stays refl; words = changed_refl w.words; recovering = refl };
+    touches =
+        record { count = refl; others = λ g ne. refl; locks = refl; holders = λ lock. Stays refl; words = changed_refl w.words; recovering = refl; log = refl };
     own = λ other e. subst (λ (x : Option Hart). queue_of w.words x) (sym here ∙ e) queued;
   }
 
@@ -110,6 +114,7 @@ module _ (h : ℕ) (w : World) (hart : Hart) (here : slice_get w.harts h ≡ Som
       holders = λ lock. Stays refl;
       words = changed;
       recovering = refl;
+      log = refl;
     };
     own = λ other e. subst (λ (x : Option Hart). queue_of ws x) (sym (get-set_same w.harts h after hart here) ∙ e) entries;
   }
@@ -135,6 +140,7 @@ module _ (h : ℕ) (w : World) (hart : Hart) (here : slice_get w.harts h ≡ Som
       ];
       words = changed_refl w.words;
       recovering = refl;
+      log = refl;
     };
     own =
         λ other e. subst (λ (x : Option Hart). queue_of w.words x) (sym (get-set_same w.harts h after hart here) ∙ e)
@@ -153,10 +159,10 @@ module _ (h : ℕ) (w : World) (hart : Hart) (here : slice_get w.harts h ≡ Som
   fences [] entries = moves (record hart { pc = next hart.pc }) refl
   fences (e ∷ es) entries = drains (e ∷ es) entries
 
-  accesses : (address bytes : ℕ) (outcome : Outcome) → (in_range (length w.harts) address bytes ≡ true → OwnQueueStays h w outcome.0) →
+  accesses : (address bytes : ℕ) (outcome : Outcome) → (in_range w.log (length w.harts) address bytes ≡ true → OwnQueueStays h w outcome.0) →
       OwnQueueStays h w (access w address bytes outcome).0
   accesses address bytes outcome goes_on =
-      cond_both (in_range (length w.harts) address bytes) _ _ (λ (o : Outcome). OwnQueueStays h w o.0)
+      cond_both (in_range w.log (length w.harts) address bytes) _ _ (λ (o : Outcome). OwnQueueStays h w o.0)
       (λ inside. cond_both (aligned address bytes) _ _ (λ (o : Outcome). OwnQueueStays h w o.0) (λ _. goes_on inside) (λ _. stays))
       (λ _. stays)
 
@@ -193,8 +199,9 @@ module _ (h : ℕ) (w : World) (hart : Hart) (here : slice_get w.harts h ≡ Som
       (λ _. cond_both (number == 3) _ _ (λ (o : Outcome). OwnQueueStays h w o.0) (λ _. ends (least_held w.holders h)) (λ _. stays)))
 
   -- the line of an address exists
-  line_exists : (address : ℕ) → in_range (length w.harts) address 1 ≡ true → 8 * (byte_number address / 64) + 8 ≤ length w.words
-  line_exists address inside = let e : 8 * (byte_number address / 64) + 8 ≤ word_count (length w.harts) = line_inside (length w.harts) address inside in
+  line_exists : (address : ℕ) → in_range w.log (length w.harts) address 1 ≡ true → 8 * (byte_number address / 64) + 8 ≤ length w.words
+  line_exists address inside =
+      let e : 8 * (byte_number address / 64) + 8 ≤ word_count w.log (length w.harts) = line_inside w.log (length w.harts) address inside in
       omega (arith, e, size)
 
   pub applies : (effect : Effect) → OwnQueueStays h w (applied w h hart effect).0
@@ -262,6 +269,7 @@ settles h w v goes (Some hart) e = cond_both (over_after w v h) _ _ (λ (u : Wor
         holders = goes.touches.holders;
         words = goes.touches.words;
         recovering = goes.touches.recovering;
+        log = goes.touches.log;
       };
       own = λ other there. subst (λ (x : Option Hart). queue_of x) (sym (get-set_same v.harts h done hart e) ∙ there) (goes.own hart e);
     }
@@ -273,7 +281,7 @@ module _ (program : List (List Slot)) (h : ℕ) (w : World) (sound : IsWellForme
       settles h w outcome.0 (executes h w hart here (sound.queues h hart here) sound.size (fetched program h hart.pc)) (slice_get outcome.0.harts h) refl
 
   by_phase : (hart : Hart) → slice_get w.harts h ≡ Some hart → (phase : Phase) → OwnQueueStays h w (phase_step program w h hart phase).0
-  by_phase hart here Take = takes h w hart here (sound.queues h hart here) sound.size (first_missing w.holders (record_of w.words h) h)
+  by_phase hart here Take = takes h w hart here (sound.queues h hart here) sound.size (first_missing w.holders (record_of w.log w.words h) h)
   by_phase hart here Wait = waits h w hart here (sound.queues h hart here) sound.size (taking_from 0 w.harts)
   by_phase hart here Resume = moves h w hart here (sound.queues h hart here) sound.size _ refl
   by_phase hart here Run = runs hart here
@@ -282,7 +290,8 @@ module _ (program : List (List Slot)) (h : ℕ) (w : World) (sound : IsWellForme
 
   none_there : slice_get w.harts h ≡ None → OwnQueueStays h w w
   none_there e = record {
-    touches = record { count = refl; others = λ g ne. refl; locks = refl; holders = λ lock. Stays refl; words = changed_refl w.words; recovering = refl };
+    touches =
+        record { count = refl; others = λ g ne. refl; locks = refl; holders = λ lock. Stays refl; words = changed_refl w.words; recovering = refl; log = refl };
     own = λ other there. absurd (subst (λ o. is_none_here o) (sym there ∙ e) tt);
   }
     where
@@ -304,6 +313,12 @@ steps_touch program w h sound = (step_goes program h w sound).touches
 pub evictions_touch : EvictionsTouch
 unfolding happens
 evictions_touch program w line mask = (evictions_raise w.words line mask, refl)
+
+pub log_stays : LogStays
+unfolding happens after_crash_of
+log_stays program w (Step h) sound = (steps_touch program w h sound).log
+log_stays program w (Evict line mask) sound = refl
+log_stays program w Crash sound = refl
 
 -- ---- Queues along every event
 
@@ -329,9 +344,9 @@ length-words : (bytes : List ℕ) (count : ℕ) → length (words_of_bytes bytes
 length-words bytes zero = refl
 length-words bytes (suc count) = let more = length-words (drop 8 bytes) count in omega (arith, more)
 
-length-initial : (threads : ℕ) (bytes : List ℕ) → length (initial_words threads bytes) ≡ word_count threads
+length-initial : (log : Log) (threads : ℕ) (bytes : List ℕ) → length (initial_words log threads bytes) ≡ word_count log threads
 unfolding initial_words
-length-initial threads bytes =
+length-initial V1 threads bytes =
     let a = length-words bytes 8192 in
     let b = length-replicate {A = ℕ} (128 * threads) 0 in
     let c = length-append (words_of_bytes bytes 8192) (replicate (128 * threads) 0) in
@@ -344,10 +359,10 @@ fresh_harts program phase =
 
 pub starts_simulate : StartsStand
 unfolding start_of
-starts_simulate program locks initial =
+starts_simulate log program locks initial =
     let harts = fresh_harts program (λ thread. Run) in (
       record {
-        size = length-map (initial_words (length program) initial) word_of ∙ length-initial (length program) initial ∙ ap word_count (sym harts);
+        size = length-map (initial_words log (length program) initial) word_of ∙ length-initial log (length program) initial ∙ ap (word_count log) (sym harts);
         queues = λ h hart e. none_fresh program _ (λ thread. Run) 0 (length program) h hart e;
       },
       harts,
@@ -355,12 +370,12 @@ starts_simulate program locks initial =
 
 pub crashes_simulate : CrashesStand
 unfolding after_crash_of
-crashes_simulate program locks words count =
+crashes_simulate log program locks words count =
     let kept = map word_of words in
-    let phase : ℕ → Phase = λ thread. phase_after_crash (durable_point kept thread) in
+    let phase : ℕ → Phase = λ thread. phase_after_crash (durable_point log kept thread) in
     let harts = fresh_harts program phase in (
       record {
-        size = length-map words word_of ∙ count ∙ ap word_count (sym harts);
+        size = length-map words word_of ∙ count ∙ ap (word_count log) (sym harts);
         queues = λ h hart e. none_fresh program _ phase 0 (length program) h hart e;
       },
       harts,
@@ -369,7 +384,8 @@ crashes_simulate program locks words count =
 -- another hart's queue represents what it represented, and the own one what the step makes of it
 kept_by_step : (h : ℕ) (w v : World) → IsWellFormedWorld w → OwnQueueStays h w v → IsWellFormedWorld v
 kept_by_step h w v sound goes = record {
-  size = goes.touches.words.size ∙ sound.size ∙ ap word_count (sym goes.touches.count);
+  size = goes.touches.words.size ∙ sound.size ∙ ap (word_count w.log) (sym goes.touches.count)
+      ∙ ap (λ (log : Log). word_count log (length v.harts)) (sym goes.touches.log);
   queues = λ g hart there. elim (cases_eq g h) [
     | inl is ↦ goes.own hart (ap (slice_get v.harts) (sym is) ∙ there)
     | inr ne ↦ entries_stay w.words v.words hart.queue goes.touches.words (sound.queues g hart (sym (goes.touches.others g ne) ∙ there))
@@ -392,6 +408,6 @@ queues_stand program w (Evict line mask) count sound =
     )
 queues_stand program w Crash count sound =
     let words = map durable_value w.words in
-    let size : length words ≡ word_count (length program) = length-map w.words durable_value ∙ sound.size ∙ ap word_count (sym count) in
-    let stand = crashes_simulate program (length w.holders) words size in
+    let size : length words ≡ word_count w.log (length program) = length-map w.words durable_value ∙ sound.size ∙ ap (word_count w.log) (sym count) in
+    let stand = crashes_simulate w.log program (length w.holders) words size in
     (stand.0, stand.1 ∙ count)

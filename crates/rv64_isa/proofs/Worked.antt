@@ -1,6 +1,7 @@
 -- Worked rows of the definitions.
 use Rattle.std.proofs.Common.{◌≡◌, ◌-◌, ◌^◌, List, [], ◌∷◌, ◌++◌, refl, Some, None, replicate}
 use Rattle.ido_base.specs.declared.event.Event.{Event}
+use Rattle.ido_base.specs.declared.log.Log.TheVariants.{V1}
 use Rattle.ido_base.specs.declared.event.Event.TheVariants.{Step, Evict, Crash}
 use Rattle.ido_base.specs.Words.{live_value, durable_value, word_at}
 use Rattle.ido_base.specs.Layout.{initial_words}
@@ -87,7 +88,7 @@ code : List Slot
 code = Row (Lui 5 0x10000) ∷ Row (OpImmediate Addi 6 0 7) ∷ Row (Store Sd 6 5 0) ∷ Row (CboClean 5) ∷ Row Fence ∷ []
 
 after : List Event → World
-after events = after_events (code ∷ []) (start_of (code ∷ []) 1 (5 ∷ [])) events
+after events = after_events (code ∷ []) (start_of V1 (code ∷ []) 1 (5 ∷ [])) events
 
 live_seven : live_value (word_at (after (replicate 3 (Step 0))).words 0) ≡ 7
 unfolding initial_words start_of happens row result_of after code

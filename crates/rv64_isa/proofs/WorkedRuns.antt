@@ -1,6 +1,7 @@
 -- Worked rows: whole runs of code as a compiler may emit it, with evictions, crashes and recovery.
 use Rattle.std.proofs.Common.{◌≡◌, ℕ, zero, suc, ◌+◌, ◌-◌, ◌*◌, List, [], ◌∷◌, ◌++◌, length, map, refl, Bool, true, false, cond, take, drop, replicate}
 use Rattle.ido_base.specs.declared.event.Event.{Event}
+use Rattle.ido_base.specs.declared.log.Log.TheVariants.{V1}
 use Rattle.ido_base.specs.declared.event.Event.TheVariants.{Step, Evict, Crash}
 use Rattle.ido_base.specs.declared.event.Reply.{Reply}
 use Rattle.ido_base.specs.declared.event.Reply.TheVariants.{Moved, Barrier}
@@ -158,7 +159,7 @@ p1_marks : List (List ℕ)
 p1_marks = marks_from 0x1_0000 (one_section 0 1 ∷ [])
 
 p1_start : Run
-p1_start = record { world = start_of p1 1 (5 ∷ []); steps = first_steps 1 [] }
+p1_start = record { world = start_of V1 p1 1 (5 ∷ []); steps = first_steps 1 [] }
 
 words_of_code : map length p1 ≡ 64 ∷ []
 unfolding p1 programs one_section node node_acquire node_store code_of acquire add store last_release end boundary log point move
@@ -221,7 +222,7 @@ pair_marks = marks_from 0x1_0000 (one_section 0 1 ∷ one_section 1 10 ∷ [])
 
 -- the second hart waits for the lock, and is done at once after the crash
 second_waits : told (many pair pair_marks 120 (Step 0) (many pair pair_marks 8 (Step 1) (make pair pair_marks Crash (many pair pair_marks 5 (Step 1)
-    (to_fences pair pair_marks 100 2 0 (record { world = start_of pair 1 (5 ∷ []); steps = first_steps 2 [] }))))))
+    (to_fences pair pair_marks 100 2 0 (record { world = start_of V1 pair 1 (5 ∷ []); steps = first_steps 2 [] }))))))
     ≡ record { x = 6; y = 0; kept = 0 ∷ 0 ∷ 0 ∷ 0 ∷ []; settled = true }
 unfolding told to_fences many make pair_marks pair programs marks_from marks_of one_section node node_acquire node_store code_of acquire add store release
     last_release end boundary log point move start_of after_crash_of locks_in initial_words spread_words happens row result_of steps_after
@@ -248,7 +249,7 @@ overlap_marks : List (List ℕ)
 overlap_marks = marks_from 0x1_0000 (two_locks ∷ one_section 1 9 ∷ [])
 
 overlap_start : Run
-overlap_start = record { world = start_of overlap 2 (1 ∷ 0 ∷ 0 ∷ 0 ∷ 0 ∷ 0 ∷ 0 ∷ 0 ∷ 2 ∷ []); steps = first_steps 2 [] }
+overlap_start = record { world = start_of V1 overlap 2 (1 ∷ 0 ∷ 0 ∷ 0 ∷ 0 ∷ 0 ∷ 0 ∷ 0 ∷ 2 ∷ []); steps = first_steps 2 [] }
 
 -- the first lock is given up durably, and not by its ECALL: the second hart waits for it until the crash
 given_up : told (many overlap overlap_marks 200 (Step 0)
@@ -288,7 +289,7 @@ left_words =
     take 8 (map durable_value w.words) ++ take 128 (drop 8192 (map durable_value w.words))
 
 from_words : World
-from_words = after_events p1 (after_crash_of p1 1 (spread_words 8 left_words)) (replicate 120 (Step 0))
+from_words = after_events p1 (after_crash_of V1 p1 1 (spread_words 8 left_words)) (replicate 120 (Step 0))
 
 resumed_from_words : live_value (word_at from_words.words 0) ≡ 6
 unfolding from_words left_words to_point make p1_start p1_marks p1 programs marks_from marks_of one_section node node_acquire node_store code_of acquire add

@@ -1,5 +1,6 @@
 -- What a machine runs.
 use Rattle.std.specs.Prelude.{ℕ, List, map}
+use Rattle.ido_base.specs.declared.log.Log.{Log}
 use Rattle.rv64_isa.specs.declared.object.Slot.{Slot}
 use Rattle.rv64_isa.specs.declared.object.Object.{Object}
 use Rattle.rv64_isa.specs.declared.object.Marks.{Marks}
@@ -16,10 +17,12 @@ pub record Executable : Type 0 where
   pub initial : List ℕ
   -- as many locks as mutexes
   pub mutexes : ℕ
+  -- how its threads log
+  pub log : Log
 
 -- the machine before any event
 abbrev pub first_world : Executable → World
-first_world x = start_of x.program x.mutexes x.initial
+first_world x = start_of x.log x.program x.mutexes x.initial
 
 -- of each thread the addresses of its nodes' marks
 abbrev pub node_marks : List ThreadMarks → List (List ℕ)
@@ -37,4 +40,5 @@ executable_of object marks = record {
   resumes = resume_marks marks.threads.items;
   initial = object.initial.items;
   mutexes = object.mutexes;
+  log = object.log;
 }

@@ -1,6 +1,7 @@
 -- What a step of a hart touches, and laws of worlds along events.
 use Rattle.std.specs.Prelude.{◌≡◌, ◌≢◌, ℕ, List, length, map, slice_get, Option, Some, None}
 use Rattle.ido_base.specs.declared.event.Event.{Event}
+use Rattle.ido_base.specs.declared.log.Log.{Log}
 use Rattle.ido_base.specs.declared.event.Event.TheVariants.{Step, Evict, Crash}
 use Rattle.ido_base.specs.Words.{word_of}
 use Rattle.ido_base.specs.Layout.{word_count}
@@ -24,10 +25,11 @@ pub record Touches (h : ℕ) (old new : World) : Type 0 where
   pub holders : (lock : ℕ) → IsHeldOn h (slice_get old.holders lock) (slice_get new.holders lock)
   pub words : AreChanged old.words new.words
   pub recovering : new.recovering ≡ old.recovering
+  pub log : new.log ≡ old.log
 
 -- memory is made for the harts, and what they have queued represents positions of its words
 pub record IsWellFormedWorld (w : World) : Type 0 where
-  pub size : length w.words ≡ word_count (length w.harts)
+  pub size : length w.words ≡ word_count w.log (length w.harts)
   pub queues : (h : ℕ) (hart : Hart) → slice_get w.harts h ≡ Some hart → AreEntries w.words hart.queue
 
 -- ---- Laws
@@ -41,6 +43,10 @@ abbrev pub EvictionsTouch : Type 0
 EvictionsTouch = (program : List (List Slot)) (w : World) (line mask : ℕ) →
     ArePersisted w.words (after_event program w (Evict line mask)).words × (record (after_event program w (Evict line mask)) { words = w.words } ≡ w)
 
+-- no event changes how threads log
+abbrev pub LogStays : Type 0
+LogStays = (program : List (List Slot)) (w : World) (event : Event) → IsWellFormedWorld w → (after_event program w event).log ≡ w.log
+
 -- worlds stay well-formed along every event: what the queues of all harts represent stays
 abbrev pub QueuesStand : Type 0
 QueuesStand = (program : List (List Slot)) (w : World) (event : Event) → length program ≡ length w.harts → IsWellFormedWorld w →
@@ -49,9 +55,9 @@ QueuesStand = (program : List (List Slot)) (w : World) (event : Event) → lengt
 -- worlds are well-formed at the start, and where a run begins after a crash
 abbrev pub StartsStand : Type 0
 StartsStand =
-    (program : List (List Slot)) (locks : ℕ) (initial : List ℕ) →
-    IsWellFormedWorld (start_of program locks initial) × (length (start_of program locks initial).harts ≡ length program)
+    (log : Log) (program : List (List Slot)) (locks : ℕ) (initial : List ℕ) →
+    IsWellFormedWorld (start_of log program locks initial) × (length (start_of log program locks initial).harts ≡ length program)
 
 abbrev pub CrashesStand : Type 0
-CrashesStand = (program : List (List Slot)) (locks : ℕ) (words : List ℕ) → length words ≡ word_count (length program) →
-    IsWellFormedWorld (after_crash_of program locks words) × (length (after_crash_of program locks words).harts ≡ length program)
+CrashesStand = (log : Log) (program : List (List Slot)) (locks : ℕ) (words : List ℕ) → length words ≡ word_count log (length program) →
+    IsWellFormedWorld (after_crash_of log program locks words) × (length (after_crash_of log program locks words).harts ≡ length program)

@@ -2,6 +2,8 @@
 use Rattle.std.specs.Prelude.{ℕ, zero, suc, ◌+◌, ◌-◌, ◌*◌, ◌/◌, ◌%◌, ◌<◌, ◌≤◌, List, [], ◌∷◌, ◌++◌, map, length, slice_get}
 use Rattle.std.specs.Prelude.{slice_set, Option, Some, None, Bool, true, false, not, nat_lt, ◌==◌, ◌&&◌, if◌then◌else◌, replicate}
 use Rattle.ido_base.specs.declared.event.Event.{Event}
+use Rattle.ido_base.specs.declared.log.Log.{Log}
+use Rattle.ido_base.specs.declared.log.Log.TheVariants.{V1}
 use Rattle.ido_base.specs.declared.event.Event.TheVariants.{Step, Evict, Crash}
 use Rattle.ido_base.specs.declared.event.Reply.{Reply}
 use Rattle.ido_base.specs.declared.event.Reply.TheVariants.{Moved, Drained, Waits, Barrier, Still, Stuck, Device}
@@ -34,6 +36,8 @@ pub record World : Type 0 where
   pub holders : List (Option ℕ)
   -- whether there was a crash
   pub recovering : Bool
+  -- how its threads log
+  pub log : Log
 
 -- the world after an event, and the reply
 abbrev pub Outcome : Type 0
@@ -62,7 +66,8 @@ drain_one w h hart (e ∷ es) = (with_hart (record w { words = drained w.words e
 -- an access of so many bytes, where it may be made
 abbrev pub access : World → (address bytes : ℕ) → Outcome → Outcome
 access w address bytes outcome =
-    if in_range (length w.harts) address bytes then (if aligned address bytes then outcome else stuck w (Unaligned address)) else stuck w (Outside address)
+    if in_range w.log (length w.harts) address bytes then (if aligned address bytes then outcome else stuck w (Unaligned address))
+    else stuck w (Outside address)
 
 -- entries that a queue holds at most
 abbrev pub queue_limit : ℕ
@@ -133,8 +138,8 @@ abbrev pub live_at : List Word → (address : ℕ) → ℕ
 live_at words address = live_value (word_at words (word_number address))
 
 -- the durable point of a thread
-abbrev pub durable_point : List Word → (thread : ℕ) → ℕ
-durable_point words thread = durable_at words (point_at thread)
+abbrev pub durable_point : Log → List Word → (thread : ℕ) → ℕ
+durable_point log words thread = durable_at words (point_at log thread)
 
 -- a point is a resume address plus the number of a bank
 abbrev pub bank_of : (point : ℕ) → ℕ
@@ -144,12 +149,16 @@ abbrev pub resume_of : (point : ℕ) → ℕ
 resume_of point = point - point % 2
 
 -- what the point's bank holds in a slot
-abbrev pub recorded : List Word → (thread slot : ℕ) → ℕ
-recorded words thread slot = durable_at words (slot_at thread (bank_of (durable_point words thread)) slot)
+abbrev pub recorded : Log → List Word → (thread slot : ℕ) → ℕ
+recorded log words thread slot = durable_at words (slot_at log thread (bank_of (durable_point log words thread)) slot)
 
 -- the record of a thread: the locks that it held at its durable point, in the order in which recovery takes them
-abbrev pub record_of : List Word → (thread : ℕ) → List ℕ
-record_of words thread = if durable_point words thread == 0 then [] else locks_in (recorded words thread 0)
+abbrev pub record_of : Log → List Word → (thread : ℕ) → List ℕ
+record_of log words thread = if durable_point log words thread == 0 then [] else locks_of_bank log words thread
+  where
+    -- the locks of the point's bank
+    locks_of_bank : Log → List Word → ℕ → List ℕ
+    locks_of_bank V1 ws t = locks_in (recorded V1 ws t 0)
 
 -- takes the lock, or waits for it
 abbrev pub taken : World → ℕ → Hart → Option ℕ → Outcome
@@ -177,21 +186,25 @@ waited w h hart None = moved w h (record hart { phase = Resume })
 waited w h hart (Some taking) = (w, Barrier taking)
 
 -- register r as it is resumed: x0 is 0, x3 the bank's offset, all others as the bank has them
-abbrev pub resumed_register : List Word → (thread r : ℕ) → ℕ
-resumed_register words thread r =
+abbrev pub resumed_register : Log → List Word → (thread r : ℕ) → ℕ
+resumed_register log words thread r =
     if r == 0 then 0
-    else if r == 3 then bank_bytes * bank_of (durable_point words thread)
-    else recorded words thread r
+    else if r == 3 then bank_bytes log * bank_of (durable_point log words thread)
+    else recorded log words thread r
 
 -- the numbers from `at` on, so many
 abbrev pub numbers_from : (at count : ℕ) → List ℕ
 numbers_from at zero = []
 numbers_from at (suc count) = at ∷ numbers_from (at + 1) count
 
+-- all registers as they are resumed
+abbrev pub resumed_registers : Log → List Word → (thread : ℕ) → List ℕ
+resumed_registers V1 words thread = map (resumed_register V1 words thread) (numbers_from 0 32)
+
 abbrev pub resumed : World → ℕ → Hart → Outcome
 resumed w h hart = moved w h (record hart {
-  registers = map (resumed_register w.words h) (numbers_from 0 32);
-  pc = resume_of (durable_point w.words h);
+  registers = resumed_registers w.log w.words h;
+  pc = resume_of (durable_point w.log w.words h);
   phase = Run;
 })
 
@@ -212,7 +225,7 @@ run_step program w h hart =
 
 -- a step of hart h, by its phase
 abbrev pub phase_step : List (List Slot) → World → ℕ → Hart → Phase → Outcome
-phase_step program w h hart Take = taken w h hart (first_missing w.holders (record_of w.words h) h)
+phase_step program w h hart Take = taken w h hart (first_missing w.holders (record_of w.log w.words h) h)
 phase_step program w h hart Wait = waited w h hart (taking_from 0 w.harts)
 phase_step program w h hart Resume = resumed w h hart
 phase_step program w h hart Run = run_step program w h hart
@@ -233,23 +246,25 @@ abbrev pub phase_after_crash : (point : ℕ) → Phase
 phase_after_crash point = if point == 0 then Done else Take
 
 -- the world after a crash that left these words
-unfoldable pub after_crash_of : List (List Slot) → (locks : ℕ) → (words : List ℕ) → World
-after_crash_of program locks words =
+unfoldable pub after_crash_of : Log → List (List Slot) → (locks : ℕ) → (words : List ℕ) → World
+after_crash_of log program locks words =
     let kept = map word_of words in
     record {
       words = kept;
-      harts = map (λ thread. fresh_hart program (phase_after_crash (durable_point kept thread)) thread) (numbers_from 0 (length program));
+      harts = map (λ thread. fresh_hart program (phase_after_crash (durable_point log kept thread)) thread) (numbers_from 0 (length program));
       holders = replicate locks None;
       recovering = true;
+      log = log;
     }
 
 -- the world at the start
-unfoldable pub start_of : List (List Slot) → (locks : ℕ) → (initial : List ℕ) → World
-start_of program locks initial = record {
-  words = map word_of (initial_words (length program) initial);
+unfoldable pub start_of : Log → List (List Slot) → (locks : ℕ) → (initial : List ℕ) → World
+start_of log program locks initial = record {
+  words = map word_of (initial_words log (length program) initial);
   harts = map (fresh_hart program Run) (numbers_from 0 (length program));
   holders = replicate locks None;
   recovering = false;
+  log = log;
 }
 
 -- ---- Events
@@ -258,7 +273,7 @@ start_of program locks initial = record {
 unfoldable pub happens : List (List Slot) → World → Event → Outcome
 happens program w (Step h) = stepped program w h (slice_get w.harts h)
 happens program w (Evict line mask) = (record w { words = evicted w.words line mask }, Device)
-happens program w Crash = (after_crash_of program (length w.holders) (map durable_value w.words), Device)
+happens program w Crash = (after_crash_of w.log program (length w.holders) (map durable_value w.words), Device)
 
 abbrev pub after_event : List (List Slot) → World → Event → World
 after_event program w event = (happens program w event).0
@@ -272,18 +287,19 @@ after_events program w [] = w
 after_events program w (event ∷ events) = after_events program (after_event program w event) events
 
 -- the line exists, and its mask has eight bits
-abbrev pub IsEviction : (threads line mask : ℕ) → Type 0
-IsEviction threads line mask = (line < line_count threads) × (mask ≤ 255)
+abbrev pub IsEviction : Log → (threads line mask : ℕ) → Type 0
+IsEviction log threads line mask = (line < line_count log threads) × (mask ≤ 255)
 
 -- the event may happen to a machine of so many threads
-abbrev pub IsValidEvent : (threads : ℕ) → Event → Type 0
-IsValidEvent threads event = IsValid threads (IsEviction threads) event
+abbrev pub IsValidEvent : Log → (threads : ℕ) → Event → Type 0
+IsValidEvent log threads event = IsValid threads (IsEviction log threads) event
 
 -- the machine of an object at its start
 abbrev pub machine_start : Object → World
-machine_start object = start_of (program_of object) object.mutexes object.initial.items
+machine_start object = start_of object.log (program_of object) object.mutexes object.initial.items
 
 -- the machine of an object after events, begun after a crash that left these words of its variables and logs
 abbrev pub machine_from : Object → (words : List ℕ) → List Event → World
 machine_from object words events =
-    after_events (program_of object) (after_crash_of (program_of object) object.mutexes (spread_words (length object.initial.items / 8) words)) events
+    after_events (program_of object)
+    (after_crash_of object.log (program_of object) object.mutexes (spread_words (length object.initial.items / 8) words)) events

@@ -3,6 +3,7 @@ use Rattle.std.specs.Prelude.{ℕ, zero, suc, ◌+◌, List, [], ◌∷◌, ◌+
 use Rattle.std.specs.Prelude.{None, Bool, true, false, not, nat_lt, nat_le, ◌==◌, ◌&&◌, if◌then◌else◌, replicate, filter, sum_by}
 use Rattle.std.specs.List.{list_any}
 use Rattle.ido_base.specs.declared.event.Event.{Event}
+use Rattle.ido_base.specs.declared.log.Log.{Log}
 use Rattle.ido_base.specs.declared.event.Event.TheVariants.{Step, Evict, Crash}
 use Rattle.ido_base.specs.declared.event.Reply.{Reply}
 use Rattle.ido_base.specs.declared.event.Reply.TheVariants.{Moved, Drained, Waits, Barrier, Still, Stuck, Device}
@@ -63,13 +64,13 @@ completes test program w (Evict line mask) h = false
 completes test program w Crash h = false
 
 -- stores into the word of the thread's point
-abbrev pub is_point_store : (thread : ℕ) → Effect → Bool
-is_point_store thread (Stores address bytes value) = word_number address == word_number (point_at thread)
-is_point_store thread (Continues registers pc) = false
-is_point_store thread (Loads address bytes signed register) = false
-is_point_store thread (Cleans address) = false
-is_point_store thread Fences = false
-is_point_store thread Calls = false
+abbrev pub is_point_store : Log → (thread : ℕ) → Effect → Bool
+is_point_store log thread (Stores address bytes value) = word_number address == word_number (point_at log thread)
+is_point_store log thread (Continues registers pc) = false
+is_point_store log thread (Loads address bytes signed register) = false
+is_point_store log thread (Cleans address) = false
+is_point_store log thread Fences = false
+is_point_store log thread Calls = false
 
 abbrev pub is_fence : Effect → Bool
 is_fence Fences = true
@@ -81,7 +82,7 @@ is_fence Calls = false
 
 -- the event now stores the hart's point
 abbrev pub stores_point : List (List Slot) → World → Event → (h : ℕ) → Bool
-stores_point program w event h = completes (is_point_store h) program w event h
+stores_point program w event h = completes (is_point_store w.log h) program w event h
 
 -- the event now finishes a fence of the hart
 abbrev pub finishes_fence : List (List Slot) → World → Event → (h : ℕ) → Bool
@@ -148,9 +149,9 @@ abbrev pub durable_steps : (durable : ℕ) → List Bound → ℕ
 durable_steps durable bound = sum_by (λ b. if nat_le b.position durable then b.steps else 0) bound
 
 -- where the point of hart h has become durable, the steps bound to it are kept
-abbrev pub with_kept : List Word → (h : ℕ) → Steps → Steps
-with_kept words h s =
-    let durable = (word_at words (word_number (point_at h))).durable in
+abbrev pub with_kept : Log → List Word → (h : ℕ) → Steps → Steps
+with_kept log words h s =
+    let durable = (word_at words (word_number (point_at log h))).durable in
     let count = durable_steps durable (hart_steps s h).bound in
     record s {
       kept = s.kept ++ replicate count h;
@@ -159,21 +160,21 @@ with_kept words h s =
     }
 
 -- where the points of the first `count` harts have become durable, the steps bound to them are kept
-abbrev pub with_all_kept : List Word → (count : ℕ) → Steps → Steps
-with_all_kept words zero s = s
-with_all_kept words (suc h) s = with_kept words h (with_all_kept words h s)
+abbrev pub with_all_kept : Log → List Word → (count : ℕ) → Steps → Steps
+with_all_kept log words zero s = s
+with_all_kept log words (suc h) s = with_kept log words h (with_all_kept log words h s)
 
 -- what a step of hart h begins and binds
 abbrev pub with_step : List (List ℕ) → List (List Slot) → World → (h : ℕ) → Steps → Steps
 with_step marks program w h s =
     let started = if passes_mark marks program w h then with_begun h s else s in
     if stores_point program w (Step h) h
-    then with_bound h (last_position (word_at (after_event program w (Step h)).words (word_number (point_at h)))) started else started
+    then with_bound h (last_position (word_at (after_event program w (Step h)).words (word_number (point_at w.log h)))) started else started
 
 -- the steps after an event
 unfoldable pub steps_after : List (List ℕ) → List (List Slot) → World → Event → Steps → Steps
-steps_after marks program w (Step h) s = with_all_kept (after_event program w (Step h)).words (length s.harts) (with_step marks program w h s)
-steps_after marks program w (Evict line mask) s = with_all_kept (after_event program w (Evict line mask)).words (length s.harts) s
+steps_after marks program w (Step h) s = with_all_kept w.log (after_event program w (Step h)).words (length s.harts) (with_step marks program w h s)
+steps_after marks program w (Evict line mask) s = with_all_kept w.log (after_event program w (Evict line mask)).words (length s.harts) s
 steps_after marks program w Crash s = record s { pending = []; harts = replicate (length s.harts) no_steps }
 
 -- the steps after a list of events
@@ -189,7 +190,7 @@ first_steps threads kept = record { begun = []; kept = kept; pending = []; harts
 
 -- the hart holds nothing, and its live and durable points are 0
 abbrev pub is_settled_hart : World → (h : ℕ) → Bool
-is_settled_hart w h = holds_none w.holders h && ((durable_point w.words h == 0) && (live_at w.words (point_at h) == 0))
+is_settled_hart w h = holds_none w.holders h && ((durable_point w.log w.words h == 0) && (live_at w.words (point_at w.log h) == 0))
 
 -- the first `count` harts hold nothing, and their live and durable points are 0
 abbrev pub are_settled : World → (count : ℕ) → Bool

@@ -5,6 +5,7 @@ ghost use Rattle.rv64_isa.specs.Programs.{slot_of, slot_word};
 use crate::field::Register;
 use crate::instr::{Condition, Instr};
 use crate::word::{decode, encode};
+use ido_base::log::Log;
 
 /// A compiled program. Calls that need it ask that threads, mutexes, initial bytes and words are within the limits of an object
 /// (`IsWithinLimits`), which is no invariant of this type: at most
@@ -17,6 +18,8 @@ pub struct Object {
     pub initial: Vec<u8>,
     /// The number of mutexes.
     pub mutexes: u32,
+    /// How its threads log.
+    pub log: Log,
 }
 
 /// What a machine keeps of a code word: its instruction, or the word where it has none.
@@ -102,4 +105,6 @@ pub struct Code {
     pub initial: Vec<u8>,
     /// The number of mutexes.
     pub mutexes: u32,
+    /// How its threads log.
+    pub log: Log,
 }

@@ -49,12 +49,14 @@ pub fn link(alloc: Global, code: Code) -> Result<(Object, Marks), OutOfMemory>
     ensures linked { IfOk result (λ r. AreLinked code_base (map items_in code.threads.items) (program_of r.0) r.1.threads.items) }
     ensures initial { IfOk result (λ r. r.0.initial ≡ code.initial) }
     ensures mutexes { IfOk result (λ r. r.0.mutexes ≡ code.mutexes) }
+    ensures log { IfOk result (λ r. r.0.log ≡ code.log) }
 {
     let threads = link_threads(alloc, &code.threads)?;
     let object = Object {
         code: threads.code,
         initial: code.initial,
         mutexes: code.mutexes,
+        log: code.log,
     };
     let marks = Marks {
         threads: threads.marks,

@@ -69,7 +69,7 @@ module _ (p : Plan) (t : Thread) (c : Places) where
 
   -- a boundary that keeps what is live at the entry of the node
   abbrev pub keeping : (node : ℕ) → Boundary
-  keeping node = record { thread = t.number; locks = locks_before p t node; live = c.live node; resume = pos 0 }
+  keeping node = record { log = p.log; thread = t.number; locks = locks_before p t node; live = c.live node; resume = pos 0 }
 
   -- from an address the code leads to an address, within as many instructions as the node has words
   abbrev pub Passing : Entrance → (from to : ℕ) → List Observation → (has : List ℕ → Type 0) → Type 0

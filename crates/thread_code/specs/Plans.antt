@@ -1,6 +1,7 @@
 -- What the code of threads is made of.
 use Rattle.std.specs.Prelude.{◌≡◌, ◌↔◌, ℕ, ◌+◌, ◌-◌, ◌<◌, ◌≤◌, List, [], ◌∷◌, map, length, slice_get, slice_index, slice_index_or, Contains, Some, None, Bool}
 use Rattle.std.specs.Prelude.{if◌then◌else◌}
+use Rattle.ido_base.specs.declared.log.Log.{Log}
 use Rattle.ido_base.specs.Layout.{variable_at}
 use Rattle.ido_ints.specs.declared.kinds.Kind.{Kind}
 use Rattle.c_tree.specs.Flats as f
@@ -27,6 +28,8 @@ pub record Plan : Type 0 where
   pub held : List (List (List Bool))
   pub live : List (List ℕ)
   pub colours : Colouring
+  -- how its threads log
+  pub log : Log
 
 -- a thread of a plan
 pub record Thread : Type 0 where

@@ -39,10 +39,10 @@ IsPendingIn p (Lock mutex next) seen registers = Unit {0}
 IsPendingIn p (Unlock mutex next) seen registers = Unit {0}
 IsPendingIn p End seen registers = Unit {0}
 
--- a thread whose locals and pending store are these may enter a node's code with these registers, where its point is in this side: it has
+-- a thread whose locals and pending store are these may enter a node's code with these registers, where its log's side in use is this one: it has
 -- a number for each of its locals, and each that is live there is in its register
 pub record Enters (p : Plan) (t : Thread) (node : ℕ) (seen : Seen) (side : ℕ) (registers : List ℕ) : Type 0 where
-  pub at_side : IsOnSide side registers
+  pub at_side : IsOnSide p.log side registers
   pub count : length seen.locals ≡ length t.kinds
   pub locals : (local : ℕ) (k : Kind) → slice_get t.kinds local ≡ Some k → IsLive p.graph local node →
       Carries registers (slice_index t.registers local) (typed k (slice_index_or seen.locals local (pos 0)))

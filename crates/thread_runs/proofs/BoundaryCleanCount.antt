@@ -2,10 +2,12 @@
 use Rattle.std.proofs.Common.{◌-◌, ◌≡◌, ℕ, suc, ◌+◌, ◌*◌, ◌%◌, ◌^◌, ◌≤◌, List, [], ◌∷◌, ◌++◌, length, map, arith, Bool, true, false}
 use Rattle.std.specs.Prelude.{filter, ◌==◌, ◌/◌, if◌then◌else◌}
 use Rattle.std.specs.List.{list_any}
+use Rattle.ido_base.specs.declared.log.Log.{Log}
+use Rattle.ido_base.specs.declared.log.Log.TheVariants.{V1}
 use Rattle.ido_base.specs.Layout.{slot_at}
 use Rattle.rv64_isa.specs.Rows.{Effect, Stores, Cleans, read}
 use Rattle.code_runs.specs.CodeTraces.{seen_effects}
-use Rattle.boundary_code.specs.Boundaries.{Boundary, lines_in_use, bank_effects, commit_effects, boundary_effects, is_empty}
+use Rattle.boundary_code.specs.Boundaries.{Boundary, bank_lines, kept_locks, slots_kept, lines_in_use, bank_effects, commit_effects, boundary_effects, is_empty}
 use Rattle.hart_runs.specs.RunSteps.{cleans_in}
 
 filter_short : (test : ℕ → Bool) (xs : List ℕ) → length (filter test xs) ≤ length xs
@@ -20,30 +22,42 @@ both : (xs zs : List Effect) → cleans_in (seen_effects (xs ++ zs)) ≡ cleans_
 both [] zs = omega arith
 both (x ∷ xs) zs = let more = both xs zs in omega (arith, more)
 
-module _ (thread bank : ℕ) (x : List ℕ) where
-  stores_none : (rs : List ℕ) → cleans_in (seen_effects (map (λ (r : ℕ). Stores (slot_at thread bank r) 8 (read x r)) rs)) ≡ 0
-  stores_none [] = omega arith
-  stores_none (r ∷ rs) = let more = stores_none rs in omega (arith, more)
+stores_none : {A : Type 0} (address value : A → ℕ) (xs : List A) → cleans_in (seen_effects (map (λ (a : A). Stores (address a) 8 (value a)) xs)) ≡ 0
+stores_none address value [] = omega arith
+stores_none address value (x ∷ xs) = let more = stores_none address value xs in omega (arith, more)
 
-  cleans_each : (lines : List ℕ) → cleans_in (seen_effects (map (λ (line : ℕ). Cleans (slot_at thread bank (8 * line))) lines)) ≡ length lines
-  cleans_each [] = omega arith
-  cleans_each (line ∷ lines) = let more = cleans_each lines in omega (arith, more)
+cleans_each : (address : ℕ → ℕ) (lines : List ℕ) → cleans_in (seen_effects (map (λ (line : ℕ). Cleans (address line)) lines)) ≡ length lines
+cleans_each address [] = omega arith
+cleans_each address (line ∷ lines) = let more = cleans_each address lines in omega (arith, more)
+
+-- a bank has four lines at most
+few_lines : (log : Log) → length (bank_lines log) ≤ 4
+few_lines V1 = omega arith
+
+bank_cleans : (b : Boundary) (bank : ℕ) (x : List ℕ) → cleans_in (seen_effects (bank_effects b bank x)) ≤ 4
+bank_cleans b bank x =
+    let at : ℕ → ℕ = slot_at b.log b.thread bank in
+    let slots : List ℕ = slots_kept b.log b.locks b.live in
+    let locks = map (λ (kept : ℕ × ℕ). Stores (at kept.0) 8 kept.1) (kept_locks b.log b.locks) in
+    let registers = map (λ (r : ℕ). Stores (at r) 8 (read x r)) b.live in
+    let lines = map (λ (line : ℕ). Cleans (at (8 * line))) (lines_in_use b.log slots) in
+    let zeroth : cleans_in (seen_effects locks) ≡ 0 =
+    stores_none (λ (kept : ℕ × ℕ). at kept.0) (λ (kept : ℕ × ℕ). kept.1) (kept_locks b.log b.locks) in
+    let first : cleans_in (seen_effects registers) ≡ 0 = stores_none at (λ (r : ℕ). read x r) b.live in
+    let each : cleans_in (seen_effects lines) ≡ length (lines_in_use b.log slots) = cleans_each (λ (line : ℕ). at (8 * line)) (lines_in_use b.log slots) in
+    let short : length (lines_in_use b.log slots) ≤ length (bank_lines b.log) =
+    filter_short (λ (line : ℕ). list_any (λ (slot : ℕ). slot / 8 == line) slots) (bank_lines b.log) in
+    let stored : cleans_in (seen_effects (locks ++ registers)) ≡ cleans_in (seen_effects locks) + cleans_in (seen_effects registers) = both locks registers in
+    let all : cleans_in (seen_effects ((locks ++ registers) ++ lines)) ≡ cleans_in (seen_effects (locks ++ registers)) + cleans_in (seen_effects lines) =
+    both (locks ++ registers) lines in
+    omega (arith, zeroth, first, each, short, stored, all, few_lines b.log)
 
 pub few_cleans : (b : Boundary) (side resume : ℕ) (x : List ℕ) → cleans_in (seen_effects (boundary_effects b side resume x)) ≤ 5
 few_cleans b side resume x = by (is_empty b.locks)
   where
-    whole : cleans_in (seen_effects (bank_effects b (1 - side) x ++ commit_effects b.thread ((resume + (1 - side)) % 2 ^ 64))) ≤ 5
-    whole =
-        let slots = map (λ (r : ℕ). Stores (slot_at b.thread (1 - side) r) 8 (read x r)) b.live in
-        let lines = map (λ (line : ℕ). Cleans (slot_at b.thread (1 - side) (8 * line))) (lines_in_use (0 ∷ b.live)) in
-        let parts = both (bank_effects b (1 - side) x) (commit_effects b.thread ((resume + (1 - side)) % 2 ^ 64)) in
-        let bank_parts = both slots lines in
-        let none = stores_none b.thread (1 - side) x b.live in
-        let each = cleans_each b.thread (1 - side) x (lines_in_use (0 ∷ b.live)) in
-        let short = filter_short (λ (line : ℕ). list_any (λ (slot : ℕ). slot / 8 == line) (0 ∷ b.live)) (0 ∷ 1 ∷ 2 ∷ 3 ∷ []) in
-        omega (arith, parts, bank_parts, none, each, short)
-
-    by : (none : Bool) → cleans_in (seen_effects (if none then commit_effects b.thread 0
-        else bank_effects b (1 - side) x ++ commit_effects b.thread ((resume + (1 - side)) % 2 ^ 64))) ≤ 5
+    by : (none : Bool) → cleans_in (seen_effects (if none then commit_effects b.log b.thread 0
+        else bank_effects b (1 - side) x ++ commit_effects b.log b.thread ((resume + (1 - side)) % 2 ^ 64))) ≤ 5
     by true = omega arith
-    by false = whole
+    by false =
+        let parts = both (bank_effects b (1 - side) x) (commit_effects b.log b.thread ((resume + (1 - side)) % 2 ^ 64)) in
+        omega (arith, parts, bank_cleans b (1 - side) x)

@@ -20,7 +20,7 @@ use Rattle.thread_runs.proofs.Boundaries.{boundary_may, boundary_apart}
 -- a hart at a local config stands on the run that begins there
 pub sets_out : (w : World) (h : ℕ) (s : MarkedEnvironment) (steps : ℕ) (seen : List Observation) (m to : LocalConfig) (at : IsRunningAt w h m) →
     Trace s steps m seen to →
-    MayGo (length w.harts) seen → IsOnTrace w h s steps seen to
+    MayGo w.log (length w.harts) seen → IsOnTrace w h s steps seen to
 sets_out w h s steps seen m to at walks may = record {
   hart = at.hart;
   here = at.here;
@@ -34,7 +34,7 @@ module _ (p : Plan) (t : Thread) (c : Places) (program : List (List Slot)) (w : 
   -- where the code goes through a fragment, the hart is in it
   pub on_fragment : (stage : Stage) (most from : ℕ) (registers : List ℕ) (effects : List Effect) → IsNodeOf t stage.node →
       IsInGraph p t c stage.exit stage.node →
-      AreEffectsApart s effects → MayGo (length w.harts) (seen_effects effects) → IsRunningAt w h (config registers from) →
+      AreEffectsApart s effects → MayGo w.log (length w.harts) (seen_effects effects) → IsRunningAt w h (config registers from) →
       GoesThrough s (record { registers = registers; from = from; to = end_of p t c stage.exit stage.node; most = most }) (seen_effects effects)
       (λ (x : List ℕ). Has p t c stage.exit stage.node stage.seen stage.side x) → IsOnSomeFragment p t c (on_machine program w h s) stage most effects
   on_fragment stage most from registers effects own graph apart may at goes = record {
@@ -70,7 +70,7 @@ arrivals_end p t program own code w h s node seen side effects placed reads is f
           (boundary_effects (keeping p t c node) side (c.core node) fragment.registers) fragment.own tt
           (boundary_apart (length w.harts) s (keeping p t c node) side (c.core node) fragment.registers reads placed.number
           (λ r q. placed.slots node r fragment.own q))
-          (boundary_may (length w.harts) (keeping p t c node) side (c.core node) fragment.registers placed.number
+          (boundary_may w.log (length w.harts) (keeping p t c node) side (c.core node) fragment.registers placed.log placed.number
           (λ r q. placed.slots node r fragment.own q))
           at (of_node.chosen k m refl (record { meets = fragment.meets; own = fragment.own; enters = fragment.has }));
       plain = λ k. record {

@@ -28,7 +28,7 @@ seen_lockstep w h s steps seen other to e on = record {
   here = on.here;
   runs = on.runs;
   walks = subst (λ (x : List Observation). Trace s steps (config on.hart.registers on.hart.pc) x to) e on.walks;
-  may = subst (λ (x : List Observation). MayGo (length w.harts) x) e on.may;
+  may = subst (λ (x : List Observation). MayGo w.log (length w.harts) x) e on.may;
 }
 
 module _ (p : Plan) (t : Thread) (c : Places) (program : List (List Slot)) (w : World) (h : ℕ) (s : MarkedEnvironment) (stage : Stage) (steps : ℕ)

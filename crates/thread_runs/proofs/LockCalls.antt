@@ -29,7 +29,8 @@ use Rattle.thread_runs.proofs.Boundaries.{boundary_may, boundary_apart}
 use Rattle.thread_runs.proofs.FragmentStarts.{on_fragment, contains_first}
 use Rattle.thread_runs.proofs.RunObservations.{mark_of_machine}
 use Rattle.thread_runs.proofs.Graph.{mark_there}
-use Rattle.thread_runs.proofs.ThreadsAtCalls.{agrees_on, words_stay, count_stays, has_moved_by, and_right, pc_is, registers_are, call_there, boundary_after_is}
+use Rattle.thread_runs.proofs.ThreadsAtCalls.{agrees_on, words_stay, count_stays, log_stays, has_moved_by}
+use Rattle.thread_runs.proofs.ThreadsAtCalls.{and_right, pc_is, registers_are, call_there, boundary_after_is}
 
 module _ (p : Plan) (t : Thread) (program : List (List Slot)) (own : Program) (code : IsThreadCode p t own) (w : World) (h : ℕ) (s : MarkedEnvironment)
     (node mutex next : ℕ) (seen : Seen) (side : ℕ) (effects : List Effect) (counts : r.CallsCount)
@@ -71,7 +72,7 @@ module _ (p : Plan) (t : Thread) (program : List (List Slot)) (own : Program) (c
       (k.acquires_wait program w h holder at_call (ap (λ (l : ℕ). slice_get w.holders l) lock_is ∙ held)) in
       (does, λ marks. (counts program w h takes at_call).0 marks ∙ ap (λ (o : Outcome). has_moved o.1 && is_mark marks h hart.pc) does)
 
-  module _ (placed : IsPlaced p t c (length w.harts)) (reads : ReadsVariables s) (free : slice_get w.holders mutex ≡ Some None) where
+  module _ (placed : IsPlaced p t c w.log (length w.harts)) (reads : ReadsVariables s) (free : slice_get w.holders mutex ≡ Some None) where
     does : happens program w (Step h) ≡ moved (with_holder w mutex (Some h)) h (gone_on hart)
     does = subst (λ (l : ℕ). happens program w (Step h) ≡ moved (with_holder w l (Some h)) h (gone_on hart)) lock_is
         (k.acquires_take program w h at_call (ap (λ (l : ℕ). slice_get w.holders l) lock_is ∙ free))
@@ -82,6 +83,9 @@ module _ (p : Plan) (t : Thread) (program : List (List Slot)) (own : Program) (c
     same_count : length v.harts ≡ length w.harts
     same_count = count_stays program w (with_holder w mutex (Some h)) h (gone_on hart) does refl
 
+    same_log : v.log ≡ w.log
+    same_log = log_stays program w (with_holder w mutex (Some h)) h (gone_on hart) does refl
+
     after : IsRunningAt v h (config fragment.registers (c.call node + 4))
     after = subst (λ (m : LocalConfig). IsRunningAt v h m)
         (boundary_after_is program c w h s fragment.meets fragment.agrees node takes calling.0 fragment.registers hart fragment.on.here fragment.on.runs
@@ -89,7 +93,8 @@ module _ (p : Plan) (t : Thread) (program : List (List Slot)) (own : Program) (c
         (moved_harts_begin program w (with_holder w mutex (Some h)) h hart (gone_on hart) fragment.on.here does fragment.on.runs)
 
     agrees_after : Agrees program v h s
-    agrees_after = agrees_on program w v h s (words_stay program w (with_holder w mutex (Some h)) h (gone_on hart) does refl) same_count fragment.agrees
+    agrees_after =
+        agrees_on program w v h s (words_stay program w (with_holder w mutex (Some h)) h (gone_on hart) does refl) same_count same_log fragment.agrees
 
     own_next : IsNodeOf t next
     own_next = placed.closed node next lock.is lock.own lock.at (subst (λ (a : Action). Contains (successors a) next) (sym lock.locks) (contains_first next []))
@@ -109,8 +114,8 @@ module _ (p : Plan) (t : Thread) (program : List (List Slot)) (own : Program) (c
           fragment.registers (boundary_effects (keeping p t c next) side (c.after node) fragment.registers) own_next (mutex, lock)
           (boundary_apart (length w.harts) s (keeping p t c next) side (c.after node) fragment.registers reads placed.number
           (λ r q. placed.slots next r own_next q))
-          (subst (λ (n : ℕ). MayGo n (seen_effects (boundary_effects (keeping p t c next) side (c.after node) fragment.registers))) (sym same_count)
-          (boundary_may (length w.harts) (keeping p t c next) side (c.after node) fragment.registers placed.number
+          (subst (λ (n : ℕ). MayGo v.log n (seen_effects (boundary_effects (keeping p t c next) side (c.after node) fragment.registers))) (sym same_count)
+          (boundary_may v.log (length w.harts) (keeping p t c next) side (c.after node) fragment.registers (placed.log ∙ sym same_log) placed.number
           (λ r q. placed.slots next r own_next q)))
           after
           (calling.2 (record { environment = s; node = node; seen = seen; side = side; registers = fragment.registers }) fragment.meets refl

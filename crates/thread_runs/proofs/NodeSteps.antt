@@ -3,7 +3,8 @@ use Rattle.std.proofs.Common.{◌≡◌, ◌⊎◌, inl, inr, ℕ, zero, suc, �
 use Rattle.std.proofs.Common.{true, false, Some}
 use Rattle.std.specs.Prelude.{◌&&◌, ◌||◌, ◌*◌, nat_le}
 use Rattle.std.proofs.lemmas.Bool.{cond_both, or_cases, and_parts, leb-true, le-leb}
-use Rattle.ido_base.specs.Layout.{in_range, aligned, variable_at, variables_base, logs_base}
+use Rattle.ido_base.specs.declared.log.Log.{Log}
+use Rattle.ido_base.specs.Layout.{in_range, aligned, variable_at, variables_base, logs_base, line_bytes, log_lines}
 use Rattle.ido_ints.specs.declared.kinds.Kind.{Kind}
 use Rattle.ido_ints.specs.Kinds.{bytes_of}
 use Rattle.c_tree.specs.Source.{Pending}
@@ -40,8 +41,8 @@ first_true : (a b : Bool) → a ≡ true → (a || b) ≡ true
 first_true true b e = refl
 first_true false b e = absurd (let z : ⊥ = cc in z)
 
-byte_in_range : (threads address bytes : ℕ) → 1 ≤ bytes → in_range threads address bytes ≡ true → in_range threads address 1 ≡ true
-byte_in_range threads address bytes one inside = by (or_cases _ _ inside)
+byte_in_range : (log : Log) (threads address bytes : ℕ) → 1 ≤ bytes → in_range log threads address bytes ≡ true → in_range log threads address 1 ≡ true
+byte_in_range log threads address bytes one inside = by (or_cases _ _ inside)
   where
     lower : (low high : ℕ) → (nat_le low address && nat_le (address + bytes) high) ≡ true → (nat_le low address && nat_le (address + 1) high) ≡ true
     lower low high e =
@@ -50,21 +51,23 @@ byte_in_range threads address bytes one inside = by (or_cases _ _ inside)
         both_true (nat_le low address) (nat_le (address + 1) high) h.0 (le-leb (address + 1) high (omega (arith, top, one)))
 
     by : ((nat_le variables_base address && nat_le (address + bytes) (variables_base + 65536)) ≡ true) ⊎
-        ((nat_le logs_base address && nat_le (address + bytes) (logs_base + 1024 * threads)) ≡ true) → in_range threads address 1 ≡ true
+        ((nat_le logs_base address && nat_le (address + bytes) (logs_base + line_bytes * log_lines log * threads)) ≡ true) →
+        in_range log threads address 1 ≡ true
     by (inl e) = first_true (nat_le variables_base address && nat_le (address + 1) (variables_base + 65536))
-        (nat_le logs_base address && nat_le (address + 1) (logs_base + 1024 * threads)) (lower variables_base (variables_base + 65536) e)
+        (nat_le logs_base address && nat_le (address + 1) (logs_base + line_bytes * log_lines log * threads)) (lower variables_base (variables_base + 65536) e)
     by (inr e) = second_true (nat_le variables_base address && nat_le (address + 1) (variables_base + 65536))
-        (nat_le logs_base address && nat_le (address + 1) (logs_base + 1024 * threads)) (lower logs_base (logs_base + 1024 * threads) e)
+        (nat_le logs_base address && nat_le (address + 1) (logs_base + line_bytes * log_lines log * threads))
+        (lower logs_base (logs_base + line_bytes * log_lines log * threads) e)
 
 is_some_bytes : (bytes : ℕ) → is_width bytes ≡ true → 1 ≤ bytes
 is_some_bytes zero e = absurd (let z : ⊥ = cc in z)
 is_some_bytes (suc n) e = omega arith
 
-line_of_access : (threads address bytes : ℕ) → is_access threads address bytes ≡ true → in_range threads address 1 ≡ true
-line_of_access threads address bytes e =
+line_of_access : (log : Log) (threads address bytes : ℕ) → is_access log threads address bytes ≡ true → in_range log threads address 1 ≡ true
+line_of_access log threads address bytes e =
     let h = and_parts (is_width bytes) _ e in
-    let k = and_parts (in_range threads address bytes) (aligned address bytes) h.1 in
-    byte_in_range threads address bytes (is_some_bytes bytes h.0) k.0
+    let k = and_parts (in_range log threads address bytes) (aligned address bytes) h.1 in
+    byte_in_range log threads address bytes (is_some_bytes bytes h.0) k.0
 
 -- ---- Traces that begin with a mark
 
@@ -78,7 +81,7 @@ cleans_lockstep true effect = refl
 cleans_lockstep false effect = refl
 
 module _ (p : Plan) (t : Thread) (program : List (List Slot)) (own : Program) (code : IsThreadCode p t own) (w : World) (h : ℕ) (s : MarkedEnvironment)
-    (node : ℕ) (seen : Seen) (side : ℕ) (registers : List ℕ) (is : Node) (placed : IsPlaced p t code.places (length w.harts))
+    (node : ℕ) (seen : Seen) (side : ℕ) (registers : List ℕ) (is : Node) (placed : IsPlaced p t code.places w.log (length w.harts))
     (meets : Meets code.places.program s) (agrees : Agrees program w h s) (reads : ReadsVariables s) (found : NodeAt p.graph node is)
     (answered : IsAnswered (source_of p t seen) s.around.loads is.action) (at : IsAtCore p t code.places w h node seen side registers) where
   abbrev c : Places
@@ -95,7 +98,7 @@ module _ (p : Plan) (t : Thread) (program : List (List Slot)) (own : Program) (c
       GoesThrough s (record { registers = registers; from = c.core node; to = end_of p t c stage.exit stage.node; most = c.words node })
       (Mark ∷ seen_effects effects)
       (λ (x : List ℕ). Has p t c stage.exit stage.node stage.seen stage.side x) →
-      IsNodeOf t stage.node → IsInGraph p t c stage.exit stage.node → AreEffectsApart s effects → MayGo (length w.harts) (seen_effects effects) →
+      IsNodeOf t stage.node → IsInGraph p t c stage.exit stage.node → AreEffectsApart s effects → MayGo w.log (length w.harts) (seen_effects effects) →
       ((effect : Effect) → effect_at program h at.at.hart ≡ Some effect → IsMadeBy p t c e effect) → AreSeen p t c node side registers e effects →
       IsAtSomeMark p t c (on_machine program w h s) node seen side registers e
   at_mark e stage effects after eq plain goes own_next graph apart may made are_seen =
@@ -135,7 +138,7 @@ module _ (p : Plan) (t : Thread) (program : List (List Slot)) (own : Program) (c
   -- ---- By the effect
 
   makes : (store : Pending) (next : ℕ) → effect_of is.action seen ≡ Some (a.Makes store next) → (k : Kind) →
-      kind_at p.flat.variables store.variable ≡ Some k → MayBeMade p t c (length w.harts) s k store →
+      kind_at p.flat.variables store.variable ≡ Some k → MayBeMade p t c w.log (length w.harts) s k store →
       IsAtSomeMark p t c (on_machine program w h s) node seen side registers (a.Makes store next)
   makes store next eq k kind may =
       let address : ℕ = variable_at (map shape_of p.flat.variables) store.variable store.element in
@@ -152,8 +155,8 @@ module _ (p : Plan) (t : Thread) (program : List (List Slot)) (own : Program) (c
       (follows (a.Makes store next) next eq refl) tt
       (may.apart, cond_both (c.cleans node) (clean ∷ []) [] (λ (es : List Effect). AreEffectsApart s es) (λ _. (tt, tt)) (λ _. tt)) (
         may.access,
-        cond_both (c.cleans node) (clean ∷ []) [] (λ (es : List Effect). MayGo (length w.harts) (seen_effects es))
-            (λ _. (line_of_access (length w.harts) address (bytes_of k) may.access, tt)) (λ _. tt),
+        cond_both (c.cleans node) (clean ∷ []) [] (λ (es : List Effect). MayGo w.log (length w.harts) (seen_effects es))
+            (λ _. (line_of_access w.log (length w.harts) address (bytes_of k) may.access, tt)) (λ _. tt),
       )
       made
       (λ other there. ap (λ (x : Kind). store_of p t c x store value ∷ cleans_of p t c node store)
@@ -175,7 +178,7 @@ module _ (p : Plan) (t : Thread) (program : List (List Slot)) (own : Program) (c
                 ∙ (ap (λ (x : LocalConfig). row st.instr x.registers x.pc) at.at.is ∙ st.does);
           }
 
-  begins : (e : a.Effect) → effect_of is.action seen ≡ Some e → MayDo p t c (length w.harts) s e →
+  begins : (e : a.Effect) → effect_of is.action seen ≡ Some e → MayDo p t c w.log (length w.harts) s e →
       Performing p t c (on_machine program w h s) node seen side registers e
   begins (a.Sets local number next) eq may =
       at_mark (a.Sets local number next) (stage_after p t c node seen side (a.Sets local number next)) [] refl eq refl
@@ -197,7 +200,7 @@ module _ (p : Plan) (t : Thread) (program : List (List Slot)) (own : Program) (c
       (record { own = at.own; is = is; at = found; unlocks = gives_unlock is.action seen mutex next eq })
       (boundary_apart (length w.harts) s (keeping p t c next) side (c.after node) registers reads placed.number
       (λ r q. placed.slots next r of_next q))
-      (boundary_may (length w.harts) (keeping p t c next) side (c.after node) registers placed.number
+      (boundary_may w.log (length w.harts) (keeping p t c next) side (c.after node) registers placed.log placed.number
       (λ r q. placed.slots next r of_next q))
       (λ effect k. tt) refl
   begins a.Ends eq may =

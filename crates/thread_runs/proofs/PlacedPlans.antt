@@ -48,7 +48,8 @@ closed p t plan thread node next is own found goes =
     record { from_first = there.0; below_end = there.1 }
 
 pub plans_are_placed : PlansArePlaced
-plans_are_placed p t c threads plan thread kept number room = record {
+plans_are_placed p t c log threads plan thread kept logs number room = record {
+  log = logs;
   number = number;
   room = room;
   closed = closed p t plan thread;

@@ -19,7 +19,7 @@ use Rattle.thread_runs.specs.Laws.{node_resumed, AreResumed, IsUnderFragment, at
 use Rattle.thread_runs.proofs.FragmentStarts.{locks_go_on, unlocks_go_on, contains_first}
 
 module _ (p : Plan) (t : Thread) (program : List (List Slot)) (own : Program) (code : IsThreadCode p t own) (w : World) (h : ℕ) (s : MarkedEnvironment)
-    (seen : Seen) (side : ℕ) (registers : List ℕ) (placed : IsPlaced p t code.places (length w.harts)) (meets : Meets code.places.program s)
+    (seen : Seen) (side : ℕ) (registers : List ℕ) (placed : IsPlaced p t code.places w.log (length w.harts)) (meets : Meets code.places.program s)
     (agrees : Agrees program w h s) where
   abbrev c : Places
   c = code.places

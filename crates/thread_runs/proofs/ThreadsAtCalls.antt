@@ -3,6 +3,7 @@ use Rattle.std.proofs.Common.{◌≡◌, ℕ, zero, suc, ◌+◌, ◌*◌, ◌^�
 use Rattle.std.specs.Prelude.{slice_get, ◌&&◌}
 use Rattle.std.proofs.Math.Nat.{mod-eq_of_lt}
 use Rattle.std.proofs.Math.ListN.{length-set}
+use Rattle.ido_base.specs.declared.log.Log.{Log}
 use Rattle.ido_base.specs.declared.event.Event.TheVariants.{Step}
 use Rattle.ido_base.specs.Layout.{byte_number}
 use Rattle.ido_base.specs.Words.{Word, loaded}
@@ -38,18 +39,18 @@ next_is program address instr st room =
 
 -- ---- The world after a call
 
--- an environment agrees where words and the count of harts stay
+-- an environment agrees where words, the count of harts and the log stay
 pub agrees_on : (program : List (List Slot)) (w v : World) (h : ℕ) (s : MarkedEnvironment) → v.words ≡ w.words → length v.harts ≡ length w.harts →
-    Agrees program w h s →
+    v.log ≡ w.log → Agrees program w h s →
     Agrees program v h s
-agrees_on program w v h s words count agrees = record {
+agrees_on program w v h s words count log agrees = record {
   fetches = agrees.fetches;
   loads = λ address bytes value e. given address bytes value (agrees.loads address bytes value e);
 }
   where
     given : (address bytes value : ℕ) → LoadGives w address bytes value → LoadGives v address bytes value
     given address bytes value g = record {
-      may = ap (λ (n : ℕ). is_access n address bytes) count ∙ g.may;
+      may = ap (λ (l : Log). is_access l (length v.harts) address bytes) log ∙ (ap (λ (n : ℕ). is_access w.log n address bytes) count ∙ g.may);
       is = ap (λ (ws : List Word). loaded ws (byte_number address) bytes) words ∙ g.is;
     }
 
@@ -59,6 +60,9 @@ module _ (program : List (List Slot)) (w v : World) (h : ℕ) (after : Hart) (do
 
   pub count_stays : v.harts ≡ w.harts → length (after_event program w (Step h)).harts ≡ length w.harts
   count_stays e = ap (λ (o : Outcome). length o.0.harts) does ∙ (length-set v.harts h after ∙ ap (λ (hs : List Hart). length hs) e)
+
+  pub log_stays : v.log ≡ w.log → (after_event program w (Step h)).log ≡ w.log
+  log_stays e = ap (λ (o : Outcome). o.0.log) does ∙ e
 
   pub has_moved_by : has_moved (reply_to program w (Step h)) ≡ true
   has_moved_by = ap (λ (o : Outcome). has_moved o.1) does

@@ -23,10 +23,10 @@ use Rattle.thread_runs.specs.CodeFragments as ways
 use Rattle.thread_runs.specs.CodeFragments.{ReadsVariables, IsLockOf, IsUnlockOf, IsOnFragment, IsPlaced, on_machine}
 use Rattle.thread_runs.specs.Laws.{GivesMutex, UnlocksGive, EndsEnd}
 use Rattle.thread_runs.proofs.RunObservations.{mark_of_machine, none_marked}
-use Rattle.thread_runs.proofs.ThreadsAtCalls.{agrees_on, words_stay, count_stays, and_none, pc_is, registers_are, call_there, boundary_after_is}
+use Rattle.thread_runs.proofs.ThreadsAtCalls.{agrees_on, words_stay, count_stays, log_stays, and_none, pc_is, registers_are, call_there, boundary_after_is}
 
 module _ (p : Plan) (t : Thread) (program : List (List Slot)) (own : Program) (code : IsThreadCode p t own) (w : World) (h : ℕ) (s : MarkedEnvironment)
-    (from mutex next : ℕ) (seen : Seen) (side : ℕ) (effects : List Effect) (counts : r.CallsCount) (placed : IsPlaced p t code.places (length w.harts))
+    (from mutex next : ℕ) (seen : Seen) (side : ℕ) (effects : List Effect) (counts : r.CallsCount) (placed : IsPlaced p t code.places w.log (length w.harts))
     (fragment : IsOnFragment p t code.places (on_machine program w h s)
     (record { exit = ways.Gives from mutex; node = next; seen = seen; side = side }) 0 effects)
     (held : slice_get w.holders mutex ≡ Some (Some h)) where
@@ -80,7 +80,7 @@ module _ (p : Plan) (t : Thread) (program : List (List Slot)) (own : Program) (c
   gives_it = record {
     does = does;
     agrees = agrees_on program w v h s (words_stay program w (with_holder w mutex None) h after does refl)
-        (count_stays program w (with_holder w mutex None) h after does refl) fragment.agrees;
+        (count_stays program w (with_holder w mutex None) h after does refl) (log_stays program w (with_holder w mutex None) h after does refl) fragment.agrees;
     at = λ runs. subst (λ (m : LocalConfig). IsRunningAt v h m)
         (boundary_after_is program c w h s fragment.meets fragment.agrees from gives calling.0 fragment.registers hart fragment.on.here fragment.on.runs
         fragment.on.walks.0 fragment.has.call placed.room

@@ -1,6 +1,7 @@
 -- Worked rows: a thread that has its end alone.
 use Rattle.std.proofs.Common.{◌≡◌, ℕ, ◌+◌, ◌*◌, List, [], ◌∷◌, replicate, refl, arith, Bool, true, false, Option, Some, None}
 use Rattle.std.specs.Prelude.{slice_get, slice_set}
+use Rattle.ido_base.specs.declared.log.Log.TheVariants.{V1}
 use Rattle.ido_base.specs.declared.place.Place.{Place}
 use Rattle.ido_base.specs.declared.event.Event.TheVariants.{Step}
 use Rattle.rv64_isa.specs.declared.instr.Instr.TheVariants.{OpImmediate, Ecall}
@@ -37,7 +38,7 @@ abbrev registers : (seventeen : ℕ) → List ℕ
 registers seventeen = slice_set (replicate 32 0) 17 seventeen
 
 abbrev w : World
-w = record { words = []; harts = record { registers = registers 0; pc = 0x10000; phase = Run; queue = [] } ∷ []; holders = []; recovering = false }
+w = record { log = V1; words = []; harts = record { registers = registers 0; pc = 0x10000; phase = Run; queue = [] } ∷ []; holders = []; recovering = false }
 
 abbrev no_loads : ℕ → ℕ → Bool
 no_loads address bytes = false
@@ -69,6 +70,7 @@ module _ (place : Place) (agree : EnvironmentsAgree) (meet : EnvironmentsMeet) w
 
   abbrev p : Plan
   p = record {
+    log = V1;
     flat = record { mutexes = []; variables = []; threads = [] };
     graph = record { nodes = end ∷ []; threads = record { first = 0; end = 1; locals = 0 } ∷ [] };
     boundaries = record { before = false ∷ []; after_lock = false ∷ [] };

@@ -1,5 +1,6 @@
 -- A thread in a fragment: on its way from the mark of one node to that of the next.
 use Rattle.std.specs.Prelude.{◌≡◌, ℕ, suc, ◌+◌, ◌*◌, ◌%◌, ◌^◌, ◌<◌, ◌≤◌, List, [], ◌∷◌, length, map, Contains, Some, true, if◌then◌else◌}
+use Rattle.ido_base.specs.declared.log.Log.{Log}
 use Rattle.ido_base.specs.Layout.{logs_base, variable_at}
 use Rattle.ido_ints.specs.declared.kinds.Kind.{Kind}
 use Rattle.ido_ints.specs.Kinds.{bytes_of}
@@ -201,9 +202,10 @@ module _ (p : Plan) (t : Thread) (c : Places) where
     pub mark : marked r.environment.marks on.hart.pc ≡ Mark ∷ []
     pub made : (effect : Effect) → effect_at r.program r.hart on.hart ≡ Some effect → IsMadeBy e effect
 
-  -- ---- What is known of the thread's place in a machine of so many threads
+  -- ---- What is known of the thread's place in a machine of so many threads that log so
 
-  pub record IsPlaced (threads : ℕ) : Type 0 where
+  pub record IsPlaced (how : Log) (threads : ℕ) : Type 0 where
+    pub log : p.log ≡ how
     pub number : t.number < threads
     -- the code ends within the addresses
     pub room : c.program.start + 4 * length c.program.code < 2 ^ 64
@@ -213,15 +215,15 @@ module _ (p : Plan) (t : Thread) (c : Places) where
     pub slots : (node register : ℕ) → IsNodeOf t node → Contains (c.live node) register → register < 32
 
   -- the store may be made, and the environment answers none of its bytes
-  pub record MayBeMade (threads : ℕ) (s : MarkedEnvironment) (k : Kind) (store : Pending) : Type 0 where
-    pub access : is_access threads (variable_at (map shape_of p.flat.variables) store.variable store.element) (bytes_of k) ≡ true
+  pub record MayBeMade (log : Log) (threads : ℕ) (s : MarkedEnvironment) (k : Kind) (store : Pending) : Type 0 where
+    pub access : is_access log threads (variable_at (map shape_of p.flat.variables) store.variable store.element) (bytes_of k) ≡ true
     pub apart : IsApart s (variable_at (map shape_of p.flat.variables) store.variable store.element) (bytes_of k)
 
-  abbrev pub MayDo : (threads : ℕ) → MarkedEnvironment → a.Effect → Type 0
-  MayDo threads s (a.Sets local number next) = Unit {0}
-  MayDo threads s (a.Owes store next) = Unit {0}
-  MayDo threads s (a.Makes store next) = (k : Kind) × (kind_at p.flat.variables store.variable ≡ Some k) × MayBeMade threads s k store
-  MayDo threads s (a.Goes next) = Unit {0}
-  MayDo threads s (a.Takes mutex next) = Unit {0}
-  MayDo threads s (a.Gives mutex next) = Unit {0}
-  MayDo threads s a.Ends = Unit {0}
+  abbrev pub MayDo : Log → (threads : ℕ) → MarkedEnvironment → a.Effect → Type 0
+  MayDo log threads s (a.Sets local number next) = Unit {0}
+  MayDo log threads s (a.Owes store next) = Unit {0}
+  MayDo log threads s (a.Makes store next) = (k : Kind) × (kind_at p.flat.variables store.variable ≡ Some k) × MayBeMade log threads s k store
+  MayDo log threads s (a.Goes next) = Unit {0}
+  MayDo log threads s (a.Takes mutex next) = Unit {0}
+  MayDo log threads s (a.Gives mutex next) = Unit {0}
+  MayDo log threads s a.Ends = Unit {0}

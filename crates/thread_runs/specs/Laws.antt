@@ -1,6 +1,7 @@
 -- Laws of threads in fragments of their code: what each event does to them.
 use Rattle.std.specs.Prelude.{◌≡◌, ◌≢◌, ◌⊎◌, ℕ, suc, ◌+◌, ◌*◌, ◌^◌, ◌<◌, ◌≤◌, List, [], ◌∷◌, ◌++◌, length, slice_get, slice_set, slice_index_or}
 use Rattle.std.specs.Prelude.{Contains, Option, Some, None, true, false, ℤ}
+use Rattle.ido_base.specs.declared.log.Log.{Log}
 use Rattle.ido_base.specs.declared.event.Event.{Event}
 use Rattle.ido_base.specs.declared.event.Event.TheVariants.{Step}
 use Rattle.ido_base.specs.declared.event.Reply.TheVariants.{Waits, Stuck}
@@ -86,7 +87,7 @@ module _ (p : Plan) (t : Thread) (c : Places) where
     pub later : List Effect
     pub effects_are : effects ≡ effects_of forward.effect ++ later
     pub on : IsOnFragment p t c (stepped r) stage steps later
-    pub point : stores_point r.program r.world (Step r.hart) r.hart ≡ is_point_store r.hart forward.effect
+    pub point : stores_point r.program r.world (Step r.hart) r.hart ≡ is_point_store r.world.log r.hart forward.effect
     pub fence : finishes_fence r.program r.world (Step r.hart) r.hart ≡ is_fence forward.effect
     pub less : suc (left_of on) ≡ left_of fragment
     pub same : on.on.hart ≡ forward.on.hart
@@ -143,7 +144,7 @@ module _ (p : Plan) (t : Thread) (c : Places) where
 
 abbrev pub ArrivalsEnd : Type 0
 ArrivalsEnd = (p : Plan) (t : Thread) (program : List (List Slot)) (own : Program) (code : IsThreadCode p t own) (w : World) (h : ℕ) (s : MarkedEnvironment)
-    (node : ℕ) (seen : Seen) (side : ℕ) (effects : List Effect) → IsPlaced p t code.places (length w.harts) → ReadsVariables s →
+    (node : ℕ) (seen : Seen) (side : ℕ) (effects : List Effect) → IsPlaced p t code.places w.log (length w.harts) → ReadsVariables s →
     (is : Node) → NodeAt p.graph node is →
     (fragment : IsOnFragment p t code.places (on_machine program w h s) (record { exit = Arrives; node = node; seen = seen; side = side }) 0 effects) →
     HasArrived p t code.places (on_machine program w h s) node seen side fragment.registers
@@ -158,14 +159,14 @@ KeepsEnd = (p : Plan) (t : Thread) (c : Places) (program : List (List Slot)) (w 
 -- after the boundary that follows a lock the thread goes to its node
 abbrev pub TookEnd : Type 0
 TookEnd = (p : Plan) (t : Thread) (program : List (List Slot)) (own : Program) (code : IsThreadCode p t own) (w : World) (h : ℕ) (s : MarkedEnvironment)
-    (from node : ℕ) (seen : Seen) (side : ℕ) (effects : List Effect) → IsPlaced p t code.places (length w.harts) →
+    (from node : ℕ) (seen : Seen) (side : ℕ) (effects : List Effect) → IsPlaced p t code.places w.log (length w.harts) →
     IsOnFragment p t code.places (on_machine program w h s) (record { exit = Took from; node = node; seen = seen; side = side }) 0 effects →
     IsOnSomeFragment p t code.places (on_machine program w h s) (record { exit = Arrives; node = node; seen = seen; side = side }) (code.places.words from) []
 
 -- after a lock and its boundary, or an unlock, the thread goes to its node: so does one that is resumed there
 abbrev pub GoesOnFrom : (from next : ℕ) → Plan → Thread → Type 0
 GoesOnFrom from next p t = (program : List (List Slot)) (own : Program) (code : IsThreadCode p t own) (w : World) (h : ℕ) (s : MarkedEnvironment)
-    (seen : Seen) (side : ℕ) (registers : List ℕ) → IsPlaced p t code.places (length w.harts) → Meets code.places.program s → Agrees program w h s →
+    (seen : Seen) (side : ℕ) (registers : List ℕ) → IsPlaced p t code.places w.log (length w.harts) → Meets code.places.program s → Agrees program w h s →
     IsRunningAt w h (config registers (code.places.after from)) → Enters p t next seen side registers →
     IsOnSomeFragment p t code.places (on_machine program w h s) (record { exit = Arrives; node = next; seen = seen; side = side }) (code.places.words from) []
 
@@ -206,7 +207,7 @@ module _ (p : Plan) (t : Thread) (c : Places) where
     pub made : IsMadeBy p t c e forward.effect
     pub on : IsOnFragment p t c (stepped r) stage steps later
     pub mark : (marks : List (List ℕ)) → AreMarksOf marks r.hart r.environment → passes_mark marks r.program r.world r.hart ≡ true
-    pub point : stores_point r.program r.world (Step r.hart) r.hart ≡ is_point_store r.hart forward.effect
+    pub point : stores_point r.program r.world (Step r.hart) r.hart ≡ is_point_store r.world.log r.hart forward.effect
     pub fence : finishes_fence r.program r.world (Step r.hart) r.hart ≡ is_fence forward.effect
     pub less : suc (left_of p t c on) ≡ left_at p t c at
     pub same : on.on.hart ≡ forward.on.hart
@@ -225,9 +226,9 @@ module _ (p : Plan) (t : Thread) (c : Places) where
 abbrev pub NodesBegin : Type 0
 NodesBegin = (p : Plan) (t : Thread) (program : List (List Slot)) (own : Program) (code : IsThreadCode p t own) (w : World) (h : ℕ) (s : MarkedEnvironment)
     (node : ℕ) (seen : Seen) (side : ℕ) (registers : List ℕ) (is : Node) (e : a.Effect) →
-    IsPlaced p t code.places (length w.harts) → Meets code.places.program s → Agrees program w h s → ReadsVariables s →
+    IsPlaced p t code.places w.log (length w.harts) → Meets code.places.program s → Agrees program w h s → ReadsVariables s →
     NodeAt p.graph node is → effect_of is.action seen ≡ Some e → IsAnswered (source_of p t seen) s.around.loads is.action →
-    MayDo p t code.places (length w.harts) s e → IsAtCore p t code.places w h node seen side registers →
+    MayDo p t code.places w.log (length w.harts) s e → IsAtCore p t code.places w h node seen side registers →
     Performing p t code.places (on_machine program w h s) node seen side registers e
 
 -- a step at a mark passes it, or writes back an entry of the queue
@@ -269,7 +270,7 @@ module _ (p : Plan) (t : Thread) (c : Places) where
 -- where the mutex is free, a lock takes it
 abbrev pub LocksTake : Type 0
 LocksTake = (p : Plan) (t : Thread) (program : List (List Slot)) (own : Program) (code : IsThreadCode p t own) (w : World) (h : ℕ) (s : MarkedEnvironment)
-    (node mutex next : ℕ) (seen : Seen) (side : ℕ) (effects : List Effect) → IsPlaced p t code.places (length w.harts) → ReadsVariables s →
+    (node mutex next : ℕ) (seen : Seen) (side : ℕ) (effects : List Effect) → IsPlaced p t code.places w.log (length w.harts) → ReadsVariables s →
     (fragment : IsOnFragment p t code.places (on_machine program w h s) (record { exit = Asks mutex next; node = node; seen = seen; side = side }) 0 effects) →
     slice_get w.holders mutex ≡ Some None → TakesMutex p t code.places (on_machine program w h s) mutex next
     (record { exit = Asks mutex next; node = node; seen = seen; side = side }) fragment.on.hart fragment.registers
@@ -284,7 +285,7 @@ LocksWait = (p : Plan) (t : Thread) (program : List (List Slot)) (own : Program)
 
 abbrev pub UnlocksGive : Type 0
 UnlocksGive = (p : Plan) (t : Thread) (program : List (List Slot)) (own : Program) (code : IsThreadCode p t own) (w : World) (h : ℕ) (s : MarkedEnvironment)
-    (from mutex next : ℕ) (seen : Seen) (side : ℕ) (effects : List Effect) → IsPlaced p t code.places (length w.harts) →
+    (from mutex next : ℕ) (seen : Seen) (side : ℕ) (effects : List Effect) → IsPlaced p t code.places w.log (length w.harts) →
     (fragment : IsOnFragment p t code.places (on_machine program w h s) (record { exit = Gives from mutex; node = next; seen = seen; side = side }) 0 effects) →
     slice_get w.holders mutex ≡ Some (Some h) → GivesMutex p t code.places (on_machine program w h s) from mutex
     (record { exit = Gives from mutex; node = next; seen = seen; side = side }) fragment.on.hart fragment.registers
@@ -375,9 +376,9 @@ CoresSeeAll = (p : Plan) (t : Thread) (c : Places) (w : World) (h node : ℕ) (s
 
 -- a plan's thread is placed in a machine that has room for it
 abbrev pub PlansArePlaced : Type 0
-PlansArePlaced = (p : Plan) (t : Thread) (c : Places) (threads : ℕ) → IsPlan p → IsThread p t →
+PlansArePlaced = (p : Plan) (t : Thread) (c : Places) (log : Log) (threads : ℕ) → IsPlan p → IsThread p t →
     ((node : ℕ) → IsNodeOf t node → AreKept p t node (c.live node)) →
-    t.number < threads → c.program.start + 4 * length c.program.code < 2 ^ 64 → IsPlaced p t c threads
+    p.log ≡ log → t.number < threads → c.program.start + 4 * length c.program.code < 2 ^ 64 → IsPlaced p t c log threads
 
 -- ---- Delay
 
@@ -406,7 +407,7 @@ module _ (p : Plan) (t : Thread) (c : Places) where
     pub kept : List ℕ
     pub old : ℕ
     pub entered : Enters p t node seen old kept
-    pub at_side : IsOnSide side registers
+    pub at_side : IsOnSide p.log side registers
     pub same : (register : ℕ) → Contains (c.live node) register → read registers register ≡ read kept register
 
   -- the thread is at the node's code, or in a fragment to its entry
@@ -419,7 +420,8 @@ module _ (p : Plan) (t : Thread) (c : Places) where
 -- a hart that recovery resumes goes on from where it is
 abbrev pub ResumedGoOn : Type 0
 ResumedGoOn = (p : Plan) (t : Thread) (program : List (List Slot)) (own : Program) (code : IsThreadCode p t own) (w : World) (h : ℕ) (s : MarkedEnvironment)
-    (address : ℕ) (r : IsResumeAddress p t code.places address) (seen : Seen) (side : ℕ) (registers : List ℕ) → IsPlaced p t code.places (length w.harts) →
+    (address : ℕ) (r : IsResumeAddress p t code.places address) (seen : Seen) (side : ℕ) (registers : List ℕ) →
+    IsPlaced p t code.places w.log (length w.harts) →
     Meets code.places.program s → Agrees program w h s → IsRunningAt w h (config registers address) →
     AreResumed p t code.places (node_resumed p t code.places r) seen side registers →
     IsUnderFragment p t code.places (on_machine program w h s) (node_resumed p t code.places r) seen side registers

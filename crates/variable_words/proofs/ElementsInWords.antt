@@ -213,7 +213,7 @@ base_aligned k n =
     by_size (λ b. n % b ≡ 0 → (variables_base + n) % b ≡ 0) (λ h. omega (arith, h)) (λ h. omega (arith, h)) (λ h. omega (arith, h)) (λ h. omega (arith, h)) k
 
 pub addresses_reach : AddressesReach
-addresses_reach vs threads v e is room h l =
+addresses_reach log vs threads v e is room h l =
     let a = address_is vs v e is h in
     let w = element_whole vs v e is room h l in
     let n = start_from 0 (shapes vs) v + bytes_of is.kind * e in

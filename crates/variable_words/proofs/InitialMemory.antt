@@ -12,10 +12,11 @@ use Rattle.ido_ints.specs.declared.kinds.Kind.{Kind}
 use Rattle.ido_ints.specs.Kinds.{bytes_of, modulus_of, Holds}
 use Rattle.ido_ints.specs.Reduction.{reduced, residue}
 use Rattle.ido_ints.proofs.Public.{Same, Same_trans, Same-mod, reduced-same, reduced_held, Same-modulus, residue-Same}
+use Rattle.ido_base.specs.declared.log.Log.{Log}
 use Rattle.ido_base.specs.declared.location.Shape.{Shape}
 use Rattle.ido_base.specs.Words as w
 use Rattle.ido_base.specs.Words.{Word, word_of, word_at, durable_value, after_crash, part}
-use Rattle.ido_base.specs.Layout.{start_from, words_of_bytes, initial_words, end_from, spread_words}
+use Rattle.ido_base.specs.Layout.{log_words, start_from, words_of_bytes, initial_words, end_from, spread_words}
 use Rattle.c_tree.specs.Programs.{Variable}
 use Rattle.c_tree.specs.WellFormed.{elements_in, IsVariable, shape_of, initial_numbers}
 use Rattle.memory_layout.specs.Variables.{HaveRoom, AreInitial, bits_of}
@@ -60,12 +61,12 @@ abbrev byte : List ℕ → ℕ → ℕ
 byte bytes k = get_or bytes k 0
 
 -- a word of the variables
-word_at_start : (threads : ℕ) (bytes : List ℕ) (i : ℕ) → i < 8192 →
-    word_at (map word_of (initial_words threads bytes)) i ≡ word_of (number_of (byte bytes) (8 * i) 8)
+word_at_start : (log : Log) (threads : ℕ) (bytes : List ℕ) (i : ℕ) → i < 8192 →
+    word_at (map word_of (initial_words log threads bytes)) i ≡ word_of (number_of (byte bytes) (8 * i) 8)
 unfolding initial_words
-word_at_start threads bytes i l =
-    index_map word_of (initial_words threads bytes) i 0
-    ∙ ap word_of (get_or_append_left (words_of_bytes bytes 8192) (replicate (128 * threads) 0) 0 i (omega (arith, l, words_size bytes 8192))
+word_at_start log threads bytes i l =
+    index_map word_of (initial_words log threads bytes) i 0
+    ∙ ap word_of (get_or_append_left (words_of_bytes bytes 8192) (replicate (log_words log * threads) 0) 0 i (omega (arith, l, words_size bytes 8192))
     ∙ (first_words bytes 8192 i l ∙ word_is bytes (8 * i)))
 
 -- a number's bits are its residue
@@ -101,11 +102,11 @@ module _ (vs : List Variable) (bytes : List ℕ) (room : HaveRoom (shapes vs)) (
       }) ∙ ap (λ (n : ℕ). part n k 1) (bits_are z)
 
   -- what an element has in the words at the start
-  begins_with : (threads v e : ℕ) (is : Variable) (z : ℤ) → slice_get vs v ≡ Some is → slice_get is.initial e ≡ Some z → e < elements_in is.length →
+  begins_with : (log : Log) (threads v e : ℕ) (is : Variable) (z : ℤ) → slice_get vs v ≡ Some is → slice_get is.initial e ≡ Some z → e < elements_in is.length →
       Holds is.kind z →
       (number : ℕ) → number ≡ start_from 0 (shapes vs) v + bytes_of is.kind * e →
-      element_in is.kind (number % 8) (word_at (map word_of (initial_words threads bytes)) (number / 8)) ≡ history_of z
-  begins_with threads v e is z h begins l holds number n =
+      element_in is.kind (number % 8) (word_at (map word_of (initial_words log threads bytes)) (number / 8)) ≡ history_of z
+  begins_with log threads v e is z h begins l holds number n =
       let whole : IsWhole is.kind number = subst (λ (m : ℕ). IsWhole is.kind m) (sym n) (element_whole vs v e is room h l) in
       let b = bytes_of is.kind in
       let rest : ℕ = 8 - (number % 8 + b) in
@@ -120,7 +121,7 @@ module _ (vs : List Variable) (bytes : List ℕ) (room : HaveRoom (shapes vs)) (
       let same : Same (modulus_of is.kind) (pos (residue 64 z % 2 ^ (8 * b))) z =
       Same_trans (modulus_of is.kind) _ (pos (residue 64 z)) z (Same-mod (residue 64 z) (modulus_of is.kind))
       (Same-modulus is.kind (pos (residue 64 z)) z (residue-Same 64 z)) in
-      ap (element_in is.kind (number % 8)) (word_at_start threads bytes (number / 8) (omega (arith, whole.ends, some_bytes is.kind)))
+      ap (element_in is.kind (number % 8)) (word_at_start log threads bytes (number / 8) (omega (arith, whole.ends, some_bytes is.kind)))
       ∙ ap history_of (ap (λ (m : ℕ). reduced is.kind (pos m)) (own ∙ low)
       ∙ (reduced-same is.kind (pos (residue 64 z % 2 ^ (8 * b))) z same ∙ reduced_held is.kind z holds))
 
@@ -165,17 +166,17 @@ held_at kind (y ∷ zs) (suc e) z h there = held_at kind zs e z h.1 there
 
 pub starts_hold : StartsHold
 unfolding start_of
-starts_hold x program locks bytes h initial =
+starts_hold log x program locks bytes h initial =
     let vs = x.variables in
     let shared = h.shared in
-    all_variables (shapes vs) (map word_of (initial_words (length program) bytes)) 0 vs (λ v is there.
+    all_variables (shapes vs) (map word_of (initial_words log (length program) bytes)) 0 vs (λ v is there.
     let none : 0 + v ≡ v = omega arith in
     let good = variable_of _ vs v is shared.variables there in
     let start = number_is vs v 0 is shared.bytes there (omega arith) in
-    ap (λ (n : ℕ). variable_in (map word_of (initial_words (length program) bytes)) (spot (shapes vs) n is)) none
-    ∙ (ap (λ (n : ℕ). spots.elements_in (map word_of (initial_words (length program) bytes)) is.kind (spot (shapes vs) v is).start n) (sym good.count)
-    ∙ all_elements (map word_of (initial_words (length program) bytes)) is.kind (spot (shapes vs) v is).start is.initial (λ e z begins.
-    begins_with vs bytes shared.bytes initial (length program) v e is z there begins (omega (arith, get_below is.initial e z begins, good.count))
+    ap (λ (n : ℕ). variable_in (map word_of (initial_words log (length program) bytes)) (spot (shapes vs) n is)) none
+    ∙ (ap (λ (n : ℕ). spots.elements_in (map word_of (initial_words log (length program) bytes)) is.kind (spot (shapes vs) v is).start n) (sym good.count)
+    ∙ all_elements (map word_of (initial_words log (length program) bytes)) is.kind (spot (shapes vs) v is).start is.initial (λ e z begins.
+    begins_with vs bytes shared.bytes initial log (length program) v e is z there begins (omega (arith, get_below is.initial e z begins, good.count))
     (held_at is.kind is.initial e z good.held begins) ((spot (shapes vs) v is).start + bytes_of is.kind * e) (omega (arith, start)))))
 
 -- ---- An image
@@ -228,7 +229,7 @@ spread_word count image j enough l =
 
 pub images_hold : ImagesHold
 unfolding after_crash_of
-images_hold vs program locks count words image room enough long same =
+images_hold log vs program locks count words image room enough long same =
     same_memory vs count (map word_of (spread_words count image)) (w.crashed words) room enough (λ j l.
     index_map word_of (spread_words count image) j 0
     ∙ (ap word_of (spread_word count image j long l ∙ same j l) ∙ sym (index_map after_crash words j (word_of 0))))

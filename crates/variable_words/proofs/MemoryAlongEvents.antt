@@ -31,12 +31,12 @@ use Rattle.variable_words.proofs.StepEffects.{steps_work}
 
 -- ---- A store
 
-access_made : (w : World) (address bytes : ℕ) (outcome : Outcome) → in_range (length w.harts) address bytes ≡ true → aligned address bytes ≡ true →
+access_made : (w : World) (address bytes : ℕ) (outcome : Outcome) → in_range w.log (length w.harts) address bytes ≡ true → aligned address bytes ≡ true →
     access w address bytes outcome ≡ outcome
 access_made w address bytes outcome inside even =
-    cond_both (in_range (length w.harts) address bytes) _ _ (λ (o : Outcome). o ≡ outcome)
+    cond_both (in_range w.log (length w.harts) address bytes) _ _ (λ (o : Outcome). o ≡ outcome)
     (λ _. cond_both (aligned address bytes) _ _ (λ (o : Outcome). o ≡ outcome) (λ _. refl) (λ no. absurd (both_ways (aligned address bytes) no even)))
-    (λ no. absurd (both_ways (in_range (length w.harts) address bytes) no inside))
+    (λ no. absurd (both_ways (in_range w.log (length w.harts) address bytes) no inside))
 
 done_words : (before new : World) (h : ℕ) (hart : Option Hart) → (done_if_over before h hart new).words ≡ new.words
 done_words before new h None = refl

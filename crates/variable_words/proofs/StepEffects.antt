@@ -49,10 +49,10 @@ module _ (program : List (List Slot)) (w : World) (h : ℕ) (hart : Hart) (here 
   fences [] is = moves (record hart { pc = next hart.pc }) refl
   fences (e ∷ es) is = drains (e ∷ es) is
 
-  accesses : (address bytes : ℕ) (outcome : Outcome) → (in_range (length w.harts) address bytes ≡ true → aligned address bytes ≡ true → Gives outcome.0) →
+  accesses : (address bytes : ℕ) (outcome : Outcome) → (in_range w.log (length w.harts) address bytes ≡ true → aligned address bytes ≡ true → Gives outcome.0) →
       Gives (access w address bytes outcome).0
   accesses address bytes outcome goes_on =
-      cond_both (in_range (length w.harts) address bytes) _ _ (λ (o : Outcome). Gives o.0)
+      cond_both (in_range w.log (length w.harts) address bytes) _ _ (λ (o : Outcome). Gives o.0)
       (λ inside. cond_both (aligned address bytes) _ _ (λ (o : Outcome). Gives o.0) (λ even. goes_on inside even) (λ _. stays))
       (λ _. stays)
 
@@ -83,7 +83,7 @@ module _ (program : List (List Slot)) (w : World) (h : ℕ) (hart : Hart) (here 
       (λ _. cond_both (number == 2) _ _ (λ (o : Outcome). Gives o.0) (λ _. releases lock (slice_get w.holders lock))
       (λ _. cond_both (number == 3) _ _ (λ (o : Outcome). Gives o.0) (λ _. ends (least_held w.holders h)) (λ _. stays)))
 
-  applies : (effect : Effect) → ((address bytes value : ℕ) → effect ≡ Stores address bytes value → in_range (length w.harts) address bytes ≡ true →
+  applies : (effect : Effect) → ((address bytes value : ℕ) → effect ≡ Stores address bytes value → in_range w.log (length w.harts) address bytes ≡ true →
       aligned address bytes ≡ true → MayMakeStore program w h address bytes value) → Gives (applied w h hart effect).0
   applies (Continues registers pc) makes = moves (record hart { registers = registers; pc = pc }) refl
   applies (Loads address bytes signed register) makes = accesses address bytes _ (λ _ _. moves _ refl)
@@ -145,7 +145,7 @@ module _ (program : List (List Slot)) (w : World) (h : ℕ) (hart : Hart) (here 
       settles outcome.0 (executes running (fetched program h hart.pc) refl) (slice_get outcome.0.harts h) refl
 
   by_phase : (phase : Phase) → hart.phase ≡ phase → Gives (phase_step program w h hart phase).0
-  by_phase Take e = takes (first_missing w.holders (record_of w.words h) h)
+  by_phase Take e = takes (first_missing w.holders (record_of w.log w.words h) h)
   by_phase Wait e = waits (taking_from 0 w.harts)
   by_phase Resume e = moves _ refl
   by_phase Run e = runs e

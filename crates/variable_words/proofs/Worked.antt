@@ -1,6 +1,7 @@
 -- Worked rows: a `char` after a `short` in one word, and an array of three `int` across two words.
 use Rattle.std.proofs.Common.{◌≡◌, ◌+◌, refl, List, [], ◌∷◌, None, Some}
 use Rattle.std.specs.Prelude.{pos, negsuc, map}
+use Rattle.ido_base.specs.declared.log.Log.TheVariants.{V1}
 use Rattle.ido_base.specs.Layout.{word_number}
 use Rattle.ido_base.specs.Words as w
 use Rattle.ido_base.specs.Words.{Word, word_of}
@@ -44,8 +45,8 @@ unfolding reduction.from_least_on
 store = refl
 
 -- the point of the third thread's log, and the last slot of the first one's
-third_point : word_number (log_address 2 Point) ≡ 8192 + 256
+third_point : word_number (log_address V1 2 Point) ≡ 8192 + 256
 third_point = refl
 
-last_slot : word_number (log_address 0 (Slot 1 31)) ≡ 8192 + 8 + 32 + 31
+last_slot : word_number (log_address V1 0 (Slot 1 31)) ≡ 8192 + 8 + 32 + 31
 last_slot = refl

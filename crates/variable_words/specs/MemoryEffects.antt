@@ -30,13 +30,13 @@ pub record Executes (program : List (List Slot)) (w : World) (h : ℕ) (effect :
 -- hart h now executes this store, and may make it
 pub record MayMakeStore (program : List (List Slot)) (w : World) (h address bytes value : ℕ) : Type 0 where
   pub executes : Executes program w h (Stores address bytes value)
-  pub inside : in_range (length w.harts) address bytes ≡ true
+  pub inside : in_range w.log (length w.harts) address bytes ≡ true
   pub is_aligned : aligned address bytes ≡ true
 
 -- hart h now executes a clean of the line of this address, and its queue has room for it
 pub record IsClean (program : List (List Slot)) (w : World) (h address : ℕ) : Type 0 where
   pub executes : Executes program w h (Cleans address)
-  pub inside : in_range (length w.harts) address 1 ≡ true
+  pub inside : in_range w.log (length w.harts) address 1 ≡ true
   pub has_room : length executes.hart.queue < queue_limit
 
 -- words and the hart's queue before a step and after it

@@ -1,5 +1,6 @@
 -- The variables of a program in the words of a machine.
 use Rattle.std.specs.Prelude.{◌≡◌, ℕ, ◌+◌, ◌*◌, ◌<◌, ◌≤◌, List, [], ◌∷◌, length, map, slice_get, slice_index, Some, true}
+use Rattle.ido_base.specs.declared.log.Log.{Log}
 use Rattle.ido_base.specs.declared.location.Shape.{Shape}
 use Rattle.ido_base.specs.declared.event.Event.TheVariants.{Crash}
 use Rattle.ido_base.specs.Words.{Word, word_at, durable_value}
@@ -30,8 +31,8 @@ pub record ArePlaced (vs : List Variable) : Type 0 where
   pub counted : AreCounted (map shape_of vs) (map initial_numbers vs)
 
 -- an access to an element at its address may be made, and is at its spot
-pub record IsAccess (vs : List Variable) (threads variable element : ℕ) (is : Variable) : Type 0 where
-  pub inside : in_range threads (variable_at (map shape_of vs) variable element) (bytes_of is.kind) ≡ true
+pub record IsAccess (log : Log) (vs : List Variable) (threads variable element : ℕ) (is : Variable) : Type 0 where
+  pub inside : in_range log threads (variable_at (map shape_of vs) variable element) (bytes_of is.kind) ≡ true
   pub is_aligned : aligned (variable_at (map shape_of vs) variable element) (bytes_of is.kind) ≡ true
   pub at : IsAtSpot (spots_of vs) variable element is.kind (byte_number (variable_at (map shape_of vs) variable element))
 
@@ -47,14 +48,15 @@ VariablesApart = (vs : List Variable) (words : ℕ) → HaveRoom (map shape_of v
 
 -- each element can be accessed at its address
 abbrev pub AddressesReach : Type 0
-AddressesReach = (vs : List Variable) (threads variable element : ℕ) (is : Variable) → HaveRoom (map shape_of vs) → slice_get vs variable ≡ Some is →
-    element < elements_in is.length → IsAccess vs threads variable element is
+AddressesReach =
+    (log : Log) (vs : List Variable) (threads variable element : ℕ) (is : Variable) → HaveRoom (map shape_of vs) → slice_get vs variable ≡ Some is →
+    element < elements_in is.length → IsAccess log vs threads variable element is
 
 -- memory begins with the source's initial numbers
 abbrev pub StartsHold : Type 0
-StartsHold = (x : f.Flat) (program : List (List Slot)) (locks : ℕ) (bytes : List ℕ) → IsWellFormed x →
+StartsHold = (log : Log) (x : f.Flat) (program : List (List Slot)) (locks : ℕ) (bytes : List ℕ) → IsWellFormed x →
     AreInitial (map shape_of x.variables) (map initial_numbers x.variables) bytes →
-    memory_in (spots_of x.variables) (start_of program locks bytes).words ≡ memory_of (start x)
+    memory_in (spots_of x.variables) (start_of log program locks bytes).words ≡ memory_of (start x)
 
 -- a crash of the machine is one of memory
 abbrev pub CrashesHold : Type 0
@@ -64,7 +66,8 @@ CrashesHold = (spots : List Spot) (program : List (List Slot)) (w : World) →
 -- where a machine begins with an image of the words that a crash has left of the variables, memory is as the crash left it: the image has so many
 -- words that all variables are in them
 abbrev pub ImagesHold : Type 0
-ImagesHold = (vs : List Variable) (program : List (List Slot)) (locks variable_words : ℕ) (words : List Word) (image : List ℕ) → HaveRoom (map shape_of vs) →
+ImagesHold =
+    (log : Log) (vs : List Variable) (program : List (List Slot)) (locks variable_words : ℕ) (words : List Word) (image : List ℕ) → HaveRoom (map shape_of vs) →
     end_from 0 (map shape_of vs) ≤ 8 * variable_words → variable_words ≤ length image →
     ((word : ℕ) → word < variable_words → slice_index image word ≡ durable_value (word_at words word)) →
-    memory_in (spots_of vs) (after_crash_of program locks (spread_words variable_words image)).words ≡ crashed (memory_in (spots_of vs) words)
+    memory_in (spots_of vs) (after_crash_of log program locks (spread_words variable_words image)).words ≡ crashed (memory_in (spots_of vs) words)

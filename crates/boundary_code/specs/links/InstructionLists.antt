@@ -1,5 +1,6 @@
 -- Names for the pieces of the code of boundaries and constants. What they do is said in Boundaries and Straight.
 use Rattle.std.specs.Prelude.{ℕ, ◌+◌, ◌*◌, ◌/◌, ◌%◌, ◌^◌, List, [], ◌∷◌, ◌++◌, Bool, true, false}
+use Rattle.ido_base.specs.declared.log.Log.TheVariants.{V1}
 use Rattle.rv64_isa.specs.declared.instr.Instr.{Instr}
 use Rattle.rv64_isa.specs.declared.instr.Instr.TheVariants.{Auipc, Store, OpImmediate, ShiftImmediate, Op, CboClean, Fence}
 use Rattle.rv64_isa.specs.declared.instr.Operation.TheVariants.{Add}
@@ -32,7 +33,7 @@ commit register = Store Sd register 31 0 ∷ CboClean 31 ∷ Fence ∷ []
 -- a boundary's code up to its first fence
 abbrev pub bank_part : (log mask : List Instr) → (live : List ℕ) → List Instr
 bank_part log mask live =
-    OpImmediate Xori 3 3 256 ∷ log ++ Op Add 30 31 3 ∷ mask ++ Store Sd 7 30 64 ∷ keep_slots live ++ clean_lines (lines_in_use (0 ∷ live))
+    OpImmediate Xori 3 3 256 ∷ log ++ Op Add 30 31 3 ∷ mask ++ Store Sd 7 30 64 ∷ keep_slots live ++ clean_lines (lines_in_use V1 (0 ∷ live))
 
 abbrev pub boundary_list : (log mask : List Instr) → (live : List ℕ) → (resume : ℕ) → List Instr
 boundary_list log mask live resume = bank_part log mask live ++ Fence ∷ point resume ++ commit 30

@@ -28,7 +28,8 @@ use Rattle.ido_cli.specs.ThreadedRuns.{AreLegs, AreRounds, IsLoadedRun, eviction
 pub record CanRun (all : ℕ) (run : Run) : Type 0 where
   pub room : all ≤ length run.life.journal + (run.life.cap - length run.life.journal)
   pub few : length run.life.runs.program ≤ MOST_THREADS
-  pub valid : (v : Evictor) → run.evict ≡ Some v → (n : ℕ) → IsEviction (length run.life.runs.program) (evictions_of v n).0 (evictions_of v n).1
+  pub valid : (v : Evictor) → run.evict ≡ Some v → (n : ℕ) →
+      IsEviction run.life.runs.log (length run.life.runs.program) (evictions_of v n).0 (evictions_of v n).1
 
 -- what a leg of the run begins with
 abbrev pub leg_from : (turns moment : ℕ) → Course → Option Evictor → Leg LifeConfig

@@ -7,5 +7,5 @@ use Rattle.boundary_code.specs.Boundaries.{Boundary, HasEffects, HasOffset, Keep
 pub record IsCodeOf (b : Boundary) (code : List Instr) : Type 0 where
   pub short : length code ≤ length b.live + 35
   pub effects_are : HasEffects b code
-  pub offset : HasOffset b.locks code
-  pub keeps : KeepsRegisters code
+  pub offset : HasOffset b.log b.locks code
+  pub keeps : KeepsRegisters b.log code

@@ -90,6 +90,7 @@ pub record HasAction (x : opened.ThreadPlan) (node : ℕ) (action : Action) : Ty
 
 -- what a boundary keeps that lets the thread go on at the node
 pub record IsKeptFor (x : opened.ThreadPlan) (node : ℕ) (k : kept.Kept) : Type 0 where
+  pub log_is : k.log ≡ (plan_in x).log
   pub thread_is : k.thread ≡ x.number
   pub locks_are : locks_in k.mask ≡ locks_before (plan_in x) (thread_of x) node
   pub live_is : k.live.now ≡ (choices_of x).live node

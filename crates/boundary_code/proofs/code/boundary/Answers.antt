@@ -4,6 +4,7 @@ use Rattle.std.specs.Int.{cast_signed, cast_unsigned, w32}
 use Rattle.std.proofs.lemmas.Int.{to_z-of_z}
 use Rattle.std.proofs.lemmas.Bool.{ne_eqb}
 use Rattle.std.proofs.lemmas.Result.{IfOk-weaker}
+use Rattle.ido_base.specs.declared.log.Log.TheVariants.{V1}
 use Rattle.ido_base.specs.Layout.{log_of}
 use Rattle.ido_base.specs.Locks.{locks_in, mask_with}
 use Rattle.ido_base.proofs.Public.{mask_of_locks}
@@ -17,7 +18,7 @@ use Rattle.boundary_code.proofs.EmptyLists.{empty_where}
 use Rattle.boundary_code.proofs.Lengths.{boundary_short, last_short}
 use Rattle.boundary_code.proofs.code.boundary.Goals as goal
 
-is_log : (value thread : ℕ) (log : List Instr) → value ≡ log_of thread → IsConstant 31 value log → IsConstant 31 (log_of thread) log
+is_log : (value thread : ℕ) (log : List Instr) → value ≡ log_of V1 thread → IsConstant 31 value log → IsConstant 31 (log_of V1 thread) log
 is_log value thread log e c = subst (λ (n : ℕ). IsConstant 31 n log) e c
 
 no_mask : (mask : ℕ) → mask < 2 ^ 64 → mask ≡ 0 → is_empty (locks_in mask) ≡ true
@@ -39,7 +40,7 @@ listed log log' mask mask' code live resume resume' e f g k =
 
 pub returns-then-mask-eq0-clause-effects : goal.returns-then-mask-eq0-clause-effects
 returns-then-mask-eq0-clause-effects c =
-    let b : Boundary = record { thread = c.args.thread; locks = locks_in c.args.mask; live = c.args.live.now; resume = c.args.resume } in
+    let b : Boundary = record { log = V1; thread = c.args.thread; locks = locks_in c.args.mask; live = c.args.live.now; resume = c.args.resume } in
     IfOk-weaker c.emit_last_boundary.result _ _
     (λ code k. subst (λ (is : List Instr). HasEffects b is) (sym (k ∙ ap (λ (is : List Instr). last_list is) c.deref.ensures.value))
     (last-effects b c.in_ok-log.log.items c.requires.thread (no_mask c.args.mask (search rules) c.if-mask-eq0.true)
@@ -48,25 +49,25 @@ returns-then-mask-eq0-clause-effects c =
 
 pub returns-then-mask-eq0-clause-offset : goal.returns-then-mask-eq0-clause-offset
 returns-then-mask-eq0-clause-offset c =
-    let b : Boundary = record { thread = c.args.thread; locks = locks_in c.args.mask; live = c.args.live.now; resume = c.args.resume } in
+    let b : Boundary = record { log = V1; thread = c.args.thread; locks = locks_in c.args.mask; live = c.args.live.now; resume = c.args.resume } in
     IfOk-weaker c.emit_last_boundary.result _ _
-    (λ code k. subst (λ (is : List Instr). HasOffset (locks_in c.args.mask) is) (sym (k ∙ ap (λ (is : List Instr). last_list is) c.deref.ensures.value))
+    (λ code k. subst (λ (is : List Instr). HasOffset V1 (locks_in c.args.mask) is) (sym (k ∙ ap (λ (is : List Instr). last_list is) c.deref.ensures.value))
     (last-offset (locks_in c.args.mask) c.args.thread c.in_ok-log.log.items c.requires.thread (no_mask c.args.mask (search rules) c.if-mask-eq0.true)
     (is_log c.log_of.result c.args.thread c.in_ok-log.log.items c.log_of.ensures c.in_ok-log.ensures.code)))
     c.emit_last_boundary.ensures
 
 pub returns-then-mask-eq0-clause-others : goal.returns-then-mask-eq0-clause-others
 returns-then-mask-eq0-clause-others c =
-    let b : Boundary = record { thread = c.args.thread; locks = locks_in c.args.mask; live = c.args.live.now; resume = c.args.resume } in
+    let b : Boundary = record { log = V1; thread = c.args.thread; locks = locks_in c.args.mask; live = c.args.live.now; resume = c.args.resume } in
     IfOk-weaker c.emit_last_boundary.result _ _
-    (λ code k. subst (λ (is : List Instr). KeepsRegisters is) (sym (k ∙ ap (λ (is : List Instr). last_list is) c.deref.ensures.value))
+    (λ code k. subst (λ (is : List Instr). KeepsRegisters V1 is) (sym (k ∙ ap (λ (is : List Instr). last_list is) c.deref.ensures.value))
     (last-others c.args.thread c.in_ok-log.log.items c.requires.thread
     (is_log c.log_of.result c.args.thread c.in_ok-log.log.items c.log_of.ensures c.in_ok-log.ensures.code)))
     c.emit_last_boundary.ensures
 
 pub returns-clause-effects : goal.returns-clause-effects
 returns-clause-effects c =
-    let b : Boundary = record { thread = c.args.thread; locks = locks_in c.args.mask; live = c.args.live.now; resume = c.args.resume } in
+    let b : Boundary = record { log = V1; thread = c.args.thread; locks = locks_in c.args.mask; live = c.args.live.now; resume = c.args.resume } in
     let pieces : Pieces b c.in_ok-log.log.items c.in_ok-record.record.items = record {
       thread = c.requires.thread;
       some = some_mask c.args.mask (search rules) c.if-mask-eq0.false;
@@ -85,7 +86,7 @@ returns-clause-effects c =
 
 pub returns-clause-offset : goal.returns-clause-offset
 returns-clause-offset c =
-    let b : Boundary = record { thread = c.args.thread; locks = locks_in c.args.mask; live = c.args.live.now; resume = c.args.resume } in
+    let b : Boundary = record { log = V1; thread = c.args.thread; locks = locks_in c.args.mask; live = c.args.live.now; resume = c.args.resume } in
     let pieces : Pieces b c.in_ok-log.log.items c.in_ok-record.record.items = record {
       thread = c.requires.thread;
       some = some_mask c.args.mask (search rules) c.if-mask-eq0.false;
@@ -96,7 +97,7 @@ returns-clause-offset c =
       is_mask = is_mask c.args.mask c.in_ok-record.record.items (search rules) c.in_ok-record.ensures.code;
     } in
     IfOk-weaker c.emit_boundary.result _ _
-    (λ code k. subst (λ (is : List Instr). HasOffset (locks_in c.args.mask) is)
+    (λ code k. subst (λ (is : List Instr). HasOffset V1 (locks_in c.args.mask) is)
     (sym (listed c.in_ok-log.log.items c.deref-2.result.now c.in_ok-record.record.items c.deref-3.result.now _ c.args.live.now c.args.resume
     (cast_signed w32 (cast_unsigned w32 c.args.resume)) c.deref-2.ensures.value c.deref-3.ensures.value (to_z-of_z w32 c.args.resume c.ranges.resume) k))
     (boundary-offset b c.in_ok-log.log.items c.in_ok-record.record.items pieces))
@@ -104,7 +105,7 @@ returns-clause-offset c =
 
 pub returns-clause-others : goal.returns-clause-others
 returns-clause-others c =
-    let b : Boundary = record { thread = c.args.thread; locks = locks_in c.args.mask; live = c.args.live.now; resume = c.args.resume } in
+    let b : Boundary = record { log = V1; thread = c.args.thread; locks = locks_in c.args.mask; live = c.args.live.now; resume = c.args.resume } in
     let pieces : Pieces b c.in_ok-log.log.items c.in_ok-record.record.items = record {
       thread = c.requires.thread;
       some = some_mask c.args.mask (search rules) c.if-mask-eq0.false;
@@ -115,7 +116,7 @@ returns-clause-others c =
       is_mask = is_mask c.args.mask c.in_ok-record.record.items (search rules) c.in_ok-record.ensures.code;
     } in
     IfOk-weaker c.emit_boundary.result _ _
-    (λ code k. subst (λ (is : List Instr). KeepsRegisters is)
+    (λ code k. subst (λ (is : List Instr). KeepsRegisters V1 is)
     (sym (listed c.in_ok-log.log.items c.deref-2.result.now c.in_ok-record.record.items c.deref-3.result.now _ c.args.live.now c.args.resume
     (cast_signed w32 (cast_unsigned w32 c.args.resume)) c.deref-2.ensures.value c.deref-3.ensures.value (to_z-of_z w32 c.args.resume c.ranges.resume) k))
     (boundary-others b c.in_ok-log.log.items c.in_ok-record.record.items pieces))

@@ -19,9 +19,10 @@ returns-clause-translated c =
       few = c.in_ok-code.ensures.few;
       initial = c.in_ok-code.ensures.initial;
       mutexes = c.in_ok-code.ensures.mutexes;
+      log = c.in_ok-code.ensures.log;
     }) plan
     c.in_ok-object.object c.in_ok-object.marks c.in_ok-cuts.cuts refl c.in_ok-cuts.ensures.minimal c.in_ok-cuts.ensures.fewest c.in_ok-object.ensures.linked
-    c.in_ok-object.ensures.initial c.in_ok-object.ensures.mutexes
+    c.in_ok-object.ensures.initial c.in_ok-object.ensures.mutexes c.in_ok-object.ensures.log refl
 
 pub resume_table-requires-clause-plan : goal.resume_table-requires-clause-plan
 resume_table-requires-clause-plan c = plan_is c.args.analysis.now c.in_ok-cuts.cuts c.requires c.in_ok-cuts.ensures.cuts c.in_ok-cuts.ensures.places
@@ -36,9 +37,10 @@ resume_table-requires-clause-marked c =
       few = c.in_ok-code.ensures.few;
       initial = c.in_ok-code.ensures.initial;
       mutexes = c.in_ok-code.ensures.mutexes;
+      log = c.in_ok-code.ensures.log;
     }) plan
     c.in_ok-object.object c.in_ok-object.marks c.in_ok-cuts.cuts refl c.in_ok-cuts.ensures.minimal c.in_ok-cuts.ensures.fewest c.in_ok-object.ensures.linked
-    c.in_ok-object.ensures.initial c.in_ok-object.ensures.mutexes
+    c.in_ok-object.ensures.initial c.in_ok-object.ensures.mutexes c.in_ok-object.ensures.log refl
 
 pub returns-clause-resumes : goal.returns-clause-resumes
 returns-clause-resumes c =
@@ -50,7 +52,8 @@ returns-clause-resumes c =
       few = c.in_ok-code.ensures.few;
       initial = c.in_ok-code.ensures.initial;
       mutexes = c.in_ok-code.ensures.mutexes;
+      log = c.in_ok-code.ensures.log;
     }) plan
     c.in_ok-object.object c.in_ok-object.marks c.in_ok-cuts.cuts refl c.in_ok-cuts.ensures.minimal c.in_ok-cuts.ensures.fewest c.in_ok-object.ensures.linked
-    c.in_ok-object.ensures.initial c.in_ok-object.ensures.mutexes
+    c.in_ok-object.ensures.initial c.in_ok-object.ensures.mutexes c.in_ok-object.ensures.log refl
     c.in_ok-resumes.resumes.items c.in_ok-resumes.ensures

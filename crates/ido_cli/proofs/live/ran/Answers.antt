@@ -13,7 +13,7 @@ pub run_legs-requires-clause-can : goal.run_legs-requires-clause-can
 run_legs-requires-clause-can g c κs within =
     let y = c.args.compiled.now.translated in
     new_can y.object y.marks (3999000 + length c.args.asked.crashes.now) c.in_ok-life.life c.in_ok-life.ensures c.evictor.result
-    c.requires.translated.limits.threads c.evictor.ensures.valid
+    c.requires.translated.limits.threads c.requires.translated.log c.evictor.ensures.valid
 
 pub told-requires-clause-counted : goal.told-requires-clause-counted
 told-requires-clause-counted g c =

@@ -1,6 +1,9 @@
 use Rattle.std.proofs.Common.{◌+◌, ℕ, refl, subst}
-use Rattle.ido_cli.proofs.LegRuns.{IsLifeDriven, all_run, between_more}
+use Rattle.ido_cli.proofs.LegRuns.{IsLifeDriven, all_run, begins_between, between_more}
 use Rattle.ido_cli.proofs.live.run_legs.Goals as goal
+
+pub loop-word-init : goal.loop-word-init
+loop-word-init g c = begins_between c.args.turns c.args.crashes.now c.args.run c.args.run refl c.requires.begins c.requires.can
 
 pub loop-word-preserved : goal.loop-word-preserved
 loop-word-preserved g c =

@@ -2,6 +2,7 @@ use Rattle.std.proofs.Common.{◌≡◌, ℕ, ◌+◌, ◌/◌, ◌≤◌, List,
 use Rattle.std.proofs.lemmas.Result.{IfOk-weaker}
 use Rattle.ido_base.specs.declared.event.Event.{Event}
 use Rattle.c_tree.specs.Flats.{flat_of}
+use Rattle.run_tracker.specs.ObjectLives.{Course}
 use Rattle.run_scripts.specs.Draws.{drawn_run}
 use Rattle.run_scripts.proofs.Public.{run_valid}
 use Rattle.ido_compile.specs.CompileAnswers.{translation_in}
@@ -29,7 +30,8 @@ make_events-requires-clause-valid c = λ _.
     let few : c.len-threads.result ≤ 8 = omega (arith, many, c.requires.translated.limits.threads) in
     let bytes : c.len-bytes.result ≤ 65536 = omega (arith, c.len-bytes.ensures, y.object.initial.ok, c.requires.translated.limits.bytes) in
     let within : (c.len-bytes.result + 63) / 64 ≤ 1024 = omega (arith, bytes) in
-    all_valid (length c.in_ok-life.life.runs.program) c.len-threads.result c.deref.result.now _ (c.deref.ensures.value ∙ c.in_ok-events.ensures)
+    all_valid c.in_ok-life.life.runs.log (length c.in_ok-life.life.runs.program) c.len-threads.result c.deref.result.now _
+    (sym (ap (λ (life : Course). life.runs.log) c.in_ok-life.ensures ∙ c.requires.translated.log)) (c.deref.ensures.value ∙ c.in_ok-events.ensures)
     (many ∙ sym harts)
     (run_valid c.args.seed c.from.result c.args.crashes.now c.len-threads.result ((c.len-bytes.result + 63) / 64) few within)
 

@@ -7,5 +7,5 @@ use Rattle.resume_recovery.proofs.record.resumed_registers.Given as goal
 abbrev pub invariant-loop-register : goal.invariant-loop-register
 invariant-loop-register l = record {
   size : length l.registers ≡ 32;
-  set : (words : List Word) → Represents l.memory words → (i : ℕ) → i < l.register → get_or l.registers i 0 ≡ resumed_register words l.hart i;
+  set : (words : List Word) → Represents l.memory words → (i : ℕ) → i < l.register → get_or l.registers i 0 ≡ resumed_register l.memory.log words l.hart i;
 }

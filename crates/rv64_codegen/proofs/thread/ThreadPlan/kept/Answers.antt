@@ -30,6 +30,7 @@ returns c =
     let x = c.args.self.now in
     let o = c.requires.open_is in
     record {
+      log_is = refl;
       thread_is = refl;
       locks_are = ap locks_in c.held.ensures
           ∙ mask_has_held (set_before (plan_in x) (thread_of x) c.args.node) (few_held (plan_in x) o.plan (thread_of x) o.thread c.args.node c.requires.own);
