@@ -10,13 +10,13 @@ use Rattle.ido_base.specs.Words.{Word, Entry, loaded, stored, drained, entry_of}
 use Rattle.line_memory.specs.declared.memory.LineMemory.{LineMemory}
 use Rattle.line_memory.specs.declared.queue.Queue.{Queue}
 use Rattle.line_memory.specs.links.Queues.{RepresentsQueue, queue_length}
-use Rattle.line_memory.specs.links.MemoryRepresentation.{Represents, threads_of}
+use Rattle.line_memory.specs.links.MemoryRepresentation.{Represents, Logs, logs_of}
 use Rattle.line_memory.proofs.Public.{RepresentsQueue-stored, RepresentsQueue-drained}
 use Rattle.rv64_isa.specs.declared.phase.Phase.{Phase}
 use Rattle.rv64_isa.specs.Rows.{Loads, Stores, Cleans, Fences, next, written, load_result}
 use Rattle.rv64_isa.specs.Machine.{Hart as HartModel, World, Outcome, applied, access, stuck, moved, gone_on, drain_one, fenced, cleaned}
 use Rattle.hart_core.specs.declared.hart.Hart.{Hart}
-use Rattle.hart_core.specs.StepsOnParts.{Parts, PartsStand, PartsEnd, IsStep}
+use Rattle.hart_core.specs.StepsOnParts.{Parts, PartsStand, PartsEnd, IsStep, logs_in}
 use Rattle.hart_core.specs.links.Refusals.{refusal}
 use Rattle.hart_core.proofs.StepOutcomes.{same_end, changed_end}
 
@@ -35,27 +35,30 @@ made_by true true w address outcome e = refl
 made_by true false w address outcome e = cc
 made_by false a w address outcome e = cc
 
-access-refused : (w : World) (threads address bytes : ℕ) (cause : Cause) (outcome : Outcome) → length w.harts ≡ threads →
-    refusal threads address bytes ≡ Some cause → access w address bytes outcome ≡ stuck w cause
-access-refused w threads address bytes cause outcome count e =
-    refused_by (in_range (length w.harts) address bytes) (aligned address bytes) w address cause outcome (rw count e)
+access-refused : (w : World) (logs : Logs) (address bytes : ℕ) (cause : Cause) (outcome : Outcome) → logs_in w ≡ logs →
+    refusal logs address bytes ≡ Some cause → access w address bytes outcome ≡ stuck w cause
+access-refused w logs address bytes cause outcome same e =
+    refused_by (in_range w.log (length w.harts) address bytes) (aligned address bytes) w address cause outcome
+    (subst (λ (l : Logs). refusal l address bytes ≡ Some cause) (sym same) e)
 
-access-made : (w : World) (threads address bytes : ℕ) (outcome : Outcome) → length w.harts ≡ threads → refusal threads address bytes ≡ None →
+access-made : (w : World) (logs : Logs) (address bytes : ℕ) (outcome : Outcome) → logs_in w ≡ logs → refusal logs address bytes ≡ None →
     access w address bytes outcome ≡ outcome
-access-made w threads address bytes outcome count e = made_by (in_range (length w.harts) address bytes) (aligned address bytes) w address outcome (rw count e)
+access-made w logs address bytes outcome same e =
+    made_by (in_range w.log (length w.harts) address bytes) (aligned address bytes) w address outcome
+    (subst (λ (l : Logs). refusal l address bytes ≡ None) (sym same) e)
 
 -- an access that is refused changes nothing
 refused_step : (number address bytes : ℕ) (cause : Cause) (parts : Parts) (outcome : World → HartModel → Outcome) →
-    refusal (threads_of parts.memory) address bytes ≡ Some cause → IsStep (λ w model. access w address bytes (outcome w model)) number parts parts (Stuck cause)
+    refusal (logs_of parts.memory) address bytes ≡ Some cause → IsStep (λ w model. access w address bytes (outcome w model)) number parts parts (Stuck cause)
 refused_step number address bytes cause parts outcome refused = record {
   each =
       λ w model s. subst (λ (o : Outcome). PartsEnd parts (Stuck cause) number w o)
-      (sym (access-refused w (threads_of parts.memory) address bytes cause (outcome w model) s.count refused)) (same_end parts (Stuck cause) number w model s);
+      (sym (access-refused w (logs_of parts.memory) address bytes cause (outcome w model) s.logs refused)) (same_end parts (Stuck cause) number w model s);
 }
 
 -- a load that is made
 pub load_step : (number address bytes register found : ℕ) (signed : Bool) (phase : Phase) (hart : Hart) (memory : LineMemory) (locks : List (Option ℕ)) →
-    refusal (threads_of memory) address bytes ≡ None → ((words : List Word) → Represents memory words → found ≡ loaded words (byte_number address) bytes) →
+    refusal (logs_of memory) address bytes ≡ None → ((words : List Word) → Represents memory words → found ≡ loaded words (byte_number address) bytes) →
     IsStep (λ w model. applied w number model (Loads address bytes signed register)) number
     (record { phase = phase; hart = hart; memory = memory; locks = locks })
     (record {
@@ -75,7 +78,7 @@ load_step number address bytes register found signed phase hart memory locks mad
         pc = next model.pc;
       } in
       let read : found ≡ loaded w.words (byte_number address) bytes = value w.words s.words in
-      subst (λ (o : Outcome). PartsEnd after Moved number w o) (sym (access-made w (threads_of memory) address bytes (moved w number there) s.count made))
+      subst (λ (o : Outcome). PartsEnd after Moved number w o) (sym (access-made w (logs_of memory) address bytes (moved w number there) s.logs made))
       (changed_end before after Moved number w model there w.words w.holders s s.words refl s.holders s.phase (record {
         registers =
             ap (λ (n : ℕ). written model.registers register (load_result bytes signed n)) (sym read)
@@ -87,9 +90,9 @@ load_step number address bytes register found signed phase hart memory locks mad
 
 -- a store that is made
 pub store_step : (number address bytes value : ℕ) (phase : Phase) (hart : Hart) (memory memory' : LineMemory) (locks : List (Option ℕ)) →
-    refusal (threads_of memory) address bytes ≡ None →
+    refusal (logs_of memory) address bytes ≡ None →
     ((words : List Word) → Represents memory words → Represents memory' (stored words (byte_number address) bytes value)) →
-    threads_of memory' ≡ threads_of memory →
+    logs_of memory' ≡ logs_of memory →
     IsStep (λ w model. applied w number model (Stores address bytes value)) number (record { phase = phase; hart = hart; memory = memory; locks = locks })
     (record { phase = phase; hart = record hart { pc = next hart.pc }; memory = memory'; locks = locks }) Moved
 store_step number address bytes value phase hart memory memory' locks made stands threads = record {
@@ -98,7 +101,7 @@ store_step number address bytes value phase hart memory memory' locks made stand
       let after : Parts = record { phase = phase; hart = record hart { pc = next hart.pc }; memory = memory'; locks = locks } in
       let words : List Word = stored w.words (byte_number address) bytes value in
       subst (λ (o : Outcome). PartsEnd after Moved number w o)
-      (sym (access-made w (threads_of memory) address bytes (moved (record w { words = words }) number (gone_on model)) s.count made))
+      (sym (access-made w (logs_of memory) address bytes (moved (record w { words = words }) number (gone_on model)) s.logs made))
       (changed_end before after Moved number w model (gone_on model) words w.holders s (stands w.words s.words) threads s.holders s.phase (record {
         registers = s.hart.registers;
         pc = ap next s.hart.pc;
@@ -117,7 +120,7 @@ no_room n m e other = grind (arith, nat_tests)
 drained_end : (number : ℕ) (phase : Phase) (hart : Hart) (memory memory' : LineMemory) (queue' : Queue) (locks : List (Option ℕ)) (w : World)
     (model : HartModel) (entries : List Entry) → model.queue ≡ entries → 0 < length entries →
     ((words : List Word) (e : Entry) (es : List Entry) → Represents memory words → RepresentsQueue hart.queue (e ∷ es) words →
-    Represents memory' (drained words e) × RepresentsQueue queue' es (drained words e)) → threads_of memory' ≡ threads_of memory →
+    Represents memory' (drained words e) × RepresentsQueue queue' es (drained words e)) → logs_of memory' ≡ logs_of memory →
     PartsStand (record { phase = phase; hart = hart; memory = memory; locks = locks }) number w model →
     PartsEnd (record { phase = phase; hart = record hart { queue = queue' }; memory = memory'; locks = locks }) Drained number w
     (drain_one w number model entries)
@@ -132,9 +135,9 @@ drained_end number phase hart memory memory' queue' locks w model (e ∷ es) sam
 
 -- a clean that meets a full queue
 pub full_step : (number address : ℕ) (phase : Phase) (hart : Hart) (memory memory' : LineMemory) (queue' : Queue) (locks : List (Option ℕ)) →
-    refusal (threads_of memory) address 1 ≡ None → (queue_length hart.queue == 16) ≡ true →
+    refusal (logs_of memory) address 1 ≡ None → (queue_length hart.queue == 16) ≡ true →
     ((words : List Word) (e : Entry) (es : List Entry) → Represents memory words → RepresentsQueue hart.queue (e ∷ es) words →
-    Represents memory' (drained words e) × RepresentsQueue queue' es (drained words e)) → threads_of memory' ≡ threads_of memory →
+    Represents memory' (drained words e) × RepresentsQueue queue' es (drained words e)) → logs_of memory' ≡ logs_of memory →
     IsStep (λ w model. applied w number model (Cleans address)) number (record { phase = phase; hart = hart; memory = memory; locks = locks })
     (record { phase = phase; hart = record hart { queue = queue' }; memory = memory'; locks = locks }) Drained
 full_step number address phase hart memory memory' queue' locks made full stands threads = record {
@@ -143,7 +146,7 @@ full_step number address phase hart memory memory' queue' locks made full stands
       let no : nat_lt (length model.queue) 16 ≡ false = no_room (length model.queue) (queue_length hart.queue) s.hart.queue.size full in
       let some : 0 < length model.queue = full_some (length model.queue) (queue_length hart.queue) s.hart.queue.size full in
       subst (λ (o : Outcome). PartsEnd after Drained number w o)
-      (sym (access-made w (threads_of memory) address 1 (cleaned w number model (byte_number address / line_bytes)) s.count made))
+      (sym (access-made w (logs_of memory) address 1 (cleaned w number model (byte_number address / line_bytes)) s.logs made))
       (subst (λ (b : Bool). PartsEnd after Drained number w
       (if b then moved w number (record (gone_on model) { queue = model.queue ++ entry_of w.words (byte_number address / line_bytes) ∷ [] })
       else drain_one w number model model.queue)) (sym no)
@@ -155,7 +158,7 @@ full_step number address phase hart memory memory' queue' locks made full stands
 
 -- a clean that is queued
 pub clean_step : (number address line : ℕ) (phase : Phase) (hart : Hart) (memory : LineMemory) (queue' : Queue) (locks : List (Option ℕ)) →
-    refusal (threads_of memory) address 1 ≡ None → queue_length hart.queue ≤ 16 → (queue_length hart.queue == 16) ≡ false →
+    refusal (logs_of memory) address 1 ≡ None → queue_length hart.queue ≤ 16 → (queue_length hart.queue == 16) ≡ false →
     line ≡ byte_number address / line_bytes →
     ((words : List Word) (entries : List Entry) → Represents memory words → RepresentsQueue hart.queue entries words →
     RepresentsQueue queue' (entries ++ entry_of words line ∷ []) words) →
@@ -168,7 +171,7 @@ clean_step number address line phase hart memory queue' locks made within room s
       let yes : nat_lt (length model.queue) 16 ≡ true = has_room (length model.queue) (queue_length hart.queue) s.hart.queue.size within room in
       let there : HartModel = record (gone_on model) { queue = model.queue ++ entry_of w.words (byte_number address / line_bytes) ∷ [] } in
       subst (λ (o : Outcome). PartsEnd after Moved number w o)
-      (sym (access-made w (threads_of memory) address 1 (cleaned w number model (byte_number address / line_bytes)) s.count made))
+      (sym (access-made w (logs_of memory) address 1 (cleaned w number model (byte_number address / line_bytes)) s.logs made))
       (subst (λ (b : Bool). PartsEnd after Moved number w (if b then moved w number there else drain_one w number model model.queue)) (sym yes)
       (changed_end before after Moved number w model there w.words w.holders s s.words refl s.holders s.phase (record {
         registers = s.hart.registers;
@@ -182,7 +185,7 @@ clean_step number address line phase hart memory queue' locks made within room s
 pub draining_step : (number : ℕ) (phase : Phase) (hart : Hart) (memory memory' : LineMemory) (queue' : Queue) (locks : List (Option ℕ)) →
     (queue_length hart.queue == 0) ≡ false →
     ((words : List Word) (e : Entry) (es : List Entry) → Represents memory words → RepresentsQueue hart.queue (e ∷ es) words →
-    Represents memory' (drained words e) × RepresentsQueue queue' es (drained words e)) → threads_of memory' ≡ threads_of memory →
+    Represents memory' (drained words e) × RepresentsQueue queue' es (drained words e)) → logs_of memory' ≡ logs_of memory →
     IsStep (λ w model. applied w number model Fences) number (record { phase = phase; hart = hart; memory = memory; locks = locks })
     (record { phase = phase; hart = record hart { queue = queue' }; memory = memory'; locks = locks }) Drained
 draining_step number phase hart memory memory' queue' locks other stands threads = record {
@@ -202,7 +205,7 @@ draining_step number phase hart memory memory' queue' locks other stands threads
     fenced-some w number model (e ∷ es) some = refl
 
 pub load_refused : (number address bytes register : ℕ) (signed : Bool) (cause : Cause) (parts : Parts) →
-    refusal (threads_of parts.memory) address bytes ≡ Some cause →
+    refusal (logs_of parts.memory) address bytes ≡ Some cause →
     IsStep (λ w model. applied w number model (Loads address bytes signed register)) number parts parts (Stuck cause)
 load_refused number address bytes register signed cause parts refused =
     refused_step number address bytes cause parts
@@ -210,13 +213,13 @@ load_refused number address bytes register signed cause parts refused =
       registers = written model.registers register (load_result bytes signed (loaded w.words (byte_number address) bytes));
     })) refused
 
-pub store_refused : (number address bytes value : ℕ) (cause : Cause) (parts : Parts) → refusal (threads_of parts.memory) address bytes ≡ Some cause →
+pub store_refused : (number address bytes value : ℕ) (cause : Cause) (parts : Parts) → refusal (logs_of parts.memory) address bytes ≡ Some cause →
     IsStep (λ w model. applied w number model (Stores address bytes value)) number parts parts (Stuck cause)
 store_refused number address bytes value cause parts refused =
     refused_step number address bytes cause parts
     (λ w model. moved (record w { words = stored w.words (byte_number address) bytes value }) number (gone_on model)) refused
 
-pub clean_refused : (number address : ℕ) (cause : Cause) (parts : Parts) → refusal (threads_of parts.memory) address 1 ≡ Some cause →
+pub clean_refused : (number address : ℕ) (cause : Cause) (parts : Parts) → refusal (logs_of parts.memory) address 1 ≡ Some cause →
     IsStep (λ w model. applied w number model (Cleans address)) number parts parts (Stuck cause)
 clean_refused number address cause parts refused =
     refused_step number address 1 cause parts (λ w model. cleaned w number model (byte_number address / line_bytes)) refused

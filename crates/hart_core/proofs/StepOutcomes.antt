@@ -5,7 +5,7 @@ use Rattle.ido_base.specs.declared.event.Reply.{Reply}
 use Rattle.ido_base.specs.Words.{Word, Entry}
 use Rattle.line_memory.specs.declared.queue.Queue.{Queue}
 use Rattle.line_memory.specs.links.Queues.{RepresentsQueue}
-use Rattle.line_memory.specs.links.MemoryRepresentation.{Represents, threads_of}
+use Rattle.line_memory.specs.links.MemoryRepresentation.{Represents, Logs, logs_of}
 use Rattle.rv64_isa.specs.Machine.{Hart as HartModel, World}
 use Rattle.hart_core.specs.links.Harts.{RepresentsHart}
 use Rattle.hart_core.specs.StepsOnParts.{Parts, PartsStand, PartsEnd}
@@ -36,17 +36,20 @@ same_end parts reply number w model s = record {
 
 -- the hart is another one from now on, the words and the holders are others
 pub changed_end : (parts after : Parts) (reply : Reply) (number : ℕ) (w : World) (model next : HartModel) (words : List Word) (holders : List (Option ℕ)) →
-    PartsStand parts number w model → Represents after.memory words → threads_of after.memory ≡ threads_of parts.memory → holders ≡ after.locks →
+    PartsStand parts number w model → Represents after.memory words → logs_of after.memory ≡ logs_of parts.memory → holders ≡ after.locks →
     next.phase ≡ after.phase → RepresentsHart after.hart next words →
     ((any : Queue) (entries : List Entry) → RepresentsQueue any entries w.words → RepresentsQueue any entries words) →
-    PartsEnd after reply number w (record { words = words; harts = slice_set w.harts number next; holders = holders; recovering = w.recovering }, reply)
-changed_end parts after reply number w model next words holders s stand threads locks phase hart queues = record {
+    PartsEnd after reply number w (
+      record { words = words; harts = slice_set w.harts number next; holders = holders; recovering = w.recovering; log = w.log },
+      reply,
+    )
+changed_end parts after reply number w model next words holders s stand logs locks phase hart queues = record {
   replied = refl;
   model = next;
   stand = record {
     words = stand;
     holders = locks;
-    count = length-set w.harts number next ∙ s.count ∙ sym threads;
+    logs = ap (λ (n : ℕ). record { log = w.log; threads = n }) (length-set w.harts number next) ∙ s.logs ∙ sym logs;
     found = found_set w.harts number model next s.found;
     phase = phase;
     hart = hart;

@@ -24,7 +24,7 @@ one_of false a b first second = second
 
 access-moves : (w : World) (address bytes : ℕ) (outcome : Outcome) → is_idle outcome.1 ≡ false → is_idle (access w address bytes outcome).1 ≡ false
 access-moves w address bytes outcome moves =
-    one_of (in_range (length w.harts) address bytes) (if aligned address bytes then outcome else stuck w (Unaligned address)) (stuck w (Outside address))
+    one_of (in_range w.log (length w.harts) address bytes) (if aligned address bytes then outcome else stuck w (Unaligned address)) (stuck w (Outside address))
     (one_of (aligned address bytes) outcome (stuck w (Unaligned address)) moves refl) refl
 
 drain-moves : (w : World) (h : ℕ) (hart : Hart) (entries : List Entry) → is_idle (drain_one w h hart entries).1 ≡ false

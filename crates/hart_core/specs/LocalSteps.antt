@@ -2,9 +2,10 @@
 use Rattle.std.specs.Prelude.{ℕ, zero, suc, ◌-◌, ◌/◌, ◌%◌, List, slice_get, nat_le, ◌==◌, ◌&&◌, if◌then◌else◌, Option, Some, None}
 use Rattle.rv64_isa.specs.declared.object.Slot.{Slot}
 use Rattle.rv64_isa.specs.declared.object.Slot.TheVariants.{Row, NoRow}
-use Rattle.rv64_isa.specs.Rows.{Effect, Continues, Loads, Stores, Cleans, Fences, Calls, row}
+use Rattle.rv64_isa.specs.Rows.{Effect, Continues, Loads, Stores, Cleans, Fences, Calls, row, written}
 use Rattle.rv64_isa.specs.Programs.{code_of, code_start}
 use Rattle.hart_core.specs.declared.local.LocalState.{LocalState}
+use Rattle.hart_core.specs.declared.local.LocalWrite.{LocalWrite}
 
 -- the code of one thread, and the address of its first word
 pub record PlacedCode : Type 0 where
@@ -36,6 +37,10 @@ executed_locally (Some (Row instr)) s = continued (row instr s.registers s.pc)
 -- the next instruction, where it is local
 abbrev pub local_step : PlacedCode → LocalState → Option LocalState
 local_step code s = executed_locally (fetched_in code s.pc) s
+
+-- a hart with these registers after what a local step writes
+abbrev pub after_write : LocalWrite → (registers : List ℕ) → LocalState
+after_write write registers = record { registers = written registers write.register write.value; pc = write.pc }
 
 -- one more of them
 abbrev pub then_locally : PlacedCode → Option LocalState → Option LocalState

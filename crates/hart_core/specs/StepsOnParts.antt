@@ -6,7 +6,7 @@ use Rattle.ido_base.specs.Words.{Entry}
 use Rattle.line_memory.specs.declared.memory.LineMemory.{LineMemory}
 use Rattle.line_memory.specs.declared.queue.Queue.{Queue}
 use Rattle.line_memory.specs.links.Queues.{RepresentsQueue}
-use Rattle.line_memory.specs.links.MemoryRepresentation.{Represents, threads_of}
+use Rattle.line_memory.specs.links.MemoryRepresentation.{Represents, Logs, logs_of}
 use Rattle.rv64_isa.specs.declared.phase.Phase.{Phase}
 use Rattle.rv64_isa.specs.Machine.{Hart as HartModel, World, Outcome}
 use Rattle.hart_core.specs.declared.hart.Hart.{Hart}
@@ -19,11 +19,15 @@ pub record Parts : Type 0 where
   pub memory : LineMemory
   pub locks : List (Option ℕ)
 
+-- how many threads of a world have logs, and how these log
+abbrev pub logs_in : World → Logs
+logs_in w = record { log = w.log; threads = length w.harts }
+
 -- the parts represent this world, in which the hart of that number is this one
 pub record PartsStand (parts : Parts) (number : ℕ) (w : World) (model : HartModel) : Type 0 where
   pub words : Represents parts.memory w.words
   pub holders : w.holders ≡ parts.locks
-  pub count : length w.harts ≡ threads_of parts.memory
+  pub logs : logs_in w ≡ logs_of parts.memory
   pub found : slice_get w.harts number ≡ Some model
   pub phase : model.phase ≡ parts.phase
   pub hart : RepresentsHart parts.hart model w.words

@@ -2,7 +2,7 @@
 ghost use Rattle.std.specs.Prelude.{◌≡◌, ℕ, ◌+◌, ◌<◌, ◌≤◌, ◌^◌, List, Option, IfNone, IsTrue};
 ghost use Rattle.ido_base.specs.Layout.{in_range as is_in_range, aligned as is_aligned};
 ghost use Rattle.line_memory.specs.Access.{is_width};
-ghost use Rattle.line_memory.specs.links.MemoryRepresentation.{threads_of, stores_of};
+ghost use Rattle.line_memory.specs.links.MemoryRepresentation.{log_in, threads_of, logs_of, stores_of};
 ghost use Rattle.rv64_isa.specs.declared.phase.Phase.{Phase};
 ghost use Rattle.rv64_isa.specs.Rows.{Effect, Loads, Stores, Cleans, Fences, load_bytes, load_signed, store_bytes};
 ghost use Rattle.rv64_isa.specs.Machine.{applied};
@@ -41,10 +41,11 @@ fn store_width(kind: StoreKind) -> u32
 }
 
 /// Why an access of so many bytes can't be made.
+#[inline(always)]
 fn refused(memory: &LineMemory, address: u64, bytes: u32) -> Option<Cause>
     requires { IsTrue (is_width bytes) }
-    ensures cause { result ≡ refusal (threads_of memory.now) address bytes }
-    ensures in_range { IfNone result (IsTrue (is_in_range (threads_of memory.now) address bytes)) }
+    ensures cause { result ≡ refusal (logs_of memory.now) address bytes }
+    ensures in_range { IfNone result (IsTrue (is_in_range (log_in memory.now) (threads_of memory.now) address bytes)) }
     ensures aligned { IfNone result (IsTrue (is_aligned address bytes)) }
 {
     if !memory.in_range(address, bytes) {
@@ -94,7 +95,7 @@ pub(crate) fn store(
         → IsStep (λ w model. applied w number model (Stores address (store_bytes kind) value)) number
         (record { phase = phase; hart = hart.old; memory = memory.old; locks = locks })
         (record { phase = phase; hart = hart.new; memory = memory.new; locks = locks }) result }
-    ensures threads { threads_of memory.new ≡ threads_of memory.old }
+    ensures logs { logs_of memory.new ≡ logs_of memory.old }
     ensures stores { stores_of memory.new ≤ stores_of memory.old + 1 }
 {
     let bytes = store_width(kind);
@@ -111,7 +112,7 @@ pub(crate) fn clean(address: u64, hart: &mut Hart, memory: &mut LineMemory) -> R
     ensures step { (number : ℕ) (phase : Phase) (locks : List (Option ℕ)) → IsStep (λ w model. applied w number model (Cleans address)) number
         (record { phase = phase; hart = hart.old; memory = memory.old; locks = locks })
         (record { phase = phase; hart = hart.new; memory = memory.new; locks = locks }) result }
-    ensures threads { threads_of memory.new ≡ threads_of memory.old }
+    ensures logs { logs_of memory.new ≡ logs_of memory.old }
     ensures stores { stores_of memory.new ≡ stores_of memory.old }
 {
     if let Some(cause) = refused(memory, address, 1) {
@@ -131,7 +132,7 @@ pub(crate) fn fence(hart: &mut Hart, memory: &mut LineMemory) -> Reply
     ensures step { (number : ℕ) (phase : Phase) (locks : List (Option ℕ)) → IsStep (λ w model. applied w number model Fences) number
         (record { phase = phase; hart = hart.old; memory = memory.old; locks = locks })
         (record { phase = phase; hart = hart.new; memory = memory.new; locks = locks }) result }
-    ensures threads { threads_of memory.new ≡ threads_of memory.old }
+    ensures logs { logs_of memory.new ≡ logs_of memory.old }
     ensures stores { stores_of memory.new ≡ stores_of memory.old }
 {
     if hart.queue.is_empty() {

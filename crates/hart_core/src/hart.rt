@@ -1,6 +1,7 @@
 //! A hart.
 ghost use Rattle.rv64_isa.specs.Rows.{written, next};
 
+use crate::local::LocalWrite;
 use crate::rows;
 use line_memory::queue::Queue;
 use rv64_isa::field::Register;
@@ -54,6 +55,15 @@ impl Hart {
         if number != 0 {
             self.registers[number as usize] = value;
         }
+    }
+
+    /// Makes a local step.
+    #[inline(always)]
+    pub fn step_locally(&mut self, write: LocalWrite)
+        ensures { self.new ≡ record self.old { registers = written self.old.registers write.register write.value; pc = write.pc } }
+    {
+        self.write(write.register, write.value);
+        self.pc = write.pc;
     }
 
     /// The pc goes on to the next instruction.

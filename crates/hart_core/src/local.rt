@@ -1,10 +1,11 @@
 //! Steps of a hart that touch nothing but its registers and its pc, apart from any machine.
-ghost use Rattle.std.specs.Prelude.{◌≡◌, ◌<◌, None, Some, length, IfOk, MatchBool};
+ghost use Rattle.std.specs.Prelude.{◌≡◌, ◌<◌, ℕ, List, None, Some, length, IfOk, IfSome, IfNone, MatchBool};
 ghost use Rattle.rv64_isa.specs.Rows.{written};
 ghost use Rattle.hart_core.specs.Effects.{effect_in};
-ghost use Rattle.hart_core.specs.LocalSteps.{continued, fetched_in, local_step, placed_code};
+ghost use Rattle.hart_core.specs.LocalSteps.{continued, fetched_in, local_step, placed_code, after_write};
 
 use crate::effects::Effect;
+use crate::hart::Hart;
 use crate::program::Program;
 use crate::rows;
 use ido_base::memory::OutOfMemory;
@@ -19,6 +20,14 @@ pub struct LocalState {
     /// x0 to x31.
     pub registers: [u64; 32],
     /// The address of the instruction that it executes next.
+    pub pc: u64,
+}
+
+/// What a local step does: it writes a register, x0 where it writes none, and goes on at the pc.
+#[derive(Clone, Copy, Debug, Drop)]
+pub struct LocalWrite {
+    pub register: Register,
+    pub value: u64,
     pub pc: u64,
 }
 
@@ -116,5 +125,48 @@ fn go_on(effect: Effect, state: &mut LocalState) -> bool
         Effect::Cleans { .. } => false,
         Effect::Fences => false,
         Effect::Calls => false,
+    }
+}
+
+/// What an effect writes, where it is local.
+#[inline(always)]
+fn write_of(effect: Effect) -> Option<LocalWrite>
+    ensures some { IfSome result (λ write. (registers : List ℕ) → continued (effect_in effect registers) ≡ Some (after_write write registers)) }
+    ensures none { IfNone result ((registers : List ℕ) → continued (effect_in effect registers) ≡ None) }
+{
+    match effect {
+        Effect::Writes {
+            register,
+            value,
+            pc,
+        } => Some(LocalWrite {
+            register,
+            value,
+            pc,
+        }),
+        Effect::Goes { pc } => Some(LocalWrite {
+            register: Register::X0,
+            value: 0,
+            pc,
+        }),
+        Effect::Loads { .. } => None,
+        Effect::Stores { .. } => None,
+        Effect::Cleans { .. } => None,
+        Effect::Fences => None,
+        Effect::Calls => None,
+    }
+}
+
+/// What the next instruction of the hart of this number writes, where it is local.
+#[inline(always)]
+pub fn local_write(number: u32, program: &Program, hart: &Hart) -> Option<LocalWrite>
+    ensures some { IfSome result (λ write. local_step (placed_code program.now number) (record { registers = hart.now.registers; pc = hart.now.pc })
+        ≡ Some (after_write write hart.now.registers)) }
+    ensures none { IfNone result (local_step (placed_code program.now number) (record { registers = hart.now.registers; pc = hart.now.pc }) ≡ None) }
+{
+    match program.fetch(number, hart.pc) {
+        None => None,
+        Some(Slot::NoRow(_)) => None,
+        Some(Slot::Row(instr)) => write_of(rows::effect(instr, &hart.registers, hart.pc)),
     }
 }

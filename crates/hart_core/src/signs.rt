@@ -83,6 +83,7 @@ pub(crate) fn of_upper(immediate: UpperImmediate) -> u64
 }
 
 /// What a load leaves in its register, of the bytes that it read.
+#[inline(always)]
 pub(crate) fn loaded(kind: LoadKind, value: u64) -> u64
     requires { value < 2 ^ (8 * load_bytes kind) }
     ensures { result ≡ load_result (load_bytes kind) (load_signed kind) value }

@@ -1,7 +1,7 @@
 //! The step of a hart.
 ghost use Rattle.std.specs.Prelude.{◌≡◌, ◌⊎◌, ℕ, ◌+◌, ◌^◌, ◌<◌, ◌≤◌, List, Option, length};
 ghost use Rattle.line_memory.specs.declared.memory.LineMemory.{LineMemory};
-ghost use Rattle.line_memory.specs.links.MemoryRepresentation.{threads_of, stores_of};
+ghost use Rattle.line_memory.specs.links.MemoryRepresentation.{threads_of, logs_of, stores_of};
 ghost use Rattle.rv64_isa.specs.declared.phase.Phase.{Phase};
 ghost use Rattle.rv64_isa.specs.declared.phase.Phase.TheVariants.{Ended};
 ghost use Rattle.rv64_isa.specs.Rows.{Effect as Meaning, Continues, written};
@@ -61,7 +61,7 @@ fn apply(
         (record { phase = phase.old; hart = hart.old; memory = memory.old; locks = locks.old })
         (record { phase = phase.new; hart = hart.new; memory = memory.new; locks = locks.new }) result }
     ensures phase { (phase.new ≡ phase.old) ⊎ (phase.new ≡ Ended) }
-    ensures threads { threads_of memory.new ≡ threads_of memory.old }
+    ensures logs { logs_of memory.new ≡ logs_of memory.old }
     ensures stores { stores_of memory.new ≤ stores_of memory.old + 1 }
     ensures locks { length locks.new ≡ length locks.old }
 {
@@ -120,7 +120,7 @@ pub fn step(
         (record { phase = phase.old; hart = hart.old; memory = memory.old; locks = locks.old })
         (record { phase = phase.new; hart = hart.new; memory = memory.new; locks = locks.new }) result }
     ensures phase { (phase.new ≡ phase.old) ⊎ (phase.new ≡ Ended) }
-    ensures threads { threads_of memory.new ≡ threads_of memory.old }
+    ensures logs { logs_of memory.new ≡ logs_of memory.old }
     ensures stores { stores_of memory.new ≤ stores_of memory.old + 1 }
     ensures locks { length locks.new ≡ length locks.old }
 {

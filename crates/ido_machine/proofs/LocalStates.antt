@@ -1,12 +1,20 @@
--- Whether registers and pc of a hart are those of a local state.
-use Rattle.std.proofs.Common.{◌≡◌, ◌≢◌, ◌↔◌, ℕ, List, Bool, true, false, IsTrue, nat_eq, refl, ap, sym, ◌∙◌}
+-- Whether registers and pc of a hart are those of a local state, and what its local steps write.
+use Rattle.std.proofs.Common.{◌≡◌, ◌≢◌, ◌↔◌, ℕ, List, Option, Some, None, IfSome, IfNone, Bool, true, false, IsTrue, nat_eq, refl, ap, sym, subst, ◌∙◌}
+use Rattle.std.proofs.Common.{get_or, map, slice_get}
 use Rattle.std.specs.Bool.{MatchBool}
 use Rattle.std.specs.Cmp.Lexicographic.{pointwise, told_text}
 use Rattle.std.proofs.lemmas.Bool.{eqb-true}
+use Rattle.rv64_isa.specs.declared.object.Slot.{Slot}
+use Rattle.rv64_isa.specs.declared.phase.Phase.{Phase}
+use Rattle.rv64_isa.specs.declared.phase.Phase.TheVariants.{Run}
 use Rattle.rv64_isa.specs.Machine.{Hart as HartModel}
+use Rattle.rv64_isa.specs.Rows.{written}
 use Rattle.hart_core.specs.declared.hart.Hart.{Hart}
 use Rattle.hart_core.specs.declared.local.LocalState.{LocalState}
-use Rattle.ido_machine.specs.Harts.{local_state_of}
+use Rattle.hart_core.specs.declared.local.LocalWrite.{LocalWrite}
+use Rattle.hart_core.specs.LocalSteps.{after_write, local_step, placed_code}
+use Rattle.ido_machine.specs.Harts.{local_state_of, GoesLocally}
+use Rattle.ido_machine.proofs.Lists.{get_map}
 
 module _ (it : Hart) (model : HartModel) (s : LocalState) (registers : model.registers ≡ it.registers) (pc : model.pc ≡ it.pc) where
   -- the state of the hart in the code is that of the model
@@ -30,3 +38,41 @@ module _ (it : Hart) (model : HartModel) (s : LocalState) (registers : model.reg
     λ e. absurd (other (eqb-true it.pc s.pc e)),
     λ e. absurd (other (ap (λ (t : LocalState). t.pc) (state_is ∙ sym e))),
   )
+
+-- ---- What local steps write
+
+pub goes_some : {X : Type 0} (found : Option X) (P Q : X → Type 0) → IfSome found P → ((x : X) → P x → Q x) → IfSome found Q
+goes_some None P Q p f = tt
+goes_some (Some x) P Q p f = f x p
+
+pub goes_none : {X : Type 0} (found : Option X) (P Q : Type 0) → IfNone found P → (P → Q) → IfNone found Q
+goes_none None P Q p f = f p
+goes_none (Some x) P Q p f = tt
+
+-- a phase that was read is that of the hart
+pub phase_is : (harts : List HartModel) (phases : List Phase) (number : ℕ) (model : HartModel) (found default : Phase) →
+    map (λ hart. hart.phase) harts ≡ phases → slice_get harts number ≡ Some model → found ≡ get_or phases number default → found ≡ model.phase
+phase_is harts phases number model found default are there is =
+    is ∙ ap (λ (all : List Phase). get_or all number default) (sym are) ∙ get_map (λ (hart : HartModel). hart.phase) harts number model default there
+
+module _ (program : List (List Slot)) (h : ℕ) (it : Hart) (model : HartModel) where
+  abbrev pub here : LocalState
+  here = record { registers = it.registers; pc = it.pc }
+
+  pub write_goes : (write : LocalWrite) → model.phase ≡ Run → model.registers ≡ it.registers → model.pc ≡ it.pc →
+      local_step (placed_code program h) here ≡ Some (after_write write it.registers) → GoesLocally program h model write
+  write_goes write running registers pc e = record {
+    running = running;
+    local = subst (λ (t : LocalState). local_step (placed_code program h) t ≡ Some (after_write write t.registers)) (state_is it model here registers pc) e;
+  }
+
+  pub write_stays : model.registers ≡ it.registers → model.pc ≡ it.pc → local_step (placed_code program h) here ≡ None →
+      local_step (placed_code program h) (local_state_of model) ≡ None
+  write_stays registers pc e = subst (λ (t : LocalState). local_step (placed_code program h) t ≡ None) (state_is it model here registers pc) e
+
+-- what a local step writes, by the model's registers
+pub written_is : (it : Hart) (model : HartModel) (write : LocalWrite) → model.registers ≡ it.registers →
+    record it { registers = written it.registers write.register write.value; pc = write.pc }
+    ≡ record it { registers = (after_write write model.registers).registers; pc = (after_write write model.registers).pc }
+written_is it model write registers =
+    ap (λ (xs : List ℕ). record it { registers = written xs write.register write.value; pc = write.pc }) (sym registers)

@@ -5,6 +5,7 @@ use Rattle.std.proofs.lemmas.Bool.{cases_eq}
 use Rattle.std.proofs.lemmas.List.{length-set}
 use Rattle.ido_base.specs.declared.event.Event.TheVariants.{Step, Evict, Crash}
 use Rattle.ido_base.specs.declared.event.Reply.{Reply}
+use Rattle.ido_base.specs.declared.log.Log.{Log}
 use Rattle.ido_base.specs.declared.event.Reply.TheVariants.{Device, Moved}
 use Rattle.ido_base.specs.Cores.{is_idle}
 use Rattle.ido_base.specs.Locks.{holds_none}
@@ -12,13 +13,13 @@ use Rattle.ido_base.specs.Words.{Word, Entry, word_of, durable_value, evicted, c
 use Rattle.line_memory.specs.declared.memory.LineMemory.{LineMemory}
 use Rattle.line_memory.specs.declared.queue.Queue.{Queue}
 use Rattle.line_memory.specs.links.Queues.{RepresentsQueue}
-use Rattle.line_memory.specs.links.MemoryRepresentation.{Represents, threads_of}
+use Rattle.line_memory.specs.links.MemoryRepresentation.{Represents, Logs, log_in, threads_of, logs_of}
 use Rattle.line_memory.proofs.Public.{RepresentsQueue-evicted}
 use Rattle.rv64_isa.specs.declared.object.Slot.{Slot}
 use Rattle.rv64_isa.specs.declared.phase.Phase.{Phase}
 use Rattle.rv64_isa.specs.declared.phase.Phase.TheVariants.{Run, Done}
 use Rattle.rv64_isa.specs.Machine.{Hart as HartModel, World, Outcome, happens, hart_step, run_step, stepped, phase_step}
-use Rattle.rv64_isa.specs.Machine.{done_if_over, over_after, with_hart, phase_after_crash, durable_point, numbers_from}
+use Rattle.rv64_isa.specs.Machine.{done_if_over, over_after, with_hart, phase_after_crash, durable_point, numbers_from, after_crash_of}
 use Rattle.hart_core.specs.declared.hart.Hart.{Hart}
 use Rattle.hart_core.specs.links.Harts.{RepresentsHart}
 use Rattle.hart_core.specs.StepsOnParts.{Parts, PartsStand, PartsEnd}
@@ -50,7 +51,8 @@ pub parts_stand : (state : MachineState) (number : ℕ) (phase : Phase) (it : Ha
 parts_stand state number phase it w model threads is found there s = record {
   words = s.words;
   holders = s.holders;
-  count = s.standing.count ∙ sym threads;
+  logs = ap (λ (log : Log). record { log = log; threads = length w.harts }) s.log
+      ∙ ap (λ (n : ℕ). record { log = log_in state.memory; threads = n }) (s.standing.count ∙ sym threads);
   found = there;
   phase = sym (get_map (λ (hart : HartModel). hart.phase) w.harts number model Done there) ∙ ap (λ (phases : List Phase). phase_at phases number) s.phases ∙ is;
   hart = s.standing.each number it model found there;
@@ -100,6 +102,7 @@ state_end state number after reply w outcome s e = record {
         ∙ ap (λ (phases : List Phase). slice_set phases number e.model.phase) s.phases ∙ ap (slice_set state.phases number) e.stand.phase;
     standing = harts_stand state number after reply w outcome s e;
     recovering = e.recovering ∙ s.recovering;
+    log = ap (λ (l : Logs). l.log) e.stand.logs;
   };
 }
 
@@ -163,7 +166,7 @@ module _ (program : List (List Slot)) (number : ℕ) (recovering held over : Boo
         stand = record {
           words = e.stand.words;
           holders = e.stand.holders;
-          count = length-set o.0.harts number done ∙ e.stand.count;
+          logs = ap (λ (n : ℕ). record { log = o.0.log; threads = n }) (length-set o.0.harts number done) ∙ e.stand.logs;
           found = found_set o.0.harts number e.model done e.stand.found;
           phase = refl;
           hart = record { registers = e.stand.hart.registers; pc = e.stand.hart.pc; queue = e.stand.hart.queue };
@@ -245,15 +248,17 @@ gone_stands state number it next w model s threads found there is stands =
           ∙ ap (map phase_in) (set_found w.harts number model there) ∙ stands.phases;
       standing = harts_stand state number after Moved w (with_hart w number gone, Moved) stands end;
       recovering = stands.recovering;
+      log = stands.log;
     }
 
 -- ---- Evictions and crashes
 
 pub evict_end : (program : List (List Slot)) (state : MachineState) (memory : LineMemory) (line mask : ℕ) (w : World) →
-    ((words : List Word) → Represents state.memory words → Represents memory (evicted words line mask)) → RepresentsMachineState state w →
+    ((words : List Word) → Represents state.memory words → Represents memory (evicted words line mask)) → logs_of memory ≡ logs_of state.memory →
+    RepresentsMachineState state w →
     StateEnds (record state { memory = memory }) Device (happens program w (Evict line mask))
 unfolding happens
-evict_end program state memory line mask w stands s = record {
+evict_end program state memory line mask w stands logs s = record {
   replied = refl;
   stands = record {
     words = stands w.words s.words;
@@ -267,22 +272,26 @@ evict_end program state memory line mask w stands s = record {
           (s.standing.each n one model found there);
     };
     recovering = s.recovering;
+    log = s.log ∙ ap (λ (l : Logs). l.log) (sym logs);
   };
 }
 
 pub crash_end : (program : List (List Slot)) (state state' : MachineState) (w : World) → AreFresh program state'.harts (length program) →
     ((words : List Word) → Represents state'.memory words →
-    state'.phases ≡ map (λ thread. phase_after_crash (durable_point words thread)) (numbers_from 0 (length program))) →
-    ((words : List Word) → Represents state.memory words → Represents state'.memory (crashed words)) → state'.locks ≡ replicate (length state.locks) None →
+    state'.phases ≡ map (λ thread. phase_after_crash (durable_point (log_in state'.memory) words thread)) (numbers_from 0 (length program))) →
+    ((words : List Word) → Represents state.memory words → Represents state'.memory (crashed words)) → logs_of state'.memory ≡ logs_of state.memory →
+    state'.locks ≡ replicate (length state.locks) None →
     state'.recovering ≡ true → RepresentsMachineState state w → StateEnds state' Device (happens program w Crash)
 unfolding happens
-crash_end program state state' w fresh phases stands free recovering s =
+crash_end program state state' w fresh phases stands logs free recovering s =
     let left : map word_of (map durable_value w.words) ≡ crashed w.words = map_map word_of durable_value w.words in
     let there : Represents state'.memory (map word_of (map durable_value w.words)) =
     subst (λ (words : List Word). Represents state'.memory words) (sym left) (stands w.words s.words) in
     record {
       replied = refl;
       stands =
-          crash_simulates program (length w.holders) (map durable_value w.words) state' fresh (phases (map word_of (map durable_value w.words)) there) there
-          (free ∙ ap (λ (locks : List (Option ℕ)). replicate (length locks) None) (sym s.holders)) recovering;
+          subst (λ (log : Log). RepresentsMachineState state' (after_crash_of log program (length w.holders) (map durable_value w.words)))
+          (ap (λ (l : Logs). l.log) logs ∙ sym s.log)
+          (crash_simulates program (length w.holders) (map durable_value w.words) state' fresh (phases (map word_of (map durable_value w.words)) there) there
+          (free ∙ ap (λ (locks : List (Option ℕ)). replicate (length locks) None) (sym s.holders)) recovering);
     }

@@ -1,11 +1,11 @@
 -- The start of a machine, and its state after a crash.
-use Rattle.std.proofs.Common.{◌≡◌, ℕ, zero, suc, ◌+◌, ◌<◌, List, [], ◌∷◌, ◌++◌, length, map, replicate, slice_get}
+use Rattle.std.proofs.Common.{refl, ◌≡◌, ℕ, zero, suc, ◌+◌, ◌<◌, List, [], ◌∷◌, ◌++◌, length, map, replicate, slice_get}
 use Rattle.std.proofs.Common.{slice_set, Some, None, true, false, inl, inr, sym, ◌∙◌, ap, subst, arith, length-set}
 use Rattle.std.proofs.lemmas.Bool.{cases_eq}
 use Rattle.std.proofs.lemmas.List.{length_push}
 use Rattle.ido_base.specs.Words.{Word, word_of}
 use Rattle.ido_base.specs.Layout.{initial_words}
-use Rattle.line_memory.specs.links.MemoryRepresentation.{Represents}
+use Rattle.line_memory.specs.links.MemoryRepresentation.{Represents, log_in}
 use Rattle.rv64_isa.specs.declared.object.Slot.{Slot}
 use Rattle.rv64_isa.specs.declared.phase.Phase.{Phase}
 use Rattle.rv64_isa.specs.declared.phase.Phase.TheVariants.{Run}
@@ -77,29 +77,33 @@ fresh_stand program phase harts words fresh = record {
     one thread it is = record { registers = sym is.registers; pc = sym is.pc; queue = is.queue words }
 
 pub start_simulates : (program : List (List Slot)) (locks : ℕ) (initial : List ℕ) (state : MachineState) → AreFresh program state.harts (length program) →
-    state.phases ≡ replicate (length program) Run → Represents state.memory (map word_of (initial_words (length program) initial)) →
-    state.locks ≡ replicate locks None → state.recovering ≡ false → RepresentsMachineState state (start_of program locks initial)
+    state.phases ≡ replicate (length program) Run → Represents state.memory (map word_of (initial_words (log_in state.memory) (length program) initial)) →
+    state.locks ≡ replicate locks None → state.recovering ≡ false → RepresentsMachineState state (start_of (log_in state.memory) program locks initial)
 unfolding start_of
 start_simulates program locks initial state fresh phases stands free running = record {
   words = stands;
   holders = sym free;
   phases =
       map_map (λ (hart : HartModel). hart.phase) (fresh_hart program Run) (numbers_from 0 (length program)) ∙ map_constant Run 0 (length program) ∙ sym phases;
-  standing = fresh_stand program (λ thread. Run) state.harts (map word_of (initial_words (length program) initial)) fresh;
+  standing = fresh_stand program (λ thread. Run) state.harts (map word_of (initial_words (log_in state.memory) (length program) initial)) fresh;
   recovering = sym running;
+  log = refl;
 }
 
 pub crash_simulates : (program : List (List Slot)) (locks : ℕ) (words : List ℕ) (state : MachineState) → AreFresh program state.harts (length program) →
-    state.phases ≡ map (λ thread. phase_after_crash (durable_point (map word_of words) thread)) (numbers_from 0 (length program)) →
+    state.phases ≡ map (λ thread. phase_after_crash (durable_point (log_in state.memory) (map word_of words) thread)) (numbers_from 0 (length program)) →
     Represents state.memory (map word_of words) → state.locks ≡ replicate locks None → state.recovering ≡ true →
-    RepresentsMachineState state (after_crash_of program locks words)
+    RepresentsMachineState state (after_crash_of (log_in state.memory) program locks words)
 unfolding after_crash_of
 crash_simulates program locks words state fresh phases stands free recovering = record {
   words = stands;
   holders = sym free;
   phases =
-      map_map (λ (hart : HartModel). hart.phase) (λ thread. fresh_hart program (phase_after_crash (durable_point (map word_of words) thread)) thread)
+      map_map (λ (hart : HartModel). hart.phase)
+      (λ thread. fresh_hart program (phase_after_crash (durable_point (log_in state.memory) (map word_of words) thread)) thread)
       (numbers_from 0 (length program)) ∙ sym phases;
-  standing = fresh_stand program (λ thread. phase_after_crash (durable_point (map word_of words) thread)) state.harts (map word_of words) fresh;
+  standing =
+      fresh_stand program (λ thread. phase_after_crash (durable_point (log_in state.memory) (map word_of words) thread)) state.harts (map word_of words) fresh;
   recovering = sym recovering;
+  log = refl;
 }

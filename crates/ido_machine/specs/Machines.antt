@@ -1,8 +1,9 @@
 -- What a machine in the code represents.
 use Rattle.std.specs.Prelude.{◌≡◌, ℕ, List, Option, Bool}
 use Rattle.ido_base.specs.declared.event.Reply.{Reply}
+use Rattle.ido_base.specs.declared.log.Log.{Log}
 use Rattle.line_memory.specs.declared.memory.LineMemory.{LineMemory}
-use Rattle.line_memory.specs.links.MemoryRepresentation.{Represents}
+use Rattle.line_memory.specs.links.MemoryRepresentation.{Represents, log_in}
 use Rattle.rv64_isa.specs.declared.object.Slot.{Slot}
 use Rattle.rv64_isa.specs.declared.phase.Phase.{Phase}
 use Rattle.rv64_isa.specs.Machine.{World, Outcome}
@@ -14,6 +15,10 @@ use Rattle.ido_machine.specs.Harts.{HartsStand}
 -- what it runs
 abbrev pub program_in : Machine → List (List Slot)
 program_in machine = machine.program
+
+-- how its threads log
+abbrev pub log_by : Machine → Log
+log_by machine = log_in machine.memory
 
 -- how many events it has made
 abbrev pub events_of : Machine → ℕ
@@ -43,6 +48,7 @@ pub record RepresentsMachineState (state : MachineState) (w : World) : Type 0 wh
   pub phases : phases_of w ≡ state.phases
   pub standing : HartsStand state.harts w.harts w.words
   pub recovering : w.recovering ≡ state.recovering
+  pub log : w.log ≡ log_in state.memory
 
 -- the machine's harts with their phases and queues, its memory and its locks are those of the world
 abbrev pub RepresentsMachine : Machine → World → Type 0

@@ -1,7 +1,7 @@
 //! The harts of a machine at its start and after a crash.
 ghost use Rattle.std.specs.Prelude.{◌≡◌, ℕ, List, length, map, IfOk};
 ghost use Rattle.ido_base.specs.Words.{Word};
-ghost use Rattle.line_memory.specs.links.MemoryRepresentation.{Represents, threads_of};
+ghost use Rattle.line_memory.specs.links.MemoryRepresentation.{Represents, log_in, threads_of};
 ghost use Rattle.rv64_isa.specs.Machine.{phase_after_crash, durable_point, numbers_from};
 ghost use Rattle.ido_machine.specs.Harts.{AreFresh};
 
@@ -39,7 +39,7 @@ pub(crate) fn set_phases(phases: &mut [Phase], memory: &LineMemory)
     requires { length phases.old ≡ threads_of memory.now }
     ensures length { length phases.new ≡ length phases.old }
     ensures phases { (words : List Word) → Represents memory.now words
-        → phases.new ≡ map (λ thread. phase_after_crash (durable_point words thread)) (numbers_from 0 (length phases.old)) }
+        → phases.new ≡ map (λ thread. phase_after_crash (durable_point (log_in memory.now) words thread)) (numbers_from 0 (length phases.old)) }
 {
     for thread in 0..phases.len() {
         phases[thread] = phase_after_crash(thread as u32, memory);

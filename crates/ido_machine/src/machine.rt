@@ -1,14 +1,14 @@
 //! The machine.
 ghost use Rattle.std.specs.Prelude.{◌≡◌, ◌≤◌, length, vec_len};
-ghost use Rattle.ido_base.specs.declared.limits.TheConstants.{LOG_WORDS};
 ghost use Rattle.line_memory.specs.links.MemoryRepresentation.{threads_of, stores_of};
 
 use crate::harts;
 use crate::running::{is_idle, step_one};
 use hart_core::hart::Hart;
-use hart_core::local::LocalState;
+use hart_core::local::{self, LocalState, LocalWrite};
 use hart_core::program::Program;
 use ido_base::event::{Event, Reply};
+use ido_base::log::Log;
 use ido_base::memory::OutOfMemory;
 use line_memory::memory::LineMemory;
 use lock_table::LockTable;
@@ -34,27 +34,30 @@ pub struct Machine {
 }
 
 impl Machine {
-    ghost use Rattle.std.specs.Prelude.{◌≡◌, ℕ, ◌+◌, ◌*◌, ◌/◌, ◌^◌, ◌<◌, ◌≤◌, List, [], length, not, slice_get, Some, IfOk, IsTrue, ◌↔◌};
+    ghost use Rattle.std.specs.Prelude.{◌≡◌, ℕ, ◌+◌, ◌*◌, ◌/◌, ◌^◌, ◌<◌, ◌≤◌, List, [], length, not, slice_get, Some, None, IfOk, IfSome, IfNone, IsTrue, ◌↔◌};
     ghost use Rattle.ido_base.specs.declared.event.Event.TheVariants.{Step, Evict, Crash};
     ghost use Rattle.ido_base.specs.Words.{word_at, last_position, live_value, durable_value};
-    ghost use Rattle.ido_base.specs.Layout.{line_count};
+    ghost use Rattle.ido_base.specs.Layout.{line_count, log_words};
     ghost use Rattle.ido_base.specs.Locks.{holds_none};
     ghost use Rattle.ido_base.specs.Cores.{is_idle};
     ghost use Rattle.rv64_isa.specs.Programs.{program_of};
     ghost use Rattle.rv64_isa.specs.Machine.{Hart as HartModel, World, IsValidEvent, happens, reply_to, with_hart, machine_start, machine_from};
+    ghost use Rattle.rv64_isa.specs.declared.phase.Phase.TheVariants.{Run};
+    ghost use Rattle.hart_core.specs.LocalSteps.{local_step, placed_code, after_write};
     ghost use Rattle.hart_core.specs.Objects.{IsWithinLimits};
-    ghost use Rattle.ido_machine.specs.Machines.{program_in, events_of, RepresentsMachine, IsAfter};
-    ghost use Rattle.ido_machine.specs.Harts.{local_state_of, with_local_state};
+    ghost use Rattle.ido_machine.specs.Machines.{program_in, log_by, events_of, RepresentsMachine, IsAfter};
+    ghost use Rattle.ido_machine.specs.Harts.{local_state_of, with_local_state, GoesLocally};
 
     /// The machine of an object at its start.
     pub fn start(alloc: Global, object: &Object) -> Result<Machine, OutOfMemory>
         requires { IsWithinLimits object.now }
         ensures stands { IfOk result (λ machine. RepresentsMachine machine (machine_start object.now)) }
         ensures program { IfOk result (λ machine. program_in machine ≡ program_of object.now) }
+        ensures log { IfOk result (λ machine. log_by machine ≡ object.now.log) }
         ensures events { IfOk result (λ machine. events_of machine ≡ 0) }
     {
         let program = Program::of(alloc, object)?;
-        let memory = LineMemory::new(alloc, &object.initial, program.threads())?;
+        let memory = LineMemory::new(alloc, &object.initial, object.log, program.threads())?;
         let locks = LockTable::new(alloc, object.mutexes)?;
         let harts = harts::fresh(alloc, &program)?;
         let phases = vec![in alloc; Phase::Run; program.threads() as usize]?;
@@ -73,14 +76,16 @@ impl Machine {
     /// logs.
     pub fn of_words(alloc: Global, object: &Object, words: &[u64]) -> Result<Machine, OutOfMemory>
         requires limits { IsWithinLimits object.now }
-        requires count { length words.now ≡ length object.now.initial.items / 8 + LOG_WORDS * length object.now.code.items }
+        requires count { length words.now ≡ length object.now.initial.items / 8 + log_words object.now.log * length object.now.code.items }
         ensures stands { IfOk result (λ machine. RepresentsMachine machine (machine_from object.now words.now [])) }
         ensures program { IfOk result (λ machine. program_in machine ≡ program_of object.now) }
+        ensures log { IfOk result (λ machine. log_by machine ≡ object.now.log) }
         ensures events { IfOk result (λ machine. events_of machine ≡ 0) }
     {
         let program = Program::of(alloc, object)?;
         let threads = program.threads();
-        let memory = LineMemory::of_words(alloc, object.initial.len() as u32, threads, words)?;
+        let bytes = object.initial.len() as u32;
+        let memory = LineMemory::of_words(alloc, bytes, object.log, threads, words)?;
         let locks = LockTable::new(alloc, object.mutexes)?;
         let harts = harts::fresh(alloc, &program)?;
         let mut phases = vec![in alloc; Phase::Done; threads as usize]?;
@@ -110,13 +115,21 @@ impl Machine {
         &self.program
     }
 
+    /// How its threads log.
+    pub fn log(&self) -> Log
+        ensures { result ≡ log_by self.now }
+    {
+        self.memory.log()
+    }
+
     /// Makes an event.
     /// By induction a machine that was started from an object represents `machine object events`, crashes and recovery among them.
     pub fn event(&mut self, event: Event) -> Reply
-        requires valid { IsValidEvent (length (program_in self.old)) event }
+        requires valid { IsValidEvent (log_by self.old) (length (program_in self.old)) event }
         requires room { events_of self.old < 2 ^ 63 }
         ensures world { (w : World) → RepresentsMachine self.old w → IsAfter self.new result (happens (program_in self.old) w event) }
         ensures program { program_in self.new ≡ program_in self.old }
+        ensures log { log_by self.new ≡ log_by self.old }
         ensures events { events_of self.new ≡ events_of self.old + 1 }
     {
         match event {
@@ -133,6 +146,7 @@ impl Machine {
         requires room { events_of self.old < 2 ^ 63 }
         ensures world { (w : World) → RepresentsMachine self.old w → IsAfter self.new result (happens (program_in self.old) w (Step hart)) }
         ensures program { program_in self.new ≡ program_in self.old }
+        ensures log { log_by self.new ≡ log_by self.old }
         ensures events { events_of self.new ≡ events_of self.old + 1 }
     {
         let reply = step_one(
@@ -150,11 +164,12 @@ impl Machine {
 
     /// An eviction of the words of a line that the mask chooses: what `event` does for it.
     pub fn evict(&mut self, line: u32, mask: u32) -> Reply
-        requires exists { line < line_count (length (program_in self.old)) }
+        requires exists { line < line_count (log_by self.old) (length (program_in self.old)) }
         requires mask { mask ≤ 255 }
         requires room { events_of self.old < 2 ^ 63 }
         ensures world { (w : World) → RepresentsMachine self.old w → IsAfter self.new result (happens (program_in self.old) w (Evict line mask)) }
         ensures program { program_in self.new ≡ program_in self.old }
+        ensures log { log_by self.new ≡ log_by self.old }
         ensures events { events_of self.new ≡ events_of self.old + 1 }
     {
         self.memory.evict(line, mask);
@@ -167,6 +182,7 @@ impl Machine {
         requires room { events_of self.old < 2 ^ 63 }
         ensures world { (w : World) → RepresentsMachine self.old w → IsAfter self.new result (happens (program_in self.old) w Crash) }
         ensures program { program_in self.new ≡ program_in self.old }
+        ensures log { log_by self.new ≡ log_by self.old }
         ensures events { events_of self.new ≡ events_of self.old + 1 }
     {
         self.memory.crash();
@@ -223,12 +239,44 @@ impl Machine {
         ensures world { (w : World) (model : HartModel) → RepresentsMachine self.old w → slice_get w.harts hart ≡ Some model →
             RepresentsMachine self.new (with_hart w hart (with_local_state model state.now)) }
         ensures program { program_in self.new ≡ program_in self.old }
+        ensures log { log_by self.new ≡ log_by self.old }
         ensures events { events_of self.new ≡ events_of self.old + steps }
     {
         let it = &mut self.harts[hart as usize];
         it.registers = state.registers;
         it.pc = state.pc;
         self.events += u64::from(steps);
+    }
+
+    /// What the next step of a hart writes, where the hart executes instructions and the next one touches nothing but its registers and
+    /// its pc.
+    #[inline(always)]
+    pub fn local_write(&self, hart: u32) -> Option<LocalWrite>
+        requires { hart < length (program_in self.now) }
+        ensures some { IfSome result (λ write. (w : World) (model : HartModel) → RepresentsMachine self.now w → slice_get w.harts hart ≡ Some model →
+            GoesLocally (program_in self.now) hart model write) }
+        ensures none { IfNone result ((w : World) (model : HartModel) → RepresentsMachine self.now w → slice_get w.harts hart ≡ Some model →
+            model.phase ≡ Run → local_step (placed_code (program_in self.now) hart) (local_state_of model) ≡ None) }
+    {
+        match self.phases[hart as usize] {
+            Phase::Run => local::local_write(hart, &self.program, &self.harts[hart as usize]),
+            _ => None,
+        }
+    }
+
+    /// A hart makes a step that writes this and touches nothing else.
+    #[inline(always)]
+    pub fn step_locally(&mut self, hart: u32, write: LocalWrite)
+        requires exists { hart < length (program_in self.old) }
+        requires room { events_of self.old < 2 ^ 63 }
+        ensures world { (w : World) (model : HartModel) → RepresentsMachine self.old w → slice_get w.harts hart ≡ Some model →
+            RepresentsMachine self.new (with_hart w hart (with_local_state model (after_write write model.registers))) }
+        ensures program { program_in self.new ≡ program_in self.old }
+        ensures log { log_by self.new ≡ log_by self.old }
+        ensures events { events_of self.new ≡ events_of self.old + 1 }
+    {
+        self.harts[hart as usize].step_locally(write);
+        self.events += 1;
     }
 
     /// The phase of a hart.
@@ -256,7 +304,7 @@ impl Machine {
 
     /// The newest value of a word of a line.
     pub fn live_word(&self, line: u32, word: u32) -> u64
-        requires exists { line < line_count (length (program_in self.now)) }
+        requires exists { line < line_count (log_by self.now) (length (program_in self.now)) }
         requires word { word < 8 }
         ensures { (w : World) → RepresentsMachine self.now w → result ≡ live_value (word_at w.words (8 * line + word)) }
     {
@@ -265,7 +313,7 @@ impl Machine {
 
     /// The value that a crash would leave in a word of a line.
     pub fn durable_word(&self, line: u32, word: u32) -> u64
-        requires exists { line < line_count (length (program_in self.now)) }
+        requires exists { line < line_count (log_by self.now) (length (program_in self.now)) }
         requires word { word < 8 }
         ensures { (w : World) → RepresentsMachine self.now w → result ≡ durable_value (word_at w.words (8 * line + word)) }
     {
@@ -274,7 +322,7 @@ impl Machine {
 
     /// How many values a word of a line has had, less one: where its newest value stands among them.
     pub fn last_position(&self, line: u32, word: u32) -> u64
-        requires exists { line < line_count (length (program_in self.now)) }
+        requires exists { line < line_count (log_by self.now) (length (program_in self.now)) }
         requires word { word < 8 }
         ensures { (w : World) → RepresentsMachine self.now w → result ≡ last_position (word_at w.words (8 * line + word)) }
     {
@@ -283,7 +331,7 @@ impl Machine {
 
     /// Where the durable value of a word of a line stands among the values that it has had.
     pub fn durable_position(&self, line: u32, word: u32) -> u64
-        requires exists { line < line_count (length (program_in self.now)) }
+        requires exists { line < line_count (log_by self.now) (length (program_in self.now)) }
         requires word { word < 8 }
         ensures { (w : World) → RepresentsMachine self.now w → result ≡ (word_at w.words (8 * line + word)).durable }
     {

@@ -3,7 +3,7 @@ ghost use Rattle.std.specs.Prelude.{◌≡◌, ◌&&◌, ◌+◌, ◌^◌, ◌<�
 ghost use Rattle.ido_base.specs.declared.event.Event.TheVariants.{Step};
 ghost use Rattle.ido_base.specs.Cores.{is_idle};
 ghost use Rattle.ido_base.specs.Locks.{holds_none};
-ghost use Rattle.line_memory.specs.links.MemoryRepresentation.{Represents, threads_of, stores_of};
+ghost use Rattle.line_memory.specs.links.MemoryRepresentation.{Represents, log_in, threads_of, logs_of, stores_of};
 ghost use Rattle.rv64_isa.specs.Machine.{Hart as HartModel, World, happens, reply_to, run_step};
 ghost use Rattle.resume_recovery.specs.RecoverySteps.{phases_of};
 ghost use Rattle.hart_core.specs.StepsOnParts.{Parts, PartsStand, PartsEnd};
@@ -45,7 +45,7 @@ pub(crate) fn is_idle(
     requires few { length program.now ≤ 8 }
     requires phased { length phases.now ≡ length program.now }
     requires threads { threads_of memory.now ≡ length program.now }
-    ensures { (w : World) (model : HartModel) → Represents memory.now w.words → w.holders ≡ locks.now → phases_of w ≡ phases.now →
+    ensures { (w : World) (model : HartModel) → Represents memory.now w.words → w.log ≡ log_in memory.now → w.holders ≡ locks.now → phases_of w ≡ phases.now →
         slice_get w.harts number ≡ Some model → model.registers ≡ hart.now.registers → model.pc ≡ hart.now.pc →
         result ≡ is_idle (reply_to program.now w (Step number)) }
 {
@@ -72,7 +72,7 @@ fn run(
     ensures step { (w : World) (model : HartModel) → w.recovering ≡ recovering → PartsStand
         (record { phase = phase.old; hart = hart.old; memory = memory.old; locks = locks.old }) number w model → PartsEnd
         (record { phase = phase.new; hart = hart.new; memory = memory.new; locks = locks.new }) result number w (run_step program.now w number model) }
-    ensures threads { threads_of memory.new ≡ threads_of memory.old }
+    ensures logs { logs_of memory.new ≡ logs_of memory.old }
     ensures stores { stores_of memory.new ≤ stores_of memory.old + 1 }
     ensures locks { length locks.new ≡ length locks.old }
 {
@@ -105,7 +105,7 @@ pub(crate) fn step_one(
         (record { phases = phases.old; harts = harts.old; memory = memory.old; locks = locks.old; recovering = recovering }) w →
         StateEnds (record { phases = phases.new; harts = harts.new; memory = memory.new; locks = locks.new; recovering = recovering }) result
         (happens program.now w (Step number)) }
-    ensures threads { threads_of memory.new ≡ threads_of memory.old }
+    ensures logs { logs_of memory.new ≡ logs_of memory.old }
     ensures stores { stores_of memory.new ≤ stores_of memory.old + 1 }
 {
     let at = number as usize;

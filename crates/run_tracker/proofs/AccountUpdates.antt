@@ -4,6 +4,7 @@ use Rattle.std.proofs.Common.{slice_set, get_or, replicate, Bool, true, false, �
 use Rattle.std.proofs.Common.{◌∙◌, arith, inl, inr, length-set, length-append, get_or-set_same, get_or-set_other, append-nil}
 use Rattle.std.proofs.lemmas.Bool.{cases_eq, eq-eqb, eqb-true}
 use Rattle.std.proofs.lemmas.List.{drop-append-le}
+use Rattle.ido_base.specs.declared.log.Log.{Log}
 use Rattle.ido_base.specs.Words.{Word, word_at}
 use Rattle.rv64_isa.specs.Schedule.{Steps, HartSteps, Bound, hart_steps, no_steps, with_bound, with_kept, durable_steps}
 use Rattle.run_tracker.specs.declared.account.PointStore.{PointStore}
@@ -130,37 +131,39 @@ bound-stands before after s h position free first stands within was kept stores 
         ap (λ (bs : List Bound). record { free = (open_at before g).free; bound = bs }) same
 
 -- the durable ones among them are kept
-pub kept-stands : (before after : Account) (words : List Word) (s : Steps) (h durable free first was_first count : ℕ) → AccountInv before s →
+pub kept-stands : (before after : Account) (log : Log) (words : List Word) (s : Steps) (h durable free first was_first count : ℕ) → AccountInv before s →
     h < length before.harts.items
-    → durable ≡ (word_at words (point_word h)).durable
+    → durable ≡ (word_at words (point_word log h)).durable
     → open_at before h ≡ record { free = free; first = was_first }
     → after.kept.items ≡ before.kept.items ++ replicate count h → after.stores.items ≡ before.stores.items
     → after.harts.items ≡ slice_set before.harts.items h (record { free = free; first = first })
     → count ≡ durable_steps durable (bound_in (drop was_first before.stores.items) h)
     → bound_in (drop first before.stores.items) h ≡ later durable (bound_in (drop was_first before.stores.items) h) → first ≤ length before.stores.items
-    → AccountInv after (with_kept words h s)
-kept-stands before after words s h durable free first was_first count stands within durable_is was kept stores parts counted rest first_within =
-    updated before after s (with_kept words h s) h (record { free = free; first = first })
-    (record { free = (hart_steps s h).free; bound = later (word_at words (point_word h)).durable (hart_steps s h).bound })
+    → AccountInv after (with_kept log words h s)
+kept-stands before after log words s h durable free first was_first count stands within durable_is was kept stores parts counted rest first_within =
+    updated before after s (with_kept log words h s) h (record { free = free; first = first })
+    (record { free = (hart_steps s h).free; bound = later (word_at words (point_word log h)).durable (hart_steps s h).bound })
     stands within kept_is refl parts is (subst (λ (xs : List PointStore). first ≤ length xs) (sym stores) first_within) (omega (arith, ap length stores)) others
   where
     had : hart_steps s h ≡ record { free = free; bound = bound_in (drop was_first before.stores.items) h }
     had = stands.each h within ∙ ap (steps_of before.stores.items h) was
 
-    count_is : durable_steps (word_at words (point_word h)).durable (hart_steps s h).bound ≡ count
+    count_is : durable_steps (word_at words (point_word log h)).durable (hart_steps s h).bound ≡ count
     count_is = ap (λ (d : ℕ). durable_steps d (hart_steps s h).bound) (sym durable_is) ∙ ap (λ (x : HartSteps). durable_steps durable x.bound) had ∙ sym counted
 
-    kept_is : s.kept ++ replicate (durable_steps (word_at words (point_word h)).durable (hart_steps s h).bound) h ≡ after.kept.items
+    kept_is : s.kept ++ replicate (durable_steps (word_at words (point_word log h)).durable (hart_steps s h).bound) h ≡ after.kept.items
     kept_is = ap (λ (n : ℕ). s.kept ++ replicate n h) count_is ∙ ap (λ (ks : List ℕ). ks ++ replicate count h) stands.kept ∙ sym kept
 
-    rest_is : later (word_at words (point_word h)).durable (hart_steps s h).bound ≡ bound_in (drop first after.stores.items) h
+    rest_is : later (word_at words (point_word log h)).durable (hart_steps s h).bound ≡ bound_in (drop first after.stores.items) h
     rest_is =
         ap (λ (d : ℕ). later d (hart_steps s h).bound) (sym durable_is) ∙ ap (λ (x : HartSteps). later durable x.bound) had ∙ sym rest
         ∙ sym (ap (λ (xs : List PointStore). bound_in (drop first xs) h) stores)
 
-    is : record { free = (hart_steps s h).free; bound = later (word_at words (point_word h)).durable (hart_steps s h).bound }
+    is : record { free = (hart_steps s h).free; bound = later (word_at words (point_word log h)).durable (hart_steps s h).bound }
         ≡ steps_of after.stores.items h (record { free = free; first = first })
-    is = ap (λ (n : ℕ). record { free = n; bound = later (word_at words (point_word h)).durable (hart_steps s h).bound }) (ap (λ (x : HartSteps). x.free) had)
+    is =
+        ap (λ (n : ℕ). record { free = n; bound = later (word_at words (point_word log h)).durable (hart_steps s h).bound })
+        (ap (λ (x : HartSteps). x.free) had)
         ∙ ap (λ (bs : List Bound). record { free = free; bound = bs }) rest_is
 
     others : (g : ℕ) → g ≢ h → g < length before.harts.items →

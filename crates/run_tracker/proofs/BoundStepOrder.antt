@@ -3,6 +3,7 @@ use Rattle.std.proofs.Common.{◌≡◌, ◌⊎◌, ℕ, zero, suc, ◌+◌, ◌
 use Rattle.std.proofs.Common.{refl, ap, sym, subst, ◌∙◌, arith, inl, inr, length-append, get_or-set_same, get_or-set_other}
 use Rattle.std.proofs.lemmas.Bool.{cases_eq, cases_lt}
 use Rattle.std.proofs.lemmas.List.{set_past}
+use Rattle.ido_base.specs.declared.log.Log.{Log}
 use Rattle.ido_base.specs.Words.{Word, word_at, last_position}
 use Rattle.ido_base.specs.Growth.{IsChanged, AreChanged}
 use Rattle.rv64_isa.specs.Schedule.{Steps, HartSteps, Bound, hart_steps, no_steps, with_begun, with_bound, with_kept, with_all_kept}
@@ -28,59 +29,60 @@ last_grows old new (inr pushed) =
     let grown : length new.values ≡ length old.values + 1 = ap (λ (w : Word). length w.values) pushed.1 ∙ length-append old.values (pushed.0 ∷ []) in
     omega (arith, grown)
 
-pub ordered_later : (old new : List Word) (s : Steps) → AreChanged old new → AreOrdered old s → AreOrdered new s
-ordered_later old new s changed ordered = record {
+pub ordered_later : (log : Log) (old new : List Word) (s : Steps) → AreChanged old new → AreOrdered log old s → AreOrdered log new s
+ordered_later log old new s changed ordered = record {
   ascending = ordered.ascending;
   up_to =
-      λ h. up_to_more (last_position (word_at old (point_word h))) (last_position (word_at new (point_word h))) (hart_steps s h).bound
-      (last_grows _ _ (changed.each (point_word h))) (ordered.up_to h);
+      λ h. up_to_more (last_position (word_at old (point_word log h))) (last_position (word_at new (point_word log h))) (hart_steps s h).bound
+      (last_grows _ _ (changed.each (point_word log h))) (ordered.up_to h);
 }
 
-pub ordered-begun : (words : List Word) (h : ℕ) (s : Steps) → AreOrdered words s → AreOrdered words (with_begun h s)
-ordered-begun words h s ordered = record {
+pub ordered-begun : (log : Log) (words : List Word) (h : ℕ) (s : Steps) → AreOrdered log words s → AreOrdered log words (with_begun h s)
+ordered-begun log words h s ordered = record {
   ascending = each_hart (λ g x. IsAscending x.bound) s h (record (hart_steps s h) { free = (hart_steps s h).free + 1 }) (ordered.ascending h) ordered.ascending;
   up_to =
-      each_hart (λ g x. AllUpTo (last_position (word_at words (point_word g))) x.bound) s h (record (hart_steps s h) { free = (hart_steps s h).free + 1 })
+      each_hart (λ g x. AllUpTo (last_position (word_at words (point_word log g))) x.bound) s h (record (hart_steps s h) { free = (hart_steps s h).free + 1 })
       (ordered.up_to h) ordered.up_to;
 }
 
-pub ordered-bound : (words : List Word) (h position : ℕ) (s : Steps) → position ≡ last_position (word_at words (point_word h)) → AreOrdered words s →
-    AreOrdered words (with_bound h position s)
-ordered-bound words h position s e ordered =
+pub ordered-bound : (log : Log) (words : List Word) (h position : ℕ) (s : Steps) → position ≡ last_position (word_at words (point_word log h)) →
+    AreOrdered log words s →
+    AreOrdered log words (with_bound h position s)
+ordered-bound log words h position s e ordered =
     let b : Bound = record { position = position; steps = (hart_steps s h).free } in
     let all : AllUpTo position (hart_steps s h).bound = subst (λ (p : ℕ). AllUpTo p (hart_steps s h).bound) (sym e) (ordered.up_to h) in
     let x : HartSteps = record { free = 0; bound = (hart_steps s h).bound ++ b ∷ [] } in
     record {
       ascending = each_hart (λ g x. IsAscending x.bound) s h x (ascending_push (hart_steps s h).bound b (ordered.ascending h) all) ordered.ascending;
       up_to =
-          each_hart (λ g x. AllUpTo (last_position (word_at words (point_word g))) x.bound) s h x
-          (up_to_push (last_position (word_at words (point_word h))) (hart_steps s h).bound b (ordered.up_to h) (omega (arith, e))) ordered.up_to;
+          each_hart (λ g x. AllUpTo (last_position (word_at words (point_word log g))) x.bound) s h x
+          (up_to_push (last_position (word_at words (point_word log h))) (hart_steps s h).bound b (ordered.up_to h) (omega (arith, e))) ordered.up_to;
     }
 
-pub ordered-kept : (words now : List Word) (h : ℕ) (s : Steps) → AreOrdered words s → AreOrdered words (with_kept now h s)
-ordered-kept words now h s ordered =
-    let durable = (word_at now (point_word h)).durable in
+pub ordered-kept : (log : Log) (words now : List Word) (h : ℕ) (s : Steps) → AreOrdered log words s → AreOrdered log words (with_kept log now h s)
+ordered-kept log words now h s ordered =
+    let durable = (word_at now (point_word log h)).durable in
     let x : HartSteps = record { free = (hart_steps s h).free; bound = later durable (hart_steps s h).bound } in
     record {
       ascending = each_hart (λ g x. IsAscending x.bound) s h x (ascending_later durable (hart_steps s h).bound (ordered.ascending h)) ordered.ascending;
       up_to =
-          each_hart (λ g x. AllUpTo (last_position (word_at words (point_word g))) x.bound) s h x
-          (up_to_later (last_position (word_at words (point_word h))) durable (hart_steps s h).bound (ordered.up_to h)) ordered.up_to;
+          each_hart (λ g x. AllUpTo (last_position (word_at words (point_word log g))) x.bound) s h x
+          (up_to_later (last_position (word_at words (point_word log h))) durable (hart_steps s h).bound (ordered.up_to h)) ordered.up_to;
     }
 
-pub ordered-all_kept : (words now : List Word) (n : ℕ) (s : Steps) → AreOrdered words s → AreOrdered words (with_all_kept now n s)
-ordered-all_kept words now zero s ordered = ordered
-ordered-all_kept words now (suc n) s ordered = ordered-kept words now n (with_all_kept now n s) (ordered-all_kept words now n s ordered)
+pub ordered-all_kept : (log : Log) (words now : List Word) (n : ℕ) (s : Steps) → AreOrdered log words s → AreOrdered log words (with_all_kept log now n s)
+ordered-all_kept log words now zero s ordered = ordered
+ordered-all_kept log words now (suc n) s ordered = ordered-kept log words now n (with_all_kept log now n s) (ordered-all_kept log words now n s ordered)
 
 pub no_steps_anywhere : (count h : ℕ) → get_or (replicate count no_steps) h no_steps ≡ no_steps
 no_steps_anywhere zero h = refl
 no_steps_anywhere (suc count) zero = refl
 no_steps_anywhere (suc count) (suc h) = no_steps_anywhere count h
 
-pub ordered-none : (words : List Word) (s : Steps) (count : ℕ) → s.harts ≡ replicate count no_steps → AreOrdered words s
-ordered-none words s count e = record {
+pub ordered-none : (log : Log) (words : List Word) (s : Steps) (count : ℕ) → s.harts ≡ replicate count no_steps → AreOrdered log words s
+ordered-none log words s count e = record {
   ascending = λ h. subst (λ (x : HartSteps). IsAscending x.bound) (sym (none h)) tt;
-  up_to = λ h. subst (λ (x : HartSteps). AllUpTo (last_position (word_at words (point_word h))) x.bound) (sym (none h)) tt;
+  up_to = λ h. subst (λ (x : HartSteps). AllUpTo (last_position (word_at words (point_word log h))) x.bound) (sym (none h)) tt;
 }
   where
     none : (h : ℕ) → hart_steps s h ≡ no_steps

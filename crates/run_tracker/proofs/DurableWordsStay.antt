@@ -50,7 +50,7 @@ module _ (h : ℕ) (w : World) (hart : Hart) where
 
   accesses : (address bytes : ℕ) (outcome : Outcome) → Keeps w outcome → Keeps w (access w address bytes outcome)
   accesses address bytes outcome keeps =
-      cond_both (in_range (length w.harts) address bytes) _ _ (Keeps w)
+      cond_both (in_range w.log (length w.harts) address bytes) _ _ (Keeps w)
       (λ _. cond_both (aligned address bytes) _ _ (Keeps w) (λ _. keeps) (λ _ e j. refl))
       (λ _ e j. refl)
 
@@ -116,7 +116,7 @@ module _ (program : List (List Slot)) (h : ℕ) (w : World) where
       ap (λ (ws : List Word). (word_at ws j).durable) (settles h w outcome.0 (slice_get outcome.0.harts h)) ∙ executes h w hart (fetched program h hart.pc) e j
 
   by_phase : (hart : Hart) (phase : Phase) → Keeps w (phase_step program w h hart phase)
-  by_phase hart Take = takes h w hart (first_missing w.holders (record_of w.words h) h)
+  by_phase hart Take = takes h w hart (first_missing w.holders (record_of w.log w.words h) h)
   by_phase hart Wait = waits h w hart (taking_from 0 w.harts)
   by_phase hart Resume = λ e j. refl
   by_phase hart Run = runs hart

@@ -1,8 +1,10 @@
 -- What an event does to steps, and to what is counted along events.
-use Rattle.std.proofs.Common.{◌≡◌, ℕ, zero, suc, ◌+◌, ◌<◌, ◌≤◌, List, [], ◌∷◌, ◌++◌, length, replicate, sum_by}
+use Rattle.std.proofs.Common.{◌≡◌, ℕ, zero, suc, ◌+◌, ◌<◌, ◌≤◌, List, [], ◌∷◌, ◌++◌, length, replicate, sum_by, subst, sym}
 use Rattle.std.proofs.Common.{Bool, true, false, cond, if◌then◌else◌, refl, ap, ◌∙◌, arith, inl, length-set}
 use Rattle.std.proofs.lemmas.List.{length-replicate}
 use Rattle.std.proofs.lemmas.List.Sums.{sum_by-cons}
+use Rattle.rv64_isa.proofs.Public.{log_stays}
+use Rattle.ido_base.specs.declared.log.Log.{Log}
 use Rattle.ido_base.specs.declared.event.Event.{Event}
 use Rattle.ido_base.specs.declared.event.Event.TheVariants.{Step, Evict, Crash}
 use Rattle.ido_base.specs.Words.{Word, word_at, last_position}
@@ -86,14 +88,16 @@ weight-noted mark true h position s within =
     omega (arith, weight-bound h position (begun_if mark h s) (omega (arith, within, harts-begun mark h s)), weight-begun_if mark h s within)
 weight-noted mark false h position s within = weight-begun_if mark h s within
 
-ordered-begun_if : (words : List Word) (mark : Bool) (h : ℕ) (s : Steps) → AreOrdered words s → AreOrdered words (begun_if mark h s)
-ordered-begun_if words true h s ordered = ordered-begun words h s ordered
-ordered-begun_if words false h s ordered = ordered
+ordered-begun_if : (log : Log) (words : List Word) (mark : Bool) (h : ℕ) (s : Steps) → AreOrdered log words s → AreOrdered log words (begun_if mark h s)
+ordered-begun_if log words true h s ordered = ordered-begun log words h s ordered
+ordered-begun_if log words false h s ordered = ordered
 
-pub ordered-noted : (words : List Word) (mark point : Bool) (h position : ℕ) (s : Steps) → position ≡ last_position (word_at words (point_word h)) →
-    AreOrdered words s → AreOrdered words (noted mark point h position s)
-ordered-noted words mark true h position s e ordered = ordered-bound words h position (begun_if mark h s) e (ordered-begun_if words mark h s ordered)
-ordered-noted words mark false h position s e ordered = ordered-begun_if words mark h s ordered
+pub ordered-noted : (log : Log) (words : List Word) (mark point : Bool) (h position : ℕ) (s : Steps) →
+    position ≡ last_position (word_at words (point_word log h)) →
+    AreOrdered log words s → AreOrdered log words (noted mark point h position s)
+ordered-noted log words mark true h position s e ordered =
+    ordered-bound log words h position (begun_if mark h s) e (ordered-begun_if log words mark h s ordered)
+ordered-noted log words mark false h position s e ordered = ordered-begun_if log words mark h s ordered
 
 -- ---- Steps after an event
 
@@ -101,30 +105,32 @@ pub harts-after : (marks : List (List ℕ)) (program : List (List Slot)) (w : Wo
     length (steps_after marks program w event s).harts ≡ length s.harts
 unfolding steps_after
 harts-after marks program w (Step h) s =
-    harts-all_kept _ (length s.harts) (with_step marks program w h s) ∙ harts-noted (passes_mark marks program w h) (stores_point program w (Step h) h) h _ s
-harts-after marks program w (Evict line mask) s = harts-all_kept _ (length s.harts) s
+    harts-all_kept w.log _ (length s.harts) (with_step marks program w h s)
+    ∙ harts-noted (passes_mark marks program w h) (stores_point program w (Step h) h) h _ s
+harts-after marks program w (Evict line mask) s = harts-all_kept w.log _ (length s.harts) s
 harts-after marks program w Crash s = length-replicate (length s.harts) no_steps
 
 pub weightless : (count : ℕ) → sum_by hart_weight (replicate count no_steps) ≡ 0
 weightless zero = refl
 weightless (suc count) = sum_by-cons hart_weight no_steps (replicate count no_steps) ∙ omega (arith, weightless count)
 
-pub weight-after : (marks : List (List ℕ)) (program : List (List Slot)) (w : World) (event : Event) (s : Steps) → IsValidEvent (length s.harts) event →
+pub weight-after : (log : Log) (marks : List (List ℕ)) (program : List (List Slot)) (w : World) (event : Event) (s : Steps) →
+    IsValidEvent log (length s.harts) event →
     weight (steps_after marks program w event s) ≤ weight s + 1
 unfolding steps_after
-weight-after marks program w (Step h) s valid =
-    let position = last_position (word_at (after_event program w (Step h)).words (point_word h)) in
+weight-after log marks program w (Step h) s valid =
+    let position = last_position (word_at (after_event program w (Step h)).words (point_word w.log h)) in
     let mark = passes_mark marks program w h in
     let point = stores_point program w (Step h) h in
     omega (
       arith,
-      weight-all_kept (after_event program w (Step h)).words (length s.harts) (with_step marks program w h s)
+      weight-all_kept w.log (after_event program w (Step h)).words (length s.harts) (with_step marks program w h s)
           (omega (arith, harts-noted mark point h position s)),
       weight-noted mark point h position s valid,
     )
-weight-after marks program w (Evict line mask) s valid =
-    omega (arith, weight-all_kept (after_event program w (Evict line mask)).words (length s.harts) s (omega arith))
-weight-after marks program w Crash s valid = omega (arith, weightless (length s.harts))
+weight-after log marks program w (Evict line mask) s valid =
+    omega (arith, weight-all_kept w.log (after_event program w (Evict line mask)).words (length s.harts) s (omega arith))
+weight-after log marks program w Crash s valid = omega (arith, weightless (length s.harts))
 
 pub changed_by_step : (program : List (List Slot)) (w : World) (h : ℕ) → IsWellFormedWorld w → AreChanged w.words (after_event program w (Step h)).words
 changed_by_step program w h sound = (steps_touch program w h sound).words
@@ -134,25 +140,29 @@ changed_by_eviction program w line mask =
     let raised = (evictions_touch program w line mask).0 in
     record { size = raised.size; each = λ j. inl (raised.each j) }
 
-pub ordered-after : (marks : List (List ℕ)) (program : List (List Slot)) (w : World) (event : Event) (s : Steps) → IsWellFormedWorld w → AreOrdered w.words s →
-    AreOrdered (after_event program w event).words (steps_after marks program w event s)
+pub ordered-after : (marks : List (List ℕ)) (program : List (List Slot)) (w : World) (event : Event) (s : Steps) → IsWellFormedWorld w →
+    AreOrdered w.log w.words s →
+    AreOrdered (after_event program w event).log (after_event program w event).words (steps_after marks program w event s)
 unfolding steps_after
 ordered-after marks program w (Step h) s sound ordered =
     let words = (after_event program w (Step h)).words in
-    ordered-all_kept words words (length s.harts) (with_step marks program w h s)
-    (ordered-noted words (passes_mark marks program w h) (stores_point program w (Step h) h) h (last_position (word_at words (point_word h))) s refl
-    (ordered_later w.words words s (changed_by_step program w h sound) ordered))
+    subst (λ (l : Log). AreOrdered l words (steps_after marks program w (Step h) s)) (sym (log_stays program w (Step h) sound))
+    (ordered-all_kept w.log words words (length s.harts) (with_step marks program w h s)
+    (ordered-noted w.log words (passes_mark marks program w h) (stores_point program w (Step h) h) h (last_position (word_at words (point_word w.log h))) s refl
+    (ordered_later w.log w.words words s (changed_by_step program w h sound) ordered)))
 ordered-after marks program w (Evict line mask) s sound ordered =
     let words = (after_event program w (Evict line mask)).words in
-    ordered-all_kept words words (length s.harts) s (ordered_later w.words words s (changed_by_eviction program w line mask) ordered)
+    subst (λ (l : Log). AreOrdered l words (steps_after marks program w (Evict line mask) s)) (sym (log_stays program w (Evict line mask) sound))
+    (ordered-all_kept w.log words words (length s.harts) s (ordered_later w.log w.words words s (changed_by_eviction program w line mask) ordered))
 ordered-after marks program w Crash s sound ordered =
-    ordered-none (after_event program w Crash).words (record s { pending = []; harts = replicate (length s.harts) no_steps }) (length s.harts) refl
+    ordered-none (after_event program w Crash).log (after_event program w Crash).words (record s { pending = []; harts = replicate (length s.harts) no_steps })
+    (length s.harts) refl
 
 -- ---- What was noted of an event is what the definition says
 
 pub noted_is : (marks : List (List ℕ)) (program : List (List Slot)) (w : World) (h : ℕ) (s : Steps) (mark point : Bool) (position : ℕ)
     → mark ≡ passes_mark marks program w h → point ≡ stores_point program w (Step h) h →
-    position ≡ last_position (word_at (after_event program w (Step h)).words (point_word h))
+    position ≡ last_position (word_at (after_event program w (Step h)).words (point_word w.log h))
     → noted mark point h position s ≡ with_step marks program w h s
 noted_is marks program w h s mark point position mark_is point_is position_is =
     ap (λ (m : Bool). noted m point h position s) mark_is
@@ -160,6 +170,6 @@ noted_is marks program w h s mark point position mark_is point_is position_is =
     ∙ ap (λ (p : ℕ). noted (passes_mark marks program w h) (stores_point program w (Step h) h) h p s) position_is
 
 pub eviction_is : (marks : List (List ℕ)) (program : List (List Slot)) (w : World) (line mask : ℕ) (s : Steps) (n : ℕ) → n ≡ length s.harts
-    → with_all_kept (after_event program w (Evict line mask)).words n s ≡ steps_after marks program w (Evict line mask) s
+    → with_all_kept w.log (after_event program w (Evict line mask)).words n s ≡ steps_after marks program w (Evict line mask) s
 unfolding steps_after
-eviction_is marks program w line mask s n n_is = ap (λ (k : ℕ). with_all_kept (after_event program w (Evict line mask)).words k s) n_is
+eviction_is marks program w line mask s n n_is = ap (λ (k : ℕ). with_all_kept w.log (after_event program w (Evict line mask)).words k s) n_is

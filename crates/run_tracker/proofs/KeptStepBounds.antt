@@ -16,12 +16,13 @@ module _ (machine : Machine) (account : Account) (h : ℕ) (has : HasSteps machi
   in_steps : h < length has.steps.harts
   in_steps = omega (arith, has.stands.count, within)
 
-  pub has_later : (after : Account) → AccountInv after (with_kept has.world.words h has.steps) → vec_capacity after.kept ≡ vec_capacity account.kept →
+  pub has_later : (after : Account) → AccountInv after (with_kept has.world.log has.world.words h has.steps) →
+      vec_capacity after.kept ≡ vec_capacity account.kept →
       HasSteps machine after
   has_later after stands capacity = record {
     world = has.world;
     at = has.at;
-    steps = with_kept has.world.words h has.steps;
+    steps = with_kept has.world.log has.world.words h has.steps;
     stands = stands;
     ascending =
         each_hart (λ g x. IsAscending x.bound) has.steps h
@@ -32,7 +33,7 @@ module _ (machine : Machine) (account : Account) (h : ℕ) (has : HasSteps machi
   }
     where
       durable : ℕ
-      durable = (word_at has.world.words (point_word h)).durable
+      durable = (word_at has.world.words (point_word has.world.log h)).durable
 
-      same : weight (with_kept has.world.words h has.steps) ≡ weight has.steps
-      same = weight-kept has.world.words h has.steps in_steps
+      same : weight (with_kept has.world.log has.world.words h has.steps) ≡ weight has.steps
+      same = weight-kept has.world.log has.world.words h has.steps in_steps

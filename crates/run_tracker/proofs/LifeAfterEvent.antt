@@ -2,6 +2,7 @@
 use Rattle.std.proofs.Common.{◌≡◌, ℕ, ◌+◌, ◌<◌, ◌≤◌, ◌^◌, List, [], ◌∷◌, ◌++◌, length}
 use Rattle.std.proofs.Common.{slice_index, Bool, cond, ap, sym, subst, ◌∙◌, arith, length-append}
 use Rattle.std.specs.Vec.{vec_capacity, vec_len}
+use Rattle.ido_base.specs.declared.log.Log.{Log}
 use Rattle.ido_base.specs.declared.event.Event.{Event}
 use Rattle.ido_base.specs.Cores.{point_stores, finished_fences}
 use Rattle.rv64_isa.specs.declared.object.Slot.{Slot}
@@ -11,7 +12,7 @@ use Rattle.rv64_isa.proofs.Public.{queues_stand}
 use Rattle.rv64_isa.specs.Machine.{World, IsValidEvent, after_event}
 use Rattle.rv64_isa.specs.Schedule.{Steps, steps_after, stores_point, finishes_fence}
 use Rattle.ido_machine.specs.declared.machine.Machine.{Machine}
-use Rattle.ido_machine.specs.Machines.{RepresentsMachine, program_in, events_of}
+use Rattle.ido_machine.specs.Machines.{RepresentsMachine, log_by, program_in, events_of}
 use Rattle.run_tracker.specs.declared.account.Account.{Account}
 use Rattle.run_tracker.specs.declared.counts.Counts.{Counts}
 use Rattle.run_tracker.specs.declared.life.Life.TheInside.{Inside}
@@ -55,8 +56,9 @@ module _ (life : Inside) (stands : LifeInv life) where
       omega (arith, stands.sections.counted h (omega (arith, below, stands.sections.size)), few, stands.within, stands.few)
 
   module _ (event : Event) (machine : Machine) (account : Account) (journal : Recorded) (counts : Counts) (sections : Sections)
-      (valid : IsValidEvent (length (program_in life.machine)) event) (room : length life.journal.events < life.cap)
-      (same : program_in machine ≡ program_in life.machine) (events : events_of machine ≡ events_of life.machine + 1)
+      (valid : IsValidEvent (log_by life.machine) (length (program_in life.machine)) event) (room : length life.journal.events < life.cap)
+      (same : program_in machine ≡ program_in life.machine) (logs : log_by machine ≡ log_by life.machine)
+      (events : events_of machine ≡ events_of life.machine + 1)
       (world : RepresentsMachine machine (after_event (program_in life.machine) (world_of (course_of life)) event))
       (steps : AccountInv account
       (steps_after (node_marks life.marks.threads.items) (program_in life.machine) (world_of (course_of life)) event (steps_in (course_of life))))
@@ -69,14 +71,16 @@ module _ (life : Inside) (stands : LifeInv life) where
     pub course_is : course_of (record life { machine = machine; account = account; journal = journal; counts = counts; sections = sections })
         ≡ with_event (course_of life) event
     course_is =
-        let at : List (List Slot) → List Event → Course = λ p j. record {
-          runs = executable_by p life;
+        let at : List (List Slot) → Log → List Event → Course = λ p l j. record {
+          runs = executable_by l p life;
           kept_before = life.before.items;
-          opening = opening_by p life.mutexes life.initial.items life.left;
+          opening = opening_by l p life.mutexes life.initial.items life.left;
           journal = j;
           cap = life.cap;
         } in
-        ap (λ (p : List (List Slot)). at p journal.events) same ∙ ap (λ (j : Recorded). at (program_in life.machine) j.events) journal_is
+        ap (λ (p : List (List Slot)). at p (log_by machine) journal.events) same
+        ∙ (ap (λ (l : Log). at (program_in life.machine) l journal.events) logs
+        ∙ ap (λ (j : Recorded). at (program_in life.machine) (log_by life.machine) j.events) journal_is)
 
     world_is : world_of (with_event (course_of life) event) ≡ after_event (program_in life.machine) (world_of (course_of life)) event
     world_is = after_more (program_in life.machine) (course_of life).opening life.journal.events event
@@ -98,8 +102,8 @@ module _ (life : Inside) (stands : LifeInv life) where
     longer : length journal.events ≡ length life.journal.events + 1
     longer = ap (λ (j : Recorded). length j.events) journal_is ∙ length-append life.journal.events (event ∷ [])
 
-    valid_steps : IsValidEvent (length (steps_in (course_of life)).harts) event
-    valid_steps = subst (λ (n : ℕ). IsValidEvent n event) (sym steps_count) valid
+    valid_steps : IsValidEvent (log_by life.machine) (length (steps_in (course_of life)).harts) event
+    valid_steps = subst (λ (n : ℕ). IsValidEvent (log_by life.machine) n event) (sym steps_count) valid
 
     pub lasts : LifeInv (record life { machine = machine; account = account; journal = journal; counts = counts; sections = sections })
     lasts = record {
@@ -114,20 +118,23 @@ module _ (life : Inside) (stands : LifeInv life) where
       harts =
           sym steps.count ∙ harts-after (node_marks life.marks.threads.items) (program_in life.machine) (world_of (course_of life)) event
           (steps_in (course_of life)) ∙ steps_count ∙ ap length (sym same);
-      ordered = moved (λ (x : Course). AreOrdered (world_of x).words (steps_in x))
-          (subst (λ (w : World). AreOrdered w.words (steps_in (with_event (course_of life) event))) (sym world_is)
-          (subst (AreOrdered (after_event (program_in life.machine) (world_of (course_of life)) event).words) (sym steps_are)
+      ordered = moved (λ (x : Course). AreOrdered (world_of x).log (world_of x).words (steps_in x))
+          (subst (λ (w : World). AreOrdered w.log w.words (steps_in (with_event (course_of life) event))) (sym world_is)
+          (subst (AreOrdered (after_event (program_in life.machine) (world_of (course_of life)) event).log
+          (after_event (program_in life.machine) (world_of (course_of life)) event).words) (sym steps_are)
           (ordered-after (node_marks life.marks.threads.items) (program_in life.machine) (world_of (course_of life)) event (steps_in (course_of life))
           stands.sound stands.ordered)));
-      are_open = moved (λ (x : Course). AreOpen (world_of x).words (steps_in x))
-          (subst (λ (w : World). AreOpen w.words (steps_in (with_event (course_of life) event))) (sym world_is)
-          (subst (AreOpen (after_event (program_in life.machine) (world_of (course_of life)) event).words) (sym steps_are)
-          (open-after (node_marks life.marks.threads.items) (program_in life.machine) (world_of (course_of life)) event (steps_in (course_of life)))));
+      are_open = moved (λ (x : Course). AreOpen (world_of x).log (world_of x).words (steps_in x))
+          (subst (λ (w : World). AreOpen w.log w.words (steps_in (with_event (course_of life) event))) (sym world_is)
+          (subst (AreOpen (after_event (program_in life.machine) (world_of (course_of life)) event).log
+          (after_event (program_in life.machine) (world_of (course_of life)) event).words) (sym steps_are)
+          (open-after (node_marks life.marks.threads.items) (program_in life.machine) (world_of (course_of life)) event (steps_in (course_of life))
+          stands.sound)));
       light = moved (λ (x : Course). weight (steps_in x) ≤ length life.before.items + length journal.events)
           (subst (λ (s : Steps). weight s ≤ length life.before.items + length journal.events) (sym steps_are)
           (omega (
             arith,
-            weight-after (node_marks life.marks.threads.items) (program_in life.machine) (world_of (course_of life)) event
+            weight-after (log_by life.machine) (node_marks life.marks.threads.items) (program_in life.machine) (world_of (course_of life)) event
                 (steps_in (course_of life)) valid_steps,
             stands.light,
             longer,

@@ -3,6 +3,7 @@ use Rattle.std.proofs.Common.{◌≡◌, ℕ, ◌+◌, ◌<◌, ◌≤◌, List,
 use Rattle.std.proofs.Common.{slice_get, slice_index_or, Some, ap, sym, subst, ◌∙◌, arith, length-append}
 use Rattle.std.proofs.lemmas.List.{length-replicate}
 use Rattle.std.specs.Vec.{vec_capacity, vec_len}
+use Rattle.ido_base.specs.declared.log.Log.{Log}
 use Rattle.ido_base.specs.declared.event.Event.{Event}
 use Rattle.ido_base.specs.declared.event.Event.TheVariants.{Step}
 use Rattle.ido_base.specs.Cores.{point_stores, finished_fences}
@@ -16,7 +17,7 @@ use Rattle.hart_core.specs.declared.local.LocalState.{LocalState}
 use Rattle.hart_core.specs.LocalSteps.{placed_code, local_run}
 use Rattle.ido_machine.specs.declared.machine.Machine.{Machine}
 use Rattle.ido_machine.specs.Harts.{local_state_of, with_local_state}
-use Rattle.ido_machine.specs.Machines.{RepresentsMachine, program_in, events_of}
+use Rattle.ido_machine.specs.Machines.{RepresentsMachine, log_by, program_in, events_of}
 use Rattle.run_tracker.specs.declared.account.Account.{Account}
 use Rattle.run_tracker.specs.declared.life.Life.TheInside.{Inside}
 use Rattle.run_tracker.specs.links.Journals.{Recorded}
@@ -37,7 +38,8 @@ module _ (life : Inside) (stands : LifeInv life) (h made passed : ℕ) (hart : H
     (run : local_run (placed_code (program_in life.machine) h) (local_state_of hart) made ≡ Some s)
     (passed_is : passed ≡ marks_passed (slice_index_or (node_marks life.marks.threads.items) h []) (placed_code (program_in life.machine) h)
     (local_state_of hart) made) (few : passed ≤ made) (room : length life.journal.events + made ≤ life.cap)
-    (same : program_in machine ≡ program_in life.machine) (events : events_of machine ≡ events_of life.machine + made)
+    (same : program_in machine ≡ program_in life.machine) (logs : log_by machine ≡ log_by life.machine)
+    (events : events_of machine ≡ events_of life.machine + made)
     (world : RepresentsMachine machine (with_hart (world_of (course_of life)) h (with_local_state hart s)))
     (steps : AccountInv account (with_more_begun h passed (steps_in (course_of life))))
     (journal_is : journal ≡ record life.journal { events = life.journal.events ++ replicate made (Step h) })
@@ -50,14 +52,16 @@ module _ (life : Inside) (stands : LifeInv life) (h made passed : ℕ) (hart : H
 
   pub course_steps : course_of (record life { machine = machine; account = account; journal = journal }) ≡ with_steps (course_of life) h made
   course_steps =
-      let at : List (List Slot) → List Event → Course = λ p j. record {
-        runs = executable_by p life;
+      let at : List (List Slot) → Log → List Event → Course = λ p l j. record {
+        runs = executable_by l p life;
         kept_before = life.before.items;
-        opening = opening_by p life.mutexes life.initial.items life.left;
+        opening = opening_by l p life.mutexes life.initial.items life.left;
         journal = j;
         cap = life.cap;
       } in
-      ap (λ (p : List (List Slot)). at p journal.events) same ∙ ap (λ (j : Recorded). at (program_in life.machine) j.events) journal_is
+      ap (λ (p : List (List Slot)). at p (log_by machine) journal.events) same
+      ∙ (ap (λ (l : Log). at (program_in life.machine) l journal.events) logs
+      ∙ ap (λ (j : Recorded). at (program_in life.machine) (log_by life.machine) j.events) journal_is)
 
   ahead : HasRunLocally (course_of life) h hart made s
   ahead = has_run_locally (course_of life) h hart there stands.are_open stands.sound (sym (hart_count life stands)) made s running run
@@ -98,8 +102,9 @@ module _ (life : Inside) (stands : LifeInv life) (h made passed : ℕ) (hart : H
     marked = stands.marked ∙ ap length (sym same);
     account = on_words (λ w t. AccountInv account t) steps;
     harts = sym steps.count ∙ length-more h passed (steps_in before) ∙ steps_count life stands ∙ ap length (sym same);
-    ordered = on_words (λ w t. AreOrdered w.words t) (ordered-more (world_of before).words h passed (steps_in before) stands.ordered);
-    are_open = on_words (λ w t. AreOpen w.words t) (open-more (world_of before).words h passed (steps_in before) stands.are_open);
+    ordered =
+        on_words (λ w t. AreOrdered w.log w.words t) (ordered-more (world_of before).log (world_of before).words h passed (steps_in before) stands.ordered);
+    are_open = on_words (λ w t. AreOpen w.log w.words t) (open-more (world_of before).log (world_of before).words h passed (steps_in before) stands.are_open);
     light = on_words (λ w t. weight t ≤ length life.before.items + length journal.events)
         (omega (arith, weight-more h passed (steps_in before) within, stands.light, longer, few));
     points = moved (λ (x : Course). AreCounts life.counts.points.items (length x.runs.program) (point_stores living (opening_of x) x.journal))
@@ -112,6 +117,7 @@ module _ (life : Inside) (stands : LifeInv life) (h made passed : ℕ) (hart : H
         (subst (λ (w : World). AreSections life.sections (length (program_in life.machine)) w (ended_sections (with_steps before h made))) (sym ahead.world)
         (record {
           size = stands.sections.size;
+          position = stands.sections.position;
           point = stands.sections.point;
           counted = λ g below. stands.sections.counted g below ∙ sym (ahead.sections g);
         }));

@@ -27,7 +27,7 @@ running_phase Done e = cc
 running_phase Ended e = cc
 
 -- a local instruction stands somewhere
-some_slot : (code : PlacedCode) (s t : LocalState) → local_step code s ≡ Some t → (slot : Slot) × (fetched_in code s.pc ≡ Some slot)
+pub some_slot : (code : PlacedCode) (s t : LocalState) → local_step code s ≡ Some t → (slot : Slot) × (fetched_in code s.pc ≡ Some slot)
 some_slot code s t e = by_slot (fetched_in code s.pc) refl e
   where
     by_slot : (found : Option Slot) → fetched_in code s.pc ≡ found → executed_locally found s ≡ Some t → (slot : Slot) × (fetched_in code s.pc ≡ Some slot)

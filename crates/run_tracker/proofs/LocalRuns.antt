@@ -69,7 +69,7 @@ pub record HasRunLocally (life : Course) (h : ℕ) (hart : Hart) (n : ℕ) (s : 
   pub sections : (g : ℕ) → ended_sections (with_steps life h n) g ≡ ended_sections life g
 
 module _ (life : Course) (h : ℕ) (hart : Hart) (there : slice_get (world_of life).harts h ≡ Some hart)
-    (is_open : AreOpen (world_of life).words (steps_in life)) (sound : IsWellFormedWorld (world_of life))
+    (is_open : AreOpen (world_of life).log (world_of life).words (steps_in life)) (sound : IsWellFormedWorld (world_of life))
     (count : length life.runs.program ≡ length (world_of life).harts) where
   abbrev start_steps : Steps
   start_steps = first_steps (length life.runs.program) life.kept_before
@@ -111,11 +111,12 @@ module _ (life : Course) (h : ℕ) (hart : Hart) (there : slice_get (world_of li
     pub moves : reply_to life.runs.program w (Step h) ≡ Moved
     moves = reply_is life.runs.program w h at t at_there running local
 
-    open_now : AreOpen w.words (steps_in (with_steps life h n))
+    open_now : AreOpen w.log w.words (steps_in (with_steps life h n))
     open_now =
         let passed = marks_passed (slice_index_or life.runs.marks h []) (placed_code life.runs.program h) (local_state_of hart) n in
-        subst (λ (v : World). AreOpen v.words (steps_in (with_steps life h n))) (sym ahead.world)
-        (subst (AreOpen (world_of life).words) (sym ahead.steps) (open-more (world_of life).words h passed (steps_in life) is_open))
+        subst (λ (v : World). AreOpen v.log v.words (steps_in (with_steps life h n))) (sym ahead.world)
+        (subst (AreOpen (world_of life).log (world_of life).words) (sym ahead.steps)
+        (open-more (world_of life).log (world_of life).words h passed (steps_in life) is_open))
 
     after : world_of (with_steps life h (suc n)) ≡ after_event life.runs.program w (Step h)
     after = ap (after_events life.runs.program life.opening) more ∙ after_more life.runs.program life.opening journal (Step h)
@@ -163,7 +164,7 @@ module _ (life : Course) (h : ℕ) (hart : Hart) (there : slice_get (world_of li
               (no_fence life.runs.program w h at t at_there running local g) ∙ none ∙ ahead.fences g;
           sections = λ g.
               let none : ended_sections (record life { journal = journal }) g + 0 ≡ ended_sections (record life { journal = journal }) g = omega arith in
-              let same = ap (λ (v : World). durable_point v.words g) (world_is life.runs.program w h at t at_there running local) in
+              let same = ap (λ (v : World). durable_point v.log v.words g) (world_is life.runs.program w h at t at_there running local) in
               ap (λ (j : List Event). ended_sections (record life { journal = j }) g) more
               ∙ sections_more (opening_of life) journal (Step h) g
               ∙ ap (λ (b : Bool). ended_sections (record life { journal = journal }) g + cond b 1 0)

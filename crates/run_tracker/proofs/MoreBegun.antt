@@ -3,6 +3,7 @@ use Rattle.std.proofs.Common.{◌≡◌, ℕ, zero, suc, ◌+◌, ◌<◌, ◌�
 use Rattle.std.proofs.Common.{true, false, refl, ap, sym, subst, ◌∙◌, arith, length-set, get_or-set_same}
 use Rattle.std.proofs.lemmas.List.{set-get_or, set-set}
 use Rattle.std.proofs.lemmas.List.Sums.{sum_by-set}
+use Rattle.ido_base.specs.declared.log.Log.{Log}
 use Rattle.ido_base.specs.Words.{Word}
 use Rattle.rv64_isa.specs.Schedule.{Steps, HartSteps, hart_steps, no_steps}
 use Rattle.run_tracker.specs.declared.account.PointStore.{PointStore}
@@ -48,14 +49,14 @@ weight-more h zero s within = omega arith
 weight-more h (suc count) s within =
     omega (arith, weight-begun h (with_more_begun h count s) (omega (arith, within, length-more h count s)), weight-more h count s within)
 
-pub ordered-more : (words : List Word) (h count : ℕ) (s : Steps) → AreOrdered words s → AreOrdered words (with_more_begun h count s)
-ordered-more words h zero s ordered = ordered
-ordered-more words h (suc count) s ordered = ordered-begun words h (with_more_begun h count s) (ordered-more words h count s ordered)
+pub ordered-more : (log : Log) (words : List Word) (h count : ℕ) (s : Steps) → AreOrdered log words s → AreOrdered log words (with_more_begun h count s)
+ordered-more log words h zero s ordered = ordered
+ordered-more log words h (suc count) s ordered = ordered-begun log words h (with_more_begun h count s) (ordered-more log words h count s ordered)
 
-pub open-more : (words : List Word) (h count : ℕ) (s : Steps) → AreOpen words s → AreOpen words (with_more_begun h count s)
-open-more words h zero s is_open = is_open
-open-more words h (suc count) s is_open =
-    open-noted words words true false h 0 (with_more_begun h count s) (λ e. cc) (λ j. refl) (open-more words h count s is_open)
+pub open-more : (log : Log) (words : List Word) (h count : ℕ) (s : Steps) → AreOpen log words s → AreOpen log words (with_more_begun h count s)
+open-more log words h zero s is_open = is_open
+open-more log words h (suc count) s is_open =
+    open-noted log words words true false h 0 (with_more_begun h count s) (λ e. cc) (λ j. refl) (open-more log words h count s is_open)
 
 -- an account in which only the hart's free steps are more
 pub more-stands : (before after : Account) (s : Steps) (h count : ℕ) → AccountInv before s → h < length before.harts.items →

@@ -3,6 +3,7 @@ use Rattle.std.proofs.Common.{◌≡◌, ◌⊎◌, ℕ, zero, suc, ◌-◌, ◌
 use Rattle.std.proofs.Common.{Bool, true, false, nat_le, ◌==◌, ◌&&◌, if◌then◌else◌, refl, ap, sym, subst, ◌∙◌, arith, inl, inr}
 use Rattle.std.specs.List.{list_any}
 use Rattle.std.proofs.lemmas.Bool.{cases_eq, eq-eqb, eqb-true, le-leb, leb-true, and_parts}
+use Rattle.ido_base.specs.declared.log.Log.{Log}
 use Rattle.ido_base.specs.declared.event.Event.TheVariants.{Step}
 use Rattle.ido_base.specs.declared.event.Reply.{Reply}
 use Rattle.rv64_isa.specs.declared.instr.Instr.{Instr}
@@ -203,24 +204,25 @@ fence_is hart (NoRow word) = refl
 
 -- ---- Stores
 
-unstoring : (h : ℕ) (instr : Instr) (registers : List ℕ) (pc : ℕ) → is_store_slot (Row instr) ≡ false → is_point_store h (row instr registers pc) ≡ false
+unstoring : (log : Log) (h : ℕ) (instr : Instr) (registers : List ℕ) (pc : ℕ) → is_store_slot (Row instr) ≡ false →
+    is_point_store log h (row instr registers pc) ≡ false
 unfolding row
-unstoring h (Lui rd immediate) registers pc e = refl
-unstoring h (Auipc rd immediate) registers pc e = refl
-unstoring h (Jal rd offset) registers pc e = refl
-unstoring h (Jalr rd rs1 offset) registers pc e = refl
-unstoring h (Branch condition rs1 rs2 offset) registers pc e = refl
-unstoring h (Load kind rd rs1 offset) registers pc e = refl
-unstoring h (Store kind rs2 rs1 offset) registers pc e = cc
-unstoring h (OpImmediate operation rd rs1 immediate) registers pc e = refl
-unstoring h (ShiftImmediate operation rd rs1 count) registers pc e = refl
-unstoring h (ShiftImmediateWord operation rd rs1 count) registers pc e = refl
-unstoring h (Op operation rd rs1 rs2) registers pc e = refl
-unstoring h (CboClean rs1) registers pc e = refl
-unstoring h Fence registers pc e = refl
-unstoring h Ecall registers pc e = refl
+unstoring log h (Lui rd immediate) registers pc e = refl
+unstoring log h (Auipc rd immediate) registers pc e = refl
+unstoring log h (Jal rd offset) registers pc e = refl
+unstoring log h (Jalr rd rs1 offset) registers pc e = refl
+unstoring log h (Branch condition rs1 rs2 offset) registers pc e = refl
+unstoring log h (Load kind rd rs1 offset) registers pc e = refl
+unstoring log h (Store kind rs2 rs1 offset) registers pc e = cc
+unstoring log h (OpImmediate operation rd rs1 immediate) registers pc e = refl
+unstoring log h (ShiftImmediate operation rd rs1 count) registers pc e = refl
+unstoring log h (ShiftImmediateWord operation rd rs1 count) registers pc e = refl
+unstoring log h (Op operation rd rs1 rs2) registers pc e = refl
+unstoring log h (CboClean rs1) registers pc e = refl
+unstoring log h Fence registers pc e = refl
+unstoring log h Ecall registers pc e = refl
 
 -- what doesn't store stores no point
-pub stores_none : (h : ℕ) (hart : Hart) (slot : Slot) → is_store_slot slot ≡ false → slot_tells (is_point_store h) hart (Some slot) ≡ false
-stores_none h hart (Row instr) e = unstoring h instr hart.registers hart.pc e
-stores_none h hart (NoRow word) e = refl
+pub stores_none : (log : Log) (h : ℕ) (hart : Hart) (slot : Slot) → is_store_slot slot ≡ false → slot_tells (is_point_store log h) hart (Some slot) ≡ false
+stores_none log h hart (Row instr) e = unstoring log h instr hart.registers hart.pc e
+stores_none log h hart (NoRow word) e = refl

@@ -2,6 +2,7 @@
 use Rattle.std.proofs.Common.{◌≡◌, ℕ, zero, suc, ◌+◌, ◌<◌, ◌≤◌, List, [], ◌∷◌, ◌++◌, length, replicate, refl, ◌∙◌, arith, length-set, length-append}
 use Rattle.std.proofs.lemmas.List.{length-replicate}
 use Rattle.std.proofs.lemmas.List.Sums.{sum_by-set, sum_by_push}
+use Rattle.ido_base.specs.declared.log.Log.{Log}
 use Rattle.ido_base.specs.Words.{Word, word_at}
 use Rattle.rv64_isa.specs.Schedule.{Steps, Bound, hart_steps, no_steps, with_begun, with_bound, with_kept, with_all_kept, durable_steps}
 use Rattle.run_tracker.specs.links.AccountRepresentation.{hart_weight, weight, point_word}
@@ -22,10 +23,10 @@ weight-bound h position s within =
       sum_by_push (λ (b : Bound). b.steps) it.bound b,
     )
 
-pub weight-kept : (words : List Word) (h : ℕ) (s : Steps) → h < length s.harts → weight (with_kept words h s) ≡ weight s
-weight-kept words h s within =
+pub weight-kept : (log : Log) (words : List Word) (h : ℕ) (s : Steps) → h < length s.harts → weight (with_kept log words h s) ≡ weight s
+weight-kept log words h s within =
     let it = hart_steps s h in
-    let durable = (word_at words (point_word h)).durable in
+    let durable = (word_at words (point_word log h)).durable in
     let count = durable_steps durable it.bound in
     omega (
       arith,
@@ -35,14 +36,14 @@ weight-kept words h s within =
       length-replicate count h,
     )
 
-pub harts-kept : (words : List Word) (h : ℕ) (s : Steps) → length (with_kept words h s).harts ≡ length s.harts
-harts-kept words h s = length-set s.harts h _
+pub harts-kept : (log : Log) (words : List Word) (h : ℕ) (s : Steps) → length (with_kept log words h s).harts ≡ length s.harts
+harts-kept log words h s = length-set s.harts h _
 
-pub harts-all_kept : (words : List Word) (n : ℕ) (s : Steps) → length (with_all_kept words n s).harts ≡ length s.harts
-harts-all_kept words zero s = refl
-harts-all_kept words (suc n) s = harts-kept words n (with_all_kept words n s) ∙ harts-all_kept words n s
+pub harts-all_kept : (log : Log) (words : List Word) (n : ℕ) (s : Steps) → length (with_all_kept log words n s).harts ≡ length s.harts
+harts-all_kept log words zero s = refl
+harts-all_kept log words (suc n) s = harts-kept log words n (with_all_kept log words n s) ∙ harts-all_kept log words n s
 
-pub weight-all_kept : (words : List Word) (n : ℕ) (s : Steps) → n ≤ length s.harts → weight (with_all_kept words n s) ≡ weight s
-weight-all_kept words zero s within = refl
-weight-all_kept words (suc n) s within =
-    weight-kept words n (with_all_kept words n s) (omega (arith, harts-all_kept words n s)) ∙ weight-all_kept words n s (omega arith)
+pub weight-all_kept : (log : Log) (words : List Word) (n : ℕ) (s : Steps) → n ≤ length s.harts → weight (with_all_kept log words n s) ≡ weight s
+weight-all_kept log words zero s within = refl
+weight-all_kept log words (suc n) s within =
+    weight-kept log words n (with_all_kept log words n s) (omega (arith, harts-all_kept log words n s)) ∙ weight-all_kept log words n s (omega arith)

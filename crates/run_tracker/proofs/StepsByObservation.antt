@@ -2,6 +2,7 @@
 use Rattle.std.proofs.Common.{◌≡◌, ◌⊎◌, ℕ, ◌+◌, ◌-◌, ◌/◌, ◌<◌, ◌≤◌, List, length, slice_get, slice_index_or, []}
 use Rattle.std.proofs.Common.{Some, None, Bool, true, false, not, cond, ◌==◌, ◌||◌, refl, ap, sym, subst, ◌∙◌, arith, inl, inr}
 use Rattle.std.proofs.lemmas.Bool.{cases_eq, cases_Bool}
+use Rattle.ido_base.specs.declared.log.Log.{Log}
 use Rattle.ido_base.specs.declared.event.Event.TheVariants.{Step}
 use Rattle.ido_base.specs.declared.event.Reply.{Reply}
 use Rattle.ido_base.specs.Words.{word_at, last_position}
@@ -33,9 +34,9 @@ module _ (program : List (List Slot)) (tables : List SignTable) (marks : List (L
   next = after_event program w (Step h)
 
   abbrev pub last_in : World → ℕ
-  last_in v = last_position (word_at v.words (point_word h))
+  last_in v = last_position (word_at v.words (point_word w.log h))
 
-  some_value : 0 < length (word_at w.words (point_word h)).values
+  some_value : 0 < length (word_at w.words (point_word w.log h)).values
   some_value = omega (arith, stepped.seen.durable)
 
   running_is : (b : Bool) → observation.running ≡ b → is_running stepped.seen.hart.phase ≡ b
@@ -54,7 +55,7 @@ module _ (program : List (List Slot)) (tables : List SignTable) (marks : List (L
 
   pub counts_none : completing program w h ≡ None → (counts : Counts) → HaveCounted counts counts program w (Step h)
   counts_none none counts = record {
-    points = counted-none counts.points.items (λ g. stores_point program w (Step h) g) (λ g. each g (is_point_store g));
+    points = counted-none counts.points.items (λ g. stores_point program w (Step h) g) (λ g. each g (is_point_store w.log g));
     fences = counted-none counts.fences.items (λ g. finishes_fence program w (Step h) g) (λ g. each g is_fence);
   }
     where
@@ -69,19 +70,19 @@ module _ (program : List (List Slot)) (tables : List SignTable) (marks : List (L
   steps_none none s =
       let position = last_in next in
       ap (λ (mark : Bool). noted mark (stores_point program w (Step h) h) h position s) (passes_none program w h marks none)
-      ∙ ap (λ (point : Bool). noted false point h position s) (completes_none program w h (is_point_store h) none)
+      ∙ ap (λ (point : Bool). noted false point h position s) (completes_none program w h (is_point_store w.log h) none)
 
   -- ---- Steps are kept where something was written back
 
   -- a point that was stored is durable at an earlier position
-  above : is_drained reply ≡ false → stores_point program w (Step h) h ≡ true → (word_at next.words (point_word h)).durable < last_in next
+  above : is_drained reply ≡ false → stores_point program w (Step h) h ≡ true → (word_at next.words (point_word w.log h)).durable < last_in next
   above quiet stores = by_running (cases_Bool (is_running stepped.seen.hart.phase))
     where
       Above : Type 0
-      Above = (word_at next.words (point_word h)).durable < last_in next
+      Above = (word_at next.words (point_word w.log h)).durable < last_in next
 
       none_stores : completing program w h ≡ None → Above
-      none_stores none = let no : stores_point program w (Step h) h ≡ false = completes_none program w h (is_point_store h) none in
+      none_stores none = let no : stores_point program w (Step h) h ≡ false = completes_none program w h (is_point_store w.log h) none in
           absurd (subst (λ (b : Bool). cond b (Unit {0}) ⊥) (sym stores ∙ no) tt)
 
       by_moved : is_running stepped.seen.hart.phase ≡ true →
@@ -89,24 +90,25 @@ module _ (program : List (List Slot)) (tables : List SignTable) (marks : List (L
       by_moved running (inl moves) =
           let more = grown h w stepped.seen.point some_value program stepped.seen.hart stepped.seen.found running moves in
           let one : last_in next ≡ last_in w + 1 = more ∙ ap (λ (b : Bool). last_in w + cond b 1 0) stores in
-          omega (arith, one, undrained program h w (ap is_drained (sym stepped.replied) ∙ quiet) (point_word h), stepped.seen.durable)
+          omega (arith, one, undrained program h w (ap is_drained (sym stepped.replied) ∙ quiet) (point_word w.log h), stepped.seen.durable)
       by_moved running (inr held) = none_stores (none_moved program w h stepped.seen.hart stepped.seen.found held)
 
       by_running : (is_running stepped.seen.hart.phase ≡ true) ⊎ (is_running stepped.seen.hart.phase ≡ false) → Above
       by_running (inl running) = by_moved running (cases_Bool (has_moved (reply_to program w (Step h))))
       by_running (inr none) = none_stores (none_running program w h stepped.seen.hart stepped.seen.found none)
 
-  pub kept_none : is_drained reply ≡ false → (s : Steps) → AreOpen w.words s → steps_after marks program w (Step h) s ≡ with_step marks program w h s
+  pub kept_none : is_drained reply ≡ false → (s : Steps) → AreOpen w.log w.words s → steps_after marks program w (Step h) s ≡ with_step marks program w h s
   unfolding steps_after
   kept_none quiet s is_open =
-      all_kept_none next.words (length s.harts) (with_step marks program w h s)
-      (open-noted w.words next.words (passes_mark marks program w h) (stores_point program w (Step h) h) h (last_in next) s (above quiet)
+      all_kept_none w.log next.words (length s.harts) (with_step marks program w h s)
+      (open-noted w.log w.words next.words (passes_mark marks program w h) (stores_point program w (Step h) h) h (last_in next) s (above quiet)
       (undrained program h w (ap is_drained (sym stepped.replied) ∙ quiet)) is_open)
 
   pub kept_after : completing program w h ≡ None → (s : Steps) (n : ℕ) → n ≡ length s.harts →
-      with_all_kept next.words n s ≡ steps_after marks program w (Step h) s
+      with_all_kept w.log next.words n s ≡ steps_after marks program w (Step h) s
   unfolding steps_after
-  kept_after none s n n_is = ap (λ (k : ℕ). with_all_kept next.words k s) n_is ∙ ap (with_all_kept next.words (length s.harts)) (sym (steps_none none s))
+  kept_after none s n n_is =
+      ap (λ (k : ℕ). with_all_kept w.log next.words k s) n_is ∙ ap (with_all_kept w.log next.words (length s.harts)) (sym (steps_none none s))
 
   -- ---- A hart that has completed an instruction
 
@@ -141,13 +143,15 @@ module _ (program : List (List Slot)) (tables : List SignTable) (marks : List (L
       pub no_point : (sign_at table observation.pc).store ≡ false → stores_point program w (Step h) h ≡ false
       no_point e =
           let tells = store_tells program h observation.pc some_slot.0 there table (slice_index_or marks h []) table_is in
-          completes_one program w h (is_point_store h) stepped.seen.hart (Some some_slot.0) one some_slot.1
-          ∙ stores_none h stepped.seen.hart some_slot.0 (sym tells ∙ e)
+          completes_one program w h (is_point_store w.log h) stepped.seen.hart (Some some_slot.0) one some_slot.1
+          ∙ stores_none w.log h stepped.seen.hart some_slot.0 (sym tells ∙ e)
 
       -- the newest value of the point stands there
-      pub position_is : (position : ℕ) (store : Bool) → store ≡ (sign_at table observation.pc).store → (store ≡ true → position ≡ last_in next) →
+      pub position_is : (position : ℕ) (store : Bool) → store ≡ (sign_at table observation.pc).store →
+          (store ≡ true → position ≡ last_position (word_at next.words (point_word next.log h))) →
           (store ≡ false → position ≡ observation.position) → position ≡ last_in next
-      position_is position true is stored unstored = stored refl
+      position_is position true is stored unstored =
+          stored refl ∙ ap (λ (l : Log). last_position (word_at next.words (point_word l h))) stepped.log
       position_is position false is stored unstored =
           let more = grown h w stepped.seen.point some_value program stepped.seen.hart stepped.seen.found (running_is true running) (moved_is true moves) in
           omega (arith, unstored refl, stepped.seen.position, more ∙ ap (λ (b : Bool). last_in w + cond b 1 0) (no_point (sym is)))
@@ -169,7 +173,7 @@ module _ (program : List (List Slot)) (tables : List SignTable) (marks : List (L
 
         pub plain_counts : (counts : Counts) → HaveCounted counts counts program w (Step h)
         plain_counts counts = record {
-          points = counted-none counts.points.items (λ g. stores_point program w (Step h) g) (of_all (λ g. is_point_store g) (no_point parts.2));
+          points = counted-none counts.points.items (λ g. stores_point program w (Step h) g) (of_all (λ g. is_point_store w.log g) (no_point parts.2));
           fences = counted-none counts.fences.items (λ g. finishes_fence program w (Step h) g) (of_all (λ g. is_fence) (sym fence_done ∙ parts.1));
         }
           where

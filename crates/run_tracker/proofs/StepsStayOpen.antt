@@ -3,6 +3,9 @@ use Rattle.std.proofs.Common.{◌≡◌, ◌⊎◌, ℕ, zero, suc, ◌+◌, ◌
 use Rattle.std.proofs.Common.{Bool, true, false, inl, inr, refl, ap, sym, subst, ◌∙◌, arith, get_or-set_same, get_or-set_other}
 use Rattle.std.proofs.lemmas.Bool.{cases_eq, cases_lt}
 use Rattle.std.proofs.lemmas.List.{append-nil, set-get_or, get_or_past}
+use Rattle.rv64_isa.specs.Frames.{IsWellFormedWorld}
+use Rattle.rv64_isa.proofs.Public.{log_stays}
+use Rattle.ido_base.specs.declared.log.Log.{Log}
 use Rattle.ido_base.specs.declared.event.Event.{Event}
 use Rattle.ido_base.specs.declared.event.Event.TheVariants.{Step, Evict, Crash}
 use Rattle.ido_base.specs.Words.{Word, word_at}
@@ -23,12 +26,13 @@ without_none : (h : ℕ) (xs : List ℕ) → without h 0 xs ≡ xs
 without_none h [] = refl
 without_none h (x ∷ xs) = refl
 
-kept_none : (words : List Word) (h : ℕ) (s : Steps) → AreOpen words s → with_kept words h s ≡ s
-kept_none words h s is_open =
-    let d = (word_at words (point_word h)).durable in
+pub kept_none : (log : Log) (words : List Word) (h : ℕ) (s : Steps) → AllFrom ((word_at words (point_word log h)).durable + 1) (hart_steps s h).bound →
+    with_kept log words h s ≡ s
+kept_none log words h s above =
+    let d = (word_at words (point_word log h)).durable in
     let it = hart_steps s h in
-    let none : durable_steps d it.bound ≡ 0 = none_durable d (d + 1) it.bound (omega arith) (is_open h) in
-    let all : later d it.bound ≡ it.bound = all_later d (d + 1) it.bound (omega arith) (is_open h) in
+    let none : durable_steps d it.bound ≡ 0 = none_durable d (d + 1) it.bound (omega arith) above in
+    let all : later d it.bound ≡ it.bound = all_later d (d + 1) it.bound (omega arith) above in
     let made : List ℕ → List ℕ → List HartSteps → Steps = λ k p hs. record { begun = s.begun; kept = k; pending = p; harts = hs } in
     let set : List Bound → List HartSteps = λ bs. slice_set s.harts h (record { free = it.free; bound = bs }) in
     ap (λ (n : ℕ). made (s.kept ++ replicate n h) (without h n s.pending) (set (later d it.bound))) none
@@ -37,9 +41,16 @@ kept_none words h s is_open =
     ∙ ap (λ (bs : List Bound). made s.kept s.pending (set bs)) all
     ∙ ap (λ (hs : List HartSteps). made s.kept s.pending hs) (set-get_or s.harts h no_steps)
 
-pub all_kept_none : (words : List Word) (n : ℕ) (s : Steps) → AreOpen words s → with_all_kept words n s ≡ s
-all_kept_none words zero s is_open = refl
-all_kept_none words (suc n) s is_open = ap (with_kept words n) (all_kept_none words n s is_open) ∙ kept_none words n s is_open
+pub all_kept_none : (log : Log) (words : List Word) (n : ℕ) (s : Steps) → AreOpen log words s → with_all_kept log words n s ≡ s
+all_kept_none log words zero s is_open = refl
+all_kept_none log words (suc n) s is_open = ap (with_kept log words n) (all_kept_none log words n s is_open) ∙ kept_none log words n s (is_open n)
+
+-- what is kept of the first harts changes no later one
+pub later_stays : (log : Log) (words : List Word) (n : ℕ) (s : Steps) (h : ℕ) → n ≤ h → hart_steps (with_all_kept log words n s) h ≡ hart_steps s h
+later_stays log words zero s h within = refl
+later_stays log words (suc n) s h within =
+    let other : h ≡ n → ⊥ = λ e. absurd (omega (arith, within, e)) in
+    get_or-set_other (with_all_kept log words n s).harts n h _ no_steps other ∙ later_stays log words n s h (omega (arith, within))
 
 -- ---- What is kept is no longer bound
 
@@ -50,73 +61,78 @@ later_above d (b ∷ bs) = elim (cases_lt d b.position) [
   | inr below ↦ rw (later_no d b bs below) (later_above d bs)
 ]
 
-open_below : (words : List Word) (n : ℕ) (s : Steps) → n ≤ length s.harts → (h : ℕ) → h < n →
-    AllFrom ((word_at words (point_word h)).durable + 1) (hart_steps (with_all_kept words n s) h).bound
-open_below words zero s within h below = absurd (omega arith)
-open_below words (suc n) s within h below = by_place (cases_eq h n) (λ less. open_below words n s (omega (arith, within)) h less)
+open_below : (log : Log) (words : List Word) (n : ℕ) (s : Steps) → n ≤ length s.harts → (h : ℕ) → h < n →
+    AllFrom ((word_at words (point_word log h)).durable + 1) (hart_steps (with_all_kept log words n s) h).bound
+open_below log words zero s within h below = absurd (omega arith)
+open_below log words (suc n) s within h below = by_place (cases_eq h n) (λ less. open_below log words n s (omega (arith, within)) h less)
   where
     before : Steps
-    before = with_all_kept words n s
+    before = with_all_kept log words n s
 
     new : HartSteps
-    new = record { free = (hart_steps before n).free; bound = later (word_at words (point_word n)).durable (hart_steps before n).bound }
+    new = record { free = (hart_steps before n).free; bound = later (word_at words (point_word log n)).durable (hart_steps before n).bound }
 
-    by_place : (h ≡ n) ⊎ (h ≡ n → ⊥) → (h < n → AllFrom ((word_at words (point_word h)).durable + 1) (hart_steps before h).bound) →
-        AllFrom ((word_at words (point_word h)).durable + 1) (get_or (slice_set before.harts n new) h no_steps).bound
+    by_place : (h ≡ n) ⊎ (h ≡ n → ⊥) → (h < n → AllFrom ((word_at words (point_word log h)).durable + 1) (hart_steps before h).bound) →
+        AllFrom ((word_at words (point_word log h)).durable + 1) (get_or (slice_set before.harts n new) h no_steps).bound
     by_place (inl same) rest =
-        subst (λ (k : ℕ). AllFrom ((word_at words (point_word k)).durable + 1) (get_or (slice_set before.harts n new) k no_steps).bound) (sym same)
-        (subst (λ (x : HartSteps). AllFrom ((word_at words (point_word n)).durable + 1) x.bound)
-        (sym (get_or-set_same before.harts n new no_steps (omega (arith, harts-all_kept words n s, within))))
-        (later_above (word_at words (point_word n)).durable (hart_steps before n).bound))
+        subst (λ (k : ℕ). AllFrom ((word_at words (point_word log k)).durable + 1) (get_or (slice_set before.harts n new) k no_steps).bound) (sym same)
+        (subst (λ (x : HartSteps). AllFrom ((word_at words (point_word log n)).durable + 1) x.bound)
+        (sym (get_or-set_same before.harts n new no_steps (omega (arith, harts-all_kept log words n s, within))))
+        (later_above (word_at words (point_word log n)).durable (hart_steps before n).bound))
     by_place (inr ne) rest =
-        subst (λ (x : HartSteps). AllFrom ((word_at words (point_word h)).durable + 1) x.bound) (sym (get_or-set_other before.harts n h new no_steps ne))
+        subst (λ (x : HartSteps). AllFrom ((word_at words (point_word log h)).durable + 1) x.bound) (sym (get_or-set_other before.harts n h new no_steps ne))
         (rest (omega (arith, below, ne)))
 
-open-kept : (words : List Word) (n : ℕ) (s : Steps) → n ≡ length s.harts → AreOpen words (with_all_kept words n s)
-open-kept words n s all h = by_place (cases_lt h n)
+open-kept : (log : Log) (words : List Word) (n : ℕ) (s : Steps) → n ≡ length s.harts → AreOpen log words (with_all_kept log words n s)
+open-kept log words n s all h = by_place (cases_lt h n)
   where
-    by_place : (h < n) ⊎ (n ≤ h) → AllFrom ((word_at words (point_word h)).durable + 1) (hart_steps (with_all_kept words n s) h).bound
-    by_place (inl below) = open_below words n s (omega (arith, all)) h below
+    by_place : (h < n) ⊎ (n ≤ h) → AllFrom ((word_at words (point_word log h)).durable + 1) (hart_steps (with_all_kept log words n s) h).bound
+    by_place (inl below) = open_below log words n s (omega (arith, all)) h below
     by_place (inr past) =
-        subst (λ (x : HartSteps). AllFrom ((word_at words (point_word h)).durable + 1) x.bound)
-        (sym (get_or_past (with_all_kept words n s).harts h no_steps (omega (arith, past, all, harts-all_kept words n s)))) tt
+        subst (λ (x : HartSteps). AllFrom ((word_at words (point_word log h)).durable + 1) x.bound)
+        (sym (get_or_past (with_all_kept log words n s).harts h no_steps (omega (arith, past, all, harts-all_kept log words n s)))) tt
 
-pub open-none : (words : List Word) (s : Steps) (count : ℕ) → s.harts ≡ replicate count no_steps → AreOpen words s
-open-none words s count e h =
-    subst (λ (x : HartSteps). AllFrom ((word_at words (point_word h)).durable + 1) x.bound)
+pub open-none : (log : Log) (words : List Word) (s : Steps) (count : ℕ) → s.harts ≡ replicate count no_steps → AreOpen log words s
+open-none log words s count e h =
+    subst (λ (x : HartSteps). AllFrom ((word_at words (point_word log h)).durable + 1) x.bound)
     (sym (ap (λ (xs : List HartSteps). get_or xs h no_steps) e ∙ no_steps_anywhere count h)) tt
 
-pub open-after : (marks : List (List ℕ)) (program : List (List Slot)) (w : World) (event : Event) (s : Steps) →
-    AreOpen (after_event program w event).words (steps_after marks program w event s)
+pub open-after : (marks : List (List ℕ)) (program : List (List Slot)) (w : World) (event : Event) (s : Steps) → IsWellFormedWorld w →
+    AreOpen (after_event program w event).log (after_event program w event).words (steps_after marks program w event s)
 unfolding steps_after
-open-after marks program w (Step h) s =
-    open-kept (after_event program w (Step h)).words (length s.harts) (with_step marks program w h s)
-    (sym (harts-noted (passes_mark marks program w h) (stores_point program w (Step h) h) h _ s))
-open-after marks program w (Evict line mask) s = open-kept (after_event program w (Evict line mask)).words (length s.harts) s refl
-open-after marks program w Crash s =
-    open-none (after_event program w Crash).words (record s { pending = []; harts = replicate (length s.harts) no_steps }) (length s.harts) refl
+open-after marks program w (Step h) s sound =
+    subst (λ (l : Log). AreOpen l (after_event program w (Step h)).words (steps_after marks program w (Step h) s)) (sym (log_stays program w (Step h) sound))
+    (open-kept w.log (after_event program w (Step h)).words (length s.harts) (with_step marks program w h s)
+    (sym (harts-noted (passes_mark marks program w h) (stores_point program w (Step h) h) h _ s)))
+open-after marks program w (Evict line mask) s sound =
+    subst (λ (l : Log). AreOpen l (after_event program w (Evict line mask)).words (steps_after marks program w (Evict line mask) s))
+    (sym (log_stays program w (Evict line mask) sound)) (open-kept w.log (after_event program w (Evict line mask)).words (length s.harts) s refl)
+open-after marks program w Crash s sound =
+    open-none (after_event program w Crash).log (after_event program w Crash).words (record s { pending = []; harts = replicate (length s.harts) no_steps })
+    (length s.harts) refl
 
 -- ---- A step that writes nothing back
 
 -- what it binds is bound to a position that isn't durable
-pub open-noted : (words now : List Word) (mark point : Bool) (h position : ℕ) (s : Steps) → (point ≡ true → (word_at now (point_word h)).durable < position) →
-    SameDurable words now → AreOpen words s → AreOpen now (noted mark point h position s)
-open-noted words now mark point h position s above same is_open = by_point point above
+pub open-noted : (log : Log) (words now : List Word) (mark point : Bool) (h position : ℕ) (s : Steps) →
+    (point ≡ true → (word_at now (point_word log h)).durable < position) →
+    SameDurable words now → AreOpen log words s → AreOpen log now (noted mark point h position s)
+open-noted log words now mark point h position s above same is_open = by_point point above
   where
-    still : AreOpen now s
-    still g = subst (λ (d : ℕ). AllFrom (d + 1) (hart_steps s g).bound) (sym (same (point_word g))) (is_open g)
+    still : AreOpen log now s
+    still g = subst (λ (d : ℕ). AllFrom (d + 1) (hart_steps s g).bound) (sym (same (point_word log g))) (is_open g)
 
-    by_mark : (m : Bool) → AreOpen now (begun_if m h s)
+    by_mark : (m : Bool) → AreOpen log now (begun_if m h s)
     by_mark true =
-        each_hart (λ g x. AllFrom ((word_at now (point_word g)).durable + 1) x.bound) s h
+        each_hart (λ g x. AllFrom ((word_at now (point_word log g)).durable + 1) x.bound) s h
         (record (hart_steps s h) { free = (hart_steps s h).free + 1 }) (still h) still
     by_mark false = still
 
-    by_point : (p : Bool) → (p ≡ true → (word_at now (point_word h)).durable < position) → AreOpen now (noted mark p h position s)
+    by_point : (p : Bool) → (p ≡ true → (word_at now (point_word log h)).durable < position) → AreOpen log now (noted mark p h position s)
     by_point true above =
         let begun : Steps = begun_if mark h s in
         let b : Bound = record { position = position; steps = (hart_steps begun h).free } in
-        each_hart (λ g x. AllFrom ((word_at now (point_word g)).durable + 1) x.bound) begun h
+        each_hart (λ g x. AllFrom ((word_at now (point_word log g)).durable + 1) x.bound) begun h
         (record { free = 0; bound = (hart_steps begun h).bound ++ b ∷ [] })
-        (from_push ((word_at now (point_word h)).durable + 1) (hart_steps begun h).bound b (by_mark mark h) (omega (arith, above refl))) (by_mark mark)
+        (from_push ((word_at now (point_word log h)).durable + 1) (hart_steps begun h).bound b (by_mark mark h) (omega (arith, above refl))) (by_mark mark)
     by_point false above = by_mark mark

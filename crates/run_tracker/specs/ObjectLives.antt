@@ -108,7 +108,8 @@ opening_of life = record {
 
 -- the event makes the durable point of hart h 0, which it wasn't
 abbrev pub ends_at_point : List (List Slot) → World → Event → (h : ℕ) → Bool
-ends_at_point program w event h = not (durable_point w.words h == 0) && (durable_point (after_event program w event).words h == 0)
+ends_at_point program w event h =
+    not (durable_point w.log w.words h == 0) && (durable_point (after_event program w event).log (after_event program w event).words h == 0)
 
 -- how many sections of the hart's thread have ended, and are kept, since the life began: so often its durable point has become 0
 abbrev pub ended_sections : Course → (h : ℕ) → ℕ

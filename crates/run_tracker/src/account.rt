@@ -1,6 +1,7 @@
 //! The account of begun and kept steps.
 ghost use Rattle.std.specs.Prelude.{◌≡◌, ◌+◌, ◌<◌, ◌≤◌, ◌++◌, ◌^◌, ℕ, List, drop, filter, nat_lt, length, replicate, sum_by, if◌then◌else◌, IfOk};
 ghost use Rattle.std.specs.Vec.{vec_capacity, vec_len};
+ghost use Rattle.ido_base.specs.declared.log.Log.{Log};
 ghost use Rattle.ido_base.specs.Words.{Word, word_at};
 ghost use Rattle.rv64_isa.specs.Schedule.{Steps, first_steps, no_steps, with_begun, with_bound, with_kept, durable_steps};
 ghost use Rattle.run_tracker.specs.links.AccountRepresentation.{AccountInv, IsAscending, open_at, bound_in, bound_at, total, point_word, without_open};
@@ -164,8 +165,8 @@ impl Account {
         requires ascending { IsAscending (bound_at self.old hart) }
         requires few { total (bound_at self.old hart) < 2 ^ 63 }
         requires room { vec_len self.old.kept + total (bound_at self.old hart) ≤ vec_capacity self.old.kept }
-        ensures stands { (words : List Word) (s : Steps) → durable ≡ (word_at words (point_word hart)).durable → AccountInv self.old s
-            → AccountInv self.new (with_kept words hart s) }
+        ensures stands { (log : Log) (words : List Word) (s : Steps) → durable ≡ (word_at words (point_word log hart)).durable → AccountInv self.old s
+            → AccountInv self.new (with_kept log words hart s) }
         ensures stores { self.new.stores ≡ self.old.stores }
         ensures capacity { vec_capacity self.new.kept ≡ vec_capacity self.old.kept }
     {

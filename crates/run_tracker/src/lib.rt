@@ -7,6 +7,7 @@ mod counts;
 mod journal;
 pub mod life;
 pub mod local;
+mod points;
 mod sections;
 mod signs;
 mod stepping;

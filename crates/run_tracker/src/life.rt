@@ -2,12 +2,11 @@
 ghost use Rattle.std.specs.Prelude.{◌≡◌, [], ◌+◌, ◌-◌, ◌*◌, ◌/◌, ◌<◌, ◌≤◌, ◌^◌, ◌++◌, ℕ, Some, length, map, not, slice_get, if◌then◌else◌, IfOk, IsTrue, ◌↔◌};
 ghost use Rattle.std.specs.Bool.{OnTrue};
 ghost use Rattle.std.specs.Vec.{vec_capacity, vec_len};
-ghost use Rattle.ido_base.specs.declared.limits.TheConstants.{LOG_WORDS};
 ghost use Rattle.ido_base.specs.Words.{word_at, live_value, durable_value};
-ghost use Rattle.ido_base.specs.Layout.{line_count};
+ghost use Rattle.ido_base.specs.Layout.{line_count, log_words};
 ghost use Rattle.ido_base.specs.Cores.{point_stores, finished_fences, least_enabled, EachMoves};
 ghost use Rattle.rv64_isa.specs.Machine.{Hart, World, IsValidEvent, reply_to, numbers_from};
-ghost use Rattle.ido_machine.specs.Machines.{RepresentsMachine, program_in, events_of};
+ghost use Rattle.ido_machine.specs.Machines.{RepresentsMachine, program_in, log_by, events_of};
 ghost use Rattle.rv64_isa.specs.Programs.{program_of};
 ghost use Rattle.rv64_isa.specs.Frames.{IsWellFormedWorld};
 ghost use Rattle.rv64_isa.specs.Schedule.{is_settled, is_settled_hart};
@@ -22,12 +21,13 @@ use crate::account::Account;
 use crate::counts::Counts;
 use crate::journal::Journal;
 use crate::local::LocalRun;
+use crate::points::{durable_point, live_point};
 use crate::sections::Sections;
 use crate::signs::{SignTable, copy_of, tables_of};
 use crate::stepping::make;
 use hart_core::local::ThreadCode;
 use ido_base::event::{Event, Reply};
-use ido_base::limits::{LOG_LINES, LOG_WORDS, POINT_LINE, VARIABLE_WORDS};
+use ido_base::limits::VARIABLE_WORDS;
 use ido_base::machine::Core;
 use ido_base::memory::OutOfMemory;
 use ido_machine::machine::Machine;
@@ -99,8 +99,7 @@ fn is_settled_hart(machine: &Machine, hart: u32) -> bool
     requires { hart < length (program_in machine.now) }
     ensures { (w : World) → RepresentsMachine machine.now w → result ≡ is_settled_hart w hart }
 {
-    let line = POINT_LINE + LOG_LINES as u32 * hart;
-    !machine.holds(hart) && machine.durable_word(line, 0) == 0 && machine.live_word(line, 0) == 0
+    !machine.holds(hart) && durable_point(machine, hart) == 0 && live_point(machine, hart) == 0
 }
 
 /// Each hart is settled.
@@ -130,7 +129,7 @@ fn least_enabled(machine: &Machine) -> Option<u32>
 
 /// Adds the durable values of so many words from this one on.
 fn push_durable(machine: &Machine, words: &mut Vec<u64>, from: u32, count: u32)
-    requires exists { from + count ≤ 8 * line_count (length (program_in machine.now)) }
+    requires exists { from + count ≤ 8 * line_count (log_by machine.now) (length (program_in machine.now)) }
     requires room { vec_len words.old + count ≤ vec_capacity words.old }
     ensures items { (w : World) → RepresentsMachine machine.now w →
         words.new.items ≡ words.old.items ++ map (λ i. durable_value (word_at w.words i)) (numbers_from from count) }
@@ -167,7 +166,7 @@ impl Life {
     ) -> Result<Life, OutOfMemory>
         requires limits { IsWithinLimits object.now }
         requires marks { length marks.now.threads.items ≡ length object.now.code.items }
-        requires count { length words.now ≡ length object.now.initial.items / 8 + LOG_WORDS * length object.now.code.items }
+        requires count { length words.now ≡ length object.now.initial.items / 8 + log_words object.now.log * length object.now.code.items }
         requires cap { length schedule.now + cap < 2 ^ 63 }
         ensures { IfOk result (λ life. life ≡ life_from object.now marks.now words.now schedule.now cap) }
     {
@@ -189,12 +188,13 @@ impl Life {
         requires limits { IsWithinLimits object.now }
         requires marks { length marks.now.threads.items ≡ length object.now.code.items }
         requires program { program_in machine ≡ program_of object.now }
+        requires log { log_by machine ≡ object.now.log }
         requires events { events_of machine ≡ 0 }
-        requires stands { RepresentsMachine machine (opening_by (program_of object.now) object.now.mutexes object.now.initial.items left) }
-        requires sound { IsWellFormedWorld (opening_by (program_of object.now) object.now.mutexes object.now.initial.items left) }
+        requires stands { RepresentsMachine machine (opening_by object.now.log (program_of object.now) object.now.mutexes object.now.initial.items left) }
+        requires sound { IsWellFormedWorld (opening_by object.now.log (program_of object.now) object.now.mutexes object.now.initial.items left) }
         requires cap { length before.now + cap < 2 ^ 63 }
         ensures { IfOk result (λ life. life ≡
-            life_at object.now marks.now (opening_by (program_of object.now) object.now.mutexes object.now.initial.items left) before.now cap) }
+            life_at object.now marks.now (opening_by object.now.log (program_of object.now) object.now.mutexes object.now.initial.items left) before.now cap) }
     {
         let harts = machine.harts();
         let sections = Sections::new(alloc, &machine)?;
@@ -266,7 +266,7 @@ impl Life {
 
     /// The value that a crash would leave in a word of a line.
     pub fn durable_word(&self, line: u32, word: u32) -> u64
-        requires exists { line < line_count (length self.now.runs.program) }
+        requires exists { line < line_count self.now.runs.log (length self.now.runs.program) }
         requires word { word < 8 }
         ensures { result ≡ durable_value (word_at (world_of self.now).words (8 * line + word)) }
     {
@@ -275,7 +275,7 @@ impl Life {
 
     /// The newest value of a word of a line.
     pub fn live_word(&self, line: u32, word: u32) -> u64
-        requires exists { line < line_count (length self.now.runs.program) }
+        requires exists { line < line_count self.now.runs.log (length self.now.runs.program) }
         requires word { word < 8 }
         ensures { result ≡ live_value (word_at (world_of self.now).words (8 * line + word)) }
     {
@@ -287,7 +287,7 @@ impl Life {
         ensures { IfOk result (λ words. words.items ≡ left_words (variable_words_in self.now) (world_of self.now).words) }
     {
         let variables = (self.initial.len() / 8) as u32;
-        let logs = LOG_WORDS * self.machine.harts();
+        let logs = self.machine.log().words() * self.machine.harts();
         let mut words = Vec::with_capacity(alloc, (variables + logs) as usize)?;
         push_durable(&self.machine, &mut words, 0, variables);
         push_durable(&self.machine, &mut words, VARIABLE_WORDS, logs);
@@ -297,7 +297,7 @@ impl Life {
     /// Makes an event.
     #[inline(always)]
     pub fn event(&mut self, event: Event) -> Reply
-        requires valid { IsValidEvent (length self.old.runs.program) event }
+        requires valid { IsValidEvent self.old.runs.log (length self.old.runs.program) event }
         requires room { length self.old.journal < self.old.cap }
         ensures reply { result ≡ reply_to self.old.runs.program (world_of self.old) event }
         ensures life { self.new ≡ with_event self.old event }
@@ -308,6 +308,7 @@ impl Life {
             &mut self.machine,
             &mut self.account,
             &mut self.counts,
+            &self.sections,
             &self.tables,
         );
         self.sections.look_if(may_persist(reply), &self.machine);
@@ -425,7 +426,7 @@ impl Core for Life {
 
     ghost space = { λ life. life.cap - length life.journal };
 
-    ghost evictable = { λ life. IsEviction (length life.runs.program) };
+    ghost evictable = { λ life. IsEviction life.runs.log (length life.runs.program) };
 
     ghost is_local = { IsLocalOf };
 

@@ -1,17 +1,21 @@
 //! The sections that have ended by steps that are kept.
 ghost use Rattle.std.specs.Prelude.{◌≡◌, ◌<◌, ◌^◌, ℕ, length, true, false, IfOk};
+ghost use Rattle.ido_base.specs.Words.{word_at};
 ghost use Rattle.rv64_isa.specs.Machine.{World, durable_point};
 ghost use Rattle.ido_machine.specs.Machines.{RepresentsMachine, program_in};
-ghost use Rattle.run_tracker.specs.links.SectionRepresentation.{outside, section_at, seen_at};
+ghost use Rattle.run_tracker.specs.links.AccountRepresentation.{point_word};
+ghost use Rattle.run_tracker.specs.links.SectionRepresentation.{outside, looked_at, section_at, seen_at};
 
-use ido_base::limits::{LOG_LINES, POINT_LINE};
+use crate::points::{durable_point, point_durable};
 use ido_base::memory::OutOfMemory;
 use ido_machine::machine::Machine;
 use std::alloc::Global;
 
-/// Of a hart: its durable point, and how often that has become 0. Each time a section of its thread has ended, and is kept.
+/// Of a hart: its durable point and where that stands among the values that the point's word has had, and how often it has become 0. Each
+/// time a section of its thread has ended, and is kept.
 #[derive(Clone, Copy, Debug, Drop)]
 pub(crate) struct HartSections {
+    pub position: u64,
     pub point: u64,
     pub ended: u64,
 }
@@ -26,12 +30,12 @@ impl HartSections {
     ghost use Rattle.std.specs.Prelude.{◌≡◌, ◌<◌, ◌^◌};
     ghost use Rattle.run_tracker.specs.links.SectionRepresentation.{seen_at};
 
-    /// Its durable point is this one now.
-    #[inline(always)]
-    fn see(&mut self, point: u64)
+    /// Its durable point is this one now, at this position.
+    fn see(&mut self, position: u64, point: u64)
         requires { self.old.ended < 2 ^ 63 }
-        ensures { self.new ≡ seen_at point self.old }
+        ensures { self.new ≡ seen_at position point self.old }
     {
+        self.position = position;
         if self.point != point {
             self.point = point;
             if point == 0 {
@@ -47,7 +51,11 @@ impl Sections {
         ensures size { IfOk result (λ sections. length sections.harts.items ≡ harts) }
         ensures each { IfOk result (λ sections. (h : ℕ) → section_at sections h ≡ outside) }
     {
-        let outside = HartSections { point: 0, ended: 0 };
+        let outside = HartSections {
+            position: 0,
+            point: 0,
+            ended: 0,
+        };
         Ok(Sections {
             harts: vec![in alloc; outside; harts as usize]?,
         })
@@ -57,24 +65,42 @@ impl Sections {
     pub fn new(alloc: Global, machine: &Machine) -> Result<Sections, OutOfMemory>
         ensures size { IfOk result (λ sections. length sections.harts.items ≡ length (program_in machine.now)) }
         ensures each { IfOk result (λ sections. (w : World) → RepresentsMachine machine.now w → (h : ℕ) → h < length (program_in machine.now)
-            → section_at sections h ≡ seen_at (durable_point w.words h) outside) }
+            → section_at sections h ≡ seen_at (word_at w.words (point_word w.log h)).durable (durable_point w.log w.words h) outside) }
     {
         let mut sections = Sections::none(alloc, machine.harts())?;
-        sections.look(machine);
+        sections.see_all(machine);
         Ok(sections)
     }
 
-    /// Looks at the durable points of all harts.
+    /// Sees the durable points of all harts.
+    fn see_all(&mut self, machine: &Machine)
+        requires harts { length self.old.harts.items ≡ length (program_in machine.now) }
+        requires few { (h : ℕ) → h < length self.old.harts.items → (section_at self.old h).ended < 2 ^ 63 }
+        ensures size { length self.new.harts.items ≡ length self.old.harts.items }
+        ensures each { (w : World) → RepresentsMachine machine.now w → (h : ℕ) → h < length self.old.harts.items
+            → section_at self.new h ≡ seen_at (word_at w.words (point_word w.log h)).durable (durable_point w.log w.words h) (section_at self.old h) }
+    {
+        for hart in 0..machine.harts() {
+            self.harts[hart as usize].see(
+                point_durable(machine, hart),
+                durable_point(machine, hart),
+            );
+        }
+    }
+
+    /// Looks which harts' points have become durable further than before, and sees those.
     pub fn look(&mut self, machine: &Machine)
         requires harts { length self.old.harts.items ≡ length (program_in machine.now) }
         requires few { (h : ℕ) → h < length self.old.harts.items → (section_at self.old h).ended < 2 ^ 63 }
         ensures size { length self.new.harts.items ≡ length self.old.harts.items }
         ensures each { (w : World) → RepresentsMachine machine.now w → (h : ℕ) → h < length self.old.harts.items
-            → section_at self.new h ≡ seen_at (durable_point w.words h) (section_at self.old h) }
+            → section_at self.new h ≡ looked_at (word_at w.words (point_word w.log h)).durable (durable_point w.log w.words h) (section_at self.old h) }
     {
         for hart in 0..machine.harts() {
-            let point = machine.durable_word(POINT_LINE + LOG_LINES as u32 * hart, 0);
-            self.harts[hart as usize].see(point);
+            let position = point_durable(machine, hart);
+            if self.harts[hart as usize].position != position {
+                self.harts[hart as usize].see(position, durable_point(machine, hart));
+            }
         }
     }
 
@@ -85,7 +111,7 @@ impl Sections {
         requires few { (h : ℕ) → h < length self.old.harts.items → (section_at self.old h).ended < 2 ^ 63 }
         ensures size { length self.new.harts.items ≡ length self.old.harts.items }
         ensures seen { looks ≡ true → (w : World) → RepresentsMachine machine.now w → (h : ℕ) → h < length self.old.harts.items
-            → section_at self.new h ≡ seen_at (durable_point w.words h) (section_at self.old h) }
+            → section_at self.new h ≡ looked_at (word_at w.words (point_word w.log h)).durable (durable_point w.log w.words h) (section_at self.old h) }
         ensures unseen { looks ≡ false → self.new ≡ self.old }
     {
         if looks {

@@ -3,7 +3,8 @@ ghost use Rattle.std.specs.Prelude.{◌≡◌, ◌-◌, ◌/◌, ◌<◌, ◌≤
 ghost use Rattle.rv64_isa.specs.Executables.{node_marks, resume_marks};
 ghost use Rattle.rv64_isa.specs.Programs.{program_of, slot_of};
 ghost use Rattle.hart_core.specs.Objects.{IsWithinLimits};
-ghost use Rattle.run_tracker.specs.links.SignTables.{is_fence_slot, is_plain, is_store_slot, plain_sign, sign_in, sign_at, is_word_at, IsTableOf, AreTables};
+ghost use Rattle.run_tracker.specs.links.SignTables.{is_fence_slot, is_local_slot, is_plain, is_store_slot, is_word_at};
+ghost use Rattle.run_tracker.specs.links.SignTables.{plain_sign, sign_in, sign_at, IsTableOf, AreTables};
 
 use hart_core::program::Program;
 use ido_base::memory::OutOfMemory;
@@ -20,9 +21,20 @@ pub(crate) struct Sign {
     pub fence: bool,
     /// The code word stores.
     pub store: bool,
+    /// It touches nothing but registers and the pc. Its step is tried as such first.
+    pub local: bool,
     /// It is none of these: there is nothing to account for. This alone is looked at after most steps.
     pub plain: bool,
 }
+
+/// What is told of no code word.
+const NO_SIGN: Sign = Sign {
+    mark: false,
+    fence: false,
+    store: false,
+    local: false,
+    plain: true,
+};
 
 /// The signs of a thread's code words.
 #[derive(Debug, Drop)]
@@ -46,6 +58,18 @@ fn is_store(slot: &Slot) -> bool
     matches!(slot, Slot::Row(Instr::Store { .. }))
 }
 
+/// What stands there touches nothing but registers and the pc.
+fn is_local(slot: &Slot) -> bool
+    ensures { result ≡ is_local_slot slot.now }
+{
+    match slot {
+        Slot::NoRow(_) => false,
+        Slot::Row(Instr::Load { .. } | Instr::Store { .. } | Instr::CboClean { .. }) => false,
+        Slot::Row(Instr::Fence | Instr::Ecall) => false,
+        Slot::Row(_) => true,
+    }
+}
+
 /// The sign of a word that isn't a mark.
 fn plain_sign(word: u32) -> Sign
     ensures { result ≡ plain_sign word }
@@ -57,6 +81,7 @@ fn plain_sign(word: u32) -> Sign
         mark: false,
         fence,
         store,
+        local: is_local(&slot),
         plain: !(fence || store),
     }
 }
@@ -75,6 +100,7 @@ fn mark_word(signs: &mut [Sign], start: u64, address: u64)
     ensures marks { (k : ℕ) → k < length signs.old → (sign_in signs.new k).mark ≡ ((sign_in signs.old k).mark || is_word_at start k address) }
     ensures fences { (k : ℕ) → (sign_in signs.new k).fence ≡ (sign_in signs.old k).fence }
     ensures stores { (k : ℕ) → (sign_in signs.new k).store ≡ (sign_in signs.old k).store }
+    ensures locals { (k : ℕ) → (sign_in signs.new k).local ≡ (sign_in signs.old k).local }
     ensures plains { ((k : ℕ) → (sign_in signs.old k).plain ≡ is_plain (sign_in signs.old k)) → (k : ℕ)
         → (sign_in signs.new k).plain ≡ is_plain (sign_in signs.new k) }
 {
@@ -115,14 +141,15 @@ impl SignTable {
         })
     }
 
-    /// The sign of the code word at this address.
+    /// The sign of the code word at this address. Of one before all code words it tells that of the first.
     #[inline(always)]
     pub fn sign_at(&self, pc: u64) -> Sign
-        requires from { self.now.start ≤ pc }
-        requires within { (pc - self.now.start) / 4 < length self.now.signs.items }
         ensures { result ≡ sign_at self.now pc }
     {
-        self.signs[((pc - self.start) / 4) as usize]
+        match self.signs.get((pc.saturating_sub(self.start) / 4) as usize) {
+            Some(sign) => *sign,
+            None => NO_SIGN,
+        }
     }
 }
 

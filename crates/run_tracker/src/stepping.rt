@@ -8,17 +8,19 @@ ghost use Rattle.ido_base.specs.Layout.{line_count};
 ghost use Rattle.ido_base.specs.Words.{word_at, last_position};
 ghost use Rattle.rv64_isa.specs.declared.object.Slot.{Slot};
 ghost use Rattle.rv64_isa.specs.Machine.{World, IsValidEvent, happens};
-ghost use Rattle.rv64_isa.specs.Schedule.{Steps, is_running, with_step, steps_after, with_all_kept};
-ghost use Rattle.ido_machine.specs.Machines.{RepresentsMachine, IsAfter, program_in, events_of};
-ghost use Rattle.run_tracker.specs.links.AccountRepresentation.{AccountInv, AreOpen, point_word};
+ghost use Rattle.rv64_isa.specs.Schedule.{Steps, hart_steps, is_running, with_step, steps_after, with_all_kept, with_kept};
+ghost use Rattle.ido_machine.specs.Machines.{RepresentsMachine, IsAfter, program_in, log_by, events_of};
+ghost use Rattle.run_tracker.specs.links.AccountRepresentation.{AccountInv, AllFrom, AreOpen, point_word};
+ghost use Rattle.run_tracker.specs.links.SectionRepresentation.{AreAbove, AreSeen, section_at};
 ghost use Rattle.run_tracker.specs.links.SignTables.{AreTables};
-ghost use Rattle.run_tracker.specs.links.LifeParts.{IsSeen, seen_step, HasStepped, WasTracked, IsTrackerReady, HasSteps, HasCounts, HaveCounted};
+ghost use Rattle.run_tracker.specs.links.LifeParts.{IsSeen, IsNextSign, seen_step, HasStepped, WasTracked, IsTrackerReady, HasSteps, HasCounts, HaveCounted};
 
 use crate::account::Account;
 use crate::counts::Counts;
+use crate::points::{point_durable, point_position};
+use crate::sections::Sections;
 use crate::signs::{Sign, SignTable};
 use ido_base::event::{Event, Reply};
-use ido_base::limits::{LOG_LINES, POINT_LINE};
 use ido_machine::machine::Machine;
 use rv64_isa::phase::Phase;
 
@@ -41,15 +43,6 @@ pub(crate) fn is_running(phase: Phase) -> bool
     matches!(phase, Phase::Run)
 }
 
-/// Where the newest value of a hart's point stands among those that the point's word has had.
-#[inline(always)]
-fn point_position(machine: &Machine, hart: u32) -> u64
-    requires { hart < length (program_in machine.now) }
-    ensures { (w : World) → RepresentsMachine machine.now w → result ≡ last_position (word_at w.words (point_word hart)) }
-{
-    machine.last_position(POINT_LINE + LOG_LINES as u32 * hart, 0)
-}
-
 /// What is seen of a hart.
 #[inline(always)]
 fn look(machine: &Machine, hart: u32) -> Observation
@@ -63,20 +56,40 @@ fn look(machine: &Machine, hart: u32) -> Observation
     }
 }
 
-/// Where the points of all harts have become durable, the steps bound to them are kept.
-fn keep_all(machine: &Machine, account: &mut Account)
+/// Where the point of a hart has become durable further than was seen before, the steps bound to it are kept.
+#[inline(always)]
+fn keep_seen(machine: &Machine, account: &mut Account, sections: &Sections, hart: u32)
+    requires exists { hart < length (program_in machine.now) }
+    requires seen { length sections.now.harts.items ≡ length (program_in machine.now) }
     requires harts { length account.old.harts.items ≡ length (program_in machine.now) }
     requires at { HasSteps machine.now account.old }
     ensures stands { (w : World) (s : Steps) → RepresentsMachine machine.now w → AccountInv account.old s
-        → AccountInv account.new (with_all_kept w.words (length account.old.harts.items) s) }
+        → AllFrom ((section_at sections.now hart).position + 1) (hart_steps s hart).bound
+        → AccountInv account.new (with_kept w.log w.words hart s) }
+    ensures harts { length account.new.harts.items ≡ length account.old.harts.items }
+    ensures at { HasSteps machine.now account.new }
+    ensures stores { account.new.stores ≡ account.old.stores }
+    ensures capacity { vec_capacity account.new.kept ≡ vec_capacity account.old.kept }
+{
+    let durable = point_durable(machine, hart);
+    if sections.harts[hart as usize].position != durable {
+        account.keep(hart, durable);
+    }
+}
+
+/// Where the points of harts have become durable further than was seen before, the steps bound to them are kept.
+fn keep_all(machine: &Machine, account: &mut Account, sections: &Sections)
+    requires seen { length sections.now.harts.items ≡ length (program_in machine.now) }
+    requires harts { length account.old.harts.items ≡ length (program_in machine.now) }
+    requires at { HasSteps machine.now account.old }
+    ensures stands { (w : World) (s : Steps) → RepresentsMachine machine.now w → AccountInv account.old s
+        → AreAbove sections.now (length (program_in machine.now)) s
+        → AccountInv account.new (with_all_kept w.log w.words (length account.old.harts.items) s) }
     ensures stores { account.new.stores ≡ account.old.stores }
     ensures capacity { vec_capacity account.new.kept ≡ vec_capacity account.old.kept }
 {
     for hart in 0..machine.harts() {
-        account.keep(
-            hart,
-            machine.durable_position(POINT_LINE + LOG_LINES as u32 * hart, 0),
-        );
+        keep_seen(machine, account, sections, hart);
     }
 }
 
@@ -85,7 +98,7 @@ fn keep_all(machine: &Machine, account: &mut Account)
 #[inline(always)]
 fn position_after(machine: &Machine, hart: u32, sign: Sign, observation: Observation) -> u64
     requires { hart < length (program_in machine.now) }
-    ensures stored { sign.store ≡ true → (w : World) → RepresentsMachine machine.now w → result ≡ last_position (word_at w.words (point_word hart)) }
+    ensures stored { sign.store ≡ true → (w : World) → RepresentsMachine machine.now w → result ≡ last_position (word_at w.words (point_word w.log hart)) }
     ensures unstored { sign.store ≡ false → result ≡ observation.position }
 {
     if sign.store {
@@ -138,6 +151,7 @@ fn note(
     machine: &Machine,
     account: &mut Account,
     counts: &mut Counts,
+    sections: &Sections,
     tables: &[SignTable],
     observation: Observation,
     reply: Reply,
@@ -145,11 +159,13 @@ fn note(
 )
     requires exists { hart < length (program_in machine.now) }
     requires after { WasTracked tables.now machine.now account.old (seen_step hart observation reply) }
+    requires seen { length sections.now.harts.items ≡ length (program_in machine.now) }
     requires harts { length account.old.harts.items ≡ length (program_in machine.now) }
     requires counts { HasCounts counts.old (length (program_in machine.now)) }
     requires room { vec_len account.old.stores < vec_capacity account.old.stores }
     ensures steps { (program : List (List Slot)) (marks : List (List ℕ)) (w : World) (s : Steps)
-        → HasStepped program tables.now marks machine.now (seen_step hart observation reply) w → AccountInv account.old s → AreOpen w.words s
+        → HasStepped program tables.now marks machine.now (seen_step hart observation reply) w → AccountInv account.old s → AreOpen w.log w.words s
+        → AreSeen sections.now (length (program_in machine.now)) w
         → AccountInv account.new (steps_after marks program w (Step hart) s) }
     ensures counts { (program : List (List Slot)) (marks : List (List ℕ)) (w : World)
         → HasStepped program tables.now marks machine.now (seen_step hart observation reply) w → HaveCounted counts.old counts.new program w (Step hart) }
@@ -163,17 +179,18 @@ fn note(
                 complete(machine, account, counts, tables, observation, hart);
             }
         }
-        Reply::Drained => keep_all(machine, account),
+        Reply::Drained => keep_all(machine, account, sections),
         _ => {}
     }
 }
 
-/// A step of a hart.
+/// A step of a hart, whichever it is.
 #[inline(always)]
-fn step(
+fn step_any(
     machine: &mut Machine,
     account: &mut Account,
     counts: &mut Counts,
+    sections: &Sections,
     tables: &[SignTable],
     hart: u32,
 ) -> Reply
@@ -183,12 +200,15 @@ fn step(
     requires events { events_of machine.old < 2 ^ 63 }
     requires room { vec_len account.old.stores < vec_capacity account.old.stores }
     requires at { IsTrackerReady tables.now machine.old account.old }
+    requires seen { length sections.now.harts.items ≡ length (program_in machine.old) }
     ensures world { (w : World) → RepresentsMachine machine.old w → IsAfter machine.new result (happens (program_in machine.old) w (Step hart)) }
     ensures steps { (marks : List (List ℕ)) (w : World) (s : Steps) → AreTables tables.now (program_in machine.old) marks
-        → RepresentsMachine machine.old w → AccountInv account.old s → AreOpen w.words s
+        → RepresentsMachine machine.old w → AccountInv account.old s → AreOpen w.log w.words s
+        → AreSeen sections.now (length (program_in machine.old)) w
         → AccountInv account.new (steps_after marks (program_in machine.old) w (Step hart) s) }
     ensures counts { (w : World) → RepresentsMachine machine.old w → HaveCounted counts.old counts.new (program_in machine.old) w (Step hart) }
     ensures program { program_in machine.new ≡ program_in machine.old }
+    ensures log { log_by machine.new ≡ log_by machine.old }
     ensures events { events_of machine.new ≡ events_of machine.old + 1 }
     ensures stores { vec_len account.new.stores ≤ vec_len account.old.stores + 1 }
     ensures reserved { vec_capacity account.new.stores ≡ vec_capacity account.old.stores }
@@ -196,27 +216,96 @@ fn step(
 {
     let observation = look(machine, hart);
     let reply = machine.step(hart);
-    note(machine, account, counts, tables, observation, reply, hart);
+    note(
+        machine,
+        account,
+        counts,
+        sections,
+        tables,
+        observation,
+        reply,
+        hart,
+    );
     reply
 }
 
+/// The sign of the code word that stands at a hart's pc.
+#[inline(always)]
+fn next_sign(machine: &Machine, tables: &[SignTable], hart: u32) -> Sign
+    requires exists { hart < length (program_in machine.now) }
+    requires tables { length tables.now ≡ length (program_in machine.now) }
+    ensures { (w : World) → RepresentsMachine machine.now w → IsNextSign w hart tables.now result }
+{
+    tables[hart as usize].sign_at(machine.pc(hart))
+}
+
+/// A step of a hart. One that touches nothing but its registers and its pc is made at once.
+#[inline(always)]
+fn step(
+    machine: &mut Machine,
+    account: &mut Account,
+    counts: &mut Counts,
+    sections: &Sections,
+    tables: &[SignTable],
+    hart: u32,
+) -> Reply
+    requires exists { hart < length (program_in machine.old) }
+    requires harts { length account.old.harts.items ≡ length (program_in machine.old) }
+    requires counts { HasCounts counts.old (length (program_in machine.old)) }
+    requires events { events_of machine.old < 2 ^ 63 }
+    requires room { vec_len account.old.stores < vec_capacity account.old.stores }
+    requires at { IsTrackerReady tables.now machine.old account.old }
+    requires seen { length sections.now.harts.items ≡ length (program_in machine.old) }
+    ensures world { (w : World) → RepresentsMachine machine.old w → IsAfter machine.new result (happens (program_in machine.old) w (Step hart)) }
+    ensures steps { (marks : List (List ℕ)) (w : World) (s : Steps) → AreTables tables.now (program_in machine.old) marks
+        → RepresentsMachine machine.old w → AccountInv account.old s → AreOpen w.log w.words s
+        → AreSeen sections.now (length (program_in machine.old)) w
+        → AccountInv account.new (steps_after marks (program_in machine.old) w (Step hart) s) }
+    ensures counts { (w : World) → RepresentsMachine machine.old w → HaveCounted counts.old counts.new (program_in machine.old) w (Step hart) }
+    ensures program { program_in machine.new ≡ program_in machine.old }
+    ensures log { log_by machine.new ≡ log_by machine.old }
+    ensures events { events_of machine.new ≡ events_of machine.old + 1 }
+    ensures stores { vec_len account.new.stores ≤ vec_len account.old.stores + 1 }
+    ensures reserved { vec_capacity account.new.stores ≡ vec_capacity account.old.stores }
+    ensures capacity { vec_capacity account.new.kept ≡ vec_capacity account.old.kept }
+{
+    let sign = next_sign(machine, tables, hart);
+    if sign.local {
+        if let Some(write) = machine.local_write(hart) {
+            machine.step_locally(hart, write);
+            account.begin_if(sign.mark, hart);
+            return Reply::Moved;
+        }
+    }
+    step_any(machine, account, counts, sections, tables, hart)
+}
+
 /// An eviction.
-fn evict(machine: &mut Machine, account: &mut Account, line: u32, mask: u32) -> Reply
-    requires exists { line < line_count (length (program_in machine.old)) }
+fn evict(
+    machine: &mut Machine,
+    account: &mut Account,
+    sections: &Sections,
+    line: u32,
+    mask: u32,
+) -> Reply
+    requires exists { line < line_count (log_by machine.old) (length (program_in machine.old)) }
     requires mask { mask ≤ 255 }
     requires harts { length account.old.harts.items ≡ length (program_in machine.old) }
     requires events { events_of machine.old < 2 ^ 63 }
     requires at { HasSteps machine.old account.old }
+    requires seen { length sections.now.harts.items ≡ length (program_in machine.old) }
     ensures world { (w : World) → RepresentsMachine machine.old w → IsAfter machine.new result (happens (program_in machine.old) w (Evict line mask)) }
     ensures steps { (marks : List (List ℕ)) (w : World) (s : Steps) → RepresentsMachine machine.old w → AccountInv account.old s
+        → AreOpen w.log w.words s → AreSeen sections.now (length (program_in machine.old)) w
         → AccountInv account.new (steps_after marks (program_in machine.old) w (Evict line mask) s) }
     ensures program { program_in machine.new ≡ program_in machine.old }
+    ensures log { log_by machine.new ≡ log_by machine.old }
     ensures events { events_of machine.new ≡ events_of machine.old + 1 }
     ensures stores { account.new.stores ≡ account.old.stores }
     ensures capacity { vec_capacity account.new.kept ≡ vec_capacity account.old.kept }
 {
     let reply = machine.evict(line, mask);
-    keep_all(machine, account);
+    keep_all(machine, account, sections);
     reply
 }
 
@@ -227,6 +316,7 @@ fn crash(machine: &mut Machine, account: &mut Account) -> Reply
     ensures steps { (marks : List (List ℕ)) (w : World) (s : Steps) → AccountInv account.old s
         → AccountInv account.new (steps_after marks (program_in machine.old) w Crash s) }
     ensures program { program_in machine.new ≡ program_in machine.old }
+    ensures log { log_by machine.new ≡ log_by machine.old }
     ensures events { events_of machine.new ≡ events_of machine.old + 1 }
     ensures stores { vec_len account.new.stores ≡ 0 }
     ensures reserved { vec_capacity account.new.stores ≡ vec_capacity account.old.stores }
@@ -244,28 +334,32 @@ pub(crate) fn make(
     machine: &mut Machine,
     account: &mut Account,
     counts: &mut Counts,
+    sections: &Sections,
     tables: &[SignTable],
 ) -> Reply
-    requires valid { IsValidEvent (length (program_in machine.old)) event }
+    requires valid { IsValidEvent (log_by machine.old) (length (program_in machine.old)) event }
     requires harts { length account.old.harts.items ≡ length (program_in machine.old) }
     requires counts { HasCounts counts.old (length (program_in machine.old)) }
     requires events { events_of machine.old < 2 ^ 63 }
     requires room { vec_len account.old.stores < vec_capacity account.old.stores }
     requires at { IsTrackerReady tables.now machine.old account.old }
+    requires seen { length sections.now.harts.items ≡ length (program_in machine.old) }
     ensures world { (w : World) → RepresentsMachine machine.old w → IsAfter machine.new result (happens (program_in machine.old) w event) }
     ensures steps { (marks : List (List ℕ)) (w : World) (s : Steps) → AreTables tables.now (program_in machine.old) marks
-        → RepresentsMachine machine.old w → AccountInv account.old s → AreOpen w.words s
+        → RepresentsMachine machine.old w → AccountInv account.old s → AreOpen w.log w.words s
+        → AreSeen sections.now (length (program_in machine.old)) w
         → AccountInv account.new (steps_after marks (program_in machine.old) w event s) }
     ensures counts { (w : World) → RepresentsMachine machine.old w → HaveCounted counts.old counts.new (program_in machine.old) w event }
     ensures program { program_in machine.new ≡ program_in machine.old }
+    ensures log { log_by machine.new ≡ log_by machine.old }
     ensures events { events_of machine.new ≡ events_of machine.old + 1 }
     ensures stores { vec_len account.new.stores ≤ vec_len account.old.stores + 1 }
     ensures reserved { vec_capacity account.new.stores ≡ vec_capacity account.old.stores }
     ensures capacity { vec_capacity account.new.kept ≡ vec_capacity account.old.kept }
 {
     match event {
-        Event::Step(hart) => step(machine, account, counts, tables, hart),
-        Event::Evict { line, mask } => evict(machine, account, line, mask),
+        Event::Step(hart) => step(machine, account, counts, sections, tables, hart),
+        Event::Evict { line, mask } => evict(machine, account, sections, line, mask),
         Event::Crash => crash(machine, account),
     }
 }

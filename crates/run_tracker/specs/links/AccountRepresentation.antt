@@ -1,5 +1,6 @@
 -- What the account of begun and kept steps represents.
 use Rattle.std.specs.Prelude.{◌≡◌, ℕ, ◌+◌, ◌<◌, ◌≤◌, List, [], ◌∷◌, length, slice_index_or, drop, replicate, sum_by, ◌==◌, if◌then◌else◌}
+use Rattle.ido_base.specs.declared.log.Log.{Log}
 use Rattle.ido_base.specs.Words.{Word, word_at, last_position}
 use Rattle.ido_base.specs.Layout.{word_number, point_at}
 use Rattle.rv64_isa.specs.Schedule.{Steps, HartSteps, Bound, hart_steps, no_steps}
@@ -8,8 +9,8 @@ use Rattle.run_tracker.specs.declared.account.OpenSteps.{OpenSteps}
 use Rattle.run_tracker.specs.declared.account.Account.{Account}
 
 -- the word of a hart's point
-abbrev pub point_word : (h : ℕ) → ℕ
-point_word h = word_number (point_at h)
+abbrev pub point_word : Log → (h : ℕ) → ℕ
+point_word log h = word_number (point_at log h)
 
 abbrev pub bound_of : PointStore → Bound
 bound_of store = record { position = store.position; steps = store.steps }
@@ -71,10 +72,10 @@ IsAscending [] = Unit {0}
 IsAscending (b ∷ bs) = AllFrom b.position bs × IsAscending bs
 
 -- no steps are bound to a position that is durable
-abbrev pub AreOpen : List Word → Steps → Type 0
-AreOpen words s = (h : ℕ) → AllFrom ((word_at words (point_word h)).durable + 1) (hart_steps s h).bound
+abbrev pub AreOpen : Log → List Word → Steps → Type 0
+AreOpen log words s = (h : ℕ) → AllFrom ((word_at words (point_word log h)).durable + 1) (hart_steps s h).bound
 
 -- the bound steps of each hart are in order, up to the newest position of its point
-pub record AreOrdered (words : List Word) (s : Steps) : Type 0 where
+pub record AreOrdered (log : Log) (words : List Word) (s : Steps) : Type 0 where
   pub ascending : (h : ℕ) → IsAscending (hart_steps s h).bound
-  pub up_to : (h : ℕ) → AllUpTo (last_position (word_at words (point_word h))) (hart_steps s h).bound
+  pub up_to : (h : ℕ) → AllUpTo (last_position (word_at words (point_word log h))) (hart_steps s h).bound

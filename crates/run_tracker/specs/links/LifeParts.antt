@@ -14,9 +14,10 @@ use Rattle.ido_machine.specs.declared.machine.Machine.{Machine}
 use Rattle.ido_machine.specs.Machines.{RepresentsMachine, program_in}
 use Rattle.run_tracker.specs.declared.account.Account.{Account}
 use Rattle.run_tracker.specs.declared.counts.Counts.{Counts}
+use Rattle.run_tracker.specs.declared.signs.Sign.{Sign}
 use Rattle.run_tracker.specs.declared.signs.SignTable.{SignTable}
 use Rattle.run_tracker.specs.declared.stepping.Observation.{Observation}
-use Rattle.run_tracker.specs.links.SignTables.{AreTables}
+use Rattle.run_tracker.specs.links.SignTables.{AreTables, sign_at}
 use Rattle.run_tracker.specs.links.AccountRepresentation.{AccountInv, AreOrdered, weight, IsAscending, point_word}
 
 -- a queued entry was written back
@@ -45,9 +46,14 @@ pub record IsSeen (w : World) (h : ℕ) (observation : Observation) : Type 0 whe
   pub found : slice_get w.harts h ≡ Some hart
   pub running : observation.running ≡ is_running hart.phase
   pub pc : observation.pc ≡ hart.pc
-  pub position : observation.position ≡ last_position (word_at w.words (point_word h))
-  pub point : point_word h < length w.words
-  pub durable : (word_at w.words (point_word h)).durable < length (word_at w.words (point_word h)).values
+  pub position : observation.position ≡ last_position (word_at w.words (point_word w.log h))
+  pub point : point_word w.log h < length w.words
+  pub durable : (word_at w.words (point_word w.log h)).durable < length (word_at w.words (point_word w.log h)).values
+
+-- the sign is that of the code word at the pc of hart h
+abbrev pub IsNextSign : World → (h : ℕ) → List SignTable → Sign → Type 0
+IsNextSign w h tables sign =
+    (hart : Hart) (table : SignTable) → slice_get w.harts h ≡ Some hart → slice_get tables h ≡ Some table → sign ≡ sign_at table hart.pc
 
 -- a step of a hart: what was seen of it before, and the reply
 pub record SeenStep : Type 0 where
@@ -64,6 +70,7 @@ pub record HasStepped (program : List (List Slot)) (tables : List SignTable) (ma
   pub tables_are : AreTables tables program marks
   pub seen : IsSeen w step.hart step.observation
   pub replied : step.reply ≡ reply_to program w (Step step.hart)
+  pub log : (after_event program w (Step step.hart)).log ≡ w.log
   pub stands : RepresentsMachine machine (after_event program w (Step step.hart))
 
 -- the machine is at a world, and the account has steps, in order, and room for those that aren't kept
@@ -88,7 +95,7 @@ pub record TracksWorld (machine : Machine) (account : Account) (w : World) (s : 
   pub stands : RepresentsMachine machine w
   pub sound : IsWellFormedWorld w
   pub steps : AccountInv account s
-  pub ordered : AreOrdered w.words s
+  pub ordered : AreOrdered w.log w.words s
   pub room : weight s + 1 ≤ vec_capacity account.kept
   pub few : weight s + 1 < 2 ^ 63
 

@@ -2,6 +2,7 @@
 use Rattle.std.specs.Prelude.{Vec, ◌≡◌, ℕ, ◌+◌, ◌/◌, ◌<◌, ◌≤◌, ◌^◌, List, length, slice_index, Option, Some, None}
 use Rattle.std.specs.Global.{Global}
 use Rattle.std.specs.Vec.{vec_capacity, vec_len}
+use Rattle.ido_base.specs.declared.log.Log.{Log}
 use Rattle.ido_base.specs.Cores.{point_stores, finished_fences}
 use Rattle.ido_base.specs.Layout.{spread_words}
 use Rattle.ido_base.specs.declared.limits.TheConstants.{MOST_VARIABLE_BYTES}
@@ -9,7 +10,7 @@ use Rattle.rv64_isa.specs.declared.object.Slot.{Slot}
 use Rattle.rv64_isa.specs.Executables.{Executable, node_marks, resume_marks}
 use Rattle.rv64_isa.specs.Machine.{World, start_of, after_crash_of}
 use Rattle.rv64_isa.specs.Frames.{IsWellFormedWorld}
-use Rattle.ido_machine.specs.Machines.{RepresentsMachine, program_in, events_of}
+use Rattle.ido_machine.specs.Machines.{RepresentsMachine, program_in, log_by, events_of}
 use Rattle.run_tracker.specs.declared.life.Life.TheInside.{Inside}
 use Rattle.run_tracker.specs.links.AccountRepresentation.{AccountInv, AreOpen, AreOrdered, weight}
 use Rattle.run_tracker.specs.links.SectionRepresentation.{AreSections}
@@ -17,13 +18,14 @@ use Rattle.run_tracker.specs.links.SignTables.{AreTables}
 use Rattle.run_tracker.specs.ObjectLives.{Course, world_of, steps_in, living, opening_of, ended_sections}
 
 -- the world before the first event: that of the start, or that after a crash that left these words
-abbrev pub opening_by : List (List Slot) → (locks : ℕ) → (initial : List ℕ) → Option (Vec ℕ Global) → World
-opening_by program locks initial None = start_of program locks initial
-opening_by program locks initial (Some words) = after_crash_of program locks (spread_words (length initial / 8) words.items)
+abbrev pub opening_by : Log → List (List Slot) → (locks : ℕ) → (initial : List ℕ) → Option (Vec ℕ Global) → World
+opening_by log program locks initial None = start_of log program locks initial
+opening_by log program locks initial (Some words) = after_crash_of log program locks (spread_words (length initial / 8) words.items)
 
 -- what the machine of a life with this program runs
-abbrev pub executable_by : List (List Slot) → Inside → Executable
-executable_by program life = record {
+abbrev pub executable_by : Log → List (List Slot) → Inside → Executable
+executable_by log program life = record {
+  log = log;
   program = program;
   marks = node_marks life.marks.threads.items;
   resumes = resume_marks life.marks.threads.items;
@@ -33,9 +35,9 @@ executable_by program life = record {
 
 abbrev pub course_of : Inside → Course
 course_of life = record {
-  runs = executable_by (program_in life.machine) life;
+  runs = executable_by (log_by life.machine) (program_in life.machine) life;
   kept_before = life.before.items;
-  opening = opening_by (program_in life.machine) life.mutexes life.initial.items life.left;
+  opening = opening_by (log_by life.machine) (program_in life.machine) life.mutexes life.initial.items life.left;
   journal = life.journal.events;
   cap = life.cap;
 }
@@ -53,8 +55,8 @@ pub record LifeInv (life : Inside) : Type 0 where
   pub account : AccountInv life.account (steps_in (course_of life))
   pub marked : length life.marks.threads.items ≡ length (program_in life.machine)
   pub harts : length life.account.harts.items ≡ length (program_in life.machine)
-  pub ordered : AreOrdered (world_of (course_of life)).words (steps_in (course_of life))
-  pub are_open : AreOpen (world_of (course_of life)).words (steps_in (course_of life))
+  pub ordered : AreOrdered (world_of (course_of life)).log (world_of (course_of life)).words (steps_in (course_of life))
+  pub are_open : AreOpen (world_of (course_of life)).log (world_of (course_of life)).words (steps_in (course_of life))
   pub light : weight (steps_in (course_of life)) ≤ length life.before.items + length life.journal.events
   pub points : AreCounts life.counts.points.items (length (program_in life.machine)) (point_stores living (opening_of (course_of life)) life.journal.events)
   pub fences : AreCounts life.counts.fences.items (length (program_in life.machine)) (finished_fences living (opening_of (course_of life)) life.journal.events)

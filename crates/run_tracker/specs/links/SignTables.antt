@@ -1,9 +1,9 @@
 -- Tables of signs.
 use Rattle.std.specs.Prelude.{◌≡◌, ℕ, ◌-◌, ◌/◌, ◌%◌, ◌<◌, List, [], length, slice_get, slice_index_or, Some, Bool, true, false, not, nat_le, ◌==◌, ◌&&◌, ◌||◌}
 use Rattle.std.specs.List.{list_any}
-use Rattle.rv64_isa.specs.declared.instr.Instr.TheVariants.{Fence, Store}
+use Rattle.rv64_isa.specs.declared.instr.Instr.TheVariants.{CboClean, Ecall, Fence, Load, Store}
 use Rattle.rv64_isa.specs.declared.object.Slot.{Slot}
-use Rattle.rv64_isa.specs.declared.object.Slot.TheVariants.{Row}
+use Rattle.rv64_isa.specs.declared.object.Slot.TheVariants.{NoRow, Row}
 use Rattle.rv64_isa.specs.Programs.{slot_of, code_of, code_start}
 use Rattle.run_tracker.specs.declared.signs.Sign.{Sign}
 use Rattle.run_tracker.specs.declared.signs.SignTable.{SignTable}
@@ -26,12 +26,25 @@ is_store_slot slot = elim slot [
   | _ ↦ false
 ]
 
+-- what stands there touches nothing but registers and the pc
+abbrev pub is_local_slot : Slot → Bool
+is_local_slot slot = elim slot [
+  | NoRow word ↦ false
+  | Row (Load kind rd rs1 offset) ↦ false
+  | Row (Store kind rs2 rs1 offset) ↦ false
+  | Row (CboClean rs1) ↦ false
+  | Row Fence ↦ false
+  | Row Ecall ↦ false
+  | _ ↦ true
+]
+
 -- the sign of a word that isn't a mark
 abbrev pub plain_sign : (word : ℕ) → Sign
 plain_sign word = record {
   mark = false;
   fence = is_fence_slot (slot_of word);
   store = is_store_slot (slot_of word);
+  local = is_local_slot (slot_of word);
   plain = not (is_fence_slot (slot_of word) || is_store_slot (slot_of word));
 }
 
@@ -40,7 +53,7 @@ abbrev pub is_plain : Sign → Bool
 is_plain sign = not (sign.mark || sign.fence || sign.store)
 
 abbrev pub no_sign : Sign
-no_sign = record { mark = false; fence = false; store = false; plain = true }
+no_sign = record { mark = false; fence = false; store = false; local = false; plain = true }
 
 -- the sign of the k-th word
 abbrev pub sign_in : List Sign → (k : ℕ) → Sign

@@ -9,13 +9,14 @@ pub loop-thread-preserved : goal.loop-thread-preserved
 loop-thread-preserved c = record {
   size = length-set c.loop-thread.phases c.loop-thread.thread c.phase_after_crash.result ∙ c.loop-thread.invariant.size;
   set =
-      λ words s. set_next (λ thread. phase_after_crash (durable_point words thread)) c.loop-thread.phases c.loop-thread.thread c.phase_after_crash.result Done
+      λ words s. set_next (λ thread. phase_after_crash (durable_point c.args.memory.now.log words thread)) c.loop-thread.phases c.loop-thread.thread
+      c.phase_after_crash.result Done
       (search rules) (c.phase_after_crash.ensures words s) (c.loop-thread.invariant.set words s);
 }
 
 pub returns-clause-phases : goal.returns-clause-phases
 returns-clause-phases c = λ words s.
-    let f : ℕ → Phase = λ thread. phase_after_crash (durable_point words thread) in
+    let f : ℕ → Phase = λ thread. phase_after_crash (durable_point c.args.memory.now.log words thread) in
     let still : (n : ℕ) → n < length c.loop-thread.phases → n < c.loop-thread.thread =
     λ n below. omega (arith, below, c.loop-thread-test.false, c.loop-thread.invariant.size) in
     from_each f 0 c.loop-thread.phases Done (λ n below. c.loop-thread.invariant.set words s n (still n below) ∙ (let e : n ≡ 0 + n = omega arith in ap f e))

@@ -8,5 +8,6 @@ use Rattle.ido_machine.proofs.harts.set_phases.Given as goal
 abbrev pub invariant-loop-thread : goal.invariant-loop-thread
 invariant-loop-thread l = record {
   size : length l.phases ≡ length l.initial.phases;
-  set : (words : List Word) → Represents l.memory words → (i : ℕ) → i < l.thread → get_or l.phases i Done ≡ phase_after_crash (durable_point words i);
+  set : (words : List Word) → Represents l.memory words → (i : ℕ) → i < l.thread →
+      get_or l.phases i Done ≡ phase_after_crash (durable_point l.memory.log words i);
 }

@@ -8,7 +8,7 @@ use Rattle.ido_machine.proofs.MachineEvents.{phase_there, run_idle, stepped-is}
 use Rattle.ido_machine.proofs.running.is_idle.Goals as goal
 
 pub returns-in-Run : goal.returns-in-Run
-returns-in-Run c = λ w model words holders phases there registers pc.
+returns-in-Run c = λ w model words log holders phases there registers pc.
     let within : c.args.number < length c.args.phases.now = omega (arith, c.requires.phased, c.requires.exists) in
     let running : phase_at c.args.phases.now c.args.number ≡ Run = phase_read c.args.phases.now c.args.number Take Run within c.in-Run.is in
     c.would_wait.ensures
@@ -16,7 +16,7 @@ returns-in-Run c = λ w model words holders phases there registers pc.
     (phase_there c.args.phases.now c.args.number w model there phases ∙ running) registers pc holders
 
 pub returns-in_default : goal.returns-in_default
-returns-in_default c = λ w model words holders phases there registers pc.
-    c.would_wait-in_default.ensures c.args.program.now w model words holders phases
+returns-in_default c = λ w model words log holders phases there registers pc.
+    c.would_wait-in_default.ensures c.args.program.now w model words log holders phases
     ∙ sym (ap (λ (o : Outcome). is_idle o.1) (stepped-is c.args.program.now w c.args.number model (phase_at c.args.phases.now c.args.number) there
     (phase_there c.args.phases.now c.args.number w model there phases)))

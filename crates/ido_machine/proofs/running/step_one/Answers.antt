@@ -45,6 +45,6 @@ returns-in_default c = record {
       c.phase_step.result (happens c.args.program.now w (Step c.args.number))) (sym c.phase_step.ensures.phases)
       (recovery_end c.args.program.now c.args.number state it after c.phase_step.result w within (c.requires.threads ∙ sym c.requires.sized)
       (get_is c.args.harts.now c.args.number c.index-harts-at-in_default.result within) c.phase_step.ensures.step s);
-  threads = refl;
+  logs = refl;
   stores = omega arith;
 }

@@ -3,23 +3,13 @@ use Rattle.ido_base.specs.declared.event.Reply.TheVariants.{Moved}
 use Rattle.ido_base.specs.declared.event.Event.TheVariants.{Step}
 use Rattle.rv64_isa.specs.Machine.{after_event}
 use Rattle.rv64_isa.specs.Schedule.{is_fence, is_point_store, finishes_fence, stores_point}
-use Rattle.ido_machine.specs.Machines.{program_in}
 use Rattle.ido_machine.proofs.Public.{get_is}
 use Rattle.run_tracker.specs.declared.signs.Sign.{Sign}
 use Rattle.run_tracker.specs.links.AccountRepresentation.{AccountInv}
-use Rattle.run_tracker.proofs.StepsByObservation.{fence_done, in_table, mark_is, plain_counts, plain_steps, point_is, position_is}
+use Rattle.run_tracker.proofs.StepsByObservation.{fence_done, mark_is, plain_counts, plain_steps, point_is, position_is}
 use Rattle.run_tracker.proofs.EventCounts.{completes-other, counted-one}
 use Rattle.run_tracker.proofs.Events.{begun_if, noted_is}
 use Rattle.run_tracker.proofs.stepping.complete.Goals as goal
-
-pub sign_at-sign-requires : goal.sign_at-sign-requires
-sign_at-sign-requires c =
-    let after = c.requires.after in
-    let within : c.args.hart < length c.args.tables.now = omega (arith, after.stepped.tables_are.count, c.requires.exists) in
-    let place = in_table (program_in c.args.machine.now) c.args.tables.now after.marks c.args.machine.now c.args.hart c.args.observation Moved after.world
-    after.stepped c.requires.running refl
-    c.index-tables-hart.result (get_is c.args.tables.now c.args.hart c.index-tables-hart.result within ∙ ap Some (sym c.index-tables-hart.is)) in
-    record { from = place.0; within = place.1 }
 
 pub returns-then-sign-clause-steps : goal.returns-then-sign-clause-steps
 returns-then-sign-clause-steps c = λ program marks w s stepped a.
@@ -75,7 +65,7 @@ returns-clause-counts c = λ program marks w stepped.
           (λ g. stores_point program w (Step h) g) c.add.ensures.points
           (omega (arith, c.requires.counts.points, c.requires.exists))
           (point_is program c.args.tables.now marks c.args.machine.now h c.args.observation Moved w stepped c.requires.running refl position at)
-          (λ g ne. completes-other (is_point_store g) program w h g ne);
+          (λ g ne. completes-other (is_point_store w.log g) program w h g ne);
       fences =
           counted-one c.args.counts.now.fences.items c.add.new.self.fences.items h c.sign_at-sign.result.fence (λ g. finishes_fence program w (Step h) g)
           c.add.ensures.fences

@@ -1,8 +1,12 @@
-use Rattle.std.proofs.Common.{length, sym, subst}
+use Rattle.std.proofs.Common.{ℕ, length, ap, sym, subst, ◌∙◌}
+use Rattle.ido_base.specs.declared.log.Log.{Log}
 use Rattle.ido_base.specs.declared.event.Event.TheVariants.{Evict}
 use Rattle.rv64_isa.specs.Machine.{World, after_event}
+use Rattle.rv64_isa.specs.Schedule.{with_all_kept}
 use Rattle.ido_machine.specs.Machines.{program_in}
 use Rattle.run_tracker.specs.links.AccountRepresentation.{AccountInv}
+use Rattle.run_tracker.specs.links.SectionRepresentation.{AreSeen}
+use Rattle.run_tracker.proofs.DurablePoints.{above_seen}
 use Rattle.run_tracker.proofs.Events.{eviction_is}
 use Rattle.run_tracker.proofs.stepping.evict.Goals as goal
 
@@ -20,9 +24,12 @@ keep_all-requires-clause-at c =
     }
 
 pub returns-clause-steps : goal.returns-clause-steps
-returns-clause-steps c = λ marks w s m a.
+returns-clause-steps c = λ marks w s m a is_open seen.
     let program = program_in c.args.machine.now in
     let next : World = after_event program w (Evict c.args.line c.args.mask) in
     let after = c.evict-reply.ensures.world w m in
     subst (AccountInv c.keep_all.new.account) (eviction_is marks program w c.args.line c.args.mask s (length c.args.account.now.harts.items) (sym a.count))
-    (c.keep_all.ensures.stands next s after.stands a)
+    (subst (λ (l : Log). AccountInv c.keep_all.new.account (with_all_kept l next.words (length c.args.account.now.harts.items) s))
+    (after.stands.log ∙ (c.evict-reply.ensures.log ∙ sym m.log))
+    (c.keep_all.ensures.stands next s after.stands a (above_seen c.args.sections.now _ w s
+    (subst (λ (n : ℕ). AreSeen c.args.sections.now n w) (ap length (sym c.evict-reply.ensures.program)) seen) is_open)))

@@ -2,9 +2,10 @@ use Rattle.std.proofs.Common.{◌≡◌, length}
 use Rattle.std.specs.Vec.{vec_capacity}
 use Rattle.rv64_isa.specs.Machine.{World}
 use Rattle.rv64_isa.specs.Schedule.{Steps, with_all_kept}
-use Rattle.ido_machine.specs.Machines.{RepresentsMachine}
+use Rattle.ido_machine.specs.Machines.{RepresentsMachine, program_in}
 use Rattle.run_tracker.specs.links.AccountRepresentation.{AccountInv}
 use Rattle.run_tracker.specs.links.LifeParts.{HasSteps}
+use Rattle.run_tracker.specs.links.SectionRepresentation.{AreAbove}
 use Rattle.run_tracker.proofs.stepping.keep_all.Given as goal
 
 abbrev pub invariant-loop-hart : goal.invariant-loop-hart
@@ -13,5 +14,6 @@ invariant-loop-hart l = record {
   stores : l.account.stores ≡ l.initial.account.stores;
   capacity : vec_capacity l.account.kept ≡ vec_capacity l.initial.account.kept;
   at : HasSteps l.machine l.account;
-  stands : (w : World) (s : Steps) → RepresentsMachine l.machine w → AccountInv l.initial.account s → AccountInv l.account (with_all_kept w.words l.hart s);
+  stands : (w : World) (s : Steps) → RepresentsMachine l.machine w → AccountInv l.initial.account s → AreAbove l.sections (length (program_in l.machine)) s →
+      AccountInv l.account (with_all_kept w.log w.words l.hart s);
 }

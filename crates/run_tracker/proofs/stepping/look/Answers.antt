@@ -3,7 +3,7 @@ use Rattle.rv64_isa.specs.Machine.{Hart}
 use Rattle.rv64_isa.specs.Schedule.{is_running}
 use Rattle.ido_machine.proofs.Public.{get_some}
 use Rattle.run_tracker.specs.links.AccountRepresentation.{point_word}
-use Rattle.run_tracker.proofs.PointWords.{point_place}
+use Rattle.run_tracker.proofs.PointWords.{point_exists}
 use Rattle.run_tracker.proofs.stepping.look.Goals as goal
 
 pub returns : goal.returns
@@ -13,7 +13,7 @@ returns c = λ w stands.
     let some : (hart : Hart) × (slice_get w.harts h ≡ Some hart) =
     get_some w.harts h (omega (arith, stands.standing.count, machine.sized, machine.harts.ok.0, c.requires)) in
     let hart : Hart = some.0 in
-    let point : point_word h < length w.words = omega (arith, stands.words.size, machine.logged, c.requires, point_place h) in
+    let point : point_word w.log h < length w.words = point_exists machine w h stands c.requires in
     record {
       hart = hart;
       found = some.1;
@@ -21,5 +21,5 @@ returns c = λ w stands.
       pc = c.pc.ensures w hart stands some.1;
       position = c.point_position.ensures w stands;
       point = point;
-      durable = (stands.words.cells.each (point_word h) (omega (arith, stands.words.cells.size, point))).order;
+      durable = (stands.words.cells.each (point_word w.log h) (omega (arith, stands.words.cells.size, point))).order;
     }

@@ -1,11 +1,13 @@
-use Rattle.std.proofs.Common.{◌≡◌, false, refl, ap, sym, subst, ◌∙◌}
+use Rattle.std.proofs.Common.{◌≡◌, false, refl, ap, sym, subst, ◌∙◌, length}
+use Rattle.ido_base.specs.declared.log.Log.{Log}
 use Rattle.ido_base.specs.declared.event.Event.TheVariants.{Step}
 use Rattle.ido_base.specs.declared.event.Reply.{Reply}
 use Rattle.ido_base.specs.declared.event.Reply.TheVariants.{Moved, Drained, Waits, Barrier, Still, Stuck, Device}
 use Rattle.rv64_isa.specs.Machine.{after_event}
-use Rattle.rv64_isa.specs.Schedule.{has_moved}
+use Rattle.rv64_isa.specs.Schedule.{has_moved, with_all_kept}
 use Rattle.run_tracker.specs.links.AccountRepresentation.{AccountInv}
 use Rattle.run_tracker.specs.links.LifeParts.{is_drained, seen_step, HasStepped}
+use Rattle.run_tracker.proofs.DurablePoints.{above_seen}
 use Rattle.run_tracker.proofs.StepsByObservation.{counts_none, held_up, idle, kept_after, kept_none, steps_none}
 use Rattle.run_tracker.proofs.stepping.note.Goals as goal
 
@@ -28,7 +30,7 @@ undrained (Stuck cause) ne = refl
 undrained Device ne = refl
 
 pub returns-then-observation-clause-steps : goal.returns-then-observation-clause-steps
-returns-then-observation-clause-steps c = λ program marks w s stepped a is_open.
+returns-then-observation-clause-steps c = λ program marks w s stepped a is_open seen.
     let kept = kept_none program c.args.tables.now marks c.args.machine.now c.args.hart c.args.observation c.args.reply w stepped
     (ap is_drained c.in-Moved.is) s is_open in
     let moved = subst (λ (r : Reply). HasStepped program c.args.tables.now marks c.args.machine.now (seen_step c.args.hart c.args.observation r) w)
@@ -42,7 +44,7 @@ returns-then-observation-clause-counts c = λ program marks w stepped.
     (subst (λ (r : Reply). HasStepped program c.args.tables.now marks c.args.machine.now (seen_step c.args.hart c.args.observation r) w) c.in-Moved.is stepped)
 
 pub returns-else-observation-clause-steps : goal.returns-else-observation-clause-steps
-returns-else-observation-clause-steps c = λ program marks w s stepped a is_open.
+returns-else-observation-clause-steps c = λ program marks w s stepped a is_open seen.
     let none = idle program c.args.tables.now marks c.args.machine.now c.args.hart c.args.observation c.args.reply w stepped c.if-observation.false in
     let kept = kept_none program c.args.tables.now marks c.args.machine.now c.args.hart c.args.observation c.args.reply w stepped
     (ap is_drained c.in-Moved.is) s is_open in
@@ -55,11 +57,14 @@ returns-else-observation-clause-counts c = λ program marks w stepped.
     counts_none program c.args.tables.now marks c.args.machine.now c.args.hart c.args.observation c.args.reply w stepped none c.args.counts.now
 
 pub returns-in-Drained-clause-steps : goal.returns-in-Drained-clause-steps
-returns-in-Drained-clause-steps c = λ program marks w s stepped a is_open.
+returns-in-Drained-clause-steps c = λ program marks w s stepped a is_open seen.
     let none = held_up program c.args.tables.now marks c.args.machine.now c.args.hart c.args.observation c.args.reply w stepped
     (ap has_moved c.in-Drained.is) in
     let after = kept_after program c.args.tables.now marks c.args.machine.now c.args.hart c.args.observation c.args.reply w stepped none s _ (sym a.count) in
-    subst (AccountInv c.keep_all.new.account) after (c.keep_all.ensures.stands (after_event program w (Step c.args.hart)) s stepped.stands a)
+    let next = after_event program w (Step c.args.hart) in
+    subst (AccountInv c.keep_all.new.account) after
+    (subst (λ (l : Log). AccountInv c.keep_all.new.account (with_all_kept l next.words (length c.args.account.now.harts.items) s)) stepped.log
+    (c.keep_all.ensures.stands next s stepped.stands a (above_seen c.args.sections.now _ w s seen is_open)))
 
 pub returns-in-Drained-clause-counts : goal.returns-in-Drained-clause-counts
 returns-in-Drained-clause-counts c = λ program marks w stepped.
@@ -68,7 +73,7 @@ returns-in-Drained-clause-counts c = λ program marks w stepped.
     counts_none program c.args.tables.now marks c.args.machine.now c.args.hart c.args.observation c.args.reply w stepped none c.args.counts.now
 
 pub returns-in_default-clause-steps : goal.returns-in_default-clause-steps
-returns-in_default-clause-steps c = λ program marks w s stepped a is_open.
+returns-in_default-clause-steps c = λ program marks w s stepped a is_open seen.
     let none = held_up program c.args.tables.now marks c.args.machine.now c.args.hart c.args.observation c.args.reply w stepped
     (unmoved c.args.reply c.in_default.not-Moved) in
     let kept = kept_none program c.args.tables.now marks c.args.machine.now c.args.hart c.args.observation c.args.reply w stepped

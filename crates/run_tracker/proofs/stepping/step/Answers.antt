@@ -1,47 +1,49 @@
-use Rattle.std.proofs.Common.{List, sym, subst, arith}
-use Rattle.ido_base.specs.declared.event.Event.TheVariants.{Step}
-use Rattle.rv64_isa.specs.declared.object.Slot.{Slot}
-use Rattle.rv64_isa.specs.Machine.{after_event}
-use Rattle.ido_machine.specs.Machines.{program_in}
-use Rattle.run_tracker.specs.links.LifeParts.{seen_step, HasStepped}
+use Rattle.std.proofs.Common.{◌≡◌, ℕ, ◌<◌, length, slice_get, Option, Some, IfSome, sym, subst, arith}
+use Rattle.rv64_isa.specs.Machine.{Hart, World}
+use Rattle.ido_machine.specs.Harts.{GoesLocally}
+use Rattle.ido_machine.specs.Machines.{RepresentsMachine, program_in}
+use Rattle.ido_machine.specs.declared.machine.Machine.{Machine}
+use Rattle.ido_machine.proofs.Public.{get_some}
+use Rattle.run_tracker.specs.links.AccountRepresentation.{AccountInv}
+use Rattle.run_tracker.proofs.LocalEvents.{local_counts, local_end, local_steps}
+use Rattle.run_tracker.proofs.MoreBegun.{free_few}
 use Rattle.run_tracker.proofs.stepping.step.Goals as goal
 
-pub note-requires-clause-after : goal.note-requires-clause-after
-note-requires-clause-after c =
-    let program = program_in c.args.machine.now in
-    let ready = c.requires.at in
-    let after = c.step-reply.ensures.world ready.world ready.at.stands in
-    record {
-      marks = ready.marks;
-      world = ready.world;
-      stepped =
-          subst (λ (p : List (List Slot)).
-          HasStepped p c.args.tables.now ready.marks c.step-reply.new.self (seen_step c.args.hart c.look-observation.result c.step-reply.result) ready.world)
-          (sym c.step-reply.ensures.program) (record {
-            tables_are = ready.tables_are;
-            seen = c.look-observation.ensures ready.world ready.at.stands;
-            replied = after.replied;
-            stands = after.stands;
-          });
-      has = record {
-        world = after_event program ready.world (Step c.args.hart);
-        at = after.stands;
-        steps = ready.steps;
-        stands = ready.at.steps;
-        ascending = ready.at.ordered.ascending;
-        room = omega (arith, ready.at.room);
-        few = omega (arith, ready.at.few);
-      };
-    }
+if_found : {X : Type 0} (found : Option X) (P : X → Type 0) (x : X) → IfSome found P → found ≡ Some x → P x
+if_found found P x holds is = subst (λ (f : Option _). IfSome f P) is holds
 
-pub returns-clause-steps : goal.returns-clause-steps
-returns-clause-steps c = λ marks w s tables stands a is_open.
-    let after = c.step-reply.ensures.world w stands in
-    c.note.ensures.steps (program_in c.args.machine.now) marks w s
-    (record { tables_are = tables; seen = c.look-observation.ensures w stands; replied = after.replied; stands = after.stands }) a is_open
+hart_at : (machine : Machine) (w : World) (h : ℕ) → RepresentsMachine machine w → h < length (program_in machine) →
+    (hart : Hart) × (slice_get w.harts h ≡ Some hart)
+hart_at machine w h stands exists = get_some w.harts h (omega (arith, stands.standing.count, machine.sized, machine.harts.ok.0, exists))
 
-pub returns-clause-counts : goal.returns-clause-counts
-returns-clause-counts c = λ w stands.
-    let after = c.step-reply.ensures.world w stands in
-    c.note.ensures.counts (program_in c.args.machine.now) c.requires.at.marks w
-    (record { tables_are = c.requires.at.tables_are; seen = c.look-observation.ensures w stands; replied = after.replied; stands = after.stands })
+pub begin_if-requires-clause-room : goal.begin_if-requires-clause-room
+begin_if-requires-clause-room c =
+    let at = c.requires.at.at in
+    let few = free_few c.args.account.now c.requires.at.steps c.args.hart at.steps (omega (arith, c.requires.harts, c.requires.exists)) in
+    omega (arith, few, at.few)
+
+pub returns-in-Some-clause-world : goal.returns-in-Some-clause-world
+returns-in-Some-clause-world c = λ w stands.
+    let some = hart_at c.args.machine.now w c.args.hart stands c.requires.exists in
+    let goes : GoesLocally (program_in c.args.machine.now) c.args.hart some.0 c.in-Some.write =
+    if_found c.local_write.result _ c.in-Some.write c.local_write.ensures.some c.in-Some.is w some.0 stands some.1 in
+    local_end (program_in c.args.machine.now) w c.args.hart some.0 c.in-Some.write some.1 goes c.step_locally.new.self
+    (c.step_locally.ensures.world w some.0 stands some.1)
+
+pub returns-in-Some-clause-steps : goal.returns-in-Some-clause-steps
+returns-in-Some-clause-steps c = λ marks w s tables stands a is_open seen.
+    let some = hart_at c.args.machine.now w c.args.hart stands c.requires.exists in
+    let goes : GoesLocally (program_in c.args.machine.now) c.args.hart some.0 c.in-Some.write =
+    if_found c.local_write.result _ c.in-Some.write c.local_write.ensures.some c.in-Some.is w some.0 stands some.1 in
+    let table = get_some c.args.tables.now c.args.hart (omega (arith, tables.count, c.requires.exists)) in
+    subst (AccountInv c.begin_if.new.self)
+    (sym (local_steps (program_in c.args.machine.now) w c.args.hart some.0 c.in-Some.write some.1 goes marks c.args.tables.now table.0 c.next_sign-sign.result s
+    tables table.1 (c.next_sign-sign.ensures w stands some.0 table.0 some.1 table.1) is_open))
+    (c.begin_if.ensures.stands s a)
+
+pub returns-in-Some-clause-counts : goal.returns-in-Some-clause-counts
+returns-in-Some-clause-counts c = λ w stands.
+    let some = hart_at c.args.machine.now w c.args.hart stands c.requires.exists in
+    let goes : GoesLocally (program_in c.args.machine.now) c.args.hart some.0 c.in-Some.write =
+    if_found c.local_write.result _ c.in-Some.write c.local_write.ensures.some c.in-Some.is w some.0 stands some.1 in
+    local_counts (program_in c.args.machine.now) w c.args.hart some.0 c.in-Some.write some.1 goes c.args.counts.now

@@ -17,5 +17,5 @@ returns-clause-world c = λ w s.
     (subst (λ (harts : List Hart). AreFresh machine.program harts (length machine.program)) (sym (with_items_is machine.harts c.restart.new.harts long_harts))
     c.restart.ensures)
     (λ words stands. with_items_is machine.phases c.set_phases.new.phases long_phases ∙ c.set_phases.ensures.phases words stands
-    ∙ ap (λ (n : ℕ). map (λ thread. phase_after_crash (durable_point words thread)) (numbers_from 0 n)) count)
-    c.crash.ensures.stands c.clear.ensures refl s
+    ∙ ap (λ (n : ℕ). map (λ thread. phase_after_crash (durable_point c.crash.new.self.log words thread)) (numbers_from 0 n)) count)
+    c.crash.ensures.stands c.crash.ensures.logs c.clear.ensures refl s

@@ -10,4 +10,4 @@ returns c = λ w s.
     let found : slice_get machine.harts.items c.args.hart ≡ Some c.index.result.now =
     get_is machine.harts.items c.args.hart c.index.result.now within ∙ ap Some (sym c.index.ensures) in
     let it = s.standing.each c.args.hart c.index.result.now some.0 found some.1 in
-    ap not (c.is_idle.ensures w some.0 s.words s.holders (s.phases ∙ sym c.deref.ensures.value) some.1 it.registers it.pc)
+    ap not (c.is_idle.ensures w some.0 s.words s.log s.holders (s.phases ∙ sym c.deref.ensures.value) some.1 it.registers it.pc)

@@ -1,7 +1,8 @@
-use Rattle.std.proofs.Common.{◌≡◌, ℕ, List, false, length, map, replicate, rules, refl, ap, subst, ◌∙◌}
+use Rattle.std.proofs.Common.{◌≡◌, ℕ, List, false, length, map, replicate, rules, refl, sym, ap, subst, ◌∙◌}
+use Rattle.ido_base.specs.declared.log.Log.{Log}
 use Rattle.ido_base.specs.Words.{word_of}
 use Rattle.ido_base.specs.Layout.{initial_words}
-use Rattle.line_memory.specs.links.MemoryRepresentation.{Represents}
+use Rattle.line_memory.specs.links.MemoryRepresentation.{Represents, log_in}
 use Rattle.rv64_isa.specs.declared.object.Slot.{Slot}
 use Rattle.rv64_isa.specs.declared.phase.Phase.TheVariants.{Run}
 use Rattle.rv64_isa.specs.Machine.{start_of}
@@ -21,11 +22,15 @@ returns-clause-stands c =
       locks = c.in_ok-locks.locks;
       recovering = false;
     } in
-    let stands : Represents c.in_ok-memory.memory (map word_of (initial_words (length program) object.initial.items)) =
-    subst (λ (n : ℕ). Represents c.in_ok-memory.memory (map word_of (initial_words n object.initial.items))) c.threads.ensures.count
-    (subst (λ (bytes : List ℕ). Represents c.in_ok-memory.memory (map word_of (initial_words c.threads.result bytes))) c.deref.ensures.value
-    c.in_ok-memory.ensures.stands) in
+    let stands : Represents c.in_ok-memory.memory (map word_of (initial_words (log_in c.in_ok-memory.memory) (length program) object.initial.items)) =
+    subst (λ (n : ℕ). Represents c.in_ok-memory.memory (map word_of (initial_words (log_in c.in_ok-memory.memory) n object.initial.items)))
+    c.threads.ensures.count
+    (subst (λ (bytes : List ℕ). Represents c.in_ok-memory.memory (map word_of (initial_words (log_in c.in_ok-memory.memory) c.threads.result bytes)))
+    c.deref.ensures.value
+    (subst (λ (log : Log). Represents c.in_ok-memory.memory (map word_of (initial_words log c.threads.result c.deref.result.now)))
+    (sym c.in_ok-memory.ensures.log) c.in_ok-memory.ensures.stands)) in
     let runs : c.in_ok-phases.phases.items ≡ replicate c.threads-2.result Run = search rules in
     let phases : c.in_ok-phases.phases.items ≡ replicate (length program) Run = runs ∙ ap (λ (n : ℕ). replicate n Run) c.threads-2.ensures.count in
-    subst (λ (p : List (List Slot)). RepresentsMachineState state (start_of p object.mutexes object.initial.items)) c.in_ok-program.ensures
-    (start_simulates program object.mutexes object.initial.items state c.in_ok-harts.ensures phases stands c.in_ok-locks.ensures refl)
+    subst (λ (p : List (List Slot)). RepresentsMachineState state (start_of object.log p object.mutexes object.initial.items)) c.in_ok-program.ensures
+    (subst (λ (log : Log). RepresentsMachineState state (start_of log program object.mutexes object.initial.items)) c.in_ok-memory.ensures.log
+    (start_simulates program object.mutexes object.initial.items state c.in_ok-harts.ensures phases stands c.in_ok-locks.ensures refl))

@@ -18,7 +18,7 @@ push_steps-requires c =
     record { room = omega (arith, few, same, stored, c.kept_of-kept.ensures.steps, c.requires.room) }
 
 pub returns-clause-stands : goal.returns-clause-stands
-returns-clause-stands c = λ words s durable stands.
+returns-clause-stands c = λ log words s durable stands.
     let before = c.args.self.now in
     let h = c.args.hart in
     let kept = c.kept_of-kept.result in
@@ -28,7 +28,7 @@ returns-clause-stands c = λ words s durable stands.
     let was : open_at before h ≡ record { free = c.index_mut.result.now.free; first = c.index.result.now.first } =
     ap (λ (o : OpenSteps). record { free = (open_at before h).free; first = o.first }) open_is
     ∙ ap (λ (o : OpenSteps). record { free = o.free; first = c.index.result.now.first }) open_too in
-    kept-stands before _ words s h c.args.durable c.index_mut.result.now.free kept.first c.index.result.now.first kept.steps stands
+    kept-stands before _ log words s h c.args.durable c.index_mut.result.now.free kept.first c.index.result.now.first kept.steps stands
     c.requires.exists durable was
     c.push_steps.ensures.items refl refl
     (c.kept_of-kept.ensures.steps ∙ ap (λ (xs : List PointStore). durable_steps c.args.durable (bound_in (drop c.index.result.now.first xs) h))

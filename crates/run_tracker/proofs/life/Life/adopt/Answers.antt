@@ -55,7 +55,8 @@ invariant_of-self c =
     (adopted_state (placed_code program h) local it begins code made c.state.result.now made_is c.state.ensures.state)
     (adopted_marks (placed_code program h) local it begins code (slice_index_or (node_marks life.marks.threads.items) h []) made c.passed.result made_is
     marks c.passed.ensures.count)
-    (omega (arith, made_is, c.passed.ensures.few)) (omega (arith, made_is, room, stands.within)) c.go_to.ensures.program c.go_to.ensures.events
+    (omega (arith, made_is, c.passed.ensures.few)) (omega (arith, made_is, room, stands.within)) c.go_to.ensures.program c.go_to.ensures.log
+    c.go_to.ensures.events
     (c.go_to.ensures.world (world_of now) it stands.machine some.1) (c.begin_more.ensures.stands (steps_in now) stands.account) c.push_steps.ensures
     c.begin_more.ensures.capacity c.begin_more.ensures.stores
 

@@ -33,7 +33,7 @@ invariant_of-result c =
     let machine = c.args.machine in
     let account = c.in_ok-new.field-0 in
     let journal = c.in_ok-new-2.field-0 in
-    let opening : List (List Slot) → World = λ p. opening_by p object.mutexes object.initial.items c.args.left in
+    let opening : List (List Slot) → World = λ p. opening_by object.log p object.mutexes object.initial.items c.args.left in
     let before = c.args.before.now in
     let start : Course = life_at object marks (opening (program_of object)) before c.args.cap in
     let is : start ≡ course_of (record {
@@ -78,11 +78,13 @@ invariant_of-result c =
       account = subst (λ (x : Course). AccountInv account (steps_in x)) is stands;
       harts = sym stands.count ∙ length-replicate (length (program_of object)) no_steps ∙ ap length (sym program_is);
       ordered =
-          subst (λ (x : Course). AreOrdered (world_of x).words (steps_in x)) is
-          (ordered-none (opening (program_of object)).words (first_steps (length (program_of object)) before) (length (program_of object)) refl);
+          subst (λ (x : Course). AreOrdered (world_of x).log (world_of x).words (steps_in x)) is
+          (ordered-none (opening (program_of object)).log (opening (program_of object)).words (first_steps (length (program_of object)) before)
+          (length (program_of object)) refl);
       are_open =
-          subst (λ (x : Course). AreOpen (world_of x).words (steps_in x)) is
-          (open-none (opening (program_of object)).words (first_steps (length (program_of object)) before) (length (program_of object)) refl);
+          subst (λ (x : Course). AreOpen (world_of x).log (world_of x).words (steps_in x)) is
+          (open-none (opening (program_of object)).log (opening (program_of object)).words (first_steps (length (program_of object)) before)
+          (length (program_of object)) refl);
       light =
           subst (λ (x : Course). weight (steps_in x) ≤ length c.in_ok-to_vec-2.field-0.items + length journal.events) is
           (omega (arith, same_before, weightless (length (program_of object))));
@@ -96,6 +98,7 @@ invariant_of-result c =
       );
       sections = subst (λ (x : Course). AreSections c.in_ok-sections.sections (length x.runs.program) (world_of x) (ended_sections x)) is (record {
         size = c.in_ok-sections.ensures.size ∙ ap length program_is;
+        position = λ h below. ap (λ (s : HartSections). s.position) (seen h below);
         point = λ h below. ap (λ (s : HartSections). s.point) (seen h below);
         counted = λ h below. ap (λ (s : HartSections). s.ended) (seen h below);
       });

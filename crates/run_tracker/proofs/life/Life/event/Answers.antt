@@ -1,7 +1,7 @@
 use Rattle.std.proofs.Common.{ℕ, ◌<◌, List, length, refl, ap, sym, subst, ◌∙◌}
 use Rattle.rv64_isa.specs.Executables.{node_marks}
 use Rattle.rv64_isa.specs.Machine.{IsValidEvent}
-use Rattle.ido_machine.specs.Machines.{program_in}
+use Rattle.ido_machine.specs.Machines.{log_by, program_in}
 use Rattle.run_tracker.specs.declared.signs.SignTable.{SignTable}
 use Rattle.run_tracker.specs.links.SignTables.{AreTables}
 use Rattle.run_tracker.specs.ObjectLives.{Course, ended_sections, opening_of, steps_in, with_event, world_of}
@@ -30,8 +30,8 @@ invariant_of-self c =
     let world = world_of (course_of life) in
     let marks : List (List ℕ) = node_marks life.marks.threads.items in
     let made = c.make-reply in
-    let valid : IsValidEvent (length program) event =
-    subst (λ (x : Course). IsValidEvent (length x.runs.program) event) (sym c.self.view_is) c.requires.valid in
+    let valid : IsValidEvent (log_by life.machine) (length program) event =
+    subst (λ (x : Course). IsValidEvent x.runs.log (length x.runs.program) event) (sym c.self.view_is) c.requires.valid in
     let room : length life.journal.events < life.cap = subst (λ (x : Course). length x.journal < x.cap) (sym c.self.view_is) c.requires.room in
     let tables = subst (λ (ts : List SignTable). AreTables ts program marks) (sym c.deref.ensures.value) stands.tables in
     let sectioned =
@@ -42,8 +42,8 @@ invariant_of-self c =
     (c.may_persist.ensures ∙ ap may_persist (made.ensures.world world stands.machine).replied) c.look_if.ensures.size
     (λ looks h below. c.look_if.ensures.seen looks _ (made.ensures.world world stands.machine).stands h below) c.look_if.ensures.unseen in
     lasts life stands event made.new.machine made.new.account c.push.new.self made.new.counts c.look_if.new.self valid room
-    made.ensures.program made.ensures.events
+    made.ensures.program made.ensures.log made.ensures.events
     (made.ensures.world world stands.machine).stands
-    (made.ensures.steps marks world (steps_in (course_of life)) tables stands.machine stands.account stands.are_open)
+    (made.ensures.steps marks world (steps_in (course_of life)) tables stands.machine stands.account stands.are_open stands.sections.position)
     (made.ensures.counts world stands.machine) sectioned
     c.push.ensures made.ensures.capacity made.ensures.reserved made.ensures.stores
