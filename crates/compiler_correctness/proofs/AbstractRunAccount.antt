@@ -34,7 +34,7 @@ as_source y s b =
 module _ (y : System) (s : IsSystem y) (w : World) (steps : Steps) {r : ℕ → ℕ}
     (resumes : SimulatesCounted y s (first_beginning y) w steps r) where
   abbrev abstract : AbstractRun y
-  abstract = resumes.stands.before_commit.abstract
+  abstract = resumes.stands.abstract
 
   both : m.after_from (source (translation_of y) steps.kept) steps.pending ≡ now abstract.config
   both = ap₂ m.after_from (kept_is y s w steps resumes) resumes.counted.pending

@@ -74,7 +74,7 @@ module _ (program : List (List Slot)) (w : World) (h : ℕ) where
 
 module _ (fragments_step : FragmentsStep) (cores_step : CoresStep) (law : FragmentsGoOn) (y : System) (s : IsSystem y) (h : ℕ) where
   abbrev ahead : (w : World) → Simulates y s w → ℕ
-  ahead w stands = (stands.before_commit.ghosts h).before_mark
+  ahead w stands = (stands.ghosts h).before_mark
 
   -- no more than the most is ahead of a hart that hasn't stopped
   most_by : (w : World) (stands : Simulates y s w) (below : h < thread_count y) (hart : Hart) → slice_get w.harts h ≡ Some hart → (phase : Phase) →
@@ -84,15 +84,15 @@ module _ (fragments_step : FragmentsStep) (cores_step : CoresStep) (law : Fragme
       number : most_ahead y (s.codes.each h below).thread.number ≡ most_ahead y h
       number = ap (most_ahead y) (s.codes.number h below)
 
-      of : (p : Phase) → hart.phase ≡ p → InPhase y w stands.before_commit.abstract (s.codes.each h below) (stands.before_commit.ghosts h) hart
-          (stands.before_commit.each h below).graph_thread p
+      of : (p : Phase) → hart.phase ≡ p → InPhase y w stands.abstract (s.codes.each h below) (stands.ghosts h) hart
+          (stands.each h below).graph_thread p
       of p e = phase_of y s w h stands p (record { hart = hart; here = here; phase_is = e }) below
 
       rested : ahead w stands ≡ most_ahead y (s.codes.each h below).thread.number → ahead w stands ≤ most_ahead y h
       rested whole = let same = number in omega (arith, whole, same)
 
-      running : IsRunningThread y w stands.before_commit.abstract (s.codes.each h below) (stands.before_commit.ghosts h) hart
-          (stands.before_commit.each h below).graph_thread → ahead w stands ≤ most_ahead y h
+      running : IsRunningThread y w stands.abstract (s.codes.each h below) (stands.ghosts h) hart
+          (stands.each h below).graph_thread → ahead w stands ≤ most_ahead y h
       running (on_fragment o) = let most = o.soon.1 in let same = number in omega (arith, most, same)
       running (at_core o) = let most = o.soon.1 in let same = number in omega (arith, most, same)
 
@@ -141,7 +141,7 @@ module _ (fragments_step : FragmentsStep) (cores_step : CoresStep) (law : Fragme
         below : h < thread_count y
         below =
             let inside = slice_get_within w.harts h i.hart i.here in
-            let count = near.stands.before_commit.count in
+            let count = near.stands.machine.count in
             omega (arith, inside, count)
 
         by : Nears y w h (passes_mark y.runs.marks y.runs.program w h) (ahead w near.stands)
@@ -210,7 +210,7 @@ module _ (fragments_step : FragmentsStep) (cores_step : CoresStep) (law : Fragme
     begins_near = elim (get_cases w.harts h) [
       | inl missing ↦ inr (record {
         stands = stands;
-        soon = λ below. absurd (let long = no_more w.harts h missing in let count = stands.before_commit.count in omega (arith, below, long, count));
+        soon = λ below. absurd (let long = no_more w.harts h missing in let count = stands.machine.count in omega (arith, below, long, count));
       })
       | inr there ↦ elim (cases_lt h (thread_count y)) [
         | inl below ↦ elim (most_by w stands below there.0 there.1 there.0.phase refl) [
@@ -224,10 +224,10 @@ module _ (fragments_step : FragmentsStep) (cores_step : CoresStep) (law : Fragme
     pub delays : HaveNoCrash more → delay (translation_of y) h ≤ active_steps y.runs.program w more h → GetsOnAfter v first events more
     delays none many = told (elim begins_near [
       | inl stopped ↦
-          inr (nearing.stays_along y.runs.marks y.runs.program h more w (s.count ∙ sym stands.before_commit.count) stands.before_commit.sound none stopped)
+          inr (nearing.stays_along y.runs.marks y.runs.program h more w (s.count ∙ sym stands.machine.count) stands.machine.sound none stopped)
       | inr near ↦
           nearing.gets_on y.runs.marks y.runs.program h IsNear (λ u event left no_crash there. falls u left there event no_crash) more w steps (most_ahead y h)
-          (s.count ∙ sym stands.before_commit.count) stands.before_commit.sound none near (omega (arith, many))
+          (s.count ∙ sym stands.machine.count) stands.machine.sound none near (omega (arith, many))
     ])
 
 pub delays_are_bounded : EventsStand → FragmentsStep → CoresStep → FragmentsGoOn → DelaysAreBounded

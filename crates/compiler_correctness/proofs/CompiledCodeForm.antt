@@ -1,9 +1,16 @@
 -- Compiled code has its form.
-use Rattle.std.proofs.Common.{◌≡◌, ◌≢◌, ◌↔◌, refl, ℕ, ℤ, suc, ◌+◌, ◌-◌, ◌*◌, ◌^◌, ◌<◌, ◌≤◌, List, [], ◌∷◌, length, map, sym, ◌∙◌, ap, subst, arith, zero}
+use Rattle.std.proofs.Common.{◌≡◌, ◌≢◌, ◌↔◌, refl, ℕ, ℤ, suc, ◌+◌, ◌-◌, ◌*◌, ◌^◌, ◌<◌, ◌≤◌, List}
+use Rattle.std.proofs.Common.{[], ◌∷◌, length, map, sym, ◌∙◌, ap, subst, arith, zero, pos, ◌++◌}
 use Rattle.std.proofs.Common.{true, false, Option, Some, None}
 use Rattle.std.specs.Prelude.{slice_get, slice_index, slice_index_or, Contains}
 use Rattle.std.specs.List.Sorted.{IsStrictlyIncreasing}
 use Rattle.std.proofs.lemmas.Option.{none-some, slice_get_within, get_or_from_slice_get}
+use Rattle.thread_code.specs.Plans.{locks_held}
+use Rattle.code_runs.specs.CodeTraces.{Trace}
+use Rattle.node_code.specs.Pieces.{boundary_observations}
+use Rattle.code_runs.specs.ComputingRuns.{LocalConfig, config}
+use Rattle.boundary_code.specs.Boundaries.{Boundary, IsOnSide}
+use Rattle.ido_base.specs.declared.log.Log.{Log}
 use Rattle.ido_ints.specs.declared.kinds.Kind.{Kind}
 use Rattle.std.proofs.lemmas.List.Sums.{sum_by-cons}
 use Rattle.c_tree.specs.Flats as f
@@ -292,7 +299,7 @@ module _ (locked : ChosenAreLocked) (y : System) (s : IsSystem y) (t : Thread) (
   enters : (node side : ℕ) (locals : List ℤ) (x : List ℕ) →
       HoldLocals (translation_of y) t.number of.text t.part held t.registers node side locals x → Enters p t node (seeing locals) side x
   enters node side locals x has = record {
-    at_side = has.at_side;
+    at_side = subst (λ (l : Log). IsOnSide l side x) (sym s.log) has.at_side;
     count = has.count ∙ ap (λ (ks : List Kind). length ks) (sym of.kinds);
     locals = λ local k there live.
         has.live local k (kind_is local ∙ there) (subst (λ (g : Graph). IsLive g local node) graph_is live);
@@ -308,10 +315,22 @@ module _ (locked : ChosenAreLocked) (y : System) (s : IsSystem y) (t : Thread) (
   own_next : (node : ℕ) (x : Node) (next : ℕ) → IsNodeOf t node → NodeAt p.graph node x → Contains (successors x.action) next → IsNodeOf t next
   own_next node x next own at goes =
       let within = subst (λ (q : Program). q.start + 4 * length q.code < 2 ^ 64) (sym code.of_program) room in
-      (placed p t code.places (t.number + 1) s.plan of code.kept (omega arith) within).closed node next x own at goes
+      (placed p t code.places p.log (t.number + 1) s.plan of code.kept refl (omega arith) within).closed node next x own at goes
 
   abbrev Stands : (entered node from to resume : ℕ) → List Observation → Type 0
   Stands = StandsBoundary (translation_of y) t.number of.text t.part held t.registers
+
+  -- the boundary before a node, of a log
+  abbrev boundary_by : Log → (node : ℕ) → Boundary
+  boundary_by log node =
+      record { log = log; thread = t.number; locks = locks_held (slice_index_or held (node - t.part.first) []); live = code.places.live node; resume = pos 0 }
+
+  -- the plan's log is the machine's
+  logged : (z : MarkedEnvironment) (first : List Observation) (node side resume steps : ℕ) (x : List ℕ) (from to : LocalConfig) →
+      Trace z steps from (first ++ boundary_observations (boundary_by p.log node) side resume x) to →
+      Trace z steps from (first ++ boundary_observations (boundary_by y.runs.log node) side resume x) to
+  logged z first node side resume steps x from to walks =
+      subst (λ (l : Log). Trace z steps from (first ++ boundary_observations (boundary_by l node) side resume x) to) s.log walks
 
   chosen_stands : (node : ℕ) → IsNodeOf t node → IsChosen p.graph p.boundaries node →
       Stands node node (code.places.entry node) (code.places.core node) (code.places.core node) []
@@ -323,8 +342,12 @@ module _ (locked : ChosenAreLocked) (y : System) (s : IsSystem y) (t : Thread) (
         are_live = are_live node own;
         leads = λ z meets side locals x has.
             let goes = it.chosen chosen (entrance z node side locals x) refl
-            (record { meets = met z meets; own = own; enters = enters node side locals x has }) in
-            (goes.steps, goes.registers, goes.walks);
+            (record { meets = met z meets; own = own; enters = enters node side locals x has }) in (
+              goes.steps,
+              goes.registers,
+              logged z [] node side (code.places.core node) goes.steps x (config x (code.places.entry node))
+                  (config goes.registers (code.places.core node)) goes.walks,
+            );
       }
 
   lock_stands : (node : ℕ) → IsNodeOf t node → (is : Node) (mutex next : ℕ) → NodeAt p.graph node is → is.action ≡ Lock mutex next →
@@ -336,8 +359,12 @@ module _ (locked : ChosenAreLocked) (y : System) (s : IsSystem y) (t : Thread) (
         live = code.places.live next;
         are_live = are_live next own_it;
         leads = λ z meets side locals x has.
-            let goes = calls.2 (entrance z node side locals x) (met z meets) refl (enters next side locals x has) in
-            (goes.steps, goes.registers, goes.walks);
+            let goes = calls.2 (entrance z node side locals x) (met z meets) refl (enters next side locals x has) in (
+              goes.steps,
+              goes.registers,
+              logged z [] next side (code.places.after node) goes.steps x (config x (code.places.call node + 4))
+                  (config goes.registers (code.places.after node)) goes.walks,
+            );
       }
 
   unlock_stands : (node : ℕ) → IsNodeOf t node → (is : Node) (mutex next : ℕ) → NodeAt p.graph node is → is.action ≡ Unlock mutex next →
@@ -351,8 +378,12 @@ module _ (locked : ChosenAreLocked) (y : System) (s : IsSystem y) (t : Thread) (
         leads = λ z meets side locals x has.
             let m = entrance z node side locals x in
             let goes = it.performs m (Gives mutex next) refl (record { meets = met z meets; own = own; enters = enters node side locals x has })
-            (subst (λ (a : Action). IsAnswered (source_of p t m.seen) z.around.loads a) (sym does) tt) (ap (λ (a : Action). effect_of a m.seen) does) in
-            (goes.steps, goes.registers, goes.walks);
+            (subst (λ (a : Action). IsAnswered (source_of p t m.seen) z.around.loads a) (sym does) tt) (ap (λ (a : Action). effect_of a m.seen) does) in (
+              goes.steps,
+              goes.registers,
+              logged z (Mark ∷ []) next side (code.places.after node) goes.steps x (config x (code.places.core node))
+                  (config goes.registers (code.places.call node)) goes.walks,
+            );
       }
 
   mark_at_core : (a : Action) (node : ℕ) (x : Node) → NodeAt p.graph node x → x.action ≡ a → ¬ (IsLock (lowered p.flat) node) →

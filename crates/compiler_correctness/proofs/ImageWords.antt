@@ -3,10 +3,11 @@ use Rattle.std.proofs.Common.{◌≡◌, refl, ℕ, zero, suc, ◌+◌, ◌-◌,
 use Rattle.std.proofs.Common.{ap, ap₂, arith, sym, ◌∙◌, subst}
 use Rattle.std.proofs.Math.Seq.{take-append_seam, drop-append_seam}
 use Rattle.std.proofs.lemmas.List.{take-append-drop, drop-drop, get_or-drop, get_or-map, length-map, length-drop, length-take-le, length-append, append_assoc}
-use Rattle.ido_base.specs.declared.limits.TheConstants.{LOG_WORDS, VARIABLE_WORDS}
+use Rattle.ido_base.specs.declared.log.Log.{Log}
+use Rattle.ido_base.specs.declared.limits.TheConstants.{VARIABLE_WORDS}
 use Rattle.ido_base.specs.declared.event.Event.{Event}
 use Rattle.ido_base.specs.Words.{Word, word_of, durable_value}
-use Rattle.ido_base.specs.Layout.{spread_words}
+use Rattle.ido_base.specs.Layout.{log_words, word_count, spread_words}
 use Rattle.rv64_isa.specs.Executables.{first_world}
 use Rattle.crash_simulation.specs.Systems.{System, IsSystem}
 use Rattle.crash_simulation.specs.Laws.{EventsStand}
@@ -61,14 +62,16 @@ module _ (stand : EventsStand) (stay : WordsBetweenStay) (y : System) (s : IsSys
   few : n ≤ VARIABLE_WORDS
   few = let most = holds_no_more y s in omega (arith, most)
 
-  size : length image.words ≡ VARIABLE_WORDS + LOG_WORDS * length y.runs.program
+  size : length image.words ≡ VARIABLE_WORDS + log_words y.runs.log * length y.runs.program
   size =
       let stands = stands_along stand y s events (first_world y.runs) (start_simulates y s) in
-      let all = stands.before_commit.sound.size in
-      let count = stands.before_commit.count in
-      let programs = s.count in
+      let stands_world = world (translation_of y) events in
+      let programs : length stands_world.harts ≡ length y.runs.program = stands.machine.count ∙ sym s.count in
+      let logs : stands_world.log ≡ y.runs.log = sym stands.machine.log ∙ s.log in
+      let all : length words ≡ word_count y.runs.log (length y.runs.program) =
+      stands.machine.sound.size ∙ (ap (λ (l : Log). word_count l (length stands_world.harts)) logs ∙ ap (word_count y.runs.log) programs) in
       let mapped = length-map words durable_value in
-      omega (arith, all, count, programs, mapped)
+      omega (arith, all, mapped)
 
   between : (i : ℕ) → n ≤ i → i < VARIABLE_WORDS → get_or image.words i 0 ≡ 0
   between i from below =

@@ -1,7 +1,9 @@
 -- A run that is begun from an image is the one in which power is lost.
-use Rattle.std.proofs.Common.{◌≡◌, refl, ℕ, zero, suc, List, [], ◌∷◌, ◌++◌, length, map, sym, ◌∙◌, ap, ap₂, subst, Bool, true, false, cond}
+use Rattle.std.proofs.Common.{◌≡◌, refl, ℕ, zero, suc, List, [], ◌∷◌, ◌++◌, length, map, sym, ◌∙◌, ap, ap₂, subst, Bool, true, false, cond, ap₂}
 use Rattle.std.specs.Prelude.{replicate}
 use Rattle.std.proofs.lemmas.List.{append_assoc, length-set, length-replicate}
+use Rattle.rv64_isa.proofs.Public.{log_stays}
+use Rattle.ido_base.specs.declared.log.Log.{Log}
 use Rattle.ido_base.specs.declared.event.Event.{Event}
 use Rattle.ido_base.specs.declared.event.Event.TheVariants.{Step, Evict, Crash}
 use Rattle.ido_base.specs.Words.{Word, word_at, last_position, durable_value}
@@ -22,32 +24,38 @@ use Rattle.compiler_correctness.specs.Laws.{translation_of, SettledMachinesAreKe
 -- ---- As many locks as ever
 
 -- the machine's world is well-formed, and it has so many locks
-record HasLocks (program : List (List Slot)) (locks : ℕ) (w : World) : Type 0 where
+record HasLocks (how : Log) (program : List (List Slot)) (locks : ℕ) (w : World) : Type 0 where
   pub sound : IsWellFormedWorld w
   pub harts : length program ≡ length w.harts
+  pub log : w.log ≡ how
   pub holders : length w.holders ≡ locks
 
-module _ (program : List (List Slot)) (locks : ℕ) where
+module _ (log : Log) (program : List (List Slot)) (locks : ℕ) where
   same_locks : (w : World) (event : Event) → IsWellFormedWorld w → length (after_event program w event).holders ≡ length w.holders
   unfolding happens after_crash_of
   same_locks w (Step h) sound = (steps_touch program w h sound).locks
   same_locks w (Evict line mask) sound = ap (λ (v : World). length v.holders) (evictions_touch program w line mask).1
   same_locks w Crash sound = length-replicate (length w.holders) _
 
-  still : (w : World) (event : Event) → HasLocks program locks w → HasLocks program locks (after_event program w event)
+  still : (w : World) (event : Event) → HasLocks log program locks w → HasLocks log program locks (after_event program w event)
   still w event has =
       let stands = queues_stand program w event has.harts has.sound in
-      record { sound = stands.0; harts = has.harts ∙ sym stands.1; holders = same_locks w event has.sound ∙ has.holders }
+      record {
+        sound = stands.0;
+        harts = has.harts ∙ sym stands.1;
+        log = log_stays program w event has.sound ∙ has.log;
+        holders = same_locks w event has.sound ∙ has.holders;
+      }
 
-  along : (events : List Event) (w : World) → HasLocks program locks w → HasLocks program locks (after_events program w events)
+  along : (events : List Event) (w : World) → HasLocks log program locks w → HasLocks log program locks (after_events program w events)
   along [] w has = has
   along (event ∷ events) w has = along events (after_event program w event) (still w event has)
 
-  at_start : (initial : List ℕ) → HasLocks program locks (start_of program locks initial)
+  at_start : (initial : List ℕ) → HasLocks log program locks (start_of log program locks initial)
   unfolding start_of
   at_start initial =
-      let stands = starts_simulate program locks initial in
-      record { sound = stands.0; harts = sym stands.1; holders = length-replicate locks _ }
+      let stands = starts_simulate log program locks initial in
+      record { sound = stands.0; harts = sym stands.1; log = refl; holders = length-replicate locks _ }
 
 -- ---- Events before others
 
@@ -75,15 +83,16 @@ module _ (prefix : List ℕ) where
   begun_ahead : (h : ℕ) (s : Steps) → with_begun h (ahead prefix s) ≡ ahead prefix (with_begun h s)
   begun_ahead h s = ap (λ (begun : List ℕ). record (with_begun h s) { begun = begun }) (append_assoc prefix s.begun (h ∷ []))
 
-  kept_ahead : (words : List Word) (count : ℕ) (s : Steps) → with_all_kept words count (ahead prefix s) ≡ ahead prefix (with_all_kept words count s)
-  kept_ahead words zero s = refl
-  kept_ahead words (suc h) s = ap (with_kept words h) (kept_ahead words h s)
+  kept_ahead : (log : Log) (words : List Word) (count : ℕ) (s : Steps) →
+      with_all_kept log words count (ahead prefix s) ≡ ahead prefix (with_all_kept log words count s)
+  kept_ahead log words zero s = refl
+  kept_ahead log words (suc h) s = ap (with_kept log words h) (kept_ahead log words h s)
 
   module _ (marks : List (List ℕ)) (program : List (List Slot)) where
     step_ahead : (w : World) (h : ℕ) (s : Steps) → with_step marks program w h (ahead prefix s) ≡ ahead prefix (with_step marks program w h s)
     step_ahead w h s =
         let started = λ (t : Steps). cond (passes_mark marks program w h) (with_begun h t) t in
-        let position = last_position (word_at (after_event program w (Step h)).words (word_number (point_at h))) in
+        let position = last_position (word_at (after_event program w (Step h)).words (word_number (point_at w.log h))) in
         let same : started (ahead prefix s) ≡ ahead prefix (started s) =
         either prefix (passes_mark marks program w h) (with_begun h (ahead prefix s)) (ahead prefix s) (with_begun h s) s (begun_ahead h s) refl in
         either prefix (stores_point program w (Step h) h) (with_bound h position (started (ahead prefix s))) (started (ahead prefix s))
@@ -94,8 +103,8 @@ module _ (prefix : List ℕ) where
     unfolding steps_after
     event_ahead w (Step h) s =
         let words = (after_event program w (Step h)).words in
-        ap (with_all_kept words (length s.harts)) (step_ahead w h s) ∙ kept_ahead words (length s.harts) (with_step marks program w h s)
-    event_ahead w (Evict line mask) s = kept_ahead (after_event program w (Evict line mask)).words (length s.harts) s
+        ap (with_all_kept w.log words (length s.harts)) (step_ahead w h s) ∙ kept_ahead w.log words (length s.harts) (with_step marks program w h s)
+    event_ahead w (Evict line mask) s = kept_ahead w.log (after_event program w (Evict line mask)).words (length s.harts) s
     event_ahead w Crash s = refl
 
     along_ahead : (events : List Event) (w : World) (s : Steps) →
@@ -111,15 +120,15 @@ as_many : (n : ℕ) (b : Bool) (x y : Steps) → length x.harts ≡ n → length
 as_many n true x y p q = p
 as_many n false x y p q = q
 
-kept_many : (words : List Word) (count : ℕ) (s : Steps) → length (with_all_kept words count s).harts ≡ length s.harts
-kept_many words zero s = refl
-kept_many words (suc h) s = length-set (with_all_kept words h s).harts h _ ∙ kept_many words h s
+kept_many : (log : Log) (words : List Word) (count : ℕ) (s : Steps) → length (with_all_kept log words count s).harts ≡ length s.harts
+kept_many log words zero s = refl
+kept_many log words (suc h) s = length-set (with_all_kept log words h s).harts h _ ∙ kept_many log words h s
 
 module _ (marks : List (List ℕ)) (program : List (List Slot)) where
   step_many : (w : World) (h : ℕ) (s : Steps) → length (with_step marks program w h s).harts ≡ length s.harts
   step_many w h s =
       let started = cond (passes_mark marks program w h) (with_begun h s) s in
-      let position = last_position (word_at (after_event program w (Step h)).words (word_number (point_at h))) in
+      let position = last_position (word_at (after_event program w (Step h)).words (word_number (point_at w.log h))) in
       let same : length started.harts ≡ length s.harts =
       as_many (length s.harts) (passes_mark marks program w h) (with_begun h s) s (length-set s.harts h _) refl in
       as_many (length s.harts) (stores_point program w (Step h) h) (with_bound h position started) started (length-set started.harts h _ ∙ same) same
@@ -127,8 +136,8 @@ module _ (marks : List (List ℕ)) (program : List (List Slot)) where
   event_many : (w : World) (event : Event) (s : Steps) → length (steps_after marks program w event s).harts ≡ length s.harts
   unfolding steps_after
   event_many w (Step h) s =
-      kept_many (after_event program w (Step h)).words (length s.harts) (with_step marks program w h s) ∙ step_many w h s
-  event_many w (Evict line mask) s = kept_many (after_event program w (Evict line mask)).words (length s.harts) s
+      kept_many w.log (after_event program w (Step h)).words (length s.harts) (with_step marks program w h s) ∙ step_many w h s
+  event_many w (Evict line mask) s = kept_many w.log (after_event program w (Evict line mask)).words (length s.harts) s
   event_many w Crash s = length-replicate (length s.harts) no_steps
 
   along_many : (events : List Event) (w : World) (s : Steps) → length (steps_along marks program w events s).harts ≡ length s.harts
@@ -139,12 +148,12 @@ module _ (marks : List (List ℕ)) (program : List (List Slot)) where
 -- ---- The crash
 
 module _ (c : Translation) (before : List Event) where
-  has : HasLocks c.runs.program c.runs.mutexes (world c before)
-  has = along c.runs.program c.runs.mutexes before (first_world c.runs) (at_start c.runs.program c.runs.mutexes c.runs.initial)
+  has : HasLocks c.runs.log c.runs.program c.runs.mutexes (world c before)
+  has = along c.runs.log c.runs.program c.runs.mutexes before (first_world c.runs) (at_start c.runs.log c.runs.program c.runs.mutexes c.runs.initial)
 
   crash_is : after_event c.runs.program (world c before) Crash ≡ first_from c (image_of c before)
   unfolding happens
-  crash_is = ap (λ (locks : ℕ). after_crash_of c.runs.program locks (map durable_value (world c before).words)) has.holders
+  crash_is = ap₂ (λ (l : Log) (locks : ℕ). after_crash_of l c.runs.program locks (map durable_value (world c before).words)) has.log has.holders
 
   dropped_is : steps_after c.runs.marks c.runs.program (world c before) Crash (steps c before) ≡
       ahead (steps c before).begun (first_steps (length c.runs.program) (steps c before).kept)

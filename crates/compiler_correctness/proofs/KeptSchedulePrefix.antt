@@ -1,6 +1,7 @@
 -- No kept step is lost, whatever happens.
 use Rattle.std.proofs.Common.{◌≡◌, refl, ℕ, zero, suc, List, [], ◌∷◌, ◌++◌, sym, ◌∙◌, ap, subst, length}
 use Rattle.std.proofs.lemmas.List.{append-nil, append_assoc}
+use Rattle.ido_base.specs.declared.log.Log.{Log}
 use Rattle.ido_base.specs.declared.event.Event.{Event}
 use Rattle.ido_base.specs.declared.event.Event.TheVariants.{Step, Evict, Crash}
 use Rattle.ido_base.specs.Words.{Word}
@@ -25,10 +26,10 @@ further xs ys zs more first = record {
 
 -- ---- Accounts
 
-all_kept : (words : List Word) (count : ℕ) (s : Steps) → BeginsWith (with_all_kept words count s).kept s.kept
-all_kept words zero s = itself s.kept
-all_kept words (suc h) s =
-    further s.kept (with_all_kept words h s).kept (with_all_kept words (suc h) s).kept (record { rest = _; is = refl }) (all_kept words h s)
+all_kept : (log : Log) (words : List Word) (count : ℕ) (s : Steps) → BeginsWith (with_all_kept log words count s).kept s.kept
+all_kept log words zero s = itself s.kept
+all_kept log words (suc h) s =
+    further s.kept (with_all_kept log words h s).kept (with_all_kept log words (suc h) s).kept (record { rest = _; is = refl }) (all_kept log words h s)
 
 -- what a step begins and binds keeps nothing
 step_kept : (marks : List (List ℕ)) (program : List (List Slot)) (w : World) (h : ℕ) (s : Steps) → (with_step marks program w h s).kept ≡ s.kept
@@ -39,8 +40,8 @@ event_grows : (marks : List (List ℕ)) (program : List (List Slot)) (w : World)
 unfolding steps_after
 event_grows marks program w (Step h) s =
     subst (λ (prefix : List ℕ). BeginsWith (steps_after marks program w (Step h) s).kept prefix) (step_kept marks program w h s)
-    (all_kept (after_event program w (Step h)).words (length s.harts) (with_step marks program w h s))
-event_grows marks program w (Evict line mask) s = all_kept (after_event program w (Evict line mask)).words (length s.harts) s
+    (all_kept w.log (after_event program w (Step h)).words (length s.harts) (with_step marks program w h s))
+event_grows marks program w (Evict line mask) s = all_kept w.log (after_event program w (Evict line mask)).words (length s.harts) s
 event_grows marks program w Crash s = itself s.kept
 
 along_grows : (marks : List (List ℕ)) (program : List (List Slot)) (events : List Event) (w : World) (s : Steps) →

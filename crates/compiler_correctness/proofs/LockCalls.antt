@@ -50,15 +50,15 @@ abbrev Takes : (y : System) → World → AbstractRun y → (h : ℕ) → Type 0
 Takes y w b h = (a : IsAtCall y.runs.program w h 1) → TakesAs y w b h a
 
 module _ (y : System) (s : IsSystem y) (w : World) (h : ℕ) (stands : Simulates y s w) (below : h < thread_count y)
-    (held : AreHeld w stands.before_commit.ghosts (now_of y stands.before_commit.abstract)) where
+    (held : AreHeld w stands.ghosts (now_of y stands.abstract)) where
   abbrev b : AbstractRun y
-  b = stands.before_commit.abstract
+  b = stands.abstract
 
   abbrev code : Code y.plan
   code = s.codes.each h below
 
   abbrev ghost : ThreadGhost
-  ghost = stands.before_commit.ghosts h
+  ghost = stands.ghosts h
 
   abbrev thread : ThreadInv y w b code ghost
   thread = thread_of y s w h stands below
@@ -80,12 +80,12 @@ module _ (y : System) (s : IsSystem y) (w : World) (h : ℕ) (stands : Simulates
     asks_one = ap (λ (x : List ℕ). read x 17) (sym registers_are) ∙ a.asks
 
   none_given : (mutex next : ℕ) (o : OnFragmentNow y s w h stands below) → o.exit ≡ Asks mutex next → (lock : ℕ) →
-      (slice_get (now_of y b).holders lock ≡ Some (Some n)) ⊎ IsGiving stands.before_commit.ghosts (now_of y b) lock n →
+      (slice_get (now_of y b).holders lock ≡ Some (Some n)) ⊎ IsGiving stands.ghosts (now_of y b) lock n →
       slice_get (now_of y b).holders lock ≡ Some (Some n)
   none_given mutex next o exit_is one (inl has) = has
   none_given mutex next o exit_is one (inr gives) =
       let clean : GoesClean y b code ghost false thread.graph_thread = subst (λ (x : ExitPoint). ExitInv y b code ghost thread.graph_thread x) exit_is o.fits in
-      absurd (none-some one (sym (ap (λ (k : ℕ). (stands.before_commit.ghosts k).giving) (s.codes.number h below) ∙ clean.goes.giving) ∙ gives.gives))
+      absurd (none-some one (sym (ap (λ (k : ℕ). (stands.ghosts k).giving) (s.codes.number h below) ∙ clean.goes.giving) ∙ gives.gives))
 
   by_call : (exit : ExitPoint) (o : OnFragmentNow y s w h stands below) → o.steps ≡ 0 → moving.IsCalling y s w h stands below exit →
       o.exit ≡ exit → Takes y w b n
@@ -113,12 +113,12 @@ module _ (y : System) (s : IsSystem y) (w : World) (h : ℕ) (stands : Simulates
   where_takes (at_call o zero_left calling) a = by_call o.exit o zero_left calling refl a
 
 -- a hart that takes a mutex does so where its thread is at that lock, whatever abstract run the machine simulates
-pub takes_as : MarksPass → (y : System) (s : IsSystem y) (w : World) (h : ℕ) (stands : Simulates y s w) → Takes y w stands.before_commit.abstract h
+pub takes_as : MarksPass → (y : System) (s : IsSystem y) (w : World) (h : ℕ) (stands : Simulates y s w) → Takes y w stands.abstract h
 takes_as marks y s w h stands a =
     let i : IsInPhase w h Run = record { hart = a.hart; here = a.here; phase_is = a.runs } in
     let r = runs_ready y s w h stands i in
-    let held = (runs_held y s w r.stands.before_commit.abstract r.stands.before_commit.ghosts h r.stands.before_commit.sound i
-    r.stands.before_commit.locks).1 in
-    let takes = subst (λ (k : ℕ). Takes y w r.stands.before_commit.abstract k) (s.codes.number h r.below)
+    let held = (runs_held y s w r.stands.abstract r.stands.ghosts h r.stands.machine.log r.stands.machine.sound i
+    r.stands.locks).1 in
+    let takes = subst (λ (k : ℕ). Takes y w r.stands.abstract k) (s.codes.number h r.below)
     (where_takes y s w h r.stands r.below held (is_where y s w h r.stands r.below marks r.ready)) in
     subst (λ (b : AbstractRun y). TakesAs y w b h a) r.similar.abstract (takes a)

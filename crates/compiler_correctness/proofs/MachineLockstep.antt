@@ -25,7 +25,7 @@ use Rattle.recovered_threads.proofs.Public.{same_or_other}
 use Rattle.variable_words.proofs.Public.{well_formed_placed, live_are_memory}
 use Rattle.crash_simulation.specs.Systems.{System, IsSystem, flat_of}
 use Rattle.crash_simulation.specs.ThreadGhosts.{ThreadGhost}
-use Rattle.crash_simulation.specs.SimulationRelation.{SimulatesBeforeCommit, Simulates}
+use Rattle.crash_simulation.specs.SimulationRelation.{SimulatesBut, Simulates}
 use Rattle.crash_simulation.specs.InstructionSteps.{IsUnlocked, was_unlocked, begins_unlock, FragmentsStep, CoresStep}
 use Rattle.crash_simulation.specs.AccountRelation.{SimulatesCounted, first_beginning}
 use Rattle.crash_simulation.proofs.Public.{resumed, AreFurthest, counted_by, begun_by, begun_in, Continues, event_goes_on, event_carried, released_by}
@@ -72,9 +72,9 @@ AreLastUnlocked y ghosts begun = (n mutex : ℕ) → (ghosts n).giving ≡ Some 
 record Going (y : System) (s : IsSystem y) (w : World) (steps : Steps) (releases : ℕ → ℕ) : Type 0 where
   carried : SimulatesCounted y s (first_beginning y) w steps releases
   runs : m.runs_from (beginning y) steps.begun ≡ true
-  leads : m.after_from (beginning y) steps.begun ≡ now carried.stands.before_commit.abstract.config
-  furthest : AreFurthest carried.stands.before_commit.abstract.config
-  unlocked : AreLastUnlocked y carried.stands.before_commit.ghosts steps.begun
+  leads : m.after_from (beginning y) steps.begun ≡ now carried.stands.abstract.config
+  furthest : AreFurthest carried.stands.abstract.config
+  unlocked : AreLastUnlocked y carried.stands.ghosts steps.begun
 
 -- ---- What is begun
 
@@ -89,10 +89,10 @@ begun_after : (y : System) (w : World) (event : Event) → event ≢ Crash → (
 unfolding steps_after
 begun_after y w (Step h) none steps =
     let after : World = after_event y.runs.program w (Step h) in
-    kept_begun after.words (length steps.harts) (with_step y.runs.marks y.runs.program w h steps)
-    ∙ begun_is (passes_mark y.runs.marks y.runs.program w h) (stores_point y.runs.program w (Step h) h) h (last_position (point_in after.words h)) steps
+    kept_begun w.log after.words (length steps.harts) (with_step y.runs.marks y.runs.program w h steps)
+    ∙ begun_is (passes_mark y.runs.marks y.runs.program w h) (stores_point y.runs.program w (Step h) h) h (last_position (point_in w.log after.words h)) steps
 begun_after y w (Evict line mask) none steps =
-    kept_begun (after_event y.runs.program w (Evict line mask)).words (length steps.harts) steps ∙ sym (append-nil steps.begun)
+    kept_begun w.log (after_event y.runs.program w (Evict line mask)).words (length steps.harts) steps ∙ sym (append-nil steps.begun)
 begun_after y w Crash none steps = absurd (none refl)
 
 module _ (fragments_step : FragmentsStep) (cores_step : CoresStep) (law : FragmentsGoOn) (y : System) (s : IsSystem y) where
@@ -101,7 +101,7 @@ module _ (fragments_step : FragmentsStep) (cores_step : CoresStep) (law : Fragme
     old = going.carried.stands
 
     abbrev z : m.State
-    z = now old.before_commit.abstract.config
+    z = now old.abstract.config
 
     -- ---- What is still to be given back
 
@@ -110,7 +110,7 @@ module _ (fragments_step : FragmentsStep) (cores_step : CoresStep) (law : Fragme
     stays_last n mutex g other true l = last_stays (beginning y) steps.begun (g ∷ []) n mutex (none_of_other g n 1 other) l
     stays_last n mutex g other false l = subst (λ (ts : List ℕ). LastUnlocks (beginning y) ts n mutex) (sym (append-nil steps.begun)) l
 
-    own_last : (h mutex : ℕ) (begun : Bool) → IsUnlocked z h begun (old.before_commit.ghosts h).giving mutex →
+    own_last : (h mutex : ℕ) (begun : Bool) → IsUnlocked z h begun (old.ghosts h).giving mutex →
         LastUnlocks (beginning y) (steps.begun ++ begun_by begun h []) h mutex
     own_last h mutex _ (was_unlocked none gave) =
         subst (λ (b : Bool). LastUnlocks (beginning y) (steps.begun ++ begun_by b h []) h mutex) (sym none)
@@ -119,7 +119,8 @@ module _ (fragments_step : FragmentsStep) (cores_step : CoresStep) (law : Fragme
         subst (λ (b : Bool). LastUnlocks (beginning y) (steps.begun ++ begun_by b h []) h mutex) (sym some)
         (last_now (beginning y) steps.begun h mutex (ap (λ (x : m.State). unlocks x h) going.leads ∙ unlocks_it))
 
-    then_unlocked : (event : Event) (new : SimulatesBeforeCommit y s (after_event y.runs.program w event)) → Continues y s w event old new → event ≢ Crash →
+    then_unlocked : (event : Event) {waiting : ℕ → Type 0} (new : SimulatesBut y s (after_event y.runs.program w event) waiting) →
+        Continues y s w event old new → event ≢ Crash →
         AreLastUnlocked y new.ghosts (steps.begun ++ begun_in y w event)
     then_unlocked (Step h) new on no_crash n mutex gives = elim (same_or_other n h) [
       | inl same ↦
@@ -180,13 +181,12 @@ pub machines_keep_step : MarksPass → FragmentsStep → CoresStep → Fragments
 machines_keep_step marks fragments_step cores_step law y s events none =
     let going = (all_going fragments_step cores_step law y s events none _ _ _ (start_going y s)).1 in
     let is = going.carried in
-    let before_commit = is.stands.before_commit in
     record {
       runs = going.runs;
       variables =
           live_are_memory (flat_of y).variables _ (well_formed_placed (flat_of y) s.plan.formed).room
-          ∙ (ap (λ (memory : Memory). map (map live_number) memory) before_commit.memory
-          ∙ (live_is_now (flat_of y) before_commit.abstract.config (resumed y s before_commit.abstract).resumed.invariant going.furthest
+          ∙ (ap (λ (memory : Memory). map (map live_number) memory) is.stands.memory
+          ∙ (live_is_now (flat_of y) is.stands.abstract.config (resumed y s is.stands.abstract).resumed.invariant going.furthest
           ∙ ap (λ (z : m.State). z.variables) (sym going.leads)));
       locks_agree = λ h hart there. agree y s _ _ is h hart there _ going.leads marks (going.unlocked h);
     }

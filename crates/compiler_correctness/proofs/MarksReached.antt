@@ -5,6 +5,7 @@ use Rattle.std.specs.Prelude.{◌==◌, filter, if◌then◌else◌}
 use Rattle.std.proofs.lemmas.Bool.{cases_eq, true≢false}
 use Rattle.std.proofs.lemmas.List.Elements.{filter-append}
 use Rattle.std.proofs.Math.ListN.{length-append}
+use Rattle.ido_base.specs.declared.log.Log.{Log}
 use Rattle.ido_base.specs.declared.event.Event.{Event}
 use Rattle.ido_base.specs.declared.event.Event.TheVariants.{Step, Evict, Crash}
 use Rattle.ido_base.specs.Words.{Word, last_position, word_at}
@@ -26,9 +27,9 @@ GetsOn marks program h w s more = (begun_by s h < begun_by (steps_along marks pr
 
 -- ---- Begun steps are never fewer
 
-pub kept_begun : (words : List Word) (count : ℕ) (s : Steps) → (with_all_kept words count s).begun ≡ s.begun
-kept_begun words zero s = refl
-kept_begun words (suc h) s = kept_begun words h s
+pub kept_begun : (log : Log) (words : List Word) (count : ℕ) (s : Steps) → (with_all_kept log words count s).begun ≡ s.begun
+kept_begun log words zero s = refl
+kept_begun log words (suc h) s = kept_begun log words h s
 
 abbrev counted_by : (begun points : Bool) → (g position : ℕ) → Steps → Steps
 counted_by begun points g position s =
@@ -54,26 +55,26 @@ own_more true h position s = let more = begun_more h h s in let one = one_own h 
 
 module _ (marks : List (List ℕ)) (program : List (List Slot)) (h : ℕ) where
   abbrev position_of : World → (g : ℕ) → ℕ
-  position_of w g = last_position (word_at (after_event program w (Step g)).words (word_number (point_at g)))
+  position_of w g = last_position (word_at (after_event program w (Step g)).words (word_number (point_at w.log g)))
 
-  count_kept : (words : List Word) (count : ℕ) (s : Steps) → begun_by (with_all_kept words count s) h ≡ begun_by s h
-  count_kept words count s = ap (λ (xs : List ℕ). length (filter (λ x. x == h) xs)) (kept_begun words count s)
+  count_kept : (log : Log) (words : List Word) (count : ℕ) (s : Steps) → begun_by (with_all_kept log words count s) h ≡ begun_by s h
+  count_kept log words count s = ap (λ (xs : List ℕ). length (filter (λ x. x == h) xs)) (kept_begun log words count s)
 
   after_more : (w : World) (event : Event) (s : Steps) → begun_by s h ≤ begun_by (steps_after marks program w event s) h
   unfolding steps_after
   after_more w (Step g) s =
       let more = step_more (passes_mark marks program w g) (stores_point program w (Step g) g) h g (position_of w g) s in
-      let kept = count_kept (after_event program w (Step g)).words (length s.harts) (with_step marks program w g s) in
+      let kept = count_kept w.log (after_event program w (Step g)).words (length s.harts) (with_step marks program w g s) in
       omega (arith, more, kept)
   after_more w (Evict line mask) s =
-      let kept = count_kept (after_event program w (Evict line mask)).words (length s.harts) s in
+      let kept = count_kept w.log (after_event program w (Evict line mask)).words (length s.harts) s in
       omega (arith, kept)
   after_more w Crash s = omega arith
 
   after_own : (w : World) (s : Steps) → passes_mark marks program w h ≡ true → begun_by s h < begun_by (steps_after marks program w (Step h) s) h
   unfolding steps_after
   after_own w s passes =
-      let kept = count_kept (after_event program w (Step h)).words (length s.harts) (with_step marks program w h s) in
+      let kept = count_kept w.log (after_event program w (Step h)).words (length s.harts) (with_step marks program w h s) in
       let more = own_more (stores_point program w (Step h) h) h (position_of w h) s in
       let same : begun_by (counted_by (passes_mark marks program w h) (stores_point program w (Step h) h) h (position_of w h) s) h ≡
       begun_by (counted_by true (stores_point program w (Step h) h) h (position_of w h) s) h =

@@ -69,23 +69,23 @@ not_both z t i j l u = not_both_there (slice_get z.threads t) i j l u
 
 module _ (y : System) (s : IsSystem y) (w : World) (stands : Simulates y s w) (n : ℕ) (below : n < thread_count y) where
   abbrev b : AbstractRun y
-  b = stands.before_commit.abstract
+  b = stands.abstract
 
   abbrev code : Code y.plan
   code = s.codes.each n below
 
   abbrev ghost : ThreadGhost
-  ghost = stands.before_commit.ghosts n
+  ghost = stands.ghosts n
 
   abbrev thread : ThreadInv y w b code ghost
-  thread = stands.before_commit.each n below
+  thread = stands.each n below
 
   same : code.thread.number ≡ n
   same = s.codes.number n below
 
   -- ---- A hart that runs and holds nothing
 
-  module _ (none : holds_none w.holders n ≡ true) (held : AreHeld w stands.before_commit.ghosts (now_of y b)) where
+  module _ (none : holds_none w.holders n ≡ true) (held : AreHeld w stands.ghosts (now_of y b)) where
     not_now : (lock : ℕ) → slice_get (now_of y b).holders lock ≡ Some (Some n) → ⊥
     not_now lock has = holds_none_is n w.holders lock none (held.holds lock n has)
 
@@ -146,10 +146,10 @@ module _ (y : System) (s : IsSystem y) (w : World) (stands : Simulates y s w) (n
       of_present : (r : Record) → Describes y.plan code (now_of y b) r → r.point ≡ 0
       of_present r describes = none_points y.plan code (now_of y b) r describes now_none
 
-      pub live_zero : live_at w.words (point_at n) ≡ 0
+      pub live_zero : live_at w.words (point_at w.log n) ≡ 0
       live_zero = of_live y s w stands n below (λ point. point ≡ 0) of_kept of_present
 
-      pub durable_zero : durable_point w.words n ≡ 0
+      pub durable_zero : durable_point w.log w.words n ≡ 0
       durable_zero = of_durable y s w stands n below (λ point. point ≡ 0) of_kept of_present
 
   -- ---- A hart that has stopped
@@ -170,20 +170,20 @@ module _ (y : System) (s : IsSystem y) (w : World) (stands : Simulates y s w) (n
       log_is : LogInv n ghost.old ghost.new w ghost.rest
       log_is = log_of y s w stands n below
 
-      over : IsRecorded n ghost.new w.words
-      over = ends n ghost.old ghost.new (config_of w log_is.hart ghost.rest) log_is.log rest
+      over : IsRecorded w.log n ghost.new w.words
+      over = ends w.log n ghost.old ghost.new (config_of w log_is.hart ghost.rest) log_is.log rest
 
-      stopped_live : live_at w.words (point_at n) ≡ 0
+      stopped_live : live_at w.words (point_at w.log n) ≡ 0
       stopped_live = over.point.live ∙ none
 
-      stopped_durable : durable_point w.words n ≡ 0
-      stopped_durable = durable_is (point_in w.words n) ghost.new.point over.point ∙ none
+      stopped_durable : durable_point w.log w.words n ≡ 0
+      stopped_durable = durable_is (point_in w.log w.words n) ghost.new.point over.point ∙ none
 
-    pub live_outside : IsOutside w n hart → live_at w.words (point_at n) ≡ 0
+    pub live_outside : IsOutside w n hart → live_at w.words (point_at w.log n) ≡ 0
     live_outside (inl e) = let r = stopped hart.phase refl e in stopped_live r.0 r.1
     live_outside (inr e) = live_zero e.1 (are_held y s w stands n hart there (inl e.0)) hart there e.0
 
-    pub durable_outside : IsOutside w n hart → durable_point w.words n ≡ 0
+    pub durable_outside : IsOutside w n hart → durable_point w.log w.words n ≡ 0
     durable_outside (inl e) = let r = stopped hart.phase refl e in stopped_durable r.0 r.1
     durable_outside (inr e) = durable_zero e.1 (are_held y s w stands n hart there (inl e.0)) hart there e.0
 
@@ -199,7 +199,7 @@ module _ (y : System) (s : IsSystem y) (w : World) (stands : Simulates y s w) (n
           ended = sym (source.now_matches.each n thread.graph_thread found.0 walks found.1).ended ∙ (phase Ended is).0.execution;
         }
 
-  pub no_locks : record_of w.words n ≡ [] → durable_point w.words n ≡ 0
+  pub no_locks : record_of w.log w.words n ≡ [] → durable_point w.log w.words n ≡ 0
   no_locks e =
       left_point y s w stands n below
       ∙ (points_have_locks y.plan code (kept_of y b) (left y s w stands n) s.plan (orderly y s b) (left_describes y s w stands n below)).0
@@ -209,7 +209,7 @@ pub machines_are_whole : MachinesResume → MachinesAreWhole
 machines_are_whole machines y s events h hart there =
     let resumes = machines y s events in
     let stands = resumes.stands in
-    let below : h < thread_count y = (let inside = slice_get_within _ h hart there in omega (arith, inside, stands.before_commit.count)) in
+    let below : h < thread_count y = (let inside = slice_get_within _ h hart there in omega (arith, inside, stands.machine.count)) in
     record {
       ended = λ is. subst (λ (z : m.State). HasEnded z h) (sym (now_is y s _ _ resumes)) (ended_now y s _ stands h below hart there is);
       no_live_point = live_outside y s _ stands h below hart there;

@@ -39,7 +39,7 @@ is_run Ended e = absurd (true≢false (sym e))
 module _ (fragments_step : FragmentsStep) (cores_step : CoresStep) (y : System) (s : IsSystem y) (w : World) (g : ℕ) where
   -- a hart stores what its thread may
   pub stores_own : (stands : Simulates y s w) (hart : Hart) (effect : Effect) → IsNext y.runs.program w g hart effect →
-      MayStore y stands.before_commit.abstract g effect
+      MayStore y stands.abstract g effect
   stores_own stands hart effect is =
       let i : IsInPhase w g Run = record { hart = hart; here = is.here; phase_is = is_run hart.phase is.runs } in
       let r = runs_ready y s w g stands i in

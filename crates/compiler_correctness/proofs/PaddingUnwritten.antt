@@ -4,11 +4,12 @@ use Rattle.std.proofs.Common.{ap, ap₂, arith, sym, ◌∙◌, subst, Some}
 use Rattle.std.specs.Prelude.{slice_get}
 use Rattle.std.proofs.lemmas.Bool.{true≢false, cases_lt}
 use Rattle.std.proofs.lemmas.List.{get_or-map, get_or_past, length-map, length-drop, get_or_append_left}
-use Rattle.ido_base.specs.declared.limits.TheConstants.{LOG_WORDS, MOST_VARIABLE_BYTES, VARIABLE_WORDS}
+use Rattle.ido_base.specs.declared.log.Log.{Log}
+use Rattle.ido_base.specs.declared.limits.TheConstants.{MOST_VARIABLE_BYTES, VARIABLE_WORDS}
 use Rattle.ido_base.specs.declared.event.Event.{Event}
 use Rattle.ido_base.specs.declared.event.Event.TheVariants.{Step, Evict, Crash}
 use Rattle.ido_base.specs.Words.{Word, Entry, word_of, word_at, durable_value, last_position}
-use Rattle.ido_base.specs.Layout.{byte_number, words_of_bytes, initial_words, end_from}
+use Rattle.ido_base.specs.Layout.{log_words, byte_number, words_of_bytes, initial_words, end_from}
 use Rattle.ido_base.specs.Growth.{IsPersisted, ArePersisted, AreEntries}
 use Rattle.ido_base.proofs.Public.{word_other, write_backs_raise, evictions_raise}
 use Rattle.ido_ints.specs.Kinds.{bytes_of}
@@ -21,7 +22,7 @@ use Rattle.rv64_isa.specs.Rows.{Effect, Stores}
 use Rattle.rv64_isa.specs.Machine.{Hart, World, after_event, after_events, happens, start_of}
 use Rattle.flow_graph.proofs.Public.{get_cases}
 use Rattle.log_states.specs.Stages.{is_store}
-use Rattle.log_states.proofs.Public.{address_of, word_of_point}
+use Rattle.log_states.proofs.Public.{address_of, beyond_variables, word_of_log}
 use Rattle.hart_runs.proofs.Public.{crashes_step}
 use Rattle.crash_simulation.specs.Systems.{System, IsSystem, flat_of, shapes_of}
 use Rattle.crash_simulation.specs.AbstractRuns.{AbstractRun}
@@ -59,19 +60,20 @@ length-words : (bytes : List ℕ) (count : ℕ) → length (words_of_bytes bytes
 length-words bytes zero = refl
 length-words bytes (suc count) = let more = length-words (drop 8 bytes) count in omega (arith, more)
 
-initial_zero : (threads : ℕ) (bytes : List ℕ) (j : ℕ) → length bytes ≤ 8 * j → j < VARIABLE_WORDS → get_or (initial_words threads bytes) j 0 ≡ 0
+initial_zero : (log : Log) (threads : ℕ) (bytes : List ℕ) (j : ℕ) → length bytes ≤ 8 * j → j < VARIABLE_WORDS → get_or (initial_words log threads bytes) j 0 ≡ 0
 unfolding initial_words
-initial_zero threads bytes j after below =
+initial_zero log threads bytes j after below =
     let many = length-words bytes VARIABLE_WORDS in
-    get_or_append_left (words_of_bytes bytes VARIABLE_WORDS) (replicate (LOG_WORDS * threads) 0) 0 j (omega (arith, many, below))
+    get_or_append_left (words_of_bytes bytes VARIABLE_WORDS) (replicate (log_words log * threads) 0) 0 j (omega (arith, many, below))
     ∙ zero_after bytes VARIABLE_WORDS j after
 
-word_zero : (threads : ℕ) (bytes : List ℕ) (j : ℕ) → length bytes ≤ 8 * j → j < VARIABLE_WORDS →
-    word_at (map word_of (initial_words threads bytes)) j ≡ word_of 0
-word_zero threads bytes j after below = elim (cases_lt j (length (initial_words threads bytes))) [
+word_zero : (log : Log) (threads : ℕ) (bytes : List ℕ) (j : ℕ) → length bytes ≤ 8 * j → j < VARIABLE_WORDS →
+    word_at (map word_of (initial_words log threads bytes)) j ≡ word_of 0
+word_zero log threads bytes j after below = elim (cases_lt j (length (initial_words log threads bytes))) [
   | inl inside ↦
-      get_or-map word_of (initial_words threads bytes) j 0 (word_of 0) inside ∙ ap word_of (initial_zero threads bytes j after below)
-  | inr past ↦ get_or_past (map word_of (initial_words threads bytes)) j (word_of 0) (omega (arith, past, length-map (initial_words threads bytes) word_of))
+      get_or-map word_of (initial_words log threads bytes) j 0 (word_of 0) inside ∙ ap word_of (initial_zero log threads bytes j after below)
+  | inr past ↦ get_or_past (map word_of (initial_words log threads bytes)) j (word_of 0)
+      (omega (arith, past, length-map (initial_words log threads bytes) word_of))
 ]
 
 module _ (y : System) (s : IsSystem y) where
@@ -98,8 +100,9 @@ module _ (y : System) (s : IsSystem y) where
       elsewhere b g address bytes value _ same (nothing effect none) = absurd (true≢false (sym (ap is_store same) ∙ none))
       elsewhere b g address bytes value _ same (in_log a v k inside word) =
           subst (λ (x : ℕ). j ≢ byte_number x / 8) (ap address_of same) (λ meets.
-          let point = word_of_point g in
-          omega (arith, meets, word, point, below))
+          let beyond = beyond_variables y.plan.log g k in
+          let place = word_of_log y.plan.log g k in
+          omega (arith, meets, word, place, beyond, below))
       elsewhere b g address bytes value _ same (element variable number v is there within guards) =
           subst (λ (x : ℕ). j ≢ byte_number x / 8) (ap address_of same) (λ meets.
           let place = number_is (flat_of y).variables variable number is room there (omega (arith, within)) in
@@ -120,7 +123,7 @@ module _ (y : System) (s : IsSystem y) where
       worked w g hart queue stands here (Rests same q) z = ap (λ (ws : List Word). word_at ws j) same ∙ z
       worked w g hart queue stands here (Queues line same q) z = ap (λ (ws : List Word). word_at ws j) same ∙ z
       worked w g hart queue stands here (WritesBack e is q) z =
-          let entries : AreEntries w.words (e ∷ queue) = subst (λ (es : List Entry). AreEntries w.words es) q (stands.before_commit.sound.queues g hart here) in
+          let entries : AreEntries w.words (e ∷ queue) = subst (λ (es : List Entry). AreEntries w.words es) q (stands.machine.sound.queues g hart here) in
           ap (λ (ws : List Word). word_at ws j) is ∙ are_persisted_zero w.words _ j (write_backs_raise w.words e entries.0) z
       worked w g hart queue stands here (Makes address bytes value st is q) z =
           let may =
@@ -128,7 +131,7 @@ module _ (y : System) (s : IsSystem y) where
           (next_store y.runs.program w g address bytes value st) in
           ap (λ (ws : List Word). word_at ws j) is
           ∙ (word_other w.words (byte_number address / 8) j _
-          (elsewhere stands.before_commit.abstract g address bytes value (Stores address bytes value) refl may) ∙ z)
+          (elsewhere stands.abstract g address bytes value (Stores address bytes value) refl may) ∙ z)
 
       stays_zero : (w : World) (event : Event) → Simulates y s w → IsZero w → IsZero (after_event y.runs.program w event)
       unfolding happens
@@ -148,7 +151,7 @@ module _ (y : System) (s : IsSystem y) where
 
       zero_first : IsZero (first_world y.runs)
       unfolding start_of
-      zero_first = let whole = whole_words in word_zero (length y.runs.program) y.runs.initial j (omega (arith, whole, from)) below
+      zero_first = let whole = whole_words in word_zero y.runs.log (length y.runs.program) y.runs.initial j (omega (arith, whole, from)) below
 
 pub words_between_stay : EventsStand → FragmentsStep → CoresStep → WordsBetweenStay
 words_between_stay stand fragments_step cores_step y s events word from below =

@@ -26,31 +26,31 @@ module _ (y : System) (s : IsSystem y) (w : World) (stands : Simulates y s w) (n
   code = s.codes.each n below
 
   abbrev ghost : ThreadGhost
-  ghost = stands.before_commit.ghosts n
+  ghost = stands.ghosts n
 
   abbrev kept : FlowState
-  kept = kept_of y stands.before_commit.abstract
+  kept = kept_of y stands.abstract
 
   abbrev present : FlowState
-  present = now_of y stands.before_commit.abstract
+  present = now_of y stands.abstract
 
   -- what is committed is taken so
-  caught_up : is_committed n (config_of w (log_of y s w stands n below).hart ghost.rest) ≡ ghost.committed
+  caught_up : is_committed w.log n (config_of w (log_of y s w stands n below).hart ghost.rest) ≡ ghost.committed
   caught_up =
-      subst (λ (k : ℕ). is_committed k (record { words = w.words; queue = []; rest = ghost.rest }) ≡ ghost.committed) (s.codes.number n below)
-      (stands.caught_up n below)
+      subst (λ (k : ℕ). is_committed w.log k (record { words = w.words; queue = []; rest = ghost.rest }) ≡ ghost.committed) (s.codes.number n below)
+      (stands.caught_up n below (λ e. e))
 
   -- the new record describes the kept state where it is the one that is kept, and else the state now
   new_describes : Describes y.plan code kept ghost.new ⊎ Describes y.plan code present ghost.new
   new_describes = elim (cases_Bool ghost.committed) [
     | inl done ↦
-        inl (subst (λ (b : Bool). Describes y.plan code kept (if b then ghost.new else ghost.old)) done (stands.before_commit.each n below).describes)
-    | inr not_yet ↦ inr ((stands.before_commit.each n below).will_describe not_yet)
+        inl (subst (λ (b : Bool). Describes y.plan code kept (if b then ghost.new else ghost.old)) done (stands.each n below).describes)
+    | inr not_yet ↦ inr ((stands.each n below).will_describe not_yet)
   ]
 
   old_describes : ghost.committed ≡ false → Describes y.plan code kept ghost.old
   old_describes not_yet =
-      subst (λ (b : Bool). Describes y.plan code kept (if b then ghost.new else ghost.old)) not_yet (stands.before_commit.each n below).describes
+      subst (λ (b : Bool). Describes y.plan code kept (if b then ghost.new else ghost.old)) not_yet (stands.each n below).describes
 
   -- what is so of all such records is so of the live point, and of the durable one
   module _ (P : ℕ → Type 0) (of_kept : (r : Record) → Describes y.plan code kept r → P r.point)
@@ -59,13 +59,13 @@ module _ (y : System) (s : IsSystem y) (w : World) (stands : Simulates y s w) (n
     new_is (inl describes) = of_kept ghost.new describes
     new_is (inr describes) = of_now ghost.new describes
 
-    pub of_live : P (live_at w.words (point_at n))
-    of_live = elim (live_is n ghost.old ghost.new (config_of w (log_of y s w stands n below).hart ghost.rest) (log_of y s w stands n below).log) [
+    pub of_live : P (live_at w.words (point_at w.log n))
+    of_live = elim (live_is w.log n ghost.old ghost.new (config_of w (log_of y s w stands n below).hart ghost.rest) (log_of y s w stands n below).log) [
       | inl new ↦ subst P (sym new) (new_is new_describes)
       | inr old ↦ subst P (sym old.0) (of_kept ghost.old (old_describes (sym caught_up ∙ old.1)))
     ]
 
-    pub of_durable : P (durable_point w.words n)
+    pub of_durable : P (durable_point w.log w.words n)
     of_durable = subst P (sym (left_point y s w stands n below)) (of_kept (left y s w stands n) (left_describes y s w stands n below))
 
   -- ---- Points name addresses at which recovery may resume
@@ -82,10 +82,10 @@ module _ (y : System) (s : IsSystem y) (w : World) (stands : Simulates y s w) (n
   names state r describes some =
       subst (λ (addresses : List ℕ). Contains addresses (resume_of r.point)) resumes_are (points_name y.plan code state r describes some)
 
-  pub live_names : live_at w.words (point_at n) ≢ 0 → Contains (slice_index_or y.runs.resumes n []) (resume_of (live_at w.words (point_at n)))
+  pub live_names : live_at w.words (point_at w.log n) ≢ 0 → Contains (slice_index_or y.runs.resumes n []) (resume_of (live_at w.words (point_at w.log n)))
   unfolding Names
   live_names = of_live Names (names kept) (names present)
 
-  pub durable_names : durable_point w.words n ≢ 0 → Contains (slice_index_or y.runs.resumes n []) (resume_of (durable_point w.words n))
+  pub durable_names : durable_point w.log w.words n ≢ 0 → Contains (slice_index_or y.runs.resumes n []) (resume_of (durable_point w.log w.words n))
   unfolding Names
   durable_names = of_durable Names (names kept) (names present)

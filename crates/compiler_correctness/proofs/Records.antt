@@ -34,26 +34,26 @@ use Rattle.compiler_correctness.proofs.Points.{live_names, durable_names}
 
 module _ (y : System) (s : IsSystem y) (w : World) (stands : Simulates y s w) where
   abbrev b : AbstractRun y
-  b = stands.before_commit.abstract
+  b = stands.abstract
 
   -- ---- Records
 
-  pub recorded_is : (n : ℕ) → n < thread_count y → record_of w.words n ≡ locks_of (left y s w stands n)
+  pub recorded_is : (n : ℕ) → n < thread_count y → record_of w.log w.words n ≡ locks_of (left y s w stands n)
   recorded_is n below =
-      let c = stands.before_commit.ghosts n in
+      let c = stands.ghosts n in
       logs_have_locks n c.old c.new w c.rest (log_of y s w stands n below)
 
   record_held : (n : ℕ) → n < thread_count y → (lock : ℕ) →
-      (has_lock (record_of w.words n) lock ≡ true) ↔ (slice_get (kept_of y b).holders lock ≡ Some (Some n))
+      (has_lock (record_of w.log w.words n) lock ≡ true) ↔ (slice_get (kept_of y b).holders lock ≡ Some (Some n))
   record_held n below lock =
       subst (λ (locks : List ℕ). (has_lock locks lock ≡ true) ↔ (slice_get (kept_of y b).holders lock ≡ Some (Some n))) (sym (recorded_is n below))
       (subst (λ (k : ℕ). (has_lock (locks_of (left y s w stands n)) lock ≡ true) ↔ (slice_get (kept_of y b).holders lock ≡ Some (Some k)))
       (s.codes.number n below)
       (locks_are_held y.plan (s.codes.each n below) (kept_of y b) (left y s w stands n) s.plan (orderly y s b) (left_describes y s w stands n below) lock))
 
-  records_apart : (g h lock : ℕ) → g < thread_count y → h < thread_count y → g ≢ h → has_lock (record_of w.words h) lock ≡ true →
-      has_lock (record_of w.words g) lock ≡ false
-  records_apart g h lock gb hb other mine = elim (cases_Bool (has_lock (record_of w.words g) lock)) [
+  records_apart : (g h lock : ℕ) → g < thread_count y → h < thread_count y → g ≢ h → has_lock (record_of w.log w.words h) lock ≡ true →
+      has_lock (record_of w.log w.words g) lock ≡ false
+  records_apart g h lock gb hb other mine = elim (cases_Bool (has_lock (record_of w.log w.words g) lock)) [
     | inl also ↦
         absurd (other (records_are_apart y.plan s.codes (kept_of y b) (left y s w stands) s.plan (orderly y s b) (left_describes y s w stands) g h lock gb hb
         (ap (λ (locks : List ℕ). has_lock locks lock) (sym (recorded_is g gb)) ∙ also)
@@ -64,25 +64,25 @@ module _ (y : System) (s : IsSystem y) (w : World) (stands : Simulates y s w) wh
   -- ---- Recovery
 
   module _ (h : ℕ) (hart : Hart) (there : slice_get w.harts h ≡ Some hart) where
-    takes_by : hart.phase ≡ Take → AreLocked y w b stands.before_commit.ghosts → reply_to y.runs.program w (Step h) ≡ Moved
+    takes_by : hart.phase ≡ Take → AreLocked y w b stands.ghosts → reply_to y.runs.program w (Step h) ≡ Moved
     takes_by is (gathering none gathers) =
-        let records = records_of stands.before_commit.ghosts in
-        let apart : AreRecordsApart (length w.harts) records = subst (λ (n : ℕ). AreRecordsApart n records) (sym stands.before_commit.count)
+        let records = records_of stands.ghosts in
+        let apart : AreRecordsApart (length w.harts) records = subst (λ (n : ℕ). AreRecordsApart n records) (sym stands.machine.count)
         (records_are_apart y.plan s.codes (kept_of y b) records s.plan (orderly y s b) (all_describe y s w h stands none gathers)) in
         (takes_never_wait y.runs.program w records h gathers apart (record { hart = hart; here = there; phase_is = is })).0
-    takes_by is (gathered ag held) = absurd (subst (λ (p : Phase). HasGathered w h (records_of stands.before_commit.ghosts h) p) is (ag.each h hart there))
+    takes_by is (gathered ag held) = absurd (subst (λ (p : Phase). HasGathered w h (records_of stands.ghosts h) p) is (ag.each h hart there))
 
     -- ---- Locks of a hart that executes instructions
 
-    held_by : IsOn hart → AreLocked y w b stands.before_commit.ghosts → AreHeld w stands.before_commit.ghosts (now_of y b)
+    held_by : IsOn hart → AreLocked y w b stands.ghosts → AreHeld w stands.ghosts (now_of y b)
     held_by (inl is) (gathering none gathers) =
-        absurd (subst (λ (p : Phase). Gathers w h (records_of stands.before_commit.ghosts h) p) is (gathers.each h hart there))
+        absurd (subst (λ (p : Phase). Gathers w h (records_of stands.ghosts h) p) is (gathers.each h hart there))
     held_by (inr is) (gathering none gathers) =
-        absurd (subst (λ (p : Phase). Gathers w h (records_of stands.before_commit.ghosts h) p) is (gathers.each h hart there))
+        absurd (subst (λ (p : Phase). Gathers w h (records_of stands.ghosts h) p) is (gathers.each h hart there))
     held_by is (gathered ag held) = held
 
-    pub are_held : IsOn hart → AreHeld w stands.before_commit.ghosts (now_of y b)
-    are_held is = held_by is stands.before_commit.locks
+    pub are_held : IsOn hart → AreHeld w stands.ghosts (now_of y b)
+    are_held is = held_by is stands.locks
 
 module _ (y : System) (s : IsSystem y) (w : World) (steps : Steps) {r : ℕ → ℕ}
     (resumes : SimulatesCounted y s (first_beginning y) w steps r) (h : ℕ) (hart : Hart)
@@ -91,20 +91,20 @@ module _ (y : System) (s : IsSystem y) (w : World) (steps : Steps) {r : ℕ → 
   stands = resumes.stands
 
   below : h < thread_count y
-  below = let inside = slice_get_within w.harts h hart there in omega (arith, inside, stands.before_commit.count)
+  below = let inside = slice_get_within w.harts h hart there in omega (arith, inside, stands.machine.count)
 
   -- after a schedule that leads to all steps that are begun
-  module _ (schedule : List ℕ) (is : source (translation_of y) schedule ≡ now stands.before_commit.abstract.config) where
-    holders : (now_of y stands.before_commit.abstract).holders ≡ (source (translation_of y) schedule).holders
-    holders = (as_source y s stands.before_commit.abstract).now_matches.holders ∙ ap (λ (z : m.State). z.holders) (sym is)
+  module _ (schedule : List ℕ) (is : source (translation_of y) schedule ≡ now stands.abstract.config) where
+    holders : (now_of y stands.abstract).holders ≡ (source (translation_of y) schedule).holders
+    holders = (as_source y s stands.abstract).now_matches.holders ∙ ap (λ (z : m.State). z.holders) (sym is)
 
     -- what the thread has still to give back its last step of that schedule has unlocked
     abbrev IsLastUnlocked : Type 0
-    IsLastUnlocked = (mutex : ℕ) → (stands.before_commit.ghosts h).giving ≡ Some mutex → LastUnlocks (m.start (flat_of y)) schedule h mutex
+    IsLastUnlocked = (mutex : ℕ) → (stands.ghosts h).giving ≡ Some mutex → LastUnlocks (m.start (flat_of y)) schedule h mutex
 
     held_or_unlocked : IsLastUnlocked → (lock : ℕ) →
-        (slice_get (now_of y stands.before_commit.abstract).holders lock ≡ Some (Some h))
-        ⊎ IsGiving stands.before_commit.ghosts (now_of y stands.before_commit.abstract) lock h →
+        (slice_get (now_of y stands.abstract).holders lock ≡ Some (Some h))
+        ⊎ IsGiving stands.ghosts (now_of y stands.abstract) lock h →
         ThreadHolds (source (translation_of y) schedule) h lock ⊎ HasJustUnlocked (translation_of y) schedule h lock
     held_or_unlocked last lock (inl has) = inl (ap (λ (hs : List (Option ℕ)). slice_get hs lock) (sym holders) ∙ has)
     held_or_unlocked last lock (inr gives) = inr (record {
@@ -123,20 +123,20 @@ module _ (y : System) (s : IsSystem y) (w : World) (steps : Steps) {r : ℕ → 
         }
 
   -- by the account's schedule
-  last_unlocked : (mutex : ℕ) → (stands.before_commit.ghosts h).giving ≡ Some mutex →
+  last_unlocked : (mutex : ℕ) → (stands.ghosts h).giving ≡ Some mutex →
       LastUnlocks (m.start (flat_of y)) (steps.kept ++ steps.pending) h mutex
   last_unlocked mutex gives =
-      let b = stands.before_commit.abstract in
+      let b = stands.abstract in
       let code = s.codes.each h below in
       let lists : b.schedule ++ b.config.uncommitted ≡ steps.kept ++ steps.pending = ap₂ ◌++◌ (sym resumes.counted.kept) (sym resumes.counted.pending) in
       subst (λ (from : m.State). LastUnlocks from (steps.kept ++ steps.pending) h mutex) resumes.counted.begins
       (subst (λ (us : List ℕ). LastUnlocks b.origin.source us h mutex) lists
       (subst (λ (n : ℕ). LastUnlocks b.origin.source (b.schedule ++ b.config.uncommitted) n mutex) (s.codes.number h below)
-      (unlocked_last y s w b code (stands.before_commit.ghosts h) (stands.before_commit.each h below) mutex gives)))
+      (unlocked_last y s w b code (stands.ghosts h) (stands.each h below) mutex gives)))
 
-  record_is : (lock : ℕ) → (has_lock (record_of w.words h) lock ≡ true) ↔ ThreadHolds (source (translation_of y) steps.kept) h lock
+  record_is : (lock : ℕ) → (has_lock (record_of w.log w.words h) lock ≡ true) ↔ ThreadHolds (source (translation_of y) steps.kept) h lock
   record_is lock =
-      subst (λ (hs : List (Option ℕ)). (has_lock (record_of w.words h) lock ≡ true) ↔ (slice_get hs lock ≡ Some (Some h)))
+      subst (λ (hs : List (Option ℕ)). (has_lock (record_of w.log w.words h) lock ≡ true) ↔ (slice_get hs lock ≡ Some (Some h)))
       (kept_holders y s w steps resumes) (record_held y s w stands h below lock)
 
 pub machines_record : MarksPass → MachinesResume → MachinesRecord
@@ -151,7 +151,7 @@ machines_record marks machines y s events =
             locks_agree = agree y s _ _ resumes h hart there _ (now_is y s _ _ resumes) marks (last_unlocked y s _ _ resumes h hart there);
             record_is = record_is y s _ _ resumes h hart there;
             apart = λ g lock gb other. records_apart y s _ resumes.stands g h lock (omega (arith, gb, s.count)) under other;
-            takes = λ is. takes_by y s _ resumes.stands h hart there is resumes.stands.before_commit.locks;
+            takes = λ is. takes_by y s _ resumes.stands h hart there is resumes.stands.locks;
             live_point = live_names y s _ resumes.stands h under;
             durable_point_names = durable_names y s _ resumes.stands h under;
           };

@@ -26,7 +26,7 @@ recovered_words_run_on stuck takes stand fragments_step cores_step law simulate 
 pub recovered_words_settle : RecoveredAreCounted → RecoveredWordsSettle
 recovered_words_settle counted y s o image is events =
     let resumes = counted y s o image.words image.kept is events in
-    let b = resumes.stands.before_commit.abstract in
+    let b = resumes.stands.abstract in
     let kept = (resumed y s b).resumed.kept in
     let begins = resumes.counted.begins in
     record {

@@ -19,7 +19,7 @@ use Rattle.compiler_correctness.specs.Translations.{source, IsRunnable}
 use Rattle.compiler_correctness.specs.Laws.{translation_of, SettledMachinesAreKept}
 
 -- each of the first so many harts is settled
-settled_point : (w : World) (count n : ℕ) → are_settled w count ≡ true → n < count → durable_point w.words n ≡ 0
+settled_point : (w : World) (count n : ℕ) → are_settled w count ≡ true → n < count → durable_point w.log w.words n ≡ 0
 settled_point w zero n is below = absurd (omega (arith, below))
 settled_point w (suc h) n is below =
     let parts = and_parts (are_settled w h) (is_settled_hart w h) is in
@@ -27,27 +27,27 @@ settled_point w (suc h) n is below =
       | inl before ↦ settled_point w h n parts.0 before
       | inr last ↦
           let same : h ≡ n = omega (arith, below, last) in
-          let both = and_parts (holds_none w.holders h) ((durable_point w.words h == 0) && (live_at w.words (point_at h) == 0)) parts.1 in
-          let points = and_parts (durable_point w.words h == 0) (live_at w.words (point_at h) == 0) both.1 in
-          subst (λ (k : ℕ). durable_point w.words k ≡ 0) same (eqb-true (durable_point w.words h) 0 points.0)
+          let both = and_parts (holds_none w.holders h) ((durable_point w.log w.words h == 0) && (live_at w.words (point_at w.log h) == 0)) parts.1 in
+          let points = and_parts (durable_point w.log w.words h == 0) (live_at w.words (point_at w.log h) == 0) both.1 in
+          subst (λ (k : ℕ). durable_point w.log w.words k ≡ 0) same (eqb-true (durable_point w.log w.words h) 0 points.0)
     ]
 
 module _ (y : System) (s : IsSystem y) (w : World) (stands : Simulates y s w) (settled : is_settled w ≡ true) where
-  pub zeros : (n : ℕ) → n < thread_count y → durable_point w.words n ≡ 0
-  zeros n below = settled_point w (length w.harts) n settled (omega (arith, below, stands.before_commit.count))
+  pub zeros : (n : ℕ) → n < thread_count y → durable_point w.log w.words n ≡ 0
+  zeros n below = settled_point w (length w.harts) n settled (omega (arith, below, stands.machine.count))
 
   -- all threads stand between sections in what is kept
-  pub kept_between : (thread : ℕ) → is_between stands.before_commit.abstract.config.kept thread ≡ true
+  pub kept_between : (thread : ℕ) → is_between stands.abstract.config.kept thread ≡ true
   kept_between thread =
-      let b = stands.before_commit.abstract in
-      let free = (points_settle y.plan s.codes (kept_of y b) (left y s w stands) w.words (orderly y s b) (left_describes y s w stands)
+      let b = stands.abstract in
+      let free = (points_settle w.log y.plan s.codes (kept_of y b) (left y s w stands) w.words (orderly y s b) (left_describes y s w stands)
       (left_point y s w stands)).0 zeros in
       subst (λ (hs : List (Option ℕ)). holds_none hs thread ≡ true) (kept_matches y s b).holders
       (free_holds_none thread 0 (kept_of y b).holders free)
 
   -- durable variables are those that the source leaves by the kept schedule
   pub settled_variables : durable_variables w.words (flat_of y).variables
-      ≡ (after_from stands.before_commit.abstract.origin.source stands.before_commit.abstract.schedule).variables
+      ≡ (after_from stands.abstract.origin.source stands.abstract.schedule).variables
   settled_variables =
       durable_are_memory (flat_of y).variables w.words (well_formed_placed (flat_of y) s.plan.formed).room
       ∙ (settled_is_kept y s w stands zeros).durable
@@ -57,12 +57,12 @@ module _ (y : System) (s : IsSystem y) (w : World) (steps : Steps) {r : ℕ → 
   -- the kept steps are those of the abstract run, and lead to what is kept there
   pub kept_runs : IsRunnable (translation_of y) steps.kept
   kept_runs =
-      let b = resumes.stands.before_commit.abstract in
+      let b = resumes.stands.abstract in
       ap₂ runs_from (sym resumes.counted.begins) resumes.counted.kept ∙ (resumed y s b).resumed.kept.runs
 
-  pub kept_is : source (translation_of y) steps.kept ≡ resumes.stands.before_commit.abstract.config.kept
+  pub kept_is : source (translation_of y) steps.kept ≡ resumes.stands.abstract.config.kept
   kept_is =
-      let b = resumes.stands.before_commit.abstract in
+      let b = resumes.stands.abstract in
       ap₂ after_from (sym resumes.counted.begins) resumes.counted.kept ∙ (resumed y s b).resumed.kept.is
 
 pub settled_machines_are_kept : MachinesResume → SettledMachinesAreKept

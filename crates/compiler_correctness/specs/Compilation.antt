@@ -52,7 +52,8 @@ sections_released c events hart = released_count c.runs.program (first_world c.r
 -- the event after those makes the durable point of the hart 0, which it wasn't
 abbrev pub ends_at_point : Translation → List Event → Event → (hart : ℕ) → Bool
 ends_at_point c events event hart =
-    not (durable_point (world c events).words hart == 0) && (durable_point (after_event c.runs.program (world c events) event).words hart == 0)
+    not (durable_point (world c events).log (world c events).words hart == 0)
+    && (durable_point (after_event c.runs.program (world c events) event).log (after_event c.runs.program (world c events) event).words hart == 0)
 
 -- each section that a hart has left is kept, and at most one more of its thread; a section is kept by the event that makes its hart's durable point 0
 pub record AreSectionsKept (c : Translation) (events : List Event) : Type 0 where
@@ -108,15 +109,16 @@ pub record IsRecorded (c : Translation) (events : List Event) (h : ℕ) (hart : 
   -- what it holds that executes instructions, in recovery too, or has ended
   pub locks_agree : IsOn hart → HoldsAsThread c (world c events) (now c events) h
   -- the hart's record is the set that its thread holds by the kept schedule
-  pub record_is : (lock : ℕ) → (has_lock (record_of (world c events).words h) lock ≡ true) ↔ ThreadHolds (source c (steps c events).kept) h lock
+  pub record_is : (lock : ℕ) → (has_lock (record_of (world c events).log (world c events).words h) lock ≡ true)
+      ↔ ThreadHolds (source c (steps c events).kept) h lock
   -- the hart's record shares no lock with another's
-  pub apart : (g lock : ℕ) → g < length c.runs.program → g ≢ h → has_lock (record_of (world c events).words h) lock ≡ true →
-      has_lock (record_of (world c events).words g) lock ≡ false
+  pub apart : (g lock : ℕ) → g < length c.runs.program → g ≢ h → has_lock (record_of (world c events).log (world c events).words h) lock ≡ true →
+      has_lock (record_of (world c events).log (world c events).words g) lock ≡ false
   -- in recovery a hart takes its locks and never waits for one
   pub takes : hart.phase ≡ Take → reply_to c.runs.program (world c events) (Step h) ≡ Moved
   -- the hart's points, the live and the durable one, name resume addresses
-  pub live_point : NamesResume c h (live_at (world c events).words (point_at h))
-  pub durable_point_names : NamesResume c h (durable_point (world c events).words h)
+  pub live_point : NamesResume c h (live_at (world c events).words (point_at (world c events).log h))
+  pub durable_point_names : NamesResume c h (durable_point (world c events).log (world c events).words h)
 
 pub record AreRecords (c : Translation) (events : List Event) : Type 0 where
   -- the source can be stepped by all kept steps, and after them by those begun since
@@ -152,10 +154,10 @@ pub record HasEnded (s : m.State) (thread : ℕ) : Type 0 where
 -- between sections a thread has no point
 pub record IsWhole (c : Translation) (events : List Event) (h : ℕ) (hart : Hart) : Type 0 where
   pub ended : hart.phase ≡ Ended → HasEnded (source c (now c events)) h
-  pub no_live_point : IsOutside (world c events) h hart → live_at (world c events).words (point_at h) ≡ 0
-  pub no_durable_point : IsOutside (world c events) h hart → durable_point (world c events).words h ≡ 0
+  pub no_live_point : IsOutside (world c events) h hart → live_at (world c events).words (point_at (world c events).log h) ≡ 0
+  pub no_durable_point : IsOutside (world c events) h hart → durable_point (world c events).log (world c events).words h ≡ 0
   -- a hart whose record has no lock has no durable point
-  pub recorded : record_of (world c events).words h ≡ [] → durable_point (world c events).words h ≡ 0
+  pub recorded : record_of (world c events).log (world c events).words h ≡ [] → durable_point (world c events).log (world c events).words h ≡ 0
 
 abbrev pub AreWhole : Translation → List Event → Type 0
 AreWhole c events = (h : ℕ) (hart : Hart) → slice_get (world c events).harts h ≡ Some hart → IsWhole c events h hart

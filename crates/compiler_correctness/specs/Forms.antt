@@ -82,7 +82,7 @@ module _ (c : Translation) (thread : ℕ) (text : f.Thread) (part : Part) (held 
 
   -- what registers hold at the entry of a node, where the thread's locals have these numbers and its point names this side
   pub record HoldLocals (node side : ℕ) (locals : List ℤ) (values : List ℕ) : Type 0 where
-    pub at_side : IsOnSide side values
+    pub at_side : IsOnSide c.runs.log side values
     pub count : length locals ≡ length text.locals
     pub live : (local : ℕ) (k : Kind) → slice_get text.locals local ≡ Some k → IsLive (lowered c.flat) local node →
         Carries values (slice_index registers local) (typed k (slice_index_or locals local (pos 0)))
@@ -90,14 +90,15 @@ module _ (c : Translation) (thread : ℕ) (text : f.Thread) (part : Part) (held 
   -- From the one address to the other stands the boundary after which the thread is at a node, where it may be resumed at an address. Whatever its locals are,
   -- the code leads from the one to the other, and what is seen of that is the boundary: the side that the point doesn't name gets the mutexes held before the
   -- node and the live registers, all is cleaned, a FENCE, the point gets the address and the number of that side and is cleaned, a FENCE. Where no mutex is
-  -- held the point gets 0, and no side anything.
+  -- held the point gets 0, and neither side gets anything.
   pub record StandsBoundary (entered node from to resume : ℕ) (first : List Observation) : Type 0 where
     pub live : List ℕ
     pub are_live : (register : ℕ) → Contains live register ↔ IsLiveRegister node register
     pub leads : (s : MarkedEnvironment) → Meets (program_at c.runs.program thread (marks_of c thread) (resumes_of c thread)) s →
         (side : ℕ) (locals : List ℤ) (x : List ℕ) → HoldLocals entered side locals x →
         (steps : ℕ) × (y : List ℕ) × Trace s steps (config x from) (first ++ boundary_observations
-        (record { thread = thread; locks = locks_held (slice_index_or held (node - part.first) []); live = live; resume = pos 0 }) side resume x) (config y to)
+        (record { log = c.runs.log; thread = thread; locks = locks_held (slice_index_or held (node - part.first) []); live = live; resume = pos 0 }) side resume
+        x) (config y to)
 
   -- the boundaries of a node
   pub record HasBoundaries (s : Sites) (node : ℕ) : Type 0 where

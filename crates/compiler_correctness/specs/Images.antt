@@ -3,7 +3,7 @@ use Rattle.std.specs.Prelude.{◌≡◌, ℕ, ◌+◌, ◌*◌, ◌/◌, ◌<◌
 use Rattle.ido_base.specs.declared.event.Event.{Event}
 use Rattle.ido_base.specs.declared.event.Event.TheVariants.{Crash}
 use Rattle.ido_base.specs.Words.{durable_value, word_of, word_at}
-use Rattle.ido_base.specs.Layout.{variable_lines, log_lines, spread_words}
+use Rattle.ido_base.specs.Layout.{variable_lines, log_words, spread_words}
 use Rattle.c_tree.specs.Source.{is_between}
 use Rattle.rv64_isa.specs.Machine.{World, after_crash_of, after_events}
 use Rattle.rv64_isa.specs.Schedule.{Steps, steps_along, first_steps, is_settled}
@@ -24,7 +24,7 @@ image_of c events = record { words = map durable_value (world c events).words; k
 module _ (c : Translation) (image : Image) where
   -- power returns over its words: no lock is held, nothing is queued, and each hart that has a point is about to take its locks
   abbrev pub first_from : World
-  first_from = after_crash_of c.runs.program c.runs.mutexes image.words
+  first_from = after_crash_of c.runs.log c.runs.program c.runs.mutexes image.words
 
   -- the machine after the events
   abbrev pub world_from : List Event → World
@@ -71,5 +71,5 @@ StayBetween c events = (word : ℕ) → variable_words c ≤ word → word < 8 *
 
 -- the image's file has the words of the variables and a log for each thread, and is all of the image
 pub record IsInFile (c : Translation) (image : Image) : Type 0 where
-  pub size : length (file_of c image).words ≡ variable_words c + 8 * log_lines * length c.runs.program
+  pub size : length (file_of c image).words ≡ variable_words c + log_words c.runs.log * length c.runs.program
   pub is_all : image_in c (file_of c image) ≡ image

@@ -1,18 +1,22 @@
 -- What a step of a hart adds to the machine's account.
-use Rattle.std.proofs.Common.{◌≡◌, ◌≢◌, refl, ℕ, suc, ◌+◌, ◌<◌, List, [], ◌∷◌, ◌++◌, length, sym, ◌∙◌, ap, arith, Bool, true, false}
+use Rattle.std.proofs.Common.{◌≡◌, ◌≢◌, refl, ℕ, suc, ◌+◌, ◌<◌, List, [], ◌∷◌, ◌++◌, length, sym, ◌∙◌, ap, subst, arith, Bool, true, false}
 use Rattle.std.specs.Prelude.{if◌then◌else◌, not, ◌&&◌}
 use Rattle.std.proofs.lemmas.Bool.{true≢false}
 use Rattle.std.proofs.lemmas.List.{get_or-set_same, get_or-set_other, length-set}
 use Rattle.ido_base.specs.Words.{last_position}
+use Rattle.c_tree.specs.Source.{ended_from}
+use Rattle.rv64_isa.specs.declared.phase.Phase.TheVariants.{Done}
 use Rattle.rv64_isa.specs.Machine.{World}
+use Rattle.hart_runs.specs.Calls.{IsInPhase}
 use Rattle.rv64_isa.specs.Schedule.{HartSteps, Steps, no_steps, hart_steps, with_begun, with_bound}
 use Rattle.recovery_semantics.specs.Events.{steps_begun}
 use Rattle.log_states.specs.Logs.{point_in}
 use Rattle.crash_simulation.specs.Systems.{System}
 use Rattle.crash_simulation.specs.AbstractRuns.{AbstractRun}
 use Rattle.crash_simulation.specs.ThreadGhosts.{ThreadGhost}
-use Rattle.crash_simulation.specs.InstructionSteps.{is_bound}
-use Rattle.crash_simulation.specs.AccountRelation.{IsCountedOf}
+use Rattle.crash_simulation.specs.InstructionSteps.{is_bound, is_leaving, SaysSame}
+use Rattle.crash_simulation.specs.AccountRelation.{IsCountedOf, IsAccountedOf, AreCounted, Beginning}
+use Rattle.crash_simulation.specs.ReleasedSections.{one_if, sections_kept, IsReleasedOf, in_step, cut_off}
 
 -- ---- The account after a step that begins a step of the source, or stores the thread's point at that position
 
@@ -80,27 +84,76 @@ other_is true true h position n s other =
 
 -- ---- A thread that doesn't step
 
-pub still_counted : (y : System) (w v : World) (b next : AbstractRun y) (n : ℕ) (c : ThreadGhost) (one : HartSteps) → IsCountedOf y w b n c one →
-    steps_begun next.config n ≡ steps_begun b.config n →
-    (is_bound c ≡ true → last_position (point_in v.words n) ≡ last_position (point_in w.words n)) → IsCountedOf y v next n c one
-still_counted y w v b next n c one counted begun stays = record {
-  free = λ e. let o = counted.free e in (o.0 ∙ sym begun, o.1);
-  bound = λ e.
-      let o = counted.bound e in
-      let position = stays e in
-      (o.0, o.1 ∙ (λ i. record { position = (sym position) i; steps = (sym begun) i } ∷ []));
-}
+-- the thread has begun and kept what it had, its point is where it was, and it has stopped where it had
+pub record LeavesAccount (y : System) (w v : World) (b next : AbstractRun y) (n : ℕ) (old new : ThreadGhost) : Type 0 where
+  pub bound : is_bound new ≡ is_bound old
+  pub leaving : is_leaving new ≡ is_leaving old
+  pub begun : steps_begun next.config n ≡ steps_begun b.config n
+  pub sections : sections_kept y next n ≡ sections_kept y b n
+  pub last : is_bound old ≡ true → last_position (point_in v.log v.words n) ≡ last_position (point_in w.log w.words n)
+  pub done : IsInPhase w n Done → IsInPhase v n Done
+
+module _ (y : System) {w v : World} {b next : AbstractRun y} (n : ℕ) {old new : ThreadGhost} (leaves : LeavesAccount y w v b next n old new) where
+  released_still : {was is : ℕ} → is ≡ was → IsReleasedOf y w b n old was → IsReleasedOf y v next n new is
+  released_still many (in_step e) = in_step (leaves.sections ∙ (e ∙ (λ i. (sym many) i + one_if ((sym leaves.leaving) i))))
+  released_still many (cut_off i e) = cut_off (leaves.done i) (leaves.sections ∙ (e ∙ ap suc (sym many)))
+
+  pub still_accounted : {steps one : HartSteps} {was is : ℕ} → one ≡ steps → is ≡ was → IsAccountedOf y w b n old steps was →
+      IsAccountedOf y v next n new one is
+  still_accounted {steps} same many a = record {
+    counted = subst (λ (z : HartSteps). IsCountedOf y v next n new z) (sym same) (record {
+      free = λ e. let o = a.counted.free (sym leaves.bound ∙ e) in (o.0 ∙ sym leaves.begun, o.1);
+      bound = λ e.
+          let was = sym leaves.bound ∙ e in
+          let o = a.counted.bound was in
+          let position = leaves.last was in
+          (o.0, o.1 ∙ (λ i. record { position = (sym position) i; steps = (sym leaves.begun) i } ∷ []));
+    });
+    released = released_still many a.released;
+  }
+
+-- of two abstract runs the same is begun and kept
+pub record AreAlike (y : System) (b next : AbstractRun y) : Type 0 where
+  pub source : next.origin.source ≡ b.origin.source
+  pub schedule : next.schedule ≡ b.schedule
+  pub uncommitted : next.config.uncommitted ≡ b.config.uncommitted
+
+-- where no thread steps, the whole account stays
+module _ (y : System) {w v : World} {b next : AbstractRun y} {ghosts others : ℕ → ThreadGhost} (alike : AreAlike y b next)
+    (same : (n : ℕ) → SaysSame (others n) (ghosts n)) (done : (n : ℕ) → IsInPhase w n Done → IsInPhase v n Done)
+    (last : (n : ℕ) → last_position (point_in v.log v.words n) ≡ last_position (point_in w.log w.words n)) where
+  sections_stay : (n : ℕ) → sections_kept y next n ≡ sections_kept y b n
+  sections_stay n = λ i. ended_from (alike.source i) (alike.schedule i) n
+
+  pub account_stays : {g : Beginning} {steps : Steps} {r later : ℕ → ℕ} → ((n : ℕ) → later n ≡ r n) → AreCounted y g w b ghosts steps r →
+      AreCounted y g v next others steps later
+  account_stays {g} many counted = record {
+    begins = alike.source ∙ counted.begins;
+    kept = counted.kept ∙ ap (λ (us : List ℕ). g.kept ++ us) (sym alike.schedule);
+    pending = counted.pending ∙ sym alike.uncommitted;
+    count = counted.count;
+    each = λ n below. still_accounted y n (record {
+      bound = (same n).bound;
+      leaving = (same n).leaving;
+      begun = ap (λ (us : List ℕ). steps_begun (record b.config { uncommitted = us }) n) alike.uncommitted;
+      sections = sections_stay n;
+      last = λ e. last n;
+      done = done n;
+    }) refl (many n) (counted.each n below);
+    beyond = λ n outside. sections_stay n ∙ (counted.beyond n outside ∙ sym (many n));
+  }
 
 -- ---- The thread that steps
 
 abbrev pub more_by : Bool → ℕ → ℕ
 more_by begun n = if begun then suc n else n
 
-module _ (y : System) (w v : World) (b next : AbstractRun y) (h : ℕ) (old new : ThreadGhost) (one : HartSteps) (counted : IsCountedOf y w b h old one)
+module _ (y : System) {w : World} (v : World) {b : AbstractRun y} (next : AbstractRun y) (h : ℕ) {old : ThreadGhost} (new : ThreadGhost) {one : HartSteps}
+    (counted : IsCountedOf y w b h old one)
     (bound : is_bound old ≡ true → is_bound new ≡ true)
-    (stays : is_bound old ≡ true → last_position (point_in v.words h) ≡ last_position (point_in w.words h)) where
+    (stays : is_bound old ≡ true → last_position (point_in v.log v.words h) ≡ last_position (point_in w.log w.words h)) where
   abbrev position : ℕ
-  position = last_position (point_in v.words h)
+  position = last_position (point_in v.log v.words h)
 
   abbrev IsOwn : Bool → Bool → Type 0
   IsOwn begun points = IsCountedOf y v next h new (own_by begun points position one)

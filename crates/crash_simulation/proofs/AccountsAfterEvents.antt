@@ -3,6 +3,7 @@ use Rattle.std.proofs.Common.{◌≡◌, ◌≢◌, ◌⊎◌, inl, inr, refl, �
 use Rattle.std.proofs.Common.{ap, ap₂, subst, true, false, Option, Some, None}
 use Rattle.std.specs.Prelude.{slice_get}
 use Rattle.std.proofs.lemmas.Bool.{true≢false}
+use Rattle.rv64_isa.proofs.Public.{log_stays}
 use Rattle.ido_base.specs.declared.event.Event.{Event}
 use Rattle.ido_base.specs.declared.event.Event.TheVariants.{Step, Evict, Crash}
 use Rattle.ido_base.specs.Words.{last_position}
@@ -10,7 +11,7 @@ use Rattle.rv64_isa.specs.declared.phase.Phase.{Phase}
 use Rattle.rv64_isa.specs.declared.phase.Phase.TheVariants.{Take, Wait, Resume, Run, Done, Ended}
 use Rattle.rv64_isa.specs.Executables.{first_world}
 use Rattle.rv64_isa.specs.Machine.{Hart, World, stepped, happens, after_event, after_events}
-use Rattle.rv64_isa.specs.Schedule.{Steps, is_running, passes_mark, stores_point, with_step, with_all_kept, steps_after, steps_along}
+use Rattle.rv64_isa.specs.Schedule.{Steps, is_running, completing, passes_mark, stores_point, with_step, with_all_kept, steps_after, steps_along}
 use Rattle.rv64_isa.specs.Schedule.{releases_last, released_count}
 use Rattle.recovery_semantics.specs.Configs.{now}
 use Rattle.log_states.specs.Logs.{point_in}
@@ -23,14 +24,13 @@ use Rattle.recovered_threads.specs.RecordDescriptions.{Code}
 use Rattle.crash_simulation.specs.Systems.{System, IsSystem, thread_count}
 use Rattle.crash_simulation.specs.AbstractRuns.{AbstractRun, now_of}
 use Rattle.crash_simulation.specs.ThreadGhosts.{ThreadGhost, ExitInv, ThreadInv}
-use Rattle.crash_simulation.specs.SimulationRelation.{SimulatesBeforeCommit, Simulates}
+use Rattle.crash_simulation.specs.SimulationRelation.{SimulatesBut, Simulates, anybody}
 use Rattle.crash_simulation.specs.InstructionSteps.{is_bound, is_leaving, begins, IsUnlocked, was_unlocked, OnFragmentNow, IsCalling, asks, gives, ends}
-use Rattle.crash_simulation.specs.InstructionSteps.{AreSimilar, IsReadyToStep, on_fragment, calls, at_core, OwnStep}
+use Rattle.crash_simulation.specs.InstructionSteps.{IsReadyToStep, on_fragment, calls, at_core, OwnStep}
 use Rattle.crash_simulation.specs.InstructionSteps.{RunsReady, FragmentsStep, CoresStep, CallsStep, Nears, begins_step, waits, is_nearer, halts}
 use Rattle.crash_simulation.specs.AccountRelation.{AreCounted, SimulatesCounted, MachinesResume, Beginning}
 use Rattle.crash_simulation.specs.RecoveredWords.{RecoveredAreCounted}
-use Rattle.crash_simulation.specs.ReleasedSections.{one_if, sections_kept, IsReleasedOf, in_step, cut_off}
-use Rattle.crash_simulation.specs.ReleasedSections.{ended_in_machine, SectionsAreKept}
+use Rattle.crash_simulation.specs.ReleasedSections.{one_if, sections_kept, IsReleasedOf, in_step, cut_off, ended_in_machine, SectionsAreKept}
 use Rattle.crash_simulation.proofs.SectionsAfterEvents.{none_more, released_by, none_released, stays_done, phase_releases, kept_crashed}
 use Rattle.crash_simulation.proofs.LastReleases.{holders_stay_none}
 use Rattle.recovered_threads.proofs.Public.{same_or_other}
@@ -40,34 +40,35 @@ use Rattle.crash_simulation.specs.Laws.{EventsStand, RunsSimulate}
 use Rattle.crash_simulation.proofs.LoadFreeEnvironment.{none_ahead}
 use Rattle.crash_simulation.proofs.ReadyHarts.{right_empty}
 use Rattle.crash_simulation.proofs.RecordsAfterCrash.{caught_is_over}
-use Rattle.crash_simulation.proofs.SimulationInRecovery.{SimulatesStill, takes_still, waits_still, stopped_still}
+use Rattle.crash_simulation.proofs.SimulationInRecovery.{SimulatesStill, still_simulates, takes_still, waits_still, stopped_still}
 use Rattle.crash_simulation.proofs.SimulationAfterResume.{resumes_still}
 use Rattle.crash_simulation.proofs.SimulationAfterCrash as crashing
 use Rattle.crash_simulation.proofs.StepSimulation.{simulates_after, evicted_simulates}
-use Rattle.crash_simulation.proofs.LongestAttempts.{AreFurthest, led_furthest}
+use Rattle.crash_simulation.proofs.LongestAttempts.{AreFurthest, led_of}
 use Rattle.crash_simulation.proofs.CommitSimulation.{all_caught_up}
 use Rattle.crash_simulation.proofs.EndedSections.{AreSameSections, EndAsLeft, led_sections, same_end, same_then_end}
-use Rattle.crash_simulation.proofs.AccountUpdates.{begun_by, count_same}
+use Rattle.crash_simulation.proofs.AccountUpdates.{begun_by, count_same, account_stays}
 use Rattle.crash_simulation.proofs.LocksAfterStep.{own_ghost, other_ghost}
-use Rattle.crash_simulation.proofs.PointPositions.{none_there_counted, none_running_counted, none_there_begins, none_running_begins}
+use Rattle.crash_simulation.proofs.PointPositions as positions
+use Rattle.crash_simulation.proofs.PointPositions.{no_mark, nothing_counted}
 use Rattle.crash_simulation.proofs.AccountsBeforeCommit.{none_bound, recovered_counted, start_counted, crash_counted}
-use Rattle.crash_simulation.proofs.AccountsBeforeCommit.{evicted_counted, own_step_counted, similar_counted, GoesOnBy, led_now}
+use Rattle.crash_simulation.proofs.AccountsBeforeCommit.{evicted_counted, own_step_counted, GoesOnBy, led_now}
 use Rattle.std.proofs.lemmas.Option.{none-some, same_Some}
 
 -- ---- Where steps are bound, no step is begun
 
 module _ (law : FragmentsGoOn) (y : System) (s : IsSystem y) (w : World) (h : ℕ) (stands : Simulates y s w) (below : h < thread_count y) where
   abbrev b : AbstractRun y
-  b = stands.before_commit.abstract
+  b = stands.abstract
 
   abbrev code : Code y.plan
   code = s.codes.each h below
 
   abbrev c : ThreadGhost
-  c = stands.before_commit.ghosts h
+  c = stands.ghosts h
 
   abbrev t : ThreadInv y w b code c
-  t = stands.before_commit.each h below
+  t = stands.each h below
 
   abbrev PassesNone : Type 0
   PassesNone = is_bound c ≡ true → passes_mark y.runs.marks y.runs.program w h ≡ false
@@ -86,13 +87,13 @@ module _ (law : FragmentsGoOn) (y : System) (s : IsSystem y) (w : World) (h : �
       let marks : AreMarksOf y.runs.marks code.thread.number o.environment =
       sym (o.fragment.meets.marks ∙ ap (λ (p : Program). p.nodes) (code.is.of_program ∙ (s.own h below).program)) in
       subst (λ (n : ℕ). passes_mark y.runs.marks y.runs.program w n ≡ false) number
-      ((law y.plan code.thread code.is.places y.runs.program w code.thread.number o.environment stage steps (c.cleans ++ c.rest) stands.before_commit.sound
+      ((law y.plan code.thread code.is.places y.runs.program w code.thread.number o.environment stage steps (c.cleans ++ c.rest) stands.machine.sound
       fragment).1 y.runs.marks
       marks)
 
   call_passes_none : (exit : ExitPoint) → IsCalling y s w h stands below exit → ExitInv y b code c t.graph_thread exit → c.rest ≡ [] → PassesNone
   call_passes_none _ (asks mutex next) fits over = never_bound fits.goes.committed
-  call_passes_none _ (gives from mutex) fits over = never_bound (caught_is_over y w b code c t over (stands.caught_up h below))
+  call_passes_none _ (gives from mutex) fits over = never_bound (caught_is_over y w b code c t over (stands.caught_up h below (λ e. e)))
   call_passes_none _ ends fits over = never_bound fits.goes.committed
 
   passes_none : IsReadyToStep y s w h stands below → PassesNone
@@ -135,58 +136,61 @@ begun_in y w Crash = []
 -- while power stays on, the source goes on by these steps, and each attempt comes as far as any before; a thread has to give back what it had, or what its
 -- step unlocks; and a hart that executes instructions is one step nearer to its next mark by its own steps
 pub record Continues (y : System) (s : IsSystem y) (w : World) (event : Event) (old : Simulates y s w)
-    (new : SimulatesBeforeCommit y s (after_event y.runs.program w event)) : Type 0 where
-  pub source : now new.abstract.config ≡ after_from (now old.before_commit.abstract.config) (begun_in y w event)
-  pub runs : runs_from (now old.before_commit.abstract.config) (begun_in y w event) ≡ true
-  pub tried : AreFurthest old.before_commit.abstract.config → AreFurthest new.abstract.config
+    {waiting : ℕ → Type 0} (new : SimulatesBut y s (after_event y.runs.program w event) waiting) : Type 0 where
+  pub source : now new.abstract.config ≡ after_from (now old.abstract.config) (begun_in y w event)
+  pub runs : runs_from (now old.abstract.config) (begun_in y w event) ≡ true
+  pub tried : AreFurthest old.abstract.config → AreFurthest new.abstract.config
   pub unlocked : (n mutex : ℕ) → event ≡ Step n → (new.ghosts n).giving ≡ Some mutex →
-      IsUnlocked (now old.before_commit.abstract.config) n (passes_mark y.runs.marks y.runs.program w n) (old.before_commit.ghosts n).giving mutex
-  pub others : (n : ℕ) → event ≢ Step n → (new.ghosts n).giving ≡ (old.before_commit.ghosts n).giving
-  pub stays : (n : ℕ) → (event ≡ Step n → IsInPhase w n Run → ⊥) → (new.ghosts n).before_mark ≡ (old.before_commit.ghosts n).before_mark
+      IsUnlocked (now old.abstract.config) n (passes_mark y.runs.marks y.runs.program w n) (old.ghosts n).giving mutex
+  pub others : (n : ℕ) → event ≢ Step n → (new.ghosts n).giving ≡ (old.ghosts n).giving
+  pub stays : (n : ℕ) → (event ≡ Step n → IsInPhase w n Run → ⊥) → (new.ghosts n).before_mark ≡ (old.ghosts n).before_mark
   pub nears : (n : ℕ) → event ≡ Step n → IsInPhase w n Run →
-      Nears y w n (passes_mark y.runs.marks y.runs.program w n) (old.before_commit.ghosts n).before_mark (new.ghosts n).before_mark
+      Nears y w n (passes_mark y.runs.marks y.runs.program w n) (old.ghosts n).before_mark (new.ghosts n).before_mark
 
--- the machine simulates before commit, with that account of the steps then, and with what it released; sections are kept as they were
+-- the machine simulates an abstract run then, with that account of the steps and with what it released, but commits may still be to be taken; sections are
+-- kept as they were
 record Moves (y : System) (s : IsSystem y) (w : World) (event : Event) (old : Simulates y s w) (account : Steps → Steps) : Type 0 where
-  before_commit : SimulatesBeforeCommit y s (after_event y.runs.program w event)
-  counted : (g : Beginning) (steps : Steps) (r : ℕ → ℕ) → AreCounted y s g w old.before_commit steps r →
-      AreCounted y s g (after_event y.runs.program w event) before_commit (account steps) (released_by y.runs.program w event r)
-  sections : (n : ℕ) → AreSameSections y old.before_commit.abstract before_commit.abstract n
-  on : Continues y s w event old before_commit
+  next : SimulatesBut y s (after_event y.runs.program w event) anybody
+  counted : (g : Beginning) (steps : Steps) (r : ℕ → ℕ) → AreCounted y g w old.abstract old.ghosts steps r →
+      AreCounted y g (after_event y.runs.program w event) next.abstract next.ghosts (account steps) (released_by y.runs.program w event r)
+  sections : (n : ℕ) → AreSameSections y old.abstract next.abstract n
+  on : Continues y s w event old next
 
 -- the machine simulates an abstract run then, with its account and its releases, and sections of each thread end as it has left them
 pub record GoesOn (y : System) (s : IsSystem y) (w : World) (event : Event) (old : Simulates y s w) : Type 0 where
   pub next : Simulates y s (after_event y.runs.program w event)
-  pub counted : (g : Beginning) (steps : Steps) (r : ℕ → ℕ) → AreCounted y s g w old.before_commit steps r →
-      AreCounted y s g (after_event y.runs.program w event) next.before_commit (steps_after y.runs.marks y.runs.program w event steps)
+  pub counted : (g : Beginning) (steps : Steps) (r : ℕ → ℕ) → AreCounted y g w old.abstract old.ghosts steps r →
+      AreCounted y g (after_event y.runs.program w event) next.abstract next.ghosts (steps_after y.runs.marks y.runs.program w event steps)
       (released_by y.runs.program w event r)
-  pub ends : (n : ℕ) → n < thread_count y → EndAsLeft y old.before_commit.abstract next.before_commit.abstract n
-  pub on : event ≢ Crash → Continues y s w event old next.before_commit
+  pub ends : (n : ℕ) → EndAsLeft y old.abstract next.abstract n
+  pub on : event ≢ Crash → Continues y s w event old next
 
 -- what is committed then is taken so
 commits_move : (y : System) (s : IsSystem y) (w : World) (event : Event) (old : Simulates y s w) (account : Steps → Steps) →
     Moves y s w event old account →
-    ((steps : Steps) → with_all_kept (after_event y.runs.program w event).words (length (account steps).harts) (account steps)
+    ((steps : Steps) → with_all_kept w.log (after_event y.runs.program w event).words (length (account steps).harts) (account steps)
     ≡ steps_after y.runs.marks y.runs.program w event steps) → GoesOn y s w event old
-commits_move y s w event old account m is =
+commits_move y s w event old account moves is =
     let after : World = after_event y.runs.program w event in
-    let c = all_caught_up y s after m.before_commit in
+    let c = all_caught_up y s after moves.next in
+    let logs = log_stays y.runs.program w event old.machine.sound in
     record {
       next = c.stands;
       counted = λ g steps r counted.
-          subst (λ (z : Steps). AreCounted y s g after c.stands.before_commit z (released_by y.runs.program w event r)) (is steps)
-          (c.counted g (account steps) (released_by y.runs.program w event r) (m.counted g steps r counted));
-      ends = λ n below.
-          same_then_end y old.before_commit.abstract m.before_commit.abstract n c.stands.before_commit.abstract (m.sections n) (c.ends n below);
+          let made = moves.counted g steps r counted in
+          subst (λ (z : Steps). AreCounted y g after c.stands.abstract c.stands.ghosts z (released_by y.runs.program w event r))
+          ((λ i. with_all_kept (logs i) after.words ((sym made.count) i) (account steps)) ∙ is steps)
+          (c.counted g (account steps) (released_by y.runs.program w event r) made);
+      ends = λ n. same_then_end y old.abstract moves.next.abstract n c.stands.abstract (moves.sections n) (c.ends n);
       on = λ no_crash. record {
-        source = c.source ∙ m.on.source;
-        runs = m.on.runs;
-        tried = λ furthest. c.tried (m.on.tried furthest);
-        unlocked = λ n mutex own gives. m.on.unlocked n mutex own (sym (c.giving n) ∙ gives);
-        others = λ n other. c.giving n ∙ m.on.others n other;
-        stays = λ n other. c.ahead n ∙ m.on.stays n other;
+        source = c.source ∙ moves.on.source;
+        runs = moves.on.runs;
+        tried = λ furthest. c.tried (moves.on.tried furthest);
+        unlocked = λ n mutex own gives. moves.on.unlocked n mutex own (sym (c.giving n) ∙ gives);
+        others = λ n other. c.giving n ∙ moves.on.others n other;
+        stays = λ n other. c.ahead n ∙ moves.on.stays n other;
         nears = λ n own i.
-            subst (Nears y w n (passes_mark y.runs.marks y.runs.program w n) (old.before_commit.ghosts n).before_mark) (sym (c.ahead n)) (m.on.nears n own i);
+            subst (Nears y w n (passes_mark y.runs.marks y.runs.program w n) (old.ghosts n).before_mark) (sym (c.ahead n)) (moves.on.nears n own i);
       };
     }
 
@@ -222,38 +226,29 @@ module _ (ready : RunsReady) (fragments_step : FragmentsStep) (cores_step : Core
       StepMoves = Moves y s w (Step h) old (with_step y.runs.marks y.runs.program w h)
 
       -- one that counts nothing, releases nothing and leaves the abstract run
-      still_moves : SimulatesStill y s w after old → ((steps : Steps) → with_step y.runs.marks y.runs.program w h steps ≡ steps) → marked ≡ false →
-          releases_last y.runs.program w (Step h) h ≡ false → ¬ (IsInPhase w h Run) → StepMoves
-      still_moves still none unmarked releases off =
+      still_moves : SimulatesStill y s w after old → completing y.runs.program w h ≡ None → releases_last y.runs.program w (Step h) h ≡ false →
+          ¬ (IsInPhase w h Run) → StepMoves
+      still_moves still none releases off =
+          let unmarked : marked ≡ false = no_mark y.runs.marks y.runs.program w h none in
           let begun : begun_in y w (Step h) ≡ [] = ap (λ (b : Bool). begun_by b h []) unmarked in
-          let similar : AreSimilar y s old still.stands = record {
-            abstract = still.abstract;
-            same = λ n. record {
-              bound = ap is_bound (still.ghosts n);
-              leaving = ap is_leaving (still.ghosts n);
-              giving = ap (λ (c : ThreadGhost). c.giving) (still.ghosts n);
-              ahead = ap (λ (c : ThreadGhost). c.before_mark) (still.ghosts n);
-            };
-          } in
-          let state : State = now old.before_commit.abstract.config in
+          let logs = log_stays y.runs.program w (Step h) old.machine.sound in
           record {
-            before_commit = still.stands.before_commit;
+            next = still_simulates y s w h old still;
             counted = λ g steps r counted.
-                subst (λ (z : Steps). AreCounted y s g after still.stands.before_commit z (released_by y.runs.program w (Step h) r)) (sym (none steps))
-                (similar_counted y s w after old still.stands similar still.words (stays_done y.runs.program w h old.before_commit.sound) steps r
-                (released_by y.runs.program w (Step h) r) (none_released y.runs.program w h releases r) counted);
-            sections = λ n.
-                subst (λ (b : AbstractRun y). AreSameSections y old.before_commit.abstract b n) (sym still.abstract)
-                (record { sections = refl; between = refl });
+                subst (λ (z : Steps). AreCounted y g after old.abstract old.ghosts z (released_by y.runs.program w (Step h) r))
+                (sym (nothing_counted y.runs.marks y.runs.program w h none steps))
+                (account_stays y (record { source = refl; schedule = refl; uncommitted = refl })
+                (λ n. record { bound = refl; leaving = refl; giving = refl; ahead = refl }) (stays_done y.runs.program w h old.machine.sound)
+                (λ n i. last_position (point_in (logs i) (still.words i) n)) (none_released y.runs.program w h releases r) counted);
+            sections = λ n. record { sections = refl; between = refl };
             on = record {
-              source = ap (λ (b : AbstractRun y). now b.config) still.abstract ∙ ap (after_from state) (sym begun);
-              runs = ap (runs_from state) begun;
-              tried = subst (λ (b : AbstractRun y). AreFurthest b.config) (sym still.abstract);
+              source = ap (after_from (now old.abstract.config)) (sym begun);
+              runs = ap (runs_from (now old.abstract.config)) begun;
+              tried = λ furthest. furthest;
               unlocked = λ n mutex is gives.
-                  was_unlocked (subst (λ (k : ℕ). passes_mark y.runs.marks y.runs.program w k ≡ false) (step_of h n is) unmarked)
-                  (sym ((similar.same n).giving) ∙ gives);
-              others = λ n other. (similar.same n).giving;
-              stays = λ n other. (similar.same n).ahead;
+                  was_unlocked (subst (λ (k : ℕ). passes_mark y.runs.marks y.runs.program w k ≡ false) (step_of h n is) unmarked) gives;
+              others = λ n other. refl;
+              stays = λ n other. refl;
               nears = λ n is i. absurd (off (subst (λ (k : ℕ). IsInPhase w k Run) (sym (step_of h n is)) i));
             };
           }
@@ -262,29 +257,31 @@ module _ (ready : RunsReady) (fragments_step : FragmentsStep) (cores_step : Core
       runs_move i =
           let r = ready y s w h old i in
           let o = own_by y s w h r.stands r.below i r.ready in
-          let ghosts = r.stands.before_commit.ghosts in
-          let then : SimulatesBeforeCommit y s after = simulates_after y s w h r.stands i o in
+          let ghosts = r.stands.ghosts in
+          let later : SimulatesBut y s after anybody = simulates_after y s w h r.stands i o in
           let marks : begins o.led ≡ marked = sym o.counted.marks in
           let on =
           coe 0 1 (j. GoesOnBy (now (r.similar.abstract j).config) (now o.next.config) (begun_by (marks j) h []))
-          (led_now y s r.stands.before_commit.abstract h o.next o.led) in
+          (led_now y s r.stands.abstract h o.next o.led) in
           record {
-            before_commit = then;
+            next = later;
             counted = λ g steps releases counted.
-                own_step_counted y s w h r.stands i o steps releases (similar_counted y s w w old r.stands r.similar refl (λ n d. d) steps releases
-                releases (λ n. refl) counted)
-                (passes_none law y s w h r.stands r.below r.ready);
+                own_step_counted y s w h r.stands i o (account_stays y (record {
+                  source = ap (λ (b : AbstractRun y). b.origin.source) r.similar.abstract;
+                  schedule = ap (λ (b : AbstractRun y). b.schedule) r.similar.abstract;
+                  uncommitted = ap (λ (b : AbstractRun y). b.config.uncommitted) r.similar.abstract;
+                }) r.similar.same (λ n d. d) (λ n. refl) (λ n. refl) counted) (passes_none law y s w h r.stands r.below r.ready);
             sections = λ n.
                 subst (λ (b : AbstractRun y). AreSameSections y b o.next n) r.similar.abstract
-                (led_sections y r.stands.before_commit.abstract h o.next o.led n);
+                (led_sections y r.stands.abstract h o.next o.led n);
             on = record {
               source = on.0;
               runs = on.1;
-              tried = λ furthest. led_furthest y r.stands.before_commit.abstract h o.next o.led
+              tried = λ furthest. (led_of y r.stands.abstract h o.next o.led).config.tried
                   (subst (λ (b : AbstractRun y). AreFurthest b.config) (sym r.similar.abstract) furthest);
               unlocked = λ n mutex is.
-                  subst (λ (k : ℕ). (then.ghosts k).giving ≡ Some mutex → IsUnlocked (now old.before_commit.abstract.config) k
-                  (passes_mark y.runs.marks y.runs.program w k) (old.before_commit.ghosts k).giving mutex) (step_of h n is)
+                  subst (λ (k : ℕ). (later.ghosts k).giving ≡ Some mutex → IsUnlocked (now old.abstract.config) k
+                  (passes_mark y.runs.marks y.runs.program w k) (old.ghosts k).giving mutex) (step_of h n is)
                   (λ gives. coe 0 1 (j. IsUnlocked (now (r.similar.abstract j).config) h (marks j) ((r.similar.same h).giving j) mutex)
                   (o.counted.unlocked mutex (ap (λ (c : ThreadGhost). c.giving) (sym (own_ghost ghosts h o.ghost)) ∙ gives)));
               others = λ n other.
@@ -293,8 +290,8 @@ module _ (ready : RunsReady) (fragments_step : FragmentsStep) (cores_step : Core
                   ap (λ (c : ThreadGhost). c.before_mark) (other_ghost ghosts h o.ghost n
                   (λ same. other (ap Step (sym same)) (subst (λ (k : ℕ). IsInPhase w k Run) (sym same) i))) ∙ (r.similar.same n).ahead;
               nears = λ n is running.
-                  subst (λ (k : ℕ). Nears y w k (passes_mark y.runs.marks y.runs.program w k) (old.before_commit.ghosts k).before_mark
-                  (then.ghosts k).before_mark) (step_of h n is)
+                  subst (λ (k : ℕ). Nears y w k (passes_mark y.runs.marks y.runs.program w k) (old.ghosts k).before_mark
+                  (later.ghosts k).before_mark) (step_of h n is)
                   (nears_by y w h o.counted.marks ((r.similar.same h).ahead) (ap (λ (c : ThreadGhost). c.before_mark) (own_ghost ghosts h o.ghost))
                   o.counted.nears);
             };
@@ -302,8 +299,7 @@ module _ (ready : RunsReady) (fragments_step : FragmentsStep) (cores_step : Core
 
       idle_moves : (phase : Phase) → is_running phase ≡ false → IsInPhase w h phase → SimulatesStill y s w after old → StepMoves
       idle_moves phase off i still =
-          still_moves still (λ steps. none_running_counted y.runs.marks y.runs.program w h steps i.hart phase i.here i.phase_is off)
-          (none_running_begins y.runs.marks y.runs.program w h i.hart phase i.here i.phase_is off) (phase_releases y.runs.program w h phase off i)
+          still_moves still (positions.not_running y.runs.program w h i.hart phase i.here i.phase_is off) (phase_releases y.runs.program w h phase off i)
           (not_running w h i.hart i.here phase i.phase_is off)
 
       in_phase_moves : (phase : Phase) → IsInPhase w h phase → StepMoves
@@ -317,25 +313,25 @@ module _ (ready : RunsReady) (fragments_step : FragmentsStep) (cores_step : Core
       step_moves : (o : Option Hart) → slice_get w.harts h ≡ o → StepMoves
       step_moves None none =
           still_moves (subst (λ (v : World). SimulatesStill y s w v old) (not_there y w h none)
-          (record { stands = old; abstract = refl; ghosts = λ n. refl; words = refl }))
-          (λ steps. none_there_counted y.runs.marks y.runs.program w h steps none) (none_there_begins y.runs.marks y.runs.program w h none)
+          (record { words = refl; each = old.each; locks = old.locks }))
+          (positions.not_there y.runs.program w h none)
           (holders_stay_none y.runs.program w h (ap (λ (v : World). v.holders) (sym (not_there y w h none))))
           (λ i. none-some i.hart (sym none ∙ i.here))
       step_moves (Some hart) here = in_phase_moves hart.phase (record { hart = hart; here = here; phase_is = refl })
 
       step_counts : (steps : Steps) →
-          with_all_kept after.words (length (with_step y.runs.marks y.runs.program w h steps).harts) (with_step y.runs.marks y.runs.program w h steps)
+          with_all_kept w.log after.words (length (with_step y.runs.marks y.runs.program w h steps).harts) (with_step y.runs.marks y.runs.program w h steps)
           ≡ steps_after y.runs.marks y.runs.program w (Step h) steps
       unfolding steps_after
       step_counts steps =
-          ap (λ (n : ℕ). with_all_kept after.words n (with_step y.runs.marks y.runs.program w h steps))
-          (count_same marked (stores_point y.runs.program w (Step h) h) h (last_position (point_in after.words h)) steps)
+          ap (λ (n : ℕ). with_all_kept w.log after.words n (with_step y.runs.marks y.runs.program w h steps))
+          (count_same marked (stores_point y.runs.program w (Step h) h) h (last_position (point_in w.log after.words h)) steps)
 
     -- ---- Whatever happens
 
     eviction_moves : (y : System) (s : IsSystem y) (w : World) (line mask : ℕ) (old : Simulates y s w) → Moves y s w (Evict line mask) old (λ steps. steps)
     eviction_moves y s w line mask old = record {
-      before_commit = evicted_simulates y s w line mask old;
+      next = evicted_simulates y s w line mask old;
       counted = λ g steps r counted. evicted_counted y s w line mask old steps r counted;
       sections = λ n. record { sections = refl; between = refl };
       on = record {
@@ -350,7 +346,7 @@ module _ (ready : RunsReady) (fragments_step : FragmentsStep) (cores_step : Core
     }
 
     evict_counts : (y : System) (w : World) (line mask : ℕ) (steps : Steps) →
-        with_all_kept (after_event y.runs.program w (Evict line mask)).words (length steps.harts) steps
+        with_all_kept w.log (after_event y.runs.program w (Evict line mask)).words (length steps.harts) steps
         ≡ steps_after y.runs.marks y.runs.program w (Evict line mask) steps
     unfolding steps_after
     evict_counts y w line mask steps = refl
@@ -364,8 +360,8 @@ module _ (ready : RunsReady) (fragments_step : FragmentsStep) (cores_step : Core
     event_goes_on y s w Crash old = record {
       next = crashing.stands_after y s w old;
       counted = λ g steps r counted. crash_counted y s w old steps r counted;
-      ends = λ n below.
-          same_end y old.before_commit.abstract (crashing.stands_after y s w old).before_commit.abstract n
+      ends = λ n.
+          same_end y old.abstract (crashing.stands_after y s w old).abstract n
           (record { sections = kept_crashed y s w old n; between = refl });
       on = λ none. absurd (none refl);
     }
@@ -449,7 +445,7 @@ module _ (ready : RunsReady) (fragments_step : FragmentsStep) (cores_step : Core
     unfolding IsNear
     sections_are_kept y s events h =
         let z = machines_resume y s events in
-        let t = z.stands.before_commit in
+        let t = z.stands in
         let w : World = after_events y.runs.program (first_world y.runs) events in
         let near : IsNear (ended_in_machine y events h) (sections_kept y t.abstract h) = elim (below_or_not h (thread_count y)) [
           | inl below ↦ near_of y w t.abstract h (t.ghosts h) (ended_in_machine y events h) (z.counted.each h below).released

@@ -1,11 +1,12 @@
 -- Boundaries that a thread's code begins: they can be recovered from, and their records describe the state.
-use Rattle.std.proofs.Common.{◌≡◌, ◌≢◌, refl, ℕ, zero, suc, ◌+◌, ◌-◌, ◌*◌, ◌%◌, ◌^◌, ◌<◌, ◌≤◌, List, [], ◌∷◌, length, map, sym, ◌∙◌}
-use Rattle.std.proofs.Common.{ap, subst, arith, Option, Some, true}
-use Rattle.std.specs.Prelude.{slice_get, slice_index, sum_by, take, Bool, false, None, ℤ, nat_le, ◌/◌, ◌==◌, ◌&&◌, if◌then◌else◌}
+use Rattle.std.proofs.Common.{◌≡◌, ◌≢◌, refl, ℕ, zero, suc, ◌+◌, ◌-◌, ◌*◌, ◌%◌, ◌^◌, ◌<◌, ◌≤◌, List, [], ◌∷◌, length, map, sym, ◌∙◌, ap, subst, arith, Option}
+use Rattle.std.proofs.Common.{Some, true}
 use Rattle.std.proofs.lemmas.Bool.{and_parts, leb-true, eqb-true}
 use Rattle.std.proofs.lemmas.Bool.Decides.{nat_tests}
 use Rattle.std.proofs.lemmas.Option.{none-some, slice_get_within}
 use Rattle.std.proofs.lemmas.List.{length-map}
+use Rattle.std.specs.Prelude.{slice_get, slice_index, sum_by, take, Bool, false, None, ℤ, nat_le, ◌/◌, ◌==◌, ◌&&◌, if◌then◌else◌}
+use Rattle.ido_base.specs.declared.log.Log.TheVariants.{V1}
 use Rattle.ido_base.specs.Layout.{in_range, variable_at}
 use Rattle.ido_ints.specs.declared.kinds.Kind.{Kind}
 use Rattle.ido_ints.specs.Kinds.{bytes_of}
@@ -17,11 +18,11 @@ use Rattle.c_tree.specs.Source.{Pending}
 use Rattle.c_tree.specs.WellFormed.{shape_of}
 use Rattle.c_ranges.specs.RunInvariants.{IsThreadOf, IsStoreInRange}
 use Rattle.c_ranges.proofs.Public.{zip_found}
+use Rattle.rv64_isa.specs.Programs.{code_base, code_start, code_of}
 use Rattle.rv64_isa.specs.declared.instr.Instr.{Instr}
 use Rattle.rv64_isa.specs.Rows.{read}
 use Rattle.rv64_isa.specs.declared.object.Slot.{Slot}
 use Rattle.rv64_isa.specs.Machine.{World}
-use Rattle.rv64_isa.specs.Programs.{code_base, code_start, code_of}
 use Rattle.rv64_link.specs.LinkedCode.{IsInstructionAt}
 use Rattle.operator_code.specs.ComputingCode.{Carries}
 use Rattle.boundary_code.specs.Boundaries.{Boundary}
@@ -29,7 +30,7 @@ use Rattle.boundary_code.proofs.Public.{on_side_small, stays_on_side}
 use Rattle.code_runs.specs.ComputingRuns.{LocalConfig, config}
 use Rattle.code_runs.specs.CodeTraces.{Program, MarkedEnvironment, Meets, Trace}
 use Rattle.hart_runs.specs.HartsOnRuns.{Agrees, instr_of, instr_at}
-use Rattle.flow_graph.specs.Nodes.{Action, Eval, Store, Test, Lock, Unlock, End, Node, Graph}
+use Rattle.flow_graph.specs.Nodes.{Action, Store, Node, Graph}
 use Rattle.flow_graph.specs.Lowering.{lowered}
 use Rattle.flow_graph.specs.IdempotentCuts.{stores}
 use Rattle.flow_graph.specs.Liveness.{NodeAt}
@@ -74,28 +75,24 @@ module _ (y : System) (s : IsSystem y) (n : ℕ) (below : n < thread_count y) wh
 
   pub stands_in : (address : ℕ) (instr : Instr) → IsInstructionAt c.program.start c.program.code address instr → IsAddress address
   stands_in address instr st =
-      let within = slice_get_within c.program.code st.0 _ st.2 in
-      subst (λ (a : ℕ). IsAddress a) (sym st.1) (in_code st.0 (omega (arith, within)))
+      subst (λ (a : ℕ). IsAddress a) (sym st.1) (in_code st.0 (omega (arith, slice_get_within c.program.code st.0 _ st.2)))
 
   -- where a thread is resumed after an unlock
   pub after_unlock_in : (from mutex next : ℕ) → IsUnlockOf y.plan code.thread from mutex next → IsAddress (c.after from)
   after_unlock_in from mutex next u =
       let calls = subst (λ (a : Action). IsCalling y.plan code.thread c a from) u.unlocks (code.is.code from u.is u.own u.at).calls in
       let st = calls.0 in
-      let within = slice_get_within c.program.code st.0 _ st.2 in
-      let place = st.1 in
       let after = calls.2 in
-      subst (λ (a : ℕ). IsAddress a) (let e : c.program.start + 4 * suc st.0 ≡ c.after from = omega (arith, place, after) in e)
-      (in_code (suc st.0) (omega (arith, within)))
+      subst (λ (a : ℕ). IsAddress a) (let e : c.program.start + 4 * suc st.0 ≡ c.after from = omega (arith, after) in e)
+      (in_code (suc st.0) (omega (arith, slice_get_within c.program.code st.0 _ st.2)))
 
   -- ---- Entries of nodes
 
   entries : (j : ℕ) → code.thread.part.first + j ≤ code.thread.part.end → (k : ℕ) × (c.entry (code.thread.part.first + j) ≡ c.program.start + 4 * k)
   entries zero within =
       let first : code.thread.part.first + 0 ≡ code.thread.part.first = omega arith in
-      let begins = ap (λ (p : Program). p.start) code.is.of_program in
       let at : c.entry (code.thread.part.first + 0) ≡ code.program.start = ap c.entry first ∙ code.is.begins in
-      (0, omega (arith, at, begins))
+      (0, omega (arith, at, ap (λ (p : Program). p.start) code.is.of_program))
   entries (suc j) within =
       let before = entries j (omega (arith, within)) in
       let own : IsNodeOf code.thread (code.thread.part.first + j) = record { from_first = omega arith; below_end = omega (arith, within) } in
@@ -103,8 +100,7 @@ module _ (y : System) (s : IsSystem y) (n : ℕ) (below : n < thread_count y) wh
       let at : c.entry (code.thread.part.first + suc j) ≡ c.entry (code.thread.part.first + j) + 4 * c.words (code.thread.part.first + j) =
       ap c.entry (sym next) ∙ code.is.follows (code.thread.part.first + j) own in
       let k = before.0 in
-      let is = before.1 in
-      (k + c.words (code.thread.part.first + j), omega (arith, at, is))
+      (k + c.words (code.thread.part.first + j), omega (arith, at))
 
   -- no node's entry is after the code's end
   persists : (d node : ℕ) → code.thread.part.first ≤ node → node + d ≡ code.thread.part.end → c.entry node ≤ c.entry code.thread.part.end
@@ -118,16 +114,14 @@ module _ (y : System) (s : IsSystem y) (n : ℕ) (below : n < thread_count y) wh
   pub entry_in : (node : ℕ) → IsNodeOf code.thread node → IsAddress (c.entry node)
   entry_in node own =
       let from = own.from_first in
-      let within = own.below_end in
       let there : code.thread.part.first + (node - code.thread.part.first) ≡ node = omega (arith, from) in
-      let at = entries (node - code.thread.part.first) (omega (arith, from, within)) in
+      let at = entries (node - code.thread.part.first) (omega (arith, from)) in
       let k = at.0 in
       let is : c.entry node ≡ c.program.start + 4 * k = ap c.entry (sym there) ∙ at.1 in
-      let most = persists (code.thread.part.end - node) node from (omega (arith, within)) in
-      let ends = code.is.ends in
+      let most = persists (code.thread.part.end - node) node from (omega arith) in
       let starts = ap (λ (p : Program). p.start) code.is.of_program in
       let sizes = ap (λ (p : Program). length p.code) code.is.of_program in
-      subst (λ (a : ℕ). IsAddress a) (sym is) (in_code k (omega (arith, is, most, ends, starts, sizes)))
+      subst (λ (a : ℕ). IsAddress a) (sym is) (in_code k (omega (arith, is, most, code.is.ends, starts, sizes)))
 
   -- ---- Where an instruction is fetched
 
@@ -183,8 +177,7 @@ module _ (p : Plan) (code : Code p) (plan : IsPlan p) (s : FlowState) (good : Go
   pub store_is : (store : Pending) → graph_thread.pending ≡ Some store → IsStoreInRange p.flat.variables store
   store_is store owes =
       let inside = slice_get_within s.graph_threads code.thread.number graph_thread there in
-      let count = good.matches.count in
-      let thread = found_in good.source.threads code.thread.number (omega (arith, inside, count)) in
+      let thread = found_in good.source.threads code.thread.number (omega (arith, inside, good.matches.count)) in
       let match = good.matches.each code.thread.number graph_thread thread.0 there thread.1 in
       let own = zip_found (λ (t : f.Thread) (k : m.Thread). IsThreadOf p.flat t.locals k) p.flat.threads good.source.threads code.thread.number thread.0
       good.formed.threads thread.1 in
@@ -193,10 +186,10 @@ module _ (p : Plan) (code : Code p) (plan : IsPlan p) (s : FlowState) (good : Go
   pub address_small : (store : Pending) → graph_thread.pending ≡ Some store → variable_at (map shape_of p.flat.variables) store.variable store.element < 2 ^ 64
   address_small store owes =
       let is = store_is store owes in
-      let reach = addresses_reach p.flat.variables 0 store.variable store.element is.it (well_formed_placed p.flat plan.formed).room is.found is.element in
+      let reach = addresses_reach V1 p.flat.variables 0 store.variable store.element is.it (well_formed_placed p.flat plan.formed).room is.found is.element in
       small (variable_at (map shape_of p.flat.variables) store.variable store.element) (bytes_of is.it.kind) reach.inside
     where
-      small : (address bytes : ℕ) → in_range 0 address bytes ≡ true → address < 2 ^ 64
+      small : (address bytes : ℕ) → in_range V1 0 address bytes ≡ true → address < 2 ^ 64
       small address bytes is_in = grind (arith, nat_tests)
 
   -- before a store one is pending
@@ -257,7 +250,6 @@ module _ (p : Plan) (code : Code p) (plan : IsPlan p) (s : FlowState) (good : Go
         }
 
     cut_pending : (is : Node) → NodeAt p.graph graph_thread.at is → (a : Action) → is.action ≡ a → IsPendingIn p a (seen_by s graph_thread) cut
-    cut_pending is at (Eval target value next) e = tt
     cut_pending is at (Store variable kind next) e = λ store owes.
         let has = pending_there is variable kind next at e store owes in
         record {
@@ -266,18 +258,15 @@ module _ (p : Plan) (code : Code p) (plan : IsPlan p) (s : FlowState) (good : Go
           value = cut_low _ _ _ has.value;
           below = has.below;
         }
-    cut_pending is at (Test condition holds fails) e = tt
-    cut_pending is at (Lock mutex next) e = tt
-    cut_pending is at (Unlock mutex next) e = tt
-    cut_pending is at End e = tt
+    cut_pending is at a e = tt
 
     pub cut_enters : Enters p code.thread graph_thread.at (seen_by s graph_thread) side cut
     cut_enters =
         let on = enters.at_side in
         record {
-          at_side = stays_on_side side x cut on (length-map x (λ (k : ℕ). k % 2 ^ 64) ∙ on.count)
+          at_side = stays_on_side p.log side x cut on (length-map x (λ (k : ℕ). k % 2 ^ 64) ∙ on.count)
               (cut_same 0 (let e = on.zero_is in omega (arith, e)) ∙ on.zero_is)
-              (cut_same _ (on_side_small side x on));
+              (cut_same _ (on_side_small p.log side x on));
           locals = λ local k found live. cut_carries _ _ (enters.locals local k found live);
           pending = λ is at. cut_pending is at is.action refl;
           count = enters.count;

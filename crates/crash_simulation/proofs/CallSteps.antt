@@ -1,22 +1,23 @@
 -- A step of a hart at its call: it takes a mutex or waits, gives one back, or ends.
-use Rattle.std.proofs.Common.{◌≡◌, ◌≢◌, ◌⊎◌, inl, inr, ⊎_elim, refl, ℕ, ◌<◌, List, [], ◌++◌, ap, sym, ◌∙◌, subst, arith}
-use Rattle.std.proofs.Common.{Option, Some, None, Bool, true, false, slice_set, suc, length, ◌+◌}
-use Rattle.std.specs.Prelude.{slice_get, is_none, is_some, ◌&&◌, ◌==◌, if◌then◌else◌, ◌-◌}
+use Rattle.std.proofs.Common.{◌≡◌, ◌≢◌, ◌⊎◌, inl, inr, ⊎_elim, refl, ℕ, List, [], ◌++◌, ap, sym, ◌∙◌, subst, arith, Option, Some, None, Bool, true, false}
+use Rattle.std.proofs.Common.{slice_set, suc, length, ◌+◌}
 use Rattle.std.proofs.lemmas.Bool.{true≢false, cond-true, cond-false, cases_Bool, and_parts}
 use Rattle.std.proofs.lemmas.Option.{none-some, same_Some}
+use Rattle.std.specs.Prelude.{slice_get, is_none, is_some, ◌&&◌, ◌==◌, if◌then◌else◌, ◌-◌}
+use Rattle.rv64_isa.proofs.Public.{log_stays, get-set_same, get-set_other, steps_touch}
+use Rattle.ido_base.specs.declared.log.Log.{Log}
 use Rattle.ido_base.specs.declared.event.Event.TheVariants.{Step}
 use Rattle.ido_base.specs.Words.{Word, Entry}
 use Rattle.ido_base.specs.Locks.{holds_none}
-use Rattle.rv64_isa.specs.declared.phase.Phase.{Phase}
 use Rattle.rv64_isa.specs.declared.phase.Phase.TheVariants.{Run, Done, Ended}
+use Rattle.rv64_isa.specs.Machine.{Hart, World, with_holder, moved, gone_on, happens}
+use Rattle.rv64_isa.specs.declared.phase.Phase.{Phase}
 use Rattle.rv64_isa.specs.Rows.{Effect}
-use Rattle.rv64_isa.specs.Machine.{Hart, World, with_holder, moved, gone_on, happens, after_event}
 use Rattle.rv64_isa.specs.Schedule.{passes_mark}
-use Rattle.rv64_isa.proofs.Public.{get-set_same, get-set_other}
 use Rattle.node_code.specs.Pieces.{gives, ends}
-use Rattle.flow_graph.specs.Nodes.{Action, Unlock, End}
-use Rattle.flow_graph.specs.Actions.{seen_by}
+use Rattle.flow_graph.specs.Nodes.{Action}
 use Rattle.hart_runs.specs.Calls.{IsAtCall, phase_after}
+use Rattle.hart_runs.specs.RunSteps.{cleans_in, steps_left}
 use Rattle.hart_runs.proofs.Public.{calls_count}
 use Rattle.recovery_semantics.specs.Configs.{attempt_of}
 use Rattle.recovery_semantics.specs.Events.{steps_begun}
@@ -24,441 +25,340 @@ use Rattle.recovery_semantics.specs.Laws.{HasUnlocked}
 use Rattle.recovery_semantics.proofs.Public.{held_now}
 use Rattle.log_states.specs.Stages as stages
 use Rattle.log_states.specs.Stages.{LogIs}
-use Rattle.log_states.specs.Machines.{config_of}
-use Rattle.thread_code.specs.NodeCodeEffects.{Places}
 use Rattle.thread_code.specs.Programs.{IsCalling}
 use Rattle.thread_runs.specs.CodeFragments.{ExitPoint, Arrives, Gives, Ends, IsOnFragment, IsUnlockOf, IsEndOf, on_machine}
-use Rattle.thread_runs.specs.Laws as runs
 use Rattle.thread_runs.specs.Laws.{GivesMutex}
+use Rattle.thread_runs.specs.Laws as runs
 use Rattle.thread_runs.proofs.Public.{unlocks_go_on, call_there, unlocks_give, ends_end}
-use Rattle.recovered_threads.specs.RecordDescriptions.{Code}
 use Rattle.recovered_threads.proofs.Public.{same_there, same_or_other, holds_none_is}
-use Rattle.crash_simulation.specs.Systems.{System, IsSystem, flat_of, thread_count}
-use Rattle.crash_simulation.specs.AbstractRuns.{AbstractRun, kept_of, now_of}
+use Rattle.crash_simulation.specs.ThreadGhosts.{ThreadGhost, InFragment, on_fragment, InPhase, ThreadInv}
+use Rattle.crash_simulation.specs.InstructionSteps.{stays, is_bound, is_leaving, was_unlocked, Releases, nothing_released, last_released, CallsStep, halts}
+use Rattle.crash_simulation.specs.InstructionSteps.{is_nearer}
+use Rattle.crash_simulation.specs.StepsToMark.{entry_ahead, beyond, most_ahead, IsSoon}
+use Rattle.crash_simulation.specs.Systems.{System, IsSystem, flat_of}
+use Rattle.crash_simulation.specs.AbstractRuns.{kept_of, now_of}
+use Rattle.crash_simulation.specs.SimulationRelation.{IsGiving}
 use Rattle.crash_simulation.specs.ThreadGhosts as courses
-use Rattle.crash_simulation.specs.ThreadGhosts.{ThreadGhost, InFragment, on_fragment, InPhase, IsFlushed, ThreadInv}
-use Rattle.crash_simulation.specs.SimulationRelation.{AreHeld, IsGiving, Simulates}
 use Rattle.crash_simulation.specs.InstructionSteps as moving
-use Rattle.crash_simulation.specs.InstructionSteps.{stays, is_bound, is_leaving, was_unlocked, Releases, nothing_released, last_released}
-use Rattle.crash_simulation.specs.InstructionSteps.{OnFragmentNow, thread_of, CallsStep, halts, is_nearer}
 use Rattle.crash_simulation.proofs.LastReleases.{holds_some, no_release, holders_stay_none, is_release, none_leaving, describes_test}
+use Rattle.crash_simulation.proofs.LocksAfterStep.{GoneOn, runs_held, held_given}
+use Rattle.crash_simulation.proofs.OwnHartSteps.{step_to, Site, view, StepOf, own_step, own_giving, held_still}
+use Rattle.crash_simulation.proofs.PendingFlushes.{Passage, flushed_same, still_reached, reaches_same}
+use Rattle.crash_simulation.proofs.LockCallSteps.{none_from, point_none, AtEnd, MovesHart, FragmentTo, z, invariant, placed_here, exists_now, now_holders}
+use Rattle.crash_simulation.proofs.LockCallSteps.{kept_held, fragment_over, none_left, rest_over, fits, hart_is, committed_over, call_stores, points_none}
+use Rattle.crash_simulation.proofs.LockCallSteps.{words_after, holders_after, there_after, memory_after, describes_new, asks_step}
 use Rattle.crash_simulation.proofs.StatesMatchSource.{kept_matches}
 use Rattle.crash_simulation.proofs.UnchangedMemory.{phase_moves}
-use Rattle.crash_simulation.proofs.LoadFreeEnvironment.{bare, bare_answers, placed, none_ahead}
-use Rattle.crash_simulation.proofs.LocksAfterStep.{GoneOn, runs_held, locked_after, held_same, held_given}
+use Rattle.crash_simulation.proofs.LoadFreeEnvironment.{bare_answers, placed}
 use Rattle.crash_simulation.proofs.LocksAtCalls.{not_held, ends_free}
-use Rattle.crash_simulation.specs.StepsToMark.{entry_ahead, beyond, most_ahead, IsSoon}
 use Rattle.crash_simulation.proofs.StepsAfterMarks.{less_soon, one_less}
 use Rattle.crash_simulation.proofs.FragmentSteps.{not_twice}
-use Rattle.crash_simulation.proofs.LockCallSteps.{none_from, Called, point_none, same, invariant, placed_here, own_giving, exists_now, now_holders}
-use Rattle.crash_simulation.proofs.LockCallSteps.{coming_on, kept_held, fragment, rest_over, whole, fits, hart_is, committed_over, call_stores, points_none}
-use Rattle.crash_simulation.proofs.LockCallSteps.{words_after, holders_after, there_after, memory_after, count_after, mutexes_after, describes_new, asks_step}
-use Rattle.hart_runs.specs.RunSteps.{cleans_in, steps_left}
 use Rattle.code_runs.specs.CodeTraces.{seen_effects}
 
--- ---- A thread at its call
+-- ---- An unlock
 
-module _ (y : System) (s : IsSystem y) (w : World) (h : ℕ) (stands : Simulates y s w) (below : h < thread_count y)
-    (held : AreHeld w stands.before_commit.ghosts (now_of y stands.before_commit.abstract)) where
-  abbrev b : AbstractRun y
-  b = stands.before_commit.abstract
+module _ {y : System} {s : IsSystem y} {w : World} {h from mutex : ℕ} (at : AtEnd y s w h (Gives from mutex)) where
+  open view at.site use {b, code, ghosts, c, t, n, v, places, graph_thread, seen}
 
-  abbrev code : Code y.plan
-  code = s.codes.each h below
+  abbrev pub giving : FragmentTo at (z at) (Gives from mutex) 0 []
+  giving = fragment_over at
 
-  abbrev c : ThreadGhost
-  c = stands.before_commit.ghosts h
+  bounded : courses.IsBounded y b code c graph_thread (Some mutex) (HasUnlocked b.config n mutex)
+  bounded = fits at
 
-  abbrev thread : ℕ
-  thread = code.thread.number
+  unlock : IsUnlockOf y.plan code.thread from mutex graph_thread.at
+  unlock = giving.of_graph
 
-  abbrev places : Places
-  places = code.is.places
+  at_unlock : IsAtCall y.runs.program w n gives
+  at_unlock =
+      let calls = subst (λ (a : Action). IsCalling y.plan code.thread places a from) unlock.unlocks (code.is.code from unlock.is unlock.own unlock.at).calls in
+      call_there y.runs.program places w n (z at) giving.meets giving.agrees from gives calls.0 giving.registers giving.on.hart
+      giving.on.here giving.on.runs giving.on.walks.0 giving.has.call
 
-  abbrev after : World
-  after = after_event y.runs.program w (Step thread)
+  none_begun : steps_begun b.config n ≡ 0
+  none_begun = bounded.after (committed_over at)
 
-  abbrev t : ThreadInv y w b code c
-  t = thread_of y s w h stands below
+  none_done : (attempt_of b.config n).done ≡ 0
+  none_done =
+      let none = none_begun in
+      ⊎_elim (λ e. omega (arith, none, e)) (λ q. let more = q.0 in absurd (omega (arith, none, more))) ((invariant at).tried n).begun
 
-  abbrev Result : Type 0
-  Result = Called y w b code stands.before_commit.ghosts c thread
+  gives_it : (ghosts n).giving ≡ Some mutex
+  gives_it = sym (own_giving at.site) ∙ bounded.gives
 
-  -- ---- An unlock
+  pub owns : slice_get w.holders mutex ≡ Some (Some n)
+  owns = at.held.giving mutex n (exists_now at) gives_it
 
-  module _ (from mutex : ℕ) (o : OnFragmentNow y s w h stands below) (zero_left : o.steps ≡ 0) (exit_is : o.exit ≡ Gives from mutex) where
-    abbrev pub giving : IsOnFragment y.plan code.thread places (on_machine y.runs.program w thread (bare y s w h below))
-        (record { exit = Gives from mutex; node = t.graph_thread.at; seen = seen_by (now_of y b) t.graph_thread; side = o.side }) 0 []
-    giving = fragment y s w h stands below held (Gives from mutex) o zero_left exit_is
+  given : GivesMutex y.plan code.thread places (on_machine y.runs.program w n (z at)) from mutex
+      (record { exit = Gives from mutex; node = graph_thread.at; seen = seen; side = at.o.side }) giving.on.hart giving.registers
+  given = unlocks_give calls_count y.plan code.thread y.runs.program code.program code.is w n (z at) from mutex graph_thread.at
+      seen at.o.side [] (placed_here at) giving owns
 
-    bounded : courses.IsBounded y b code c t.graph_thread (Some mutex) (HasUnlocked b.config thread mutex)
-    bounded = fits y s w h stands below held (Gives from mutex) o zero_left exit_is
+  abbrev left_holders : List (Option ℕ)
+  left_holders = slice_set w.holders mutex None
 
-    unlock : IsUnlockOf y.plan code.thread from mutex t.graph_thread.at
-    unlock = giving.of_graph
+  abbrev given_hart : Hart
+  given_hart = record (gone_on giving.on.hart) { phase = phase_after w n left_holders }
 
-    unlock_calls : IsCalling y.plan code.thread places (Unlock mutex t.graph_thread.at) from
-    unlock_calls =
-        subst (λ (a : Action). IsCalling y.plan code.thread places a from) unlock.unlocks (code.is.code from unlock.is unlock.own unlock.at).calls
+  abbrev given_move : MovesHart at
+  given_move = record { u = with_holder w mutex None; new = given_hart; does = given.does; words = refl; harts = refl }
 
-    at_unlock : IsAtCall y.runs.program w thread gives
-    at_unlock =
-        call_there y.runs.program places w thread (bare y s w h below) giving.meets giving.agrees from gives unlock_calls.0 giving.registers giving.on.hart
-        giving.on.here giving.on.runs giving.on.walks.0 giving.has.call
+  given_queue : given_hart.queue ≡ t.log.hart.queue
+  given_queue = ap (λ (x : Hart). x.queue) (hart_is at)
 
-    is_committed : c.committed ≡ true
-    is_committed = committed_over y s w h stands below held (Gives from mutex) o zero_left exit_is
+  not_now : slice_get (now_of y b).holders mutex ≢ Some (Some n)
+  not_now = not_held y s b code graph_thread t.walks from mutex unlock
 
-    none_begun : steps_begun b.config thread ≡ 0
-    none_begun = bounded.after is_committed
+  abbrev is_over : Bool
+  is_over = w.recovering && holds_none left_holders n
 
-    none_done : (attempt_of b.config thread).done ≡ 0
-    none_done =
-        let none = none_begun in
-        ⊎_elim (λ e. omega (arith, none, e)) (λ q. let more = q.0 in absurd (omega (arith, none, more)))
-        ((invariant y s w h stands below held).tried thread).begun
+  abbrev given_ghost : ThreadGhost
+  given_ghost = record c { giving = None; before_mark = if is_over then most_ahead y n else c.before_mark - 1 }
 
-    gives_it : (stands.before_commit.ghosts thread).giving ≡ Some mutex
-    gives_it = own_giving y s w h stands below held ∙ bounded.gives
+  -- where the hart is left with no lock, the thread has none in what is kept
+  kept_none : holds_none left_holders n ≡ true → holds_none (kept_of y b).holders n ≡ true
+  kept_none none =
+      kept_held at (λ m u. let begun = u.begun in let zero_begun = none_begun in omega (arith, begun, zero_begun))
+      (λ lock has. elim (same_or_other lock mutex) [
+        | inl is ↦ not_now (ap (slice_get (now_of y b).holders) (sym is) ∙ has)
+        | inr other ↦ holds_none_is n left_holders lock none (get-set_other w.holders mutex lock None other ∙ at.held.holds lock n has)
+      ])
 
-    pub owns : slice_get w.holders mutex ≡ Some (Some thread)
-    owns = held.giving mutex thread (exists_now y s w h stands below held) gives_it
+  is_settled : is_over ≡ true → courses.Rests y b code given_ghost
+  is_settled over = record {
+    begun = none_begun;
+    done = none_done;
+    rest = rest_over at;
+    cleans = bounded.cleans;
+    giving = refl;
+    committed = committed_over at;
+    whole = cond-true is_over (most_ahead y n) (c.before_mark - 1) over;
+  }
 
-    given : GivesMutex y.plan code.thread places (on_machine y.runs.program w thread (bare y s w h below)) from mutex
-        (record { exit = Gives from mutex; node = t.graph_thread.at; seen = seen_by (now_of y b) t.graph_thread; side = o.side }) giving.on.hart
-        giving.registers
-    given = unlocks_give calls_count y.plan code.thread y.runs.program code.program code.is w thread (bare y s w h below) from mutex t.graph_thread.at
-        (seen_by (now_of y b) t.graph_thread) o.side [] (placed_here y s w h stands below held) giving owns
+  -- one step less is ahead
+  nearer : (c.before_mark ≡ suc (c.before_mark - 1)) × IsSoon y n (c.before_mark - 1)
+      (length t.log.hart.queue + (places.words from + entry_ahead y.plan places graph_thread.at))
+  nearer =
+      let last : beyond y.plan places at.o.exit graph_thread.at ≡ suc (places.words from + entry_ahead y.plan places graph_thread.at) =
+      ap (λ (x : ExitPoint). beyond y.plan places x graph_thread.at) at.exit_is in
+      one_less y n c.before_mark _ _ at.o.soon (omega (arith, last))
 
-    abbrev left_holders : List (Option ℕ)
-    left_holders = slice_set w.holders mutex None
+  given_logs : v.log ≡ w.log
+  given_logs = log_stays y.runs.program w (Step n) at.site.stands.machine.sound
 
-    abbrev given_hart : Hart
-    given_hart = record (gone_on giving.on.hart) { phase = phase_after w thread left_holders }
+  goes_on_running : is_over ≡ false → phase_after w n left_holders ≡ Run → InFragment y v b code given_ghost given_hart graph_thread
+  goes_on_running more run =
+      let on = unlocks_go_on y.plan code.thread from mutex graph_thread.at unlock y.runs.program code.program code.is v n (z at)
+      seen at.o.side giving.registers
+      (placed y s v h at.site.below (at.site.stands.machine.log ∙ sym given_logs)
+      ((steps_touch y.runs.program w n at.site.stands.machine.sound).count ∙ at.site.stands.machine.count))
+      giving.meets given.agrees (given.at run) given.enters in
+      record {
+        environment = z at;
+        answers = bare_answers y s w h at.site.below b given_ghost;
+        exit = Arrives;
+        side = at.o.side;
+        at_side = at.o.at_side;
+        steps = on.steps;
+        fragment = subst (λ (es : List Effect). IsOnFragment y.plan code.thread places (on_machine y.runs.program v n (z at))
+            (record { exit = Arrives; node = graph_thread.at; seen = seen; side = at.o.side }) on.steps es) (sym (none_left at)) on.on;
+        fits = (
+          record { going = none_begun ∙ sym none_done; rest = rest_over at; giving = refl; committed = committed_over at },
+          bounded.execution,
+        );
+        soon =
+            let queue : length given_hart.queue ≡ length t.log.hart.queue = ap (λ (q : List Entry). length q) given_queue in
+            let no_cleans : cleans_in (seen_effects (c.cleans ++ c.rest)) ≡ 0 = ap (λ (es : List Effect). cleans_in (seen_effects es)) (none_left at) in
+            subst (λ (k : ℕ). IsSoon y n k (steps_left on.steps (seen_effects (c.cleans ++ c.rest)) given_hart.queue
+            + entry_ahead y.plan places graph_thread.at)) (sym (cond-false is_over (most_ahead y n) (c.before_mark - 1) more))
+            (less_soon y n (c.before_mark - 1) _ _ nearer.1 (omega (arith, queue, no_cleans)));
+      }
 
-    given_here : slice_get after.harts thread ≡ Some given_hart
-    given_here = there_after y s w h stands below held (Gives from mutex) o zero_left exit_is (with_holder w mutex None) given_hart given.does refl refl
+  given_phase : InPhase y v b code given_ghost given_hart graph_thread given_hart.phase × GoneOn given_hart.phase
+  given_phase = elim (cases_Bool is_over) [
+    | inl over ↦
+        let done : Done ≡ given_hart.phase = sym (cond-true is_over Done Run over) in
+        let point = point_none y code (kept_of y b) c.new (describes_new at)
+        (kept_none (and_parts w.recovering (holds_none left_holders n) over).1) in (
+          subst (λ (p : Phase). InPhase y v b code given_ghost given_hart graph_thread p) done (is_settled over, point),
+          subst GoneOn done tt,
+        )
+    | inr more ↦
+        let run : given_hart.phase ≡ Run = cond-false is_over Done Run more in (
+          subst (λ (p : Phase). InPhase y v b code given_ghost given_hart graph_thread p) (sym run) (on_fragment (goes_on_running more run)),
+          subst GoneOn (sym run) tt,
+        )
+  ]
 
-    given_words : after.words ≡ w.words
-    given_words = words_after y s w h stands below held (Gives from mutex) o zero_left exit_is (with_holder w mutex None) given_hart given.does refl refl
+  abbrev passage : Passage y code
+  passage = step_to at.site v b.config.uncommitted b.config.memory b.config.attempts (b.execution, b.respects) given_ghost given_hart
 
-    given_queue : given_hart.queue ≡ t.log.hart.queue
-    given_queue = ap (λ (x : Hart). x.queue) (hart_is y s w h stands below held (Gives from mutex) o zero_left exit_is)
+  given_thread : ThreadInv y v b code given_ghost
+  given_thread = record {
+    log = record {
+      hart = given_hart;
+      here = there_after at given_move;
+      log = subst (λ (q : List Entry). LogIs v.log n c.old c.new (record { words = v.words; queue = q; rest = c.rest })) (sym given_queue)
+          (subst (λ (l : Log). LogIs l n c.old c.new (record { words = v.words; queue = t.log.hart.queue; rest = c.rest })) (sym given_logs)
+          (subst (λ (ws : List Word). LogIs w.log n c.old c.new (record { words = ws; queue = t.log.hart.queue; rest = c.rest }))
+          (sym (words_after at given_move)) t.log.log));
+    };
+    no_sooner = λ yes.
+        ap (λ (l : Log). stages.is_committed l n (record { words = v.words; queue = given_hart.queue; rest = c.rest })) given_logs
+        ∙ (ap (λ (ws : List Word). stages.is_committed w.log n (record { words = ws; queue = given_hart.queue; rest = c.rest })) (words_after at given_move)
+        ∙ t.no_sooner yes);
+    describes = t.describes;
+    will_describe = t.will_describe;
+    unlocked = λ lock gives over. absurd (none-some lock gives);
+    cleans = t.cleans;
+    graph_thread = graph_thread;
+    walks = t.walks;
+    phase = given_phase.0;
+    flushed = λ u e writes. flushed_same passage (still_reached passage bounded.cleans (reaches_same passage (words_after at given_move) given_queue)) u e
+        (λ position since. since) (t.flushed u e writes) (t.flushed u e writes).fenced refl;
+  }
 
-    not_now : slice_get (now_of y b).holders mutex ≢ Some (Some thread)
-    not_now = not_held y s b code t.graph_thread t.walks from mutex unlock
+  -- ---- What it releases
 
-    abbrev is_over : Bool
-    is_over = w.recovering && holds_none left_holders thread
+  -- where the thread has none in what is kept, the hart is left with no lock
+  left_none : holds_none (kept_of y b).holders n ≡ true → holds_none left_holders n ≡ true
+  left_none none =
+      ap is_none (none_from n 0 left_holders (λ lock there. elim (same_or_other lock mutex) [
+        | inl is ↦
+            none-some n (same_Some _ _ (sym (get-set_same w.holders mutex None (Some n) owns) ∙ (ap (slice_get left_holders) (sym is) ∙ there)))
+        | inr other ↦ not_kept lock other (at.held.held lock n (sym (get-set_other w.holders mutex lock None other) ∙ there))
+      ]))
+    where
+      not_kept : (lock : ℕ) → lock ≢ mutex → (slice_get (now_of y b).holders lock ≡ Some (Some n)) ⊎ IsGiving ghosts (now_of y b) lock n → ⊥
+      not_kept lock other (inr g) = other (same_Some lock mutex (sym g.gives ∙ gives_it))
+      not_kept lock other (inl has) =
+          ⊎_elim
+          (λ kept. holds_none_is n (kept_of y b).holders lock none (ap (λ (hs : List (Option ℕ)). slice_get hs lock) (kept_matches y s b).holders ∙ kept))
+          (λ l. let begun = l.begun in let zero_begun = none_begun in omega (arith, begun, zero_begun))
+          (held_now (flat_of y) b.config n lock (invariant at) (ap (λ (hs : List (Option ℕ)). slice_get hs lock) (sym (now_holders at)) ∙ has))
 
-    abbrev given_ghost : ThreadGhost
-    given_ghost = record c { giving = None; before_mark = if is_over then most_ahead y thread else c.before_mark - 1 }
+  leaving_is : is_leaving c ≡ holds_none (kept_of y b).holders n
+  leaving_is =
+      let test : (c.new.point == 0) ≡ holds_none (kept_of y b).holders n = describes_test y code (kept_of y b) c.new (describes_new at) in
+      let gives : c.giving ≡ Some mutex = bounded.gives in
+      let done : c.committed ≡ true = committed_over at in
+      λ i. done i && (is_some (gives i) && test i)
 
-    -- where the hart is left with no lock, the thread has none in what is kept
-    kept_none : holds_none left_holders thread ≡ true → holds_none (kept_of y b).holders thread ≡ true
-    kept_none none =
-        kept_held y s w h stands below held (λ m u. let begun = u.begun in let zero_begun = none_begun in omega (arith, begun, zero_begun))
-        (λ lock has. elim (same_or_other lock mutex) [
-          | inl is ↦ not_now (ap (slice_get (now_of y b).holders) (sym is) ∙ has)
-          | inr other ↦
-              holds_none_is thread left_holders lock none (get-set_other w.holders mutex lock None other ∙ held.holds lock thread has)
-        ])
+  given_released : Releases y w n c given_ghost
+  given_released =
+      let same : holds_none v.holders n ≡ holds_none left_holders n = ap (λ (hs : List (Option ℕ)). holds_none hs n) (holders_after at given_move) in
+      elim (cases_Bool (holds_none left_holders n)) [
+        | inl none ↦
+            last_released (is_release y.runs.program w n (holds_some n w.holders mutex owns) (same ∙ none)) (leaving_is ∙ kept_none none)
+            (none_leaving given_ghost refl)
+        | inr some ↦
+            nothing_released (no_release y.runs.program w n (λ none. absurd (true≢false (sym none ∙ (same ∙ some)))))
+            (none_leaving given_ghost refl ∙ sym (leaving_is ∙ elim (cases_Bool (holds_none (kept_of y b).holders n)) [
+              | inl none ↦ absurd (true≢false (sym (left_none none) ∙ some))
+              | inr kept ↦ kept
+            ]))
+      ]
 
-    is_settled : is_over ≡ true → courses.Rests y b code given_ghost
-    is_settled over = record {
-      begun = none_begun;
-      done = none_done;
-      rest = rest_over y s w h stands below held (Gives from mutex) o zero_left exit_is;
-      cleans = bounded.cleans;
-      giving = refl;
-      committed = is_committed;
-      whole = cond-true is_over (most_ahead y thread) (c.before_mark - 1) over;
-    }
+  gives_step : StepOf at.site n
+  unfolding given_thread
+  gives_step = record {
+    next = b;
+    led = stays;
+    memory = memory_after at given_move;
+    stores_own = call_stores at at_unlock;
+    new = given_ghost;
+    own = given_thread;
+    gone = given_phase.1;
+    held = held_given w v ghosts n given_ghost (now_of y b) mutex owns not_now (holders_after at given_move) gives_it refl;
+    counted = record {
+      marks = given.no_mark y.runs.marks refl;
+      unlocked = λ lock gives. absurd (none-some lock gives);
+      points = given.counts.0 ∙ not_twice (is_bound c);
+      bound = λ e. e;
+      nears = elim (cases_Bool is_over) [
+        | inl over ↦ halts given_hart (there_after at given_move) (inl (cond-true is_over Done Run over))
+        | inr more ↦ is_nearer (nearer.0 ∙ ap suc (sym (cond-false is_over (most_ahead y n) (c.before_mark - 1) more)))
+      ];
+    };
+    released = given_released;
+  }
 
-    none_left : c.cleans ++ c.rest ≡ []
-    none_left = none_ahead y s w h below o.environment
-        (record { exit = Gives from mutex; node = t.graph_thread.at; seen = seen_by (now_of y b) t.graph_thread; side = o.side }) (c.cleans ++ c.rest)
-        (whole y s w h stands below held (Gives from mutex) o zero_left exit_is)
+-- ---- The end
 
-    -- one step less is ahead
-    nearer : (c.before_mark ≡ suc (c.before_mark - 1)) × IsSoon y thread (c.before_mark - 1)
-        (length t.log.hart.queue + (places.words from + entry_ahead y.plan places t.graph_thread.at))
-    nearer =
-        let last : beyond y.plan places o.exit t.graph_thread.at ≡ suc (places.words from + entry_ahead y.plan places t.graph_thread.at) =
-        ap (λ (x : ExitPoint). beyond y.plan places x t.graph_thread.at) exit_is in
-        one_less y thread c.before_mark _ _ o.soon (omega (arith, last))
+module _ {y : System} {s : IsSystem y} {w : World} {h : ℕ} (at : AtEnd y s w h Ends) where
+  open view at.site use {b, code, ghosts, c, t, n, v, places, graph_thread, seen}
 
-    goes_on_running : is_over ≡ false → phase_after w thread left_holders ≡ Run → InFragment y after b code given_ghost given_hart t.graph_thread
-    goes_on_running more run =
-        let on = unlocks_go_on y.plan code.thread from mutex t.graph_thread.at unlock y.runs.program code.program code.is after thread (bare y s w h below)
-        (seen_by (now_of y b) t.graph_thread) o.side giving.registers
-        (placed y s after h below (count_after y s w h stands below held (Gives from mutex) o zero_left exit_is (with_holder w mutex None) given_hart
-        given.does refl refl))
-        giving.meets given.agrees (given.at run) given.enters in
-        record {
-          environment = bare y s w h below;
-          answers = bare_answers y s w h below b given_ghost;
-          exit = Arrives;
-          side = o.side;
-          at_side = o.at_side;
-          steps = on.steps;
-          fragment = subst (λ (es : List Effect). IsOnFragment y.plan code.thread places (on_machine y.runs.program after thread (bare y s w h below))
-              (record { exit = Arrives; node = t.graph_thread.at; seen = seen_by (now_of y b) t.graph_thread; side = o.side }) on.steps es)
-              (sym none_left) on.on;
-          fits = (
-            record {
-              going = none_begun ∙ sym none_done;
-              rest = rest_over y s w h stands below held (Gives from mutex) o zero_left exit_is;
-              giving = refl;
-              committed = is_committed;
-            },
-            bounded.execution,
-          );
-          soon =
-              let short = on.short in
-              let queue : length given_hart.queue ≡ length t.log.hart.queue = ap (λ (q : List Entry). length q) given_queue in
-              let no_cleans : cleans_in (seen_effects (c.cleans ++ c.rest)) ≡ 0 = ap (λ (es : List Effect). cleans_in (seen_effects es)) none_left in
-              subst (λ (k : ℕ). IsSoon y thread k (steps_left on.steps (seen_effects (c.cleans ++ c.rest)) given_hart.queue
-              + entry_ahead y.plan places t.graph_thread.at)) (sym (cond-false is_over (most_ahead y thread) (c.before_mark - 1) more))
-              (less_soon y thread (c.before_mark - 1) _ _ nearer.1 (omega (arith, short, queue, no_cleans)));
-        }
+  abbrev pub ending : FragmentTo at (z at) Ends 0 []
+  ending = fragment_over at
 
-    given_phase : InPhase y after b code given_ghost given_hart t.graph_thread given_hart.phase × GoneOn given_hart.phase
-    given_phase = elim (cases_Bool is_over) [
-      | inl over ↦
-          let done : Done ≡ given_hart.phase = sym (cond-true is_over Done Run over) in
-          let point = point_none y code (kept_of y b) c.new (describes_new y s w h stands below held is_committed)
-          (kept_none (and_parts w.recovering (holds_none left_holders thread) over).1) in (
-            subst (λ (p : Phase). InPhase y after b code given_ghost given_hart t.graph_thread p) done (is_settled over, point),
-            subst (λ (p : Phase). GoneOn p) done tt,
-          )
-      | inr more ↦
-          let run : given_hart.phase ≡ Run = cond-false is_over Done Run more in (
-            subst (λ (p : Phase). InPhase y after b code given_ghost given_hart t.graph_thread p) (sym run) (on_fragment (goes_on_running more run)),
-            subst (λ (p : Phase). GoneOn p) (sym run) tt,
-          )
-    ]
+  ends_clean : courses.GoesClean y b code c true graph_thread
+  ends_clean = fits at
 
-    given_log : LogIs thread c.old c.new (config_of after given_hart c.rest)
-    given_log =
-        subst (λ (q : List Entry). LogIs thread c.old c.new (record { words = after.words; queue = q; rest = c.rest })) (sym given_queue)
-        (subst (λ (ws : List Word). LogIs thread c.old c.new (record { words = ws; queue = t.log.hart.queue; rest = c.rest })) (sym given_words) t.log.log)
+  last : IsEndOf y.plan code.thread graph_thread.at
+  last = ending.of_graph
 
-    given_flushed : (v e : ℕ) → IsFlushed y w b code c t.log.hart v e → IsFlushed y after b code given_ghost given_hart v e
-    given_flushed v e f = record {
-      before = f.before;
-      within = f.within;
-      writes = f.writes;
-      position = f.position;
-      since = f.since;
-      comes = λ k. coming_on y s w h stands below held b given_ghost given_hart given_words given_queue bounded.cleans v e f.position (f.comes k);
-      fenced = f.fenced;
-    }
+  at_end : IsAtCall y.runs.program w n ends
+  at_end =
+      let calls = subst (λ (a : Action). IsCalling y.plan code.thread places a graph_thread.at) last.ends
+      (code.is.code graph_thread.at last.is last.own last.at).calls in
+      call_there y.runs.program places w n (z at) ending.meets ending.agrees graph_thread.at ends calls.0 ending.registers ending.on.hart
+      ending.on.here ending.on.runs ending.on.walks.0 ending.has
 
-    given_thread : ThreadInv y after b code given_ghost
-    given_thread = record {
-      log = record { hart = given_hart; here = given_here; log = given_log };
-      no_sooner = λ yes.
-          ap (λ (ws : List Word). stages.is_committed thread (record { words = ws; queue = given_hart.queue; rest = c.rest })) given_words ∙ t.no_sooner yes;
-      describes = t.describes;
-      will_describe = t.will_describe;
-      unlocked = λ lock gives over. absurd (none-some lock gives);
-      cleans = t.cleans;
-      graph_thread = t.graph_thread;
-      walks = t.walks;
-      phase = given_phase.0;
-      flushed = λ v e writes. given_flushed v e (t.flushed v e writes);
-    }
+  none_now : (lock : ℕ) → slice_get (now_of y b).holders lock ≢ Some (Some n)
+  none_now = ends_free y s b code graph_thread t.walks last
 
-    -- ---- What it releases
+  pub none_here : (lock : ℕ) → slice_get w.holders lock ≢ Some (Some n)
+  none_here lock there =
+      ⊎_elim (λ has. none_now lock has) (λ gives. none-some lock (sym (sym (own_giving at.site) ∙ ends_clean.goes.giving) ∙ gives.gives))
+      (at.held.held lock n there)
 
-    given_holders : after.holders ≡ left_holders
-    given_holders = holders_after y s w h stands below held (Gives from mutex) o zero_left exit_is (with_holder w mutex None) given_hart given.does refl refl
+  ended : (happens y.runs.program w (Step n) ≡ moved w n (record (gone_on ending.on.hart) { phase = Ended })) ×
+      ((marks : List (List ℕ)) → runs.AreMarksOf marks n (z at) → passes_mark marks y.runs.program w n ≡ false)
+  ended = ends_end calls_count y.plan code.thread y.runs.program code.program code.is w n (z at) graph_thread.at
+      seen at.o.side [] ending (none_from n 0 w.holders none_here)
 
-    -- where the thread has none in what is kept, the hart is left with no lock
-    left_none : holds_none (kept_of y b).holders thread ≡ true → holds_none left_holders thread ≡ true
-    left_none none =
-        ap is_none (none_from thread 0 left_holders (λ lock there. elim (same_or_other lock mutex) [
-          | inl is ↦
-              none-some thread (same_Some _ _ (sym (get-set_same w.holders mutex None (Some thread) owns)
-              ∙ (ap (slice_get left_holders) (sym is) ∙ there)))
-          | inr other ↦
-              not_kept lock other (held.held lock thread (sym (get-set_other w.holders mutex lock None other) ∙ there))
-        ]))
-      where
-        not_kept : (lock : ℕ) → lock ≢ mutex → (slice_get (now_of y b).holders lock ≡ Some (Some thread)) ⊎
-            IsGiving stands.before_commit.ghosts (now_of y b) lock thread → ⊥
-        not_kept lock other (inr g) = other (same_Some lock mutex (sym g.gives ∙ gives_it))
-        not_kept lock other (inl has) =
-            ⊎_elim
-            (λ kept. holds_none_is thread (kept_of y b).holders lock none
-            (ap (λ (hs : List (Option ℕ)). slice_get hs lock) (kept_matches y s b).holders ∙ kept))
-            (λ l. let begun = l.begun in let zero_begun = none_begun in omega (arith, begun, zero_begun))
-            (held_now (flat_of y) b.config thread lock (invariant y s w h stands below held)
-            (ap (λ (hs : List (Option ℕ)). slice_get hs lock) (sym (now_holders y s w h stands below held)) ∙ has))
+  abbrev ended_move : MovesHart at
+  ended_move = record { u = w; new = record (gone_on ending.on.hart) { phase = Ended }; does = ended.0; words = refl; harts = refl }
 
-    leaving_is : is_leaving c ≡ holds_none (kept_of y b).holders thread
-    leaving_is =
-        let test : (c.new.point == 0) ≡ holds_none (kept_of y b).holders thread =
-        describes_test y code (kept_of y b) c.new (describes_new y s w h stands below held is_committed) in
-        let gives : c.giving ≡ Some mutex = bounded.gives in
-        let done : c.committed ≡ true = is_committed in
-        λ i. done i && (is_some (gives i) && test i)
+  ended_thread : ThreadInv y v b code c
+  ended_thread =
+      let point = point_none y code (kept_of y b) c.new (describes_new at)
+      (kept_held at (λ m u. let begun = u.begun in let going = ends_clean.goes.going in omega (arith, begun, going)) none_now) in
+      phase_moves y w v b code c (words_after at ended_move) (log_stays y.runs.program w (Step n) at.site.stands.machine.sound) t ended_move.new
+      (there_after at ended_move) (ap (λ (x : Hart). x.queue) (hart_is at)) (ends_clean, point)
 
-    kept_some : holds_none left_holders thread ≡ false → holds_none (kept_of y b).holders thread ≡ false
-    kept_some some = elim (cases_Bool (holds_none (kept_of y b).holders thread)) [
-      | inl none ↦ absurd (true≢false (sym (left_none none) ∙ some))
-      | inr kept ↦ kept
-    ]
+  ends_step : StepOf at.site n
+  ends_step = record {
+    next = b;
+    led = stays;
+    memory = memory_after at ended_move;
+    stores_own = call_stores at at_end;
+    new = c;
+    own = ended_thread;
+    gone = subst (λ (x : Hart). GoneOn x.phase)
+        (same_there (slice_get v.harts n) ended_move.new ended_thread.log.hart (there_after at ended_move) ended_thread.log.here) tt;
+    held = held_still at.site b c (holders_after at ended_move) refl refl refl;
+    counted = record {
+      marks = ended.1 y.runs.marks refl;
+      unlocked = λ lock gives. was_unlocked refl gives;
+      points = points_none at at_end;
+      bound = λ e. e;
+      nears = halts ended_move.new (there_after at ended_move) (inr refl);
+    };
+    released = nothing_released (holders_stay_none y.runs.program w n (holders_after at ended_move)) refl;
+  }
 
-    given_released : Releases y w thread c given_ghost
-    given_released = elim (cases_Bool (holds_none left_holders thread)) [
-      | inl none ↦
-          last_released (is_release y.runs.program w thread (holds_some thread w.holders mutex owns)
-          (ap (λ (hs : List (Option ℕ)). holds_none hs thread) given_holders ∙ none)) (leaving_is ∙ kept_none none) (none_leaving given_ghost refl)
-      | inr some ↦
-          nothing_released (no_release y.runs.program w thread (λ none. absurd (true≢false (sym none
-          ∙ (ap (λ (hs : List (Option ℕ)). holds_none hs thread) given_holders ∙ some)))))
-          (none_leaving given_ghost refl ∙ sym (leaving_is ∙ kept_some some))
-    ]
+-- ---- Whichever it is
 
-    gives_step : Result
-    unfolding given_thread
-    gives_step = record {
-      next = b;
-      led = stays;
-      memory = memory_after y s w h stands below held (Gives from mutex) o zero_left exit_is (with_holder w mutex None) given_hart given.does refl refl;
-      stores_own = call_stores y s w h stands below held (Gives from mutex) o zero_left exit_is gives at_unlock;
-      ghost = given_ghost;
-      own = given_thread;
-      gone = given_phase.1;
-      held = held_given w after stands.before_commit.ghosts thread given_ghost (now_of y b) (now_of y b) mutex owns not_now
-          (holders_after y s w h stands below held (Gives from mutex) o zero_left exit_is (with_holder w mutex None) given_hart given.does refl refl) refl
-          gives_it refl held;
-      mutexes = mutexes_after y s w h stands below held (Gives from mutex) o zero_left exit_is;
-      counted = record {
-        marks = given.no_mark y.runs.marks refl;
-        unlocked = λ lock gives. absurd (none-some lock gives);
-        points = given.counts.0 ∙ not_twice (is_bound c);
-        bound = λ e. e;
-        nears = elim (cases_Bool is_over) [
-          | inl over ↦ halts given_hart given_here (inl (cond-true is_over Done Run over))
-          | inr more ↦ is_nearer (nearer.0 ∙ ap suc (sym (cond-false is_over (most_ahead y thread) (c.before_mark - 1) more)))
-        ];
-      };
-      released = given_released;
-    }
-
-  -- ---- The end
-
-  module _ (o : OnFragmentNow y s w h stands below) (zero_left : o.steps ≡ 0) (exit_is : o.exit ≡ Ends) where
-    abbrev pub ending : IsOnFragment y.plan code.thread places (on_machine y.runs.program w thread (bare y s w h below))
-        (record { exit = Ends; node = t.graph_thread.at; seen = seen_by (now_of y b) t.graph_thread; side = o.side }) 0 []
-    ending = fragment y s w h stands below held Ends o zero_left exit_is
-
-    ends_clean : courses.GoesClean y b code c true t.graph_thread
-    ends_clean = fits y s w h stands below held Ends o zero_left exit_is
-
-    last : IsEndOf y.plan code.thread t.graph_thread.at
-    last = ending.of_graph
-
-    end_calls : IsCalling y.plan code.thread places End t.graph_thread.at
-    end_calls =
-        subst (λ (a : Action). IsCalling y.plan code.thread places a t.graph_thread.at) last.ends
-        (code.is.code t.graph_thread.at last.is last.own last.at).calls
-
-    at_end : IsAtCall y.runs.program w thread ends
-    at_end =
-        call_there y.runs.program places w thread (bare y s w h below) ending.meets ending.agrees t.graph_thread.at ends end_calls.0
-        ending.registers ending.on.hart
-        ending.on.here ending.on.runs ending.on.walks.0 ending.has
-
-    none_now : (lock : ℕ) → slice_get (now_of y b).holders lock ≢ Some (Some thread)
-    none_now = ends_free y s b code t.graph_thread t.walks last
-
-    pub none_here : (lock : ℕ) → slice_get w.holders lock ≢ Some (Some thread)
-    none_here lock there =
-        ⊎_elim (λ has. none_now lock has) (λ gives. none-some lock (sym (own_giving y s w h stands below held ∙ ends_clean.goes.giving) ∙ gives.gives))
-        (held.held lock thread there)
-
-    ended : (happens y.runs.program w (Step thread) ≡ moved w thread (record (gone_on ending.on.hart) { phase = Ended })) ×
-        ((marks : List (List ℕ)) → runs.AreMarksOf marks thread (bare y s w h below) → passes_mark marks y.runs.program w thread ≡ false)
-    ended = ends_end calls_count y.plan code.thread y.runs.program code.program code.is w thread (bare y s w h below) t.graph_thread.at
-        (seen_by (now_of y b) t.graph_thread) o.side [] ending (none_from thread 0 w.holders none_here)
-
-    abbrev ended_hart : Hart
-    ended_hart = record (gone_on ending.on.hart) { phase = Ended }
-
-    ended_here : slice_get after.harts thread ≡ Some ended_hart
-    ended_here = there_after y s w h stands below held Ends o zero_left exit_is w ended_hart ended.0 refl refl
-
-    ended_thread : ThreadInv y after b code c
-    ended_thread =
-        let point = point_none y code (kept_of y b) c.new (describes_new y s w h stands below held ends_clean.goes.committed)
-        (kept_held y s w h stands below held (λ m u. let begun = u.begun in let going = ends_clean.goes.going in omega (arith, begun, going)) none_now) in
-        phase_moves y w after b code c (words_after y s w h stands below held Ends o zero_left exit_is w ended_hart ended.0 refl refl) t ended_hart ended_here
-        (ap (λ (x : Hart). x.queue) (hart_is y s w h stands below held Ends o zero_left exit_is)) (ends_clean, point)
-
-    ends_step : Result
-    ends_step = record {
-      next = b;
-      led = stays;
-      memory = memory_after y s w h stands below held Ends o zero_left exit_is w ended_hart ended.0 refl refl;
-      stores_own = call_stores y s w h stands below held Ends o zero_left exit_is ends at_end;
-      ghost = c;
-      own = ended_thread;
-      gone = subst (λ (x : Hart). GoneOn x.phase)
-          (same_there (slice_get after.harts thread) ended_hart ended_thread.log.hart ended_here ended_thread.log.here) tt;
-      held = held_same w after stands.before_commit.ghosts thread c (now_of y b) (now_of y b)
-          (holders_after y s w h stands below held Ends o zero_left exit_is w ended_hart ended.0 refl refl) refl
-          (sym (own_giving y s w h stands below held)) held;
-      mutexes = mutexes_after y s w h stands below held Ends o zero_left exit_is;
-      counted = record {
-        marks = ended.1 y.runs.marks refl;
-        unlocked = λ lock gives. was_unlocked refl gives;
-        points = points_none y s w h stands below held Ends o zero_left exit_is ends at_end ∙ not_twice (is_bound c);
-        bound = λ e. e;
-        nears = halts ended_hart ended_here (inr refl);
-      };
-      released =
-          nothing_released (holders_stay_none y.runs.program w thread
-          (holders_after y s w h stands below held Ends o zero_left exit_is w ended_hart ended.0 refl refl)) refl;
-    }
-
-  -- ---- Whichever it is
-
-  by_call : (exit : ExitPoint) (o : OnFragmentNow y s w h stands below) → o.steps ≡ 0 → moving.IsCalling y s w h stands below exit → o.exit ≡ exit → Result
-  by_call _ o zero_left (moving.asks mutex next) exit_is = asks_step y s w h stands below held mutex next o zero_left exit_is
-  by_call _ o zero_left (moving.gives from mutex) exit_is = gives_step from mutex o zero_left exit_is
-  by_call _ o zero_left moving.ends exit_is = ends_step o zero_left exit_is
-
-  pub one_call : (o : OnFragmentNow y s w h stands below) → o.steps ≡ 0 → moving.IsCalling y s w h stands below o.exit →
-      Called y w b code stands.before_commit.ghosts c h
-  one_call o zero_left calls = subst (Called y w b code stands.before_commit.ghosts c) (same y s w h stands below held) (by_call o.exit o zero_left calls refl)
-
--- ---- In the machine
+by_call : {y : System} {s : IsSystem y} {w : World} {h : ℕ} (exit : ExitPoint) (at : AtEnd y s w h exit) →
+    moving.IsCalling y s w h at.site.stands at.site.below exit → StepOf at.site (view at.site).n
+by_call _ at (moving.asks mutex next) = asks_step at
+by_call _ at (moving.gives from mutex) = gives_step at
+by_call _ at moving.ends = ends_step at
 
 pub calls_step : CallsStep
 calls_step y s w h stands below i o zero_left calls =
-    let b = stands.before_commit.abstract in
-    let all = stands.before_commit.ghosts in
-    let held = (runs_held y s w b all h stands.before_commit.sound i stands.before_commit.locks).1 in
-    let x = one_call y s w h stands below held o zero_left calls in
-    let number : (s.codes.each h below).thread.number ≡ h = s.codes.number h below in
-    let here : slice_get (after_event y.runs.program w (Step h)).harts h ≡ Some x.own.log.hart =
-    ap (slice_get (after_event y.runs.program w (Step h)).harts) (sym number) ∙ x.own.log.here in
-    record {
-      below = below;
-      next = x.next;
-      led = x.led;
-      memory = x.memory;
-      stores_own = x.stores_own;
-      ghost = x.ghost;
-      own = x.own;
-      locks =
-          locked_after y s w b all h stands.before_commit.sound i x.next x.ghost x.own.log.hart here x.gone x.stores_own stands.before_commit.locks
-          (λ old. x.held);
-      mutexes = x.mutexes;
-      counted = x.counted;
-      released = x.released;
-    }
+    let held = (runs_held y s w stands.abstract stands.ghosts h stands.machine.log stands.machine.sound i
+    stands.locks).1 in
+    let site : Site y s w h = record { stands = stands; below = below } in
+    own_step site i (by_call o.exit (record { site = site; held = held; o = o; zero_left = zero_left; exit_is = refl }) calls)

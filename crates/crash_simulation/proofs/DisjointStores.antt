@@ -1,13 +1,15 @@
 -- What a hart may store is in no other thread's log, and beside all that other threads read.
 use Rattle.std.proofs.Common.{◌≡◌, ◌≢◌, inl, inr, refl, ℕ, ◌+◌, ◌/◌, ◌<◌, ◌≤◌, List, ◌∷◌, length, ap, arith, sym, ◌∙◌, subst, Option, Some, None, true, ⊎_elim}
 use Rattle.std.proofs.Common.{map}
-use Rattle.std.specs.Prelude.{slice_get}
 use Rattle.std.proofs.lemmas.Bool.{true≢false, and_from}
 use Rattle.std.proofs.lemmas.Option.{same_Some}
+use Rattle.std.specs.Prelude.{slice_get}
+use Rattle.ido_base.specs.Layout.{log_words, variable_at, byte_number}
+use Rattle.ido_base.specs.declared.log.Log.{Log}
 use Rattle.ido_base.specs.declared.event.Event.TheVariants.{Step}
 use Rattle.ido_base.specs.Words.{Word, Entry}
-use Rattle.ido_base.specs.Layout.{variable_at, byte_number}
 use Rattle.ido_base.specs.Growth.{ArePersisted, AreEntries}
+use Rattle.rv64_isa.proofs.Public.{log_stays}
 use Rattle.ido_base.proofs.Public.{are_persisted_refl, write_backs_raise}
 use Rattle.ido_ints.specs.Kinds.{bytes_of}
 use Rattle.source_machine.specs.Discipline.{Guards}
@@ -18,7 +20,7 @@ use Rattle.variable_words.proofs.Public.{by_size, well_formed_placed, steps_work
 use Rattle.variable_words.specs.MemoryEffects.{MayMakeStore, IsWork, Rests, Queues, WritesBack, Makes}
 use Rattle.rv64_isa.specs.declared.object.Slot.{Slot}
 use Rattle.rv64_isa.specs.declared.object.Slot.TheVariants.{Row}
-use Rattle.rv64_isa.specs.Rows.{Effect, Continues, Loads, Stores, Cleans, Fences, Calls, row}
+use Rattle.rv64_isa.specs.Rows.{Effect, Stores, row}
 use Rattle.rv64_isa.specs.Machine.{Hart, World, after_event}
 use Rattle.rv64_isa.specs.Frames.{IsWellFormedWorld}
 use Rattle.rv64_isa.specs.Schedule.{is_running}
@@ -33,19 +35,15 @@ use Rattle.hart_runs.specs.Laws.{IsApart}
 use Rattle.hart_runs.proofs.Public.{persisted_agrees, beside_agrees, others_leave}
 use Rattle.recovered_threads.specs.RecordDescriptions.{Code}
 use Rattle.crash_simulation.specs.Systems.{System, IsSystem, flat_of, shapes_of}
+use Rattle.crash_simulation.specs.InstructionSteps.{MayStore, nothing, in_log, element}
 use Rattle.crash_simulation.specs.AbstractRuns.{AbstractRun}
 use Rattle.crash_simulation.specs.ThreadGhosts.{ThreadGhost, AnswersGuarded}
-use Rattle.crash_simulation.specs.InstructionSteps.{MayStore, nothing, in_log, element}
 use Rattle.crash_simulation.proofs.DisjointElements.{variables_end, element_ends, element_below, elements_apart, log_after}
 
 -- how many bytes an effect stores
 abbrev width_of : Effect → ℕ
-width_of (Continues registers pc) = 0
-width_of (Loads address bytes signed register) = 0
 width_of (Stores address bytes value) = bytes
-width_of (Cleans address) = 0
-width_of Fences = 0
-width_of Calls = 0
+width_of effect = 0
 
 -- the effect of an instruction that was fetched
 abbrev effect_in : Hart → Option Slot → Option Effect
@@ -66,6 +64,7 @@ next_store program w h address bytes value st =
     }
 
 module _ (y : System) (s : IsSystem y) (w : World) (h : ℕ) (b : AbstractRun y)
+    (logs : y.plan.log ≡ w.log)
     (stores_own : (hart : Hart) (effect : Effect) → IsNext y.runs.program w h hart effect → MayStore y b h effect) where
   abbrev after : World
   after = after_event y.runs.program w (Step h)
@@ -75,15 +74,16 @@ module _ (y : System) (s : IsSystem y) (w : World) (h : ℕ) (b : AbstractRun y)
 
   -- ---- Logs
 
-  module _ (n : ℕ) (other : h ≢ n) (address bytes value i : ℕ) (below : i < 128) where
-    not_in_log : (effect : Effect) → effect ≡ Stores address bytes value → MayStore y b h effect → byte_number address / 8 ≢ log_word n i
+  module _ (n : ℕ) (other : h ≢ n) (address bytes value i : ℕ) (below : i < log_words w.log) where
+    not_in_log : (effect : Effect) → effect ≡ Stores address bytes value → MayStore y b h effect → byte_number address / 8 ≢ log_word w.log n i
     not_in_log _ same (nothing effect none) = absurd (true≢false (sym (ap is_store same) ∙ none))
     not_in_log _ same (in_log a v k inside word) =
-        subst (λ (x : ℕ). byte_number x / 8 ≢ log_word n i) (ap address_of same)
-        (λ meets. logs_are_apart n h i k other below inside (sym word ∙ meets))
+        subst (λ (x : ℕ). byte_number x / 8 ≢ log_word w.log n i) (ap address_of same)
+        (λ meets. logs_are_apart w.log n h i k other below (subst (λ (l : Log). k < log_words l) logs inside)
+        (sym (subst (λ (l : Log). byte_number a / 8 ≡ log_word l h k) logs word) ∙ meets))
     not_in_log _ same (element variable number v is there within guards) =
-        subst (λ (x : ℕ). byte_number x / 8 ≢ log_word n i) (ap address_of same)
-        (variables_are_apart n (variable_at (shapes_of y) variable number) i (element_below (flat_of y).variables room variable number is there within))
+        subst (λ (x : ℕ). byte_number x / 8 ≢ log_word w.log n i) (ap address_of same)
+        (variables_are_apart w.log n (variable_at (shapes_of y) variable number) i (element_below (flat_of y).variables room variable number is there within))
 
   -- the step stores nothing to another thread's log
   pub elsewhere : (n : ℕ) → h ≢ n → IsElsewhere y.runs.program w h n
@@ -112,10 +112,7 @@ module _ (y : System) (s : IsSystem y) (w : World) (h : ℕ) (b : AbstractRun y)
       (answers : (address bytes value : ℕ) → z.around.loads address bytes ≡ Some value → IsUnguarded address bytes) where
     answer_ends : (at count : ℕ) → IsUnguarded at count → at + count ≤ variables_end
     answer_ends at count g =
-        let ends = element_ends (flat_of y).variables room g.variable g.element g.is g.there g.within in
-        let place = g.address_is in
-        let size = g.bytes_are in
-        omega (arith, ends, place, size)
+        omega (arith, element_ends (flat_of y).variables room g.variable g.element g.is g.there g.within)
 
     module _ (address bytes value : ℕ) where
       abstract_all : (effect : Effect) → effect ≡ Stores address bytes value → MayStore y b h effect → IsAbstractAll z address bytes
@@ -126,9 +123,7 @@ module _ (y : System) (s : IsSystem y) (w : World) (h : ℕ) (b : AbstractRun y)
           record {
             width = subst (λ (x : ℕ). is_width x ≡ true) size refl;
             apart = λ at count found e.
-                let ends = answer_ends at count (answers at count found e) in
-                let is_after = log_after a h k word in
-                inl (omega (arith, ends, is_after, place));
+                inl (omega (arith, answer_ends at count (answers at count found e), log_after y.plan.log a h k word, place));
           }
       abstract_all _ same (element variable number v is there within guards) =
           let place : variable_at (shapes_of y) variable number ≡ address = ap address_of same in
@@ -137,12 +132,11 @@ module _ (y : System) (s : IsSystem y) (w : World) (h : ℕ) (b : AbstractRun y)
             width = subst (λ (x : ℕ). is_width x ≡ true) size (by_size (λ x. is_width x ≡ true) refl refl refl refl is.kind);
             apart = λ at count found e.
                 let g = answers at count found e in
-                let at_is = g.address_is in
-                let count_is = g.bytes_are in
                 ⊎_elim
-                (λ l. inl (omega (arith, l, place, at_is, count_is)))
-                (λ l. inr (omega (arith, l, place, size, at_is)))
-                (elements_apart (flat_of y).variables room g.variable g.element variable number g.is is g.there g.within there within
+                (λ l. inl (omega (arith, l, place)))
+                (λ l. inr (omega (arith, l, place, size)))
+                (elements_apart (flat_of y).variables room {v = g.variable} {e = g.element} {i = variable} {j = number}
+                (record { is = g.is; there = g.there; within = g.within }) (record { is = is; there = there; within = within })
                 (g.apart variable number guards));
           }
 
@@ -151,7 +145,7 @@ module _ (y : System) (s : IsSystem y) (w : World) (h : ℕ) (b : AbstractRun y)
       count = (others_leave y.runs.program w n (Step h) sound other).1
 
       persisted_on : ArePersisted w.words after.words → Agrees y.runs.program after n z
-      persisted_on persisted = persisted_agrees y.runs.program w after n z count persisted agrees
+      persisted_on persisted = persisted_agrees y.runs.program w after n z count (log_stays y.runs.program w (Step h) sound) persisted agrees
 
       same_on : after.words ≡ w.words → Agrees y.runs.program after n z
       same_on same = persisted_on (subst (λ (ws : List Word). ArePersisted w.words ws) (sym same) (are_persisted_refl w.words))
@@ -166,7 +160,7 @@ module _ (y : System) (s : IsSystem y) (w : World) (h : ℕ) (b : AbstractRun y)
       worked_on hart queue here (Makes address bytes value st is q) =
           let may = stores_own st.executes.hart (Stores address bytes value) (next_store y.runs.program w h address bytes value st) in
           let all = abstract_all address bytes value (Stores address bytes value) refl may in
-          beside_agrees y.runs.program w after n z address bytes value count is
+          beside_agrees y.runs.program w after n z address bytes value count (log_stays y.runs.program w (Step h) sound) is
           (and_from (is_width bytes) _ all.width (and_from _ _ st.inside st.is_aligned)) all.apart agrees
 
       -- memory goes on to agree with what is read of those

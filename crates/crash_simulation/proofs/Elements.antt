@@ -1,6 +1,5 @@
 -- Elements of variables in the words of a machine.
-use Rattle.std.proofs.Common.{◌≡◌, ◌⊎◌, inl, inr, ⊎_elim, refl, ℕ, ◌+◌, ◌*◌, ◌/◌, ◌<◌, map}
-use Rattle.std.proofs.Common.{◌≤◌, List, length, sym, ◌∙◌, ap, subst, arith, Option, Some, None}
+use Rattle.std.proofs.Common.{◌≡◌, ◌⊎◌, inl, inr, ⊎_elim, refl, ℕ, ◌+◌, ◌*◌, ◌/◌, ◌<◌, map, ◌≤◌, List, length, sym, ◌∙◌, ap, subst, arith, Option, Some, None}
 use Rattle.std.specs.Prelude.{slice_get, slice_index_or, pos}
 use Rattle.std.proofs.lemmas.Bool.{cases_lt}
 use Rattle.ido_base.specs.Layout.{variable_at, byte_number}

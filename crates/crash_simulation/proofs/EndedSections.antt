@@ -1,20 +1,21 @@
 -- Where a thread's begun steps are kept, a section of it ends exactly where it stood in one before, and stands in none after.
-use Rattle.std.proofs.Common.{◌≡◌, ◌≢◌, refl, ⊎_elim, ℕ, suc, ◌+◌, List, ◌++◌, replicate, ap, ap₂, sym, ◌∙◌, subst, arith, Option, Bool, true}
+use Rattle.std.proofs.Common.{◌≡◌, ◌≢◌, ⊎_elim, ℕ, suc, ◌+◌, List, ◌++◌, replicate, ap, ap₂, sym, ◌∙◌, subst, arith, Option, Bool, true}
 use Rattle.std.specs.Prelude.{not, ◌&&◌}
 use Rattle.ido_base.specs.Locks.{holds_none}
 use Rattle.c_tree.specs.Flats as f
 use Rattle.c_tree.specs.Source as m
 use Rattle.source_machine.proofs.Public.{solo as solo_law, goes_on}
 use Rattle.recovery_semantics.specs.Attempts.{solo}
-use Rattle.recovery_semantics.specs.Configs.{Config, Invariant, attempt_of}
-use Rattle.recovery_semantics.specs.Events.{ConfigStep, steps_locally, stores, synchronises, persists, commits, crashes, steps_begun}
+use Rattle.recovery_semantics.specs.Configs.{Invariant, attempt_of}
+use Rattle.recovery_semantics.specs.Events.{steps_begun}
 use Rattle.recovery_semantics.specs.Laws.{IsKeptBy}
 use Rattle.recovery_semantics.proofs.Public.{solo_holders, same_other}
 use Rattle.region_attempts.specs.Origins.{Origin}
 use Rattle.crash_simulation.specs.Systems.{System, IsSystem, flat_of}
 use Rattle.crash_simulation.specs.AbstractRuns.{AbstractRun}
-use Rattle.crash_simulation.specs.InstructionSteps.{IsDoneBy, StepsOrStutters, stays, goes}
+use Rattle.crash_simulation.specs.InstructionSteps.{StepsOrStutters}
 use Rattle.crash_simulation.specs.ReleasedSections.{one_if, sections_kept}
+use Rattle.crash_simulation.proofs.LongestAttempts.{led_of}
 use Rattle.crash_simulation.proofs.ThreadCommits.{invariant, kept_by}
 use Rattle.crash_simulation.proofs.Sections.{none_ends, fewer_run, one_more, between_same, inner_end, kept_more, kept_others}
 
@@ -120,22 +121,10 @@ module _ (y : System) (s : IsSystem y) (b next : AbstractRun y) (k : ℕ) (origi
     between = ap (λ (z : m.State). m.is_between z n) kept_is ∙ between_same K (solo K k begun) n (same_other x b.config k i n other).held;
   }
 
--- ---- What happens to the source by a thread
+-- ---- What happens by a thread
 
-happens_kept : (m next : Config) (thread : ℕ) (h : ConfigStep m next) → IsDoneBy thread h → next.kept ≡ m.kept
-happens_kept m _ thread (steps_locally u attempts g) by = refl
-happens_kept m _ thread (stores u memory attempts g) by = refl
-happens_kept m _ thread (synchronises u g) by = refl
-happens_kept m _ thread (persists memory g) by = refl
-happens_kept m _ thread (commits u attempts g) by = absurd by
-happens_kept m _ thread (crashes attempts g) by = absurd by
-
-module _ (y : System) (b : AbstractRun y) (thread : ℕ) where
-  pub led_kept : (next : AbstractRun y) → StepsOrStutters y b thread next → next.config.kept ≡ b.config.kept
-  led_kept _ stays = refl
-  led_kept _ (goes next h by execution respects) = happens_kept b.config next thread h by
-
-  pub led_sections : (next : AbstractRun y) → StepsOrStutters y b thread next → (n : ℕ) → AreSameSections y b next n
-  led_sections _ stays n = record { sections = refl; between = refl }
-  led_sections _ (goes next h by execution respects) n =
-      record { sections = refl; between = ap (λ (z : m.State). m.is_between z n) (happens_kept b.config next thread h by) }
+pub led_sections : (y : System) (b : AbstractRun y) (thread : ℕ) (next : AbstractRun y) → StepsOrStutters y b thread next → (n : ℕ) →
+    AreSameSections y b next n
+led_sections y b thread next led n =
+    let l = led_of y b thread next led in
+    record { sections = λ i. m.ended_from (l.origin i).source (l.schedule i) n; between = ap (λ (z : m.State). m.is_between z n) l.config.kept }

@@ -1,17 +1,18 @@
 -- A step of a thread that is begun, in the graph.
 use Rattle.std.proofs.Common.{◌≡◌, refl, ℕ, List, [], ◌++◌, length, ap, sym, ◌∙◌, subst, arith, Option, Some, None, Bool, true, false}
-use Rattle.std.specs.Prelude.{slice_get, slice_set, if◌then◌else◌}
-use Rattle.std.specs.Option.{option_map}
 use Rattle.std.proofs.lemmas.List.{append-nil, length-set}
 use Rattle.std.proofs.lemmas.Option.{same_Some}
+use Rattle.std.specs.Prelude.{slice_get, slice_set, if◌then◌else◌}
+use Rattle.std.specs.Option.{option_map}
+use Rattle.flow_graph.specs.Actions.{GraphThread, FlowState, Effect, seen_by, effect_of}
 use Rattle.flow_graph.specs.Nodes.{Node, Action, Graph}
 use Rattle.flow_graph.specs.Lowering.{lowered}
 use Rattle.flow_graph.specs.Liveness.{NodeAt}
+use Rattle.flow_graph.specs.Lockstep.{Matches}
 use Rattle.flow_graph.specs.IdempotentCuts.{IsChosen, IsUnlock, unlocks}
 use Rattle.flow_graph.specs.Actions as a
-use Rattle.flow_graph.specs.Actions.{GraphThread, FlowState, Effect, seen_by, effect_of}
 use Rattle.flow_graph.proofs.Public.{moved, set_same}
-use Rattle.recovery_semantics.specs.Configs.{Config, attempt_of}
+use Rattle.recovery_semantics.specs.Configs.{Config, now, attempt_of}
 use Rattle.recovery_semantics.specs.Events.{ConfigStep, IsGoing, steps_begun}
 use Rattle.recovery_semantics.specs.Executions.{kept_steps}
 use Rattle.region_attempts.specs.GraphStates.{FollowsEvent, flow_kept, flow_now, flow_solo, node_after}
@@ -25,43 +26,26 @@ use Rattle.crash_simulation.proofs.StatesMatchSource.{resumed}
 
 -- one that takes no mutex
 abbrev pub takes_none : Effect → Bool
-takes_none (a.Sets local number next) = true
-takes_none (a.Owes store next) = true
-takes_none (a.Makes store next) = true
-takes_none (a.Goes next) = true
 takes_none (a.Takes mutex next) = false
-takes_none (a.Gives mutex next) = true
-takes_none a.Ends = true
+takes_none e = true
 
 -- what it leaves
 abbrev pub after_effect : FlowState → (t : ℕ) → GraphThread → Effect → FlowState
-after_effect s t graph_thread (a.Sets local number next) = a.with_graph_thread s t (moved graph_thread (a.Sets local number next))
-after_effect s t graph_thread (a.Owes store next) = a.with_graph_thread s t (moved graph_thread (a.Owes store next))
 after_effect s t graph_thread (a.Makes store next) = a.with_graph_thread (a.stored s store) t (moved graph_thread (a.Makes store next))
-after_effect s t graph_thread (a.Goes next) = a.with_graph_thread s t (moved graph_thread (a.Goes next))
 after_effect s t graph_thread (a.Takes mutex next) = a.with_graph_thread (a.with_holder s mutex (Some t)) t (moved graph_thread (a.Takes mutex next))
 after_effect s t graph_thread (a.Gives mutex next) = a.with_graph_thread (a.with_holder s mutex None) t (moved graph_thread (a.Gives mutex next))
-after_effect s t graph_thread a.Ends = a.with_graph_thread s t (moved graph_thread a.Ends)
+after_effect s t graph_thread e = a.with_graph_thread s t (moved graph_thread e)
 
 module _ (s : FlowState) (t : ℕ) (graph_thread : GraphThread) where
   pub done_is : (effect : Effect) → takes_none effect ≡ true → graph_thread.ended ≡ false →
       a.done s t graph_thread effect ≡ Some (after_effect s t graph_thread effect)
-  done_is (a.Sets local number next) free execution = refl
-  done_is (a.Owes store next) free execution = refl
-  done_is (a.Makes store next) free execution = refl
-  done_is (a.Goes next) free execution = refl
   done_is (a.Takes mutex next) free execution = cc
-  done_is (a.Gives mutex next) free execution = refl
   done_is a.Ends free execution = ap (λ (b : Bool). let o : Option FlowState = if b then None else Some (after_effect s t graph_thread a.Ends) in o) execution
+  done_is effect free execution = refl
 
   pub graph_threads_are : (effect : Effect) → (after_effect s t graph_thread effect).graph_threads ≡ slice_set s.graph_threads t (moved graph_thread effect)
-  graph_threads_are (a.Sets local number next) = refl
-  graph_threads_are (a.Owes store next) = refl
-  graph_threads_are (a.Makes store next) = refl
-  graph_threads_are (a.Goes next) = refl
-  graph_threads_are (a.Takes mutex next) = refl
-  graph_threads_are (a.Gives mutex next) = refl
   graph_threads_are a.Ends = refl
+  graph_threads_are effect = refl
 
   pub graph_thread_is : (effect : Effect) → slice_get s.graph_threads t ≡ Some graph_thread →
       slice_get (after_effect s t graph_thread effect).graph_threads t ≡ Some (moved graph_thread effect)
@@ -74,6 +58,12 @@ module _ (s : FlowState) (t : ℕ) (graph_thread : GraphThread) where
 -- ---- The state after the step
 
 module _ (y : System) (s : IsSystem y) (b : AbstractRun y) where
+  -- the states of the source and of the graph match
+  pub matches_now : Matches (flat_of y) (now_of y b) (now b.config)
+  matches_now =
+      let r = (resumed y s b).resumed in
+      (graph_stands (flat_of y) b.origin b.config b.schedule s.plan.formed r.invariant r.kept).now_matches
+
   pub follows_on : (next : Config) (h : ConfigStep b.config next) → kept_steps h ≡ [] →
       FollowsEvent (flat_of y) (kept_of y b) (now_of y b) (flow_now (flat_of y) (kept_of y b) next) h
   follows_on next h none =
@@ -97,21 +87,20 @@ module _ (y : System) (s : IsSystem y) (b : AbstractRun y) where
       ap (option_map (λ (w : GraphThread). w.at)) there
 
   -- an attempt that goes on has come to no boundary, unless at an unlock
-  pub not_come : (t : ℕ) (graph_thread : GraphThread) (node : Node) (effect : Effect) → IsGoing b.config t →
+  pub not_come : (t : ℕ) {graph_thread : GraphThread} {node : Node} {effect : Effect} → IsGoing b.config t →
       slice_get (now_of y b).graph_threads t ≡ Some graph_thread →
       NodeAt (lowered (flat_of y)) graph_thread.at node → effect_of node.action (seen_by (now_of y b) graph_thread) ≡ Some effect →
       ((mutex next : ℕ) → effect ≡ a.Gives mutex next → ⊥) →
       (IsChosen y.plan.graph y.plan.boundaries graph_thread.at → (attempt_of b.config t).done ≡ 0) →
       HasCome (flat_of y) y.plan.boundaries (kept_of y b) b.config t → ⊥
-  not_come t graph_thread node effect going found at does apart fresh come =
+  not_come t {graph_thread} {node} {effect} going found at does apart fresh come =
       let same : come.node ≡ graph_thread.at = same_Some _ _ (sym come.at ∙ boundary_after_is t graph_thread going found) in
       let none : (attempt_of b.config t).done ≡ 0 =
       fresh (record {
         stands = subst (λ (n : ℕ). slice_get y.plan.boundaries.before n ≡ Some true) same come.stands;
         free = λ u. by (subst (λ (g : Graph). IsUnlock g graph_thread.at) s.plan.lowered u);
       }) in
-      let some = come.steps in
-      omega (arith, none, some)
+      omega (arith, none)
     where
       by : IsUnlock (lowered (flat_of y)) graph_thread.at → ⊥
       by (unlocks x mutex next here action) =

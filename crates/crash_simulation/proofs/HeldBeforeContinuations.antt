@@ -1,7 +1,7 @@
 -- What a thread has left after an unlock it has without the mutex.
 use Rattle.std.proofs.Common.{◌≡◌, ◌≢◌, refl, ℕ, zero, suc, List, [], ◌∷◌, sym, ◌∙◌, ap, subst, Option, Some, None, true, false, length}
-use Rattle.std.specs.Prelude.{slice_get, slice_set}
 use Rattle.std.proofs.lemmas.Bool.{true≢false, eq-eqb}
+use Rattle.std.specs.Prelude.{slice_get, slice_set}
 use Rattle.ido_base.specs.declared.place.Place.{Place}
 use Rattle.c_tree.specs.Flats as f
 use Rattle.c_tree.specs.Source as m
@@ -29,10 +29,10 @@ none_in (suc count) zero = refl
 none_in (suc count) (suc mutex) = none_in count mutex
 
 -- what a thread has left after an unlock it has without the mutex
-pub not_held_after : (x : f.Flat) (t : f.Thread) (step : ℕ) (place : Place) (mutex : ℕ) (rest : List f.Statement) → IsDisciplined x t →
-    slice_get (thread_lefts t) step ≡ Some (f.Unlock place mutex ∷ rest) → (s : m.State) (number : ℕ) (thread : m.Thread) → StateKeeps x s →
+pub not_held_after : {x : f.Flat} (t : f.Thread) (step : ℕ) {place : Place} {mutex : ℕ} {rest : List f.Statement} → IsDisciplined x t →
+    slice_get (thread_lefts t) step ≡ Some (f.Unlock place mutex ∷ rest) → {s : m.State} (number : ℕ) {thread : m.Thread} → StateKeeps x s →
     slice_get s.threads number ≡ Some thread → thread.left ≡ rest → slice_get s.holders mutex ≢ Some (Some number)
-not_held_after x t step place mutex rest keep here s number thread keeps there left held =
+not_held_after {x} t step {place} {mutex} {rest} keep here {s} number {thread} keeps there left held =
     let found = set_left x t step (f.Unlock place mutex ∷ rest) keep here in
     let k = found.2 in
     let given : k.0 ≡ held_by number s.holders = (held_is_given x s number thread k.0 keeps there).0

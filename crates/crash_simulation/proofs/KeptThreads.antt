@@ -1,45 +1,44 @@
 -- A thread that is left alone: its invariant still holds, in another world and of another abstract run.
-use Rattle.std.proofs.Common.{◌≡◌, ℕ, ◌/◌, arith, sym, ◌∙◌, Option, Some, Bool, true, false}
+use Rattle.std.proofs.Common.{◌≡◌, ℕ, ◌/◌, arith, sym, ◌∙◌, Option, Some, Bool, true, false, subst, ap}
 use Rattle.std.specs.Prelude.{slice_get, List, ◌++◌, ◌<◌, ◌≤◌}
+use Rattle.ido_base.specs.declared.log.Log.{Log}
 use Rattle.ido_base.specs.Layout.{byte_number, variable_at}
 use Rattle.source_machine.specs.Discipline.{Guards}
 use Rattle.rv64_isa.specs.declared.phase.Phase.{Phase}
 use Rattle.rv64_isa.specs.declared.phase.Phase.TheVariants.{Take, Wait, Resume, Run, Done, Ended}
 use Rattle.rv64_isa.specs.Machine.{Hart, World}
-use Rattle.flow_graph.specs.Actions.{GraphThread}
+use Rattle.flow_graph.specs.Actions.{GraphThread, Seen}
 use Rattle.recovery_semantics.specs.Attempts.{WritesAt, Writes}
 use Rattle.recovery_semantics.specs.Configs.{now, attempt_of}
 use Rattle.recovery_semantics.specs.Events.{IsGoing, steps_begun}
-use Rattle.flow_graph.specs.Actions.{Seen}
 use Rattle.ido_base.specs.Words.{Entry}
 use Rattle.source_machine.specs.Mutexes.{held_by}
 use Rattle.recovery_semantics.specs.ElementHistories.{IsSince, history_at}
 use Rattle.recovery_semantics.specs.Laws.{HasLocked, HasUnlocked, LastUnlocks}
 use Rattle.region_attempts.specs.GraphStates.{node_after}
 use Rattle.region_attempts.specs.PendingCleans.{line_of, CleansSince}
-use Rattle.log_states.specs.Stages.{Moves}
+use Rattle.log_states.specs.Stages.{LogIs, is_committed, Moves}
 use Rattle.log_states.specs.Machines.{config_of}
 use Rattle.log_states.proofs.Public.{keeps, stays_committed}
 use Rattle.code_runs.specs.CodeTraces.{MarkedEnvironment}
-use Rattle.thread_runs.specs.CodeFragments.{ExitPoint, Arrives, Keeps, Asks, Took, Gives, Ends}
+use Rattle.thread_runs.specs.CodeFragments.{ExitPoint, Arrives, Keeps, Asks, Took, Gives, Ends, Stage, IsOnFragment, IsAtCore, on_machine}
 use Rattle.thread_runs.proofs.Public.{fragments_see_all, cores_see_all}
-use Rattle.thread_runs.specs.CodeFragments.{Stage, IsOnFragment, IsAtCore, on_machine}
 use Rattle.ido_base.specs.Growth.{PersistsThrough}
 use Rattle.recovered_threads.specs.RecordDescriptions.{Code, Describes}
 use Rattle.recovered_threads.proofs.Public.{others_describe}
 use Rattle.crash_simulation.specs.Systems.{System, flat_of, shapes_of}
 use Rattle.crash_simulation.specs.AbstractRuns.{AbstractRun, kept_of, now_of, attempts_of}
-use Rattle.crash_simulation.specs.ThreadGhosts.{ThreadGhost, AnswersGuarded, IsInAttempt, GoesClean, IsBounded}
-use Rattle.crash_simulation.specs.ThreadGhosts.{ExitInv, Rests, IsRunningThread, on_fragment, at_core}
-use Rattle.crash_simulation.specs.ThreadGhosts.{InPhase, IsComing, is_reached, is_ahead, IsFlushed, ThreadInv, record_kept}
+use Rattle.crash_simulation.specs.ThreadGhosts.{ThreadGhost, AnswersGuarded, IsInAttempt, GoesClean, IsBounded, ExitInv, Rests, IsRunningThread, on_fragment}
+use Rattle.crash_simulation.specs.ThreadGhosts.{at_core, InPhase, IsComing, is_reached, is_ahead, IsFlushed, ThreadInv, record_kept}
 
 -- ---- What is left of it
 
 -- of the machine: its hart is as it was, its log is a move further, and where it was in its code it is
 pub record IsLeftAlone (y : System) (w v : World) (b : AbstractRun y) (code : Code y.plan) (c : ThreadGhost) : Type 0 where
+  pub log : v.log ≡ w.log
   pub here : (hart : Hart) → slice_get w.harts code.thread.number ≡ Some hart → slice_get v.harts code.thread.number ≡ Some hart
   pub moves : (hart : Hart) → slice_get w.harts code.thread.number ≡ Some hart →
-      Moves code.thread.number (config_of w hart c.rest) (config_of v hart c.rest)
+      Moves w.log code.thread.number (config_of w hart c.rest) (config_of v hart c.rest)
   pub fragments : (z : MarkedEnvironment) → AnswersGuarded y b code c z → (stage : Stage) (steps : ℕ) →
       IsOnFragment y.plan code.thread code.is.places (on_machine y.runs.program w code.thread.number z) stage steps (c.cleans ++ c.rest) →
       IsOnFragment y.plan code.thread code.is.places (on_machine y.runs.program v code.thread.number z) stage steps (c.cleans ++ c.rest)
@@ -47,6 +46,23 @@ pub record IsLeftAlone (y : System) (w v : World) (b : AbstractRun y) (code : Co
       IsAtCore y.plan code.thread code.is.places w code.thread.number at seen side registers →
       IsAtCore y.plan code.thread code.is.places v code.thread.number at seen side registers
   pub reach : (queue : List Entry) (j position : ℕ) → PersistsThrough w.words queue j position → PersistsThrough v.words queue j position
+
+-- what an environment answers is guarded where the thread guards what it did
+pub answers_kept : {y : System} (b next : AbstractRun y) (code : Code y.plan) (c new : ThreadGhost) →
+    ((v e : ℕ) → Guards (flat_of y) (now b.config) code.thread.number v e → Guards (flat_of y) (now next.config) code.thread.number v e) →
+    (z : MarkedEnvironment) → AnswersGuarded y b code c z → AnswersGuarded y next code new z
+answers_kept b next code c new guards z answers address bytes value e =
+    let g = answers address bytes value e in
+    record {
+      variable = g.variable;
+      element = g.element;
+      is = g.is;
+      there = g.there;
+      within = g.within;
+      address_is = g.address_is;
+      bytes_are = g.bytes_are;
+      guards = guards g.variable g.element g.guards;
+    }
 
 module _ (y : System) (b next : AbstractRun y) (code : Code y.plan) (c : ThreadGhost) where
   abbrev n : ℕ
@@ -111,20 +127,6 @@ module _ (y : System) (b next : AbstractRun y) (code : Code y.plan) (c : ThreadG
       whole = r.whole;
     }
 
-    answers_on : (z : MarkedEnvironment) → AnswersGuarded y b code c z → AnswersGuarded y next code c z
-    answers_on z answers address bytes value e =
-        let g = answers address bytes value e in
-        record {
-          variable = g.variable;
-          element = g.element;
-          is = g.is;
-          there = g.there;
-          within = g.within;
-          address_is = g.address_is;
-          bytes_are = g.bytes_are;
-          guards = still.guards g.variable g.element g.guards;
-        }
-
     written_back : (v e : ℕ) → Writes next.config.kept n (attempt_of next.config n).done v e → Writes b.config.kept n (attempt_of b.config n).done v e
     written_back v e written =
         let within = written.within in
@@ -159,7 +161,7 @@ module _ (y : System) (b next : AbstractRun y) (code : Code y.plan) (c : ThreadG
           IsRunningThread y v next code c hart graph_thread
       runs_on hart graph_thread (on_fragment o) = on_fragment (record {
         environment = o.environment;
-        answers = answers_on o.environment o.answers;
+        answers = answers_kept b next code c c still.guards o.environment o.answers;
         exit = o.exit;
         side = o.side;
         at_side = o.at_side;
@@ -214,8 +216,12 @@ module _ (y : System) (b next : AbstractRun y) (code : Code y.plan) (c : ThreadG
           let from = config_of w t.log.hart c.rest in
           let to = config_of v t.log.hart c.rest in
           record {
-            log = record { hart = t.log.hart; here = left.here t.log.hart t.log.here; log = keeps n c.old c.new from to t.log.log on };
-            no_sooner = λ is. stays_committed n c.old c.new from to t.log.log on (t.no_sooner is);
+            log = record {
+              hart = t.log.hart;
+              here = left.here t.log.hart t.log.here;
+              log = subst (λ (l : Log). LogIs l n c.old c.new to) (sym left.log) (keeps w.log n c.old c.new from to t.log.log on);
+            };
+            no_sooner = λ is. ap (λ (l : Log). is_committed l n to) left.log ∙ stays_committed w.log n c.old c.new from to t.log.log on (t.no_sooner is);
             describes = still.describes t.describes;
             will_describe = λ un. others_describe y.plan code (now_of y b) (now_of y next) c.new (t.will_describe un) still.graph_thread still.holds;
             unlocked = λ mutex gives over. still.last mutex (t.unlocked mutex gives over);

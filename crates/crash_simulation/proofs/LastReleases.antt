@@ -1,7 +1,7 @@
 -- Releases of a hart's last mutex, and threads that leave a section.
 use Rattle.std.proofs.Common.{◌≡◌, ◌≢◌, inl, inr, refl, ℕ, List, ap, sym, ◌∙◌, Option, Some, None, Bool, true, false, eq-eqb}
-use Rattle.std.specs.Prelude.{slice_get, is_some, not, ◌&&◌, ◌==◌}
 use Rattle.std.proofs.lemmas.Bool.{true≢false, cases_Bool, ne_eqb}
+use Rattle.std.specs.Prelude.{slice_get, is_some, not, ◌&&◌, ◌==◌}
 use Rattle.ido_base.specs.declared.event.Event.TheVariants.{Step}
 use Rattle.ido_base.specs.Locks.{holds_none}
 use Rattle.rv64_isa.specs.declared.object.Slot.{Slot}
@@ -56,7 +56,7 @@ module _ (program : List (List Slot)) (w : World) (h : ℕ) where
 
 -- ---- Ghost states of threads
 
-and_none : (b : Bool) → (b && false) ≡ false
+pub and_none : (b : Bool) → (b && false) ≡ false
 and_none true = refl
 and_none false = refl
 

@@ -7,6 +7,7 @@ mod RecordsAfterCrash
 mod Boundaries
 mod LoadFreeEnvironment
 mod LastReleases
+mod ThreadsOfMachines
 mod ThreadUpdates
 mod SettledMemory
 mod SimulationWhileGathering

@@ -1,16 +1,15 @@
 -- An environment that answers no loads: a thread's code is met in it in any world, and a fragment that has come to its end is one in it.
 use Rattle.std.proofs.Common.{◌≡◌, refl, ℕ, ◌+◌, ◌*◌, ◌^◌, ◌<◌, List, [], ◌∷◌, length, sym, ◌∙◌, subst, arith, false}
-use Rattle.std.specs.Prelude.{slice_index_or}
 use Rattle.std.proofs.lemmas.Option.{none-some}
+use Rattle.std.specs.Prelude.{slice_index_or, Bool}
 use Rattle.rv64_isa.specs.Rows.{Effect}
 use Rattle.rv64_isa.specs.Machine.{World}
 use Rattle.code_runs.specs.CodeTraces.{Program, MarkedEnvironment, Meets, seen_effects}
 use Rattle.hart_runs.specs.HartsOnRuns.{Agrees, environment_of}
-use Rattle.hart_runs.specs.Laws.{program_at}
 use Rattle.thread_runs.specs.CodeFragments.{Stage, ReadsVariables, IsOnFragment, IsPlaced, on_machine}
 use Rattle.thread_runs.proofs.Public.{plans_are_placed}
 use Rattle.recovered_threads.specs.RecordDescriptions.{Code}
-use Rattle.crash_simulation.specs.Systems.{System, IsSystem, thread_count}
+use Rattle.crash_simulation.specs.Systems.{IsOwnCode, System, IsSystem, thread_count}
 use Rattle.crash_simulation.specs.AbstractRuns.{AbstractRun}
 use Rattle.crash_simulation.specs.ThreadGhosts.{ThreadGhost, AnswersGuarded}
 use Rattle.crash_simulation.proofs.SimulationAtStart.{environments_meet}
@@ -19,6 +18,15 @@ use Rattle.crash_simulation.proofs.SimulationAtStart.{environments_meet}
 pub none_seen : (effects : List Effect) → seen_effects effects ≡ [] → effects ≡ []
 none_seen [] h = refl
 none_seen (effect ∷ effects) h = cc
+
+-- a thread's own code is met in the environment of each machine, whichever loads it answers
+pub meets_with : (y : System) (code : Code y.plan) → IsOwnCode y code → (w : World) (reads : ℕ → ℕ → Bool) →
+    Meets code.is.places.program (environment_of y.runs.program (slice_index_or y.runs.marks code.thread.number []) reads w code.thread.number)
+meets_with y code own w reads =
+    let marks = slice_index_or y.runs.marks code.thread.number [] in
+    let resumes = slice_index_or y.runs.resumes code.thread.number [] in
+    subst (λ (p : Program). Meets p (environment_of y.runs.program marks reads w code.thread.number)) (sym (code.is.of_program ∙ own.program))
+    (environments_meet y.runs.program marks resumes reads w code.thread.number)
 
 module _ (y : System) (s : IsSystem y) (w : World) (n : ℕ) (below : n < thread_count y) where
   abbrev code : Code y.plan
@@ -31,14 +39,7 @@ module _ (y : System) (s : IsSystem y) (w : World) (n : ℕ) (below : n < thread
   bare_agrees = record { fetches = λ address instr e. e; loads = λ address bytes value e. absurd (none-some value e) }
 
   pub bare_meets : Meets code.is.places.program bare
-  bare_meets =
-      let is : program_at y.runs.program code.thread.number (slice_index_or y.runs.marks code.thread.number [])
-      (slice_index_or y.runs.resumes code.thread.number []) ≡
-      code.is.places.program = sym (code.is.of_program ∙ (s.own n below).program) in
-      subst (λ (p : Program). Meets p bare) is
-      (environments_meet y.runs.program (slice_index_or y.runs.marks code.thread.number []) (slice_index_or y.runs.resumes code.thread.number [])
-      (λ address bytes. false) w
-      code.thread.number)
+  bare_meets = meets_with y code (s.own n below) w (λ address bytes. false)
 
   pub bare_answers : (b : AbstractRun y) (c : ThreadGhost) → AnswersGuarded y b code c bare
   bare_answers b c address bytes value e = absurd (none-some value e)
@@ -46,10 +47,10 @@ module _ (y : System) (s : IsSystem y) (w : World) (n : ℕ) (below : n < thread
   pub bare_reads : ReadsVariables bare
   bare_reads address bytes value e = absurd (none-some value e)
 
-  pub placed : length w.harts ≡ thread_count y → IsPlaced y.plan code.thread code.is.places (length w.harts)
-  placed count =
+  pub placed : y.plan.log ≡ w.log → length w.harts ≡ thread_count y → IsPlaced y.plan code.thread code.is.places w.log (length w.harts)
+  placed logs count =
       let same = s.codes.number n below in
-      plans_are_placed y.plan code.thread code.is.places (length w.harts) s.plan code.of code.is.kept (omega (arith, below, count, same))
+      plans_are_placed y.plan code.thread code.is.places w.log (length w.harts) s.plan code.of code.is.kept logs (omega (arith, below, count, same))
       (subst (λ (p : Program). p.start + 4 * length p.code < 2 ^ 64) (sym code.is.of_program) (s.own n below).room)
 
   module _ (environment : MarkedEnvironment) (stage : Stage) (effects : List Effect)

@@ -1,29 +1,29 @@
 -- Loads of the elements that a node reads are answered.
 use Rattle.std.proofs.Common.{◌≡◌, ⊎_elim, refl, ℕ, zero, suc, ◌<◌, List, [], ◌∷◌, ◌++◌, map, ap, sym, subst, arith, Option, Some, None, Bool, true, false}
-use Rattle.std.specs.Prelude.{slice_get, is_some, ℤ, Contains, nat_lt, ◌==◌, ◌&&◌, ◌||◌}
-use Rattle.std.specs.List.{AllByRecursion, AllZip}
 use Rattle.std.proofs.lemmas.Bool.{and_parts, or_cases}
 use Rattle.std.proofs.lemmas.Bool.Decides.{nat_tests}
 use Rattle.std.proofs.lemmas.Option.{same_Some}
 use Rattle.std.proofs.lemmas.List.Elements.{Contains-append_left, Contains-append_right}
+use Rattle.std.specs.Prelude.{slice_get, is_some, ℤ, Contains, nat_lt, ◌==◌, ◌&&◌, ◌||◌}
+use Rattle.std.specs.List.{AllByRecursion, AllZip}
 use Rattle.ido_base.specs.Layout.{variable_at}
 use Rattle.ido_ints.specs.declared.kinds.Kind.{Kind}
 use Rattle.ido_ints.specs.Kinds.{bytes_of, Holds}
 use Rattle.c_tree.specs.Exprs as e
 use Rattle.c_tree.specs.Flats as f
 use Rattle.c_tree.specs.Source as m
+use Rattle.c_tree.specs.WellFormed.{elements_in, shape_of, IsDeclared, IsExpr, Fits, IsTarget, TargetFits, IsWellFormed, IsFlatStatement, IsFlatPlaced}
 use Rattle.c_tree.specs.Programs.{Variable}
 use Rattle.c_tree.specs.Values.{value, element_at}
-use Rattle.c_tree.specs.WellFormed.{elements_in, shape_of, IsDeclared, IsExpr, Fits, IsTarget, TargetFits, IsWellFormed, IsFlatStatement, IsFlatPlaced}
 use Rattle.c_ranges.specs.RunInvariants.{AreNumbersOf, IsStatementLeft, IsThreadOf}
 use Rattle.c_ranges.proofs.Public.{fits_element, Pair, all_held, elements_is, zip_found}
 use Rattle.expr_code.specs.EvaluationCode.{Source, IsLoaded, AreLoaded}
-use Rattle.flow_graph.specs.Nodes.{Action, Eval, Store, Test, Lock, Unlock, End, Node}
+use Rattle.flow_graph.specs.Paths.{Element, element, expr_elements, target_elements, reads_of}
+use Rattle.flow_graph.specs.Nodes.{Action, Eval, Test, Node}
 use Rattle.flow_graph.specs.Lowering.{lowered}
 use Rattle.flow_graph.specs.Liveness.{NodeAt}
 use Rattle.flow_graph.specs.Lockstep.{Standing, free, threads_standings}
 use Rattle.flow_graph.specs.Actions.{Seen, GraphThread, FlowState, seen_by}
-use Rattle.flow_graph.specs.Paths.{Element, element, expr_elements, target_elements, reads_of}
 use Rattle.flow_graph.proofs.Public.{ActionLeads, chooses, repeats, Good}
 use Rattle.thread_code.specs.RegistersAtNodes.{IsAnsweredIn, IsAnswered}
 use Rattle.region_attempts.proofs.Public.{IsThere, is_there}
@@ -149,9 +149,8 @@ module _ (vs : List Variable) (ks kinds : List Kind) (ls : List ℤ) (p : Option
   loaded_expr (e.Element place variable kind index_place index) w fit all =
       let named = fits_element vs (record { variable = variable; place = index_place; expr = index }) fit.0 ls ns
       (all_held vs ks ls ns locals variables index w.1) in
-      let count = elements_is vs variable w.0.it w.0.found w.0.array in
       let below = named.below in (
-        loaded_declared variable (element_at (value ls ns index)) kind true w.0 (omega (arith, below, count))
+        loaded_declared variable (element_at (value ls ns index)) kind true w.0 (omega (arith, below, elements_is vs variable w.0.it w.0.found w.0.array))
             (all (element variable (element_at (value ls ns index))) (0, omega arith, refl)),
         loaded_expr index w.1 fit.1 (λ one c. all one (suc c.0, let l = c.1 in omega (arith, l), c.2)),
       )
@@ -232,11 +231,8 @@ module _ (x : f.Flat) (w : IsWellFormed x) (s : FlowState) (good : Good x s) (t 
         target_here target formed.0.0 formed.0.1 (λ one c. each one (Contains-append_left first second one c)),
         expr_here value formed.1 (λ one c. each one (Contains-append_right first second one c)),
       )
-  answered_by (Store variable kind next) d each = tt
   answered_by (Test condition holds fails) d each = expr_here condition (test_formed condition holds fails d) each
-  answered_by (Lock mutex next) d each = tt
-  answered_by (Unlock mutex next) d each = tt
-  answered_by End d each = tt
+  answered_by a d each = tt
 
   -- loads of what the node reads are
   pub answered : ((one : Element) → Contains (reads_of node.action (seen_by s graph_thread)) one → Loaded here loads one) → IsAnswered here loads node.action

@@ -1,9 +1,9 @@
 -- What a thread holds, locks and unlocks where its graph thread is at a call.
 use Rattle.std.proofs.Common.{◌≡◌, ◌≢◌, refl, ℕ, zero, suc, ◌-◌, ◌<◌, List, [], ◌∷◌, length, ap, sym, ◌∙◌, subst, arith, Option, Some, None, false}
-use Rattle.std.specs.Prelude.{slice_get, is_some}
-use Rattle.std.specs.List.{AllByRecursion}
 use Rattle.std.proofs.lemmas.Bool.{true≢false}
 use Rattle.std.proofs.lemmas.Option.{none-some, same_Some, slice_get_within}
+use Rattle.std.specs.Prelude.{slice_get, is_some}
+use Rattle.std.specs.List.{AllByRecursion}
 use Rattle.c_tree.specs.Flats as f
 use Rattle.c_tree.specs.Source as m
 use Rattle.c_tree.specs.Source.{Pending, source_step}
@@ -13,23 +13,24 @@ use Rattle.c_ranges.proofs.Public.{zip_found}
 use Rattle.source_machine.specs.Mutexes.{locks, first_lock, held_by}
 use Rattle.source_machine.specs.Discipline.{KeepList, StateKeeps}
 use Rattle.source_machine.proofs.Public.{locks_found, run_keeps}
+use Rattle.flow_graph.specs.Actions.{GraphThread, FlowState, effect_of, seen_by, node_step, effect_step, graph_step}
+use Rattle.flow_graph.specs.Lockstep.{Standing, free, threads_standings, thread_standings, GraphThreadMatches, StepsMatch}
 use Rattle.flow_graph.specs.declared.graph.Part.{Part}
 use Rattle.flow_graph.specs.Nodes.{Action, Node, Graph}
 use Rattle.flow_graph.specs.Lowering.{lowered, parts, threads_nodes}
 use Rattle.flow_graph.specs.Liveness.{NodeAt}
 use Rattle.flow_graph.specs.Actions as g
-use Rattle.flow_graph.specs.Actions.{GraphThread, FlowState, effect_of, seen_by, node_step, effect_step, graph_step}
-use Rattle.flow_graph.specs.Lockstep.{Standing, free, threads_standings, thread_standings, GraphThreadMatches, Matches, StepsMatch}
 use Rattle.flow_graph.proofs.Public.{ActionLeads, Agree, Locks, Unlocks, agrees, found_in, graph_is, lowered_nodes, lowered_threads, steps_lockstep, matched}
 use Rattle.recovery_semantics.specs.Configs.{now}
-use Rattle.region_attempts.proofs.Public.{IsThere, is_there, graph_stands}
+use Rattle.region_attempts.proofs.Public.{IsThere, is_there}
 use Rattle.thread_runs.specs.CodeFragments.{IsLockOf, IsUnlockOf, IsEndOf}
 use Rattle.recovered_threads.specs.RecordDescriptions.{Code}
 use Rattle.recovered_threads.proofs.Public.{left_at, standing_at}
 use Rattle.crash_simulation.specs.Systems.{System, IsSystem, flat_of}
 use Rattle.crash_simulation.specs.AbstractRuns.{AbstractRun, now_of}
-use Rattle.crash_simulation.proofs.StatesMatchSource.{resumed, now_good}
 use Rattle.crash_simulation.proofs.HeldBeforeContinuations.{holds_it, none_in, not_held_after}
+use Rattle.crash_simulation.proofs.StatesMatchSource.{resumed, now_good}
+use Rattle.crash_simulation.proofs.GraphAfterBegin.{matches_now}
 
 -- what stands at a node
 pub standing_of : (all : List Standing) (ns : List Node) (ss : List Standing) (k : ℕ) (n : Node) → Agree all ns ss → slice_get ns k ≡ Some n →
@@ -52,11 +53,6 @@ module _ (y : System) (s : IsSystem y) (b : AbstractRun y) (code : Code y.plan) 
   abbrev all : List Standing
   all = threads_standings (flat_of y).threads
 
-  matches : Matches (flat_of y) (now_of y b) (now b.config)
-  matches =
-      let r = (resumed y s b).resumed in
-      (graph_stands (flat_of y) b.origin b.config b.schedule s.plan.formed r.invariant r.kept).now_matches
-
   keeps : StateKeeps (flat_of y) (now b.config)
   keeps = run_keeps (flat_of y) b.config.kept b.config.uncommitted (resumed y s b).resumed.invariant.keeps
 
@@ -64,7 +60,8 @@ module _ (y : System) (s : IsSystem y) (b : AbstractRun y) (code : Code y.plan) 
   in_lowered node is at = subst (λ (graph : Graph). NodeAt graph node is) s.plan.lowered at
 
   here : (is : Node) → NodeAt y.plan.graph graph_thread.at is → IsThere (flat_of y) (now b.config) number graph_thread is
-  here is at = is_there (flat_of y) s.plan.formed number (now_of y b) (now b.config) matches graph_thread is there (in_lowered graph_thread.at is at)
+  here is at =
+      is_there (flat_of y) s.plan.formed number (now_of y b) (now b.config) (matches_now y s b) graph_thread is there (in_lowered graph_thread.at is at)
 
   -- ---- At a lock
 
@@ -110,7 +107,7 @@ module _ (y : System) (s : IsSystem y) (b : AbstractRun y) (code : Code y.plan) 
     source_takes is_free =
         let m = matched (flat_of y) taken (source_step (now b.config) number)
         (subst (λ (o : Option FlowState). StepsMatch (flat_of y) o (source_step (now b.config) number)) (takes_it is_free)
-        (steps_lockstep (flat_of y) (now_of y b) (now b.config) number s.plan.formed matches)) in
+        (steps_lockstep (flat_of y) (now_of y b) (now b.config) number s.plan.formed (matches_now y s b))) in
         (m.0, m.1)
 
   -- ---- After an unlock
@@ -123,8 +120,8 @@ module _ (y : System) (s : IsSystem y) (b : AbstractRun y) (code : Code y.plan) 
         let stands = standing_of all (threads_nodes (flat_of y).threads 0) all from unlock.is (agrees (flat_of y) s.plan.formed.threads) nodes in
         let unlocks : Unlocks all mutex graph_thread.at stands.0 = subst (λ (a : Action). ActionLeads all a stands.0) unlock.unlocks stands.2 in
         let source = found_in (now b.config).threads number
-        (let l = slice_get_within (now_of y b).graph_threads number graph_thread there in let c = matches.count in omega (arith, l, c)) in
-        let match : GraphThreadMatches (flat_of y) graph_thread source.0 = matches.each number graph_thread source.0 there source.1 in
+        (let l = slice_get_within (now_of y b).graph_threads number graph_thread there in let c = (matches_now y s b).count in omega (arith, l, c)) in
+        let match : GraphThreadMatches (flat_of y) graph_thread source.0 = (matches_now y s b).each number graph_thread source.0 there source.1 in
         let left : source.0.left ≡ unlocks.rest = ap (λ (z : Standing). z.left) (same_Some _ _ (sym match.stands ∙ unlocks.follows)) in
         let part_is : slice_get (parts (flat_of y).threads 0) number ≡ Some code.thread.part =
         ap (λ (ps : List Part). slice_get ps number) (sym (ap (λ (graph : Graph). graph.threads) s.plan.lowered ∙ lowered_threads (flat_of y)))
@@ -135,9 +132,8 @@ module _ (y : System) (s : IsSystem y) (b : AbstractRun y) (code : Code y.plan) 
         let lefts = left_at code.of.text step stands.0 standing ∙ ap (λ (z : Standing). Some z.left) unlocks.is in
         let sets = found_in y.plan.held number
         (let l = slice_get_within (flat_of y).threads number code.of.text code.of.of_text in let c = s.plan.held.each_thread in omega (arith, l, c)) in
-        not_held_after (flat_of y) code.of.text step unlocks.place mutex unlocks.rest
-        (s.plan.held.sets number code.of.text sets.0 code.of.of_text sets.1).disciplined lefts (now b.config) number source.0 keeps source.1 left
-        (ap (λ (hs : List (Option ℕ)). slice_get hs mutex) (sym matches.holders) ∙ held)
+        not_held_after code.of.text step (s.plan.held.sets number code.of.text sets.0 code.of.of_text sets.1).disciplined lefts number keeps source.1 left
+        (ap (λ (hs : List (Option ℕ)). slice_get hs mutex) (sym (matches_now y s b).holders) ∙ held)
 
   -- ---- At the end
 
@@ -150,5 +146,6 @@ module _ (y : System) (s : IsSystem y) (b : AbstractRun y) (code : Code y.plan) 
         let none : held_by number (now b.config).holders ≡ none_held (length (flat_of y).mutexes) =
         subst (λ (ss : List f.Statement). KeepList (flat_of y).variables (held_by number (now b.config).holders) ss (none_held (length (flat_of y).mutexes)))
         (ap (λ (z : Standing). z.left) is) (keeps.each number th.thread th.there).left in
-        let there_held = holds_it number (now b.config).holders lock (ap (λ (hs : List (Option ℕ)). slice_get hs lock) (sym matches.holders) ∙ held) in
+        let there_held = holds_it number (now b.config).holders lock
+        (ap (λ (hs : List (Option ℕ)). slice_get hs lock) (sym (matches_now y s b).holders) ∙ held) in
         true≢false (sym there_held ∙ (ap (λ (h : Held). holds h lock) none ∙ none_in (length (flat_of y).mutexes) lock))

@@ -1,5 +1,5 @@
--- Where power stays on, each attempt has come as far as any before.
-use Rattle.std.proofs.Common.{◌≡◌, inl, inr, ℕ, suc, List, ap, arith, sym, ◌∙◌, subst}
+-- What happens by a thread leaves what is kept, and each attempt as far as any before, where power stays on.
+use Rattle.std.proofs.Common.{◌≡◌, inl, inr, refl, ℕ, suc, List, [], ◌∷◌, ◌++◌, ap, arith, sym, ◌∙◌, subst, Bool}
 use Rattle.std.specs.Prelude.{max}
 use Rattle.recovery_semantics.specs.Attempts.{Attempt, IsAttempted, attempt_at}
 use Rattle.recovery_semantics.specs.Configs.{Config, attempt_of}
@@ -7,7 +7,8 @@ use Rattle.recovery_semantics.specs.Events.{ConfigStep, steps_locally, stores, s
 use Rattle.recovered_threads.proofs.Public.{same_or_other}
 use Rattle.crash_simulation.specs.Systems.{System}
 use Rattle.crash_simulation.specs.AbstractRuns.{AbstractRun}
-use Rattle.crash_simulation.specs.InstructionSteps.{IsDoneBy, StepsOrStutters, stays, goes}
+use Rattle.crash_simulation.specs.InstructionSteps.{IsDoneBy, StepsOrStutters, stays, goes, is_begun, begins}
+use Rattle.crash_simulation.proofs.AccountUpdates.{begun_by}
 
 abbrev pub AreFurthest : Config → Type 0
 AreFurthest m = (thread : ℕ) → (attempt_of m thread).done ≡ (attempt_of m thread).longest
@@ -30,18 +31,37 @@ settled_furthest m k attempts settled furthest = attempted_furthest m.attempts a
 stepped_furthest : (a : Attempt) → a.done ≡ a.longest → (stepped a).done ≡ (stepped a).longest
 stepped_furthest a is = let e : suc a.done ≡ max a.longest (suc a.done) = omega (arith, is) in e
 
--- where a thread makes a step, each attempt has come as far as any before
-happens_furthest : (m next : Config) (thread : ℕ) (h : ConfigStep m next) → IsDoneBy thread h → AreFurthest m → AreFurthest next
-happens_furthest m _ thread (steps_locally u attempts g) by furthest =
-    attempted_furthest m.attempts attempts u _ g.attempt (stepped_furthest (attempt_of m u) (furthest u)) furthest
-happens_furthest m _ thread (stores u memory attempts g) by furthest =
-    attempted_furthest m.attempts attempts u _ g.attempt (stepped_furthest (attempt_of m u) (furthest u)) furthest
-happens_furthest m _ thread (synchronises u g) by furthest = furthest
-happens_furthest m _ thread (persists memory g) by furthest = furthest
-happens_furthest m _ thread (commits u attempts g) by furthest = absurd by
-happens_furthest m _ thread (crashes attempts g) by furthest = absurd by
+-- ---- What happens by a thread
 
-pub led_furthest : (y : System) (b : AbstractRun y) (thread : ℕ) (next : AbstractRun y) → StepsOrStutters y b thread next → AreFurthest b.config →
-    AreFurthest next.config
-led_furthest y b thread _ stays furthest = furthest
-led_furthest y b thread _ (goes next h by execution respects) furthest = happens_furthest b.config next thread h by furthest
+-- nothing more is kept, a step of the thread is begun or none, and each attempt has come as far as any before
+pub record IsLed (m next : Config) (thread : ℕ) (begun : Bool) : Type 0 where
+  pub kept : next.kept ≡ m.kept
+  pub pending : next.uncommitted ≡ begun_by begun thread m.uncommitted
+  pub tried : AreFurthest m → AreFurthest next
+
+happens_led : (m next : Config) (thread : ℕ) (h : ConfigStep m next) → IsDoneBy thread h → IsLed m next thread (is_begun h)
+happens_led m _ thread (steps_locally u attempts g) by = record {
+  kept = refl;
+  pending = ap (λ (k : ℕ). m.uncommitted ++ k ∷ []) by;
+  tried = λ furthest. attempted_furthest m.attempts attempts u _ g.attempt (stepped_furthest (attempt_of m u) (furthest u)) furthest;
+}
+happens_led m _ thread (stores u memory attempts g) by = record {
+  kept = refl;
+  pending = ap (λ (k : ℕ). m.uncommitted ++ k ∷ []) by;
+  tried = λ furthest. attempted_furthest m.attempts attempts u _ g.attempt (stepped_furthest (attempt_of m u) (furthest u)) furthest;
+}
+happens_led m _ thread (synchronises u g) by =
+    record { kept = refl; pending = ap (λ (k : ℕ). m.uncommitted ++ k ∷ []) by; tried = λ furthest. furthest }
+happens_led m _ thread (persists memory g) by = record { kept = refl; pending = refl; tried = λ furthest. furthest }
+happens_led m _ thread (commits u attempts g) by = absurd by
+happens_led m _ thread (crashes attempts g) by = absurd by
+
+-- of an abstract run, where nothing may happen, too
+pub record IsLedOn (y : System) (b next : AbstractRun y) (thread : ℕ) (begun : Bool) : Type 0 where
+  pub origin : next.origin ≡ b.origin
+  pub schedule : next.schedule ≡ b.schedule
+  pub config : IsLed b.config next.config thread begun
+
+pub led_of : (y : System) (b : AbstractRun y) (thread : ℕ) (next : AbstractRun y) (led : StepsOrStutters y b thread next) → IsLedOn y b next thread (begins led)
+led_of y b thread _ stays = record { origin = refl; schedule = refl; config = record { kept = refl; pending = refl; tried = λ furthest. furthest } }
+led_of y b thread _ (goes next h by execution respects) = record { origin = refl; schedule = refl; config = happens_led b.config next thread h by }

@@ -1,16 +1,16 @@
 -- No lock, unlock or store is followed by itself, and a thread's last node is its end.
 use Rattle.std.proofs.Common.{◌≡◌, ◌≢◌, refl, ℕ, zero, suc, ◌+◌, ◌<◌, ◌≤◌, List, [], ◌∷◌, ◌++◌, length, sym, ◌∙◌, ap, arith, subst, true, false, Some}
+use Rattle.std.proofs.lemmas.Option.{slice_get_within}
 use Rattle.std.specs.Prelude.{slice_get}
 use Rattle.ido_base.specs.declared.place.Place.{Place}
 use Rattle.ido_ints.specs.declared.kinds.Kind.{Kind}
 use Rattle.c_tree.specs.Flats as f
 use Rattle.c_tree.specs.WellFormed.{IsWellFormed}
-use Rattle.flow_graph.specs.declared.graph.Part.{Part}
 use Rattle.flow_graph.specs.Nodes.{Action, Store, Lock, Unlock, End, Node}
 use Rattle.flow_graph.specs.Lowering.{lowered, plain_node, statements_nodes, statements_count, thread_nodes, thread_count, threads_nodes, part, parts}
+use Rattle.flow_graph.specs.declared.graph.Part.{Part}
 use Rattle.flow_graph.specs.Liveness.{NodeAt}
 use Rattle.flow_graph.specs.Lockstep.{Standing, free, HasStandingAt, threads_standings}
-use Rattle.std.proofs.lemmas.Option.{slice_get_within}
 use Rattle.flow_graph.proofs.Public.{found_in, length-statements_nodes, length-thread_nodes, ActionLeads, agrees}
 use Rattle.crash_simulation.proofs.LocksAtCalls.{standing_of}
 
@@ -89,11 +89,10 @@ has_end (t ∷ ts) first zero p g =
     let count : length prefix ≡ statements_count t.body = length-statements_nodes t.body first (first + statements_count t.body) in
     let own : slice_get (thread_nodes t first) (length prefix + 0) ≡ Some (plain_node t.closing End) =
     get_suffix prefix (plain_node t.closing End ∷ []) 0 (plain_node t.closing End) refl in
-    let ends : first + thread_count t ≡ p.end = ap (λ (q : Part). q.end) here in
     record {
       place = t.closing;
       number = length prefix + 0;
-      last = omega (arith, count, ends);
+      last = omega (arith, count, ap (λ (q : Part). q.end) here);
       there = get_prefix (thread_nodes t first) (threads_nodes ts (first + thread_count t)) (length prefix + 0) (plain_node t.closing End) own;
     }
 has_end (t ∷ ts) first (suc k) p g =
@@ -127,13 +126,10 @@ ending x thread p g =
 ends_within : (ts : List f.Thread) (first k : ℕ) (p : Part) → slice_get (parts ts first) k ≡ Some p → p.end ≤ first + length (threads_nodes ts first)
 ends_within ts first k p g =
     let e = has_end ts first k p g in
-    let last = e.last in
-    let low = slice_get_within (threads_nodes ts first) e.number _ e.there in
-    omega (arith, last, low)
+    omega (arith, slice_get_within (threads_nodes ts first) e.number _ e.there)
 
 pub node_there : (x : f.Flat) (thread : ℕ) (p : Part) → slice_get (lowered x).threads thread ≡ Some p → (node : ℕ) → node < p.end →
     (is : Node) × NodeAt (lowered x) node is
 unfolding lowered
 node_there x thread p g node inside =
-    let within = ends_within x.threads 0 thread p g in
-    found_in (threads_nodes x.threads 0) node (omega (arith, within, inside))
+    found_in (threads_nodes x.threads 0) node (omega (arith, ends_within x.threads 0 thread p g, inside))

@@ -42,16 +42,16 @@ IsFree y w h = (cause : Cause) → reply_to y.runs.program w (Step h) ≢ Stuck 
 
 module _ (y : System) (s : IsSystem y) (w : World) (h : ℕ) (stands : Simulates y s w) (below : h < thread_count y) where
   abbrev b : AbstractRun y
-  b = stands.before_commit.abstract
+  b = stands.abstract
 
   abbrev code : Code y.plan
   code = s.codes.each h below
 
   abbrev c : ThreadGhost
-  c = stands.before_commit.ghosts h
+  c = stands.ghosts h
 
   abbrev t : ThreadInv y w b code c
-  t = stands.before_commit.each h below
+  t = stands.each h below
 
   abbrev thread : ℕ
   thread = code.thread.number
@@ -60,12 +60,12 @@ module _ (y : System) (s : IsSystem y) (w : World) (h : ℕ) (stands : Simulates
   seen = seen_by (now_of y b) t.graph_thread
 
   -- at its end, where the thread makes a call
-  module _ (held : AreHeld w stands.before_commit.ghosts (now_of y b)) (o : OnFragmentNow y s w h stands below) (over : o.steps ≡ 0) where
+  module _ (held : AreHeld w stands.ghosts (now_of y b)) (o : OnFragmentNow y s w h stands below) (over : o.steps ≡ 0) where
     asks : (mutex next : ℕ) → o.exit ≡ Asks mutex next → IsFree y w thread
     asks mutex next is =
-        let fragment = at_calls.asks y s w h stands below held mutex next o over is in
+        let fragment = at_calls.asks (at_calls.at_end y s w h stands below held (Asks mutex next) o over is) in
         let within = mutex_there y s b code t.graph_thread t.walks mutex next fragment.of_graph in
-        let count = stands.before_commit.mutexes in
+        let count = stands.machine.mutexes in
         elim (get_cases w.holders mutex) [
           | inl none ↦ let long = no_more w.holders mutex none in absurd (omega (arith, long, count, within))
           | inr there ↦
@@ -76,23 +76,22 @@ module _ (y : System) (s : IsSystem y) (w : World) (h : ℕ) (stands : Simulates
 
     gives : (from mutex : ℕ) → o.exit ≡ Gives from mutex → IsFree y w thread
     gives from mutex is =
+        let at = at_calls.at_end y s w h stands below held (Gives from mutex) o over is in
         unlocks_are_well harts_well.none_is_stuck y.plan code.thread y.runs.program code.program code.is w thread (bare y s w h below) from mutex
-        t.graph_thread.at seen
-        o.side [] (calls.giving y s w h stands below held from mutex o over is) (calls.owns y s w h stands below held from mutex o over is)
+        t.graph_thread.at seen o.side [] (calls.giving at) (calls.owns at)
 
     ends : o.exit ≡ Ends → IsFree y w thread
     ends is =
+        let at = at_calls.at_end y s w h stands below held Ends o over is in
         ends_are_well harts_well.none_is_stuck y.plan code.thread y.runs.program code.program code.is w thread (bare y s w h below)
-        t.graph_thread.at seen o.side []
-        (calls.ending y s w h stands below held o over is)
-        (at_calls.none_from thread 0 w.holders (calls.none_here y s w h stands below held o over is))
+        t.graph_thread.at seen o.side [] (calls.ending at) (at_calls.none_from thread 0 w.holders (calls.none_here at))
 
     by_call : (exit : ExitPoint) → moving.IsCalling y s w h stands below exit → o.exit ≡ exit → IsFree y w thread
     by_call _ (moving.asks mutex next) is = asks mutex next is
     by_call _ (moving.gives from mutex) is = gives from mutex is
     by_call _ moving.ends is = ends is
 
-  by_where : AreHeld w stands.before_commit.ghosts (now_of y b) → IsWhere y s w h stands below → IsFree y w thread
+  by_where : AreHeld w stands.ghosts (now_of y b) → IsWhere y s w h stands below → IsFree y w thread
   by_where held (on_run r) = harts_well.none_is_stuck y.runs.program w thread (harts.on_run r.run r.agrees)
   by_where held (at_call o over calling) = by_call held o over o.exit calling refl
 
@@ -102,8 +101,7 @@ module _ (marks : MarksPass) (y : System) (s : IsSystem y) (w : World) (stands :
   runs : IsInPhase w h Run → IsFree y w h
   runs i =
       let r = runs_ready y s w h stands i in
-      let before_commit = r.stands.before_commit in
-      let held = (runs_held y s w before_commit.abstract before_commit.ghosts h before_commit.sound i before_commit.locks).1 in
+      let held = (runs_held y s w r.stands.abstract r.stands.ghosts h r.stands.machine.log r.stands.machine.sound i r.stands.locks).1 in
       subst (λ (n : ℕ). IsFree y w n) (s.codes.number h r.below) (by_where y s w h r.stands r.below held (is_where y s w h r.stands r.below marks r.ready))
 
   by_phase : (phase : Phase) → IsInPhase w h phase → IsFree y w h
@@ -129,11 +127,11 @@ none_is_stuck marks y s w stands h = free_by marks y s w stands h (slice_get w.h
 -- ---- A hart that takes its locks
 
 moves_by : (y : System) (s : IsSystem y) (w : World) (h : ℕ) (stands : Simulates y s w) → IsInPhase w h Take →
-    AreLocked y w stands.before_commit.abstract stands.before_commit.ghosts → reply_to y.runs.program w (Step h) ≡ Moved
+    AreLocked y w stands.abstract stands.ghosts → reply_to y.runs.program w (Step h) ≡ Moved
 moves_by y s w h stands i (gathering none gathers) =
-    (takes_never_wait y.runs.program w (records_of stands.before_commit.ghosts) h gathers (recovering.apart y s w h stands none gathers) i).0
+    (takes_never_wait y.runs.program w (records_of stands.ghosts) h gathers (recovering.apart y s w h stands none gathers) i).0
 moves_by y s w h stands i (gathered ag held) =
-    absurd (subst (λ (p : Phase). HasGathered w h (records_of stands.before_commit.ghosts h) p) i.phase_is (ag.each h i.hart i.here))
+    absurd (subst (λ (p : Phase). HasGathered w h (records_of stands.ghosts h) p) i.phase_is (ag.each h i.hart i.here))
 
 pub takes_move : TakesMove
-takes_move y s w h stands i = moves_by y s w h stands i stands.before_commit.locks
+takes_move y s w h stands i = moves_by y s w h stands i stands.locks

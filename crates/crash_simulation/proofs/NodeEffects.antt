@@ -1,7 +1,7 @@
 -- What a thread does at the node of its graph thread, in the source and in the graph.
 use Rattle.std.proofs.Common.{◌≡◌, refl, ℕ, List, ap, sym, ◌∙◌, subst, arith, Option, Some, None, Bool, true, false}
-use Rattle.std.specs.Prelude.{slice_get, is_some}
 use Rattle.std.proofs.lemmas.Option.{same_Some, slice_get_within}
+use Rattle.std.specs.Prelude.{slice_get, is_some}
 use Rattle.c_tree.specs.Flats as f
 use Rattle.c_tree.specs.Source as m
 use Rattle.c_tree.specs.Source.{Pending}
@@ -9,12 +9,12 @@ use Rattle.c_tree.specs.WellFormed.{IsWellFormed}
 use Rattle.source_machine.specs.Mutexes.{locks, unlocks, first_unlock}
 use Rattle.source_machine.proofs.Public.{unlocks_found}
 use Rattle.recovery_semantics.specs.Attempts.{store_ahead}
+use Rattle.flow_graph.specs.Actions.{Seen, GraphThread, FlowState, Effect, effect_of, effect_step, seen_by, graph_step}
 use Rattle.flow_graph.specs.Nodes.{Action, Lock, Unlock, Node}
 use Rattle.flow_graph.specs.Lowering.{lowered}
 use Rattle.flow_graph.specs.Liveness.{NodeAt}
 use Rattle.flow_graph.specs.Lockstep.{Standing, threads_standings, Matches, StepsMatch}
 use Rattle.flow_graph.specs.Actions as a
-use Rattle.flow_graph.specs.Actions.{Seen, GraphThread, FlowState, Effect, effect_of, effect_step, seen_by, graph_step}
 use Rattle.flow_graph.proofs.Public.{ActionLeads, node_at, found_in, graph_is, steps_lockstep, at_nodes, matched}
 use Rattle.region_attempts.proofs.Public.{IsThere, is_there, StoresHere, owing_at, owes_at, locking_at, unlocking_at}
 
@@ -22,13 +22,10 @@ use Rattle.region_attempts.proofs.Public.{IsThere, is_there, StoresHere, owing_a
 
 -- one that neither stores nor passes a mutex
 abbrev pub is_quiet : Effect → Bool
-is_quiet (a.Sets local number next) = true
-is_quiet (a.Owes store next) = true
 is_quiet (a.Makes store next) = false
-is_quiet (a.Goes next) = true
 is_quiet (a.Takes mutex next) = false
 is_quiet (a.Gives mutex next) = false
-is_quiet a.Ends = true
+is_quiet e = true
 
 false_true : false ≡ true → ⊥
 false_true h = cc

@@ -1,15 +1,15 @@
 -- The environment in which a thread's hart makes a step at its node: loads of what the node reads are answered, and no others.
-use Rattle.std.proofs.Common.{◌≡◌, refl, ℕ, ◌+◌, ◌*◌, ◌^◌, ◌<◌, List, [], length, map, ap, sym, ◌∙◌, subst, arith, mod-lt, pow_pos, Some, None, Bool, true}
-use Rattle.std.proofs.Common.{false}
-use Rattle.std.specs.Prelude.{slice_get, slice_index_or, ℤ, pos, Contains, ◌&&◌, if◌then◌else◌}
+use Rattle.std.proofs.Common.{◌≡◌, refl, ℕ, ◌*◌, ◌^◌, ◌<◌, List, [], length, map, ap, sym, ◌∙◌, subst, arith, mod-lt, pow_pos, Some, None, Bool, true, false}
 use Rattle.std.proofs.lemmas.Bool.{cond-true, and_parts}
 use Rattle.std.proofs.lemmas.Option.{none-some, same_Some}
-use Rattle.ido_base.specs.Words as words
+use Rattle.std.specs.Prelude.{slice_get, slice_index_or, ℤ, pos, Contains, ◌&&◌, if◌then◌else◌}
+use Rattle.ido_base.specs.declared.log.Log.{Log}
 use Rattle.ido_base.specs.Words.{loaded}
 use Rattle.ido_base.specs.Layout.{variable_at, in_range, aligned, byte_number}
-use Rattle.ido_ints.specs.declared.kinds.Kind.{Kind}
-use Rattle.ido_ints.specs.declared.kinds.Kind.TheVariants.{Char, UnsignedChar, SignedChar, Short, UnsignedShort, Int, UnsignedInt, Long, UnsignedLong}
+use Rattle.ido_base.specs.Words as words
+use Rattle.ido_ints.specs.declared.kinds.Kind.TheVariants.{Char, UnsignedChar, SignedChar}
 use Rattle.ido_ints.specs.Kinds.{bytes_of, bits_of, modulus_of, Holds}
+use Rattle.ido_ints.specs.declared.kinds.Kind.{Kind}
 use Rattle.ido_ints.specs.Reduction.{reduced, residue}
 use Rattle.ido_ints.proofs.Public.{Same_sym, Holds-reduced, Same-reduced, residue-is}
 use Rattle.c_tree.specs.Programs.{Variable}
@@ -17,38 +17,34 @@ use Rattle.c_tree.specs.Values.{element_number}
 use Rattle.c_tree.specs.WellFormed.{elements_in, shape_of}
 use Rattle.source_machine.specs.Discipline.{Guards}
 use Rattle.rv64_isa.specs.Machine.{World}
-use Rattle.code_runs.specs.CodeTraces.{Program, MarkedEnvironment, Meets}
+use Rattle.code_runs.specs.CodeTraces.{MarkedEnvironment}
 use Rattle.memory_layout.specs.Variables.{HaveRoom}
 use Rattle.variable_words.specs.VariablesInWords.{spots_of}
 use Rattle.variable_words.proofs.Public.{addresses_reach}
 use Rattle.flow_graph.specs.Nodes.{Node}
 use Rattle.flow_graph.specs.Lowering.{lowered}
 use Rattle.flow_graph.specs.Liveness.{NodeAt}
-use Rattle.flow_graph.specs.Lockstep.{Matches}
 use Rattle.flow_graph.specs.Actions.{Seen, GraphThread, seen_by}
 use Rattle.flow_graph.specs.Paths.{Element, reads_of}
-use Rattle.flow_graph.proofs.Public.{Good}
 use Rattle.hart_runs.specs.HartsOnRuns.{is_width, is_access, environment_of, Agrees}
-use Rattle.hart_runs.specs.Laws.{program_at}
 use Rattle.recovery_semantics.specs.ElementHistories.{history_at, live_number, number_at, Memory}
 use Rattle.recovery_semantics.specs.VariableSpots.{IsAtSpot, memory_in}
 use Rattle.recovery_semantics.specs.Configs.{now}
 use Rattle.recovery_semantics.specs.Events.{IsGoing}
 use Rattle.recovery_semantics.proofs.Public.{memory_loaded}
 use Rattle.region_attempts.specs.Laws.{ReadsHere}
-use Rattle.region_attempts.proofs.Public.{rerun_reads_nothing_overwritten, readers_guard, graph_stands}
+use Rattle.region_attempts.proofs.Public.{rerun_reads_nothing_overwritten, readers_guard}
 use Rattle.thread_code.specs.RegistersAtNodes.{IsAnswered, source_of}
-use Rattle.thread_runs.specs.CodeFragments.{ReadsVariables, IsPlaced}
-use Rattle.thread_runs.proofs.Public.{plans_are_placed}
+use Rattle.thread_runs.specs.CodeFragments.{ReadsVariables}
 use Rattle.recovered_threads.specs.RecordDescriptions.{Code}
 use Rattle.crash_simulation.specs.Systems.{System, IsSystem, IsOwnCode, flat_of, places_of, thread_count}
 use Rattle.crash_simulation.specs.AbstractRuns.{AbstractRun, kept_of, now_of}
 use Rattle.crash_simulation.specs.ThreadGhosts.{ThreadGhost, AnswersGuarded}
 use Rattle.crash_simulation.proofs.StatesMatchSource.{cuts, resumed, now_good}
-use Rattle.crash_simulation.proofs.SimulationAtStart.{environments_meet}
+use Rattle.crash_simulation.proofs.Loads.{reads_all, IsRead, is_read, reads_there, Loaded, answered}
+use Rattle.crash_simulation.proofs.GraphAfterBegin.{matches_now}
 use Rattle.crash_simulation.proofs.Elements.{room}
 use Rattle.crash_simulation.proofs.DisjointElements.{element_ends}
-use Rattle.crash_simulation.proofs.Loads.{reads_all, IsRead, is_read, reads_there, Loaded, answered}
 
 -- ---- Accesses
 
@@ -60,25 +56,20 @@ kind_width : (k : Kind) → is_width (bytes_of k) ≡ true
 kind_width Char = refl
 kind_width UnsignedChar = refl
 kind_width SignedChar = refl
-kind_width Short = refl
-kind_width UnsignedShort = refl
-kind_width Int = refl
-kind_width UnsignedInt = refl
-kind_width Long = refl
-kind_width UnsignedLong = refl
+kind_width k = refl
 
 and_both : (a b : Bool) → a ≡ true → b ≡ true → (a && b) ≡ true
 and_both true b h k = k
 and_both false b h k = cc
 
 -- an element may be accessed, and stands before the end of the variables
-pub element_access : (vs : List Variable) (threads v e : ℕ) (is : Variable) → HaveRoom (map shape_of vs) → slice_get vs v ≡ Some is →
+pub element_access : (log : Log) (vs : List Variable) (threads v e : ℕ) (is : Variable) → HaveRoom (map shape_of vs) → slice_get vs v ≡ Some is →
     e < elements_in is.length →
-    is_access threads (variable_at (map shape_of vs) v e) (bytes_of is.kind) ≡ true
-element_access vs threads v e is room there within =
-    let a = addresses_reach vs threads v e is room there within in
+    is_access log threads (variable_at (map shape_of vs) v e) (bytes_of is.kind) ≡ true
+element_access log vs threads v e is room there within =
+    let a = addresses_reach log vs threads v e is room there within in
     and_both (is_width (bytes_of is.kind)) _ (kind_width is.kind)
-    (and_both (in_range threads (variable_at (map shape_of vs) v e) (bytes_of is.kind)) (aligned (variable_at (map shape_of vs) v e) (bytes_of is.kind))
+    (and_both (in_range log threads (variable_at (map shape_of vs) v e) (bytes_of is.kind)) (aligned (variable_at (map shape_of vs) v e) (bytes_of is.kind))
     a.inside a.is_aligned)
 
 -- ---- Numbers
@@ -102,28 +93,13 @@ module _ (y : System) (s : IsSystem y) (w : World) (b : AbstractRun y) (code : C
   abbrev pub environment_with : (reads : ℕ → ℕ → Bool) → MarkedEnvironment
   environment_with reads = environment_of y.runs.program (slice_index_or y.runs.marks code.thread.number []) reads w code.thread.number
 
-  pub meets_here : (reads : ℕ → ℕ → Bool) → Meets code.is.places.program (environment_with reads)
-  meets_here reads =
-      let is : program_at y.runs.program code.thread.number (slice_index_or y.runs.marks code.thread.number [])
-      (slice_index_or y.runs.resumes code.thread.number []) ≡
-      code.is.places.program = sym (code.is.of_program ∙ own.program) in
-      subst (λ (p : Program). Meets p (environment_with reads)) is
-      (environments_meet y.runs.program (slice_index_or y.runs.marks code.thread.number []) (slice_index_or y.runs.resumes code.thread.number []) reads w
-      code.thread.number)
-
   pub agrees_here : (reads : ℕ → ℕ → Bool) → Agrees y.runs.program w code.thread.number (environment_with reads)
   agrees_here reads = record {
     fetches = λ address instr e. e;
     loads = λ address bytes value e.
-        let a = answered_some (reads address bytes && is_access (length w.harts) address bytes) (loaded w.words (byte_number address) bytes) value e in
-        record { may = (and_parts (reads address bytes) (is_access (length w.harts) address bytes) a.0).1; is = a.1 };
+        let a = answered_some (reads address bytes && is_access w.log (length w.harts) address bytes) (loaded w.words (byte_number address) bytes) value e in
+        record { may = (and_parts (reads address bytes) (is_access w.log (length w.harts) address bytes) a.0).1; is = a.1 };
   }
-
-  pub placed_here : IsPlaced y.plan code.thread code.is.places (length w.harts)
-  placed_here =
-      plans_are_placed y.plan code.thread code.is.places (length w.harts) s.plan code.of code.is.kept
-      (subst (λ (n : ℕ). code.thread.number < n) (sym count) inside)
-      (subst (λ (p : Program). p.start + 4 * length p.code < 2 ^ 64) (sym code.is.of_program) own.room)
 
   -- ---- Of elements
 
@@ -136,17 +112,14 @@ module _ (y : System) (s : IsSystem y) (w : World) (b : AbstractRun y) (code : C
 
     read_of : (address bytes value : ℕ) → reading.around.loads address bytes ≡ Some value → IsRead vs ones address bytes
     read_of address bytes value e =
-        let a = answered_some (reads_all vs ones address bytes && is_access (length w.harts) address bytes)
+        let a = answered_some (reads_all vs ones address bytes && is_access w.log (length w.harts) address bytes)
         (loaded w.words (byte_number address) bytes) value e in
-        is_read vs ones address bytes (and_parts (reads_all vs ones address bytes) (is_access (length w.harts) address bytes) a.0).0
+        is_read vs ones address bytes (and_parts (reads_all vs ones address bytes) (is_access w.log (length w.harts) address bytes) a.0).0
 
     pub reads_variables : ReadsVariables reading
     reads_variables address bytes value e =
         let r = read_of address bytes value e in
-        let ends = element_ends vs (room y s) r.one.variable r.one.element r.it r.found r.within in
-        let address_is = r.address_is in
-        let bytes_are = r.bytes_are in
-        omega (arith, ends, address_is, bytes_are)
+        omega (arith, element_ends vs (room y s) r.one.variable r.one.element r.it r.found r.within)
 
     -- what it answers the thread guards, in any state where it guards what it reads
     pub answers_guarded : (next : AbstractRun y) (c : ThreadGhost) →
@@ -164,13 +137,6 @@ module _ (y : System) (s : IsSystem y) (w : World) (b : AbstractRun y) (code : C
           bytes_are = r.bytes_are;
           guards = guards r.one r.of;
         }
-
-  -- no load at all
-  pub answers_none : (next : AbstractRun y) (c : ThreadGhost) → AnswersGuarded y next code c (environment_with (λ address bytes. false))
-  answers_none next c address bytes value e = absurd (none-some value e)
-
-  pub reads_none : ReadsVariables (environment_with (λ address bytes. false))
-  reads_none address bytes value e = absurd (none-some value e)
 
   -- ---- At a node
 
@@ -191,29 +157,21 @@ module _ (y : System) (s : IsSystem y) (w : World) (b : AbstractRun y) (code : C
         let r = (resumed y s b).resumed in
         readers_guard (flat_of y) b.origin b.config b.schedule code.thread.number one s.plan.formed r.invariant r.kept (reads_here one of)
 
-    matches : Matches (flat_of y) (now_of y b) (now b.config)
-    matches =
-        let r = (resumed y s b).resumed in
-        (graph_stands (flat_of y) b.origin b.config b.schedule s.plan.formed r.invariant r.kept).now_matches
-
-    good_now : Good (flat_of y) (now_of y b)
-    good_now = now_good y s b
-
     loaded_here : (one : Element) → Contains ones one → Loaded (source_of y.plan code.thread seen) (reading ones).around.loads one
     loaded_here one of it there within =
         let r = resumed y s b in
         let address : ℕ = variable_at (map shape_of vs) one.variable one.element in
         let bytes : ℕ = bytes_of it.kind in
-        let access = element_access vs (length w.harts) one.variable one.element it (room y s) there within in
-        let may : (reads_all vs ones address bytes && is_access (length w.harts) address bytes) ≡ true =
-        and_both (reads_all vs ones address bytes) (is_access (length w.harts) address bytes) (reads_there vs ones one it of there within) access in
+        let access = element_access w.log vs (length w.harts) one.variable one.element it (room y s) there within in
+        let may : (reads_all vs ones address bytes && is_access w.log (length w.harts) address bytes) ≡ true =
+        and_both (reads_all vs ones address bytes) (is_access w.log (length w.harts) address bytes) (reads_there vs ones one it of there within) access in
         let right =
         rerun_reads_nothing_overwritten.here (flat_of y) y.plan.boundaries b.origin b.config b.schedule code.thread.number one s.plan.formed (cuts y s b)
         r.resumed.invariant r.resumed.kept (r.inside code.thread.number) (reads_here one of) in
         let is_at : IsAtSpot (spots_of vs) one.variable one.element it.kind (byte_number address) =
-        (addresses_reach vs (length w.harts) one.variable one.element it (room y s) there within).at in
+        (addresses_reach w.log vs (length w.harts) one.variable one.element it (room y s) there within).at in
         let same : number_at (now b.config) one.variable one.element ≡ element_number seen.variables one.variable one.element =
-        ap (λ (ns : List (List ℤ)). element_number ns one.variable one.element) (sym matches.variables) in
+        ap (λ (ns : List (List ℤ)). element_number ns one.variable one.element) (sym (matches_now y s b).variables) in
         let value : reduced it.kind (pos (loaded w.words (byte_number address) bytes)) ≡ element_number seen.variables one.variable one.element =
         memory_loaded (spots_of vs) w.words one.variable one.element it.kind (byte_number address) is_at
         ∙ ap (λ (m : Memory). live_number (history_at m one.variable one.element)) memory
@@ -227,5 +185,6 @@ module _ (y : System) (s : IsSystem y) (w : World) (b : AbstractRun y) (code : C
     -- loads of all that it reads are answered
     pub answered_here : IsAnswered (source_of y.plan code.thread seen) (reading ones).around.loads node.action
     answered_here =
-        answered (flat_of y) s.plan.formed (now_of y b) good_now code.thread.number graph_thread node found at code.thread.kinds (reading ones).around.loads
+        answered (flat_of y) s.plan.formed (now_of y b) (now_good y s b) code.thread.number graph_thread node found at code.thread.kinds
+        (reading ones).around.loads
         loaded_here

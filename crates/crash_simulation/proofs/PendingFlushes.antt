@@ -1,12 +1,13 @@
 -- What a thread has stored is still on its way to be durable, after a step of its own.
-use Rattle.std.proofs.Common.{◌≡◌, ◌⊎◌, inl, inr, refl, ℕ, suc, ◌<◌, ◌≤◌, List, [], subst, arith, false}
+use Rattle.std.proofs.Common.{◌≡◌, ◌⊎◌, inl, inr, refl, ℕ, suc, ◌<◌, ◌≤◌, List, [], length, subst, sym, arith, false}
 use Rattle.std.specs.Prelude.{Contains}
 use Rattle.ido_base.specs.Growth.{PersistsThrough}
+use Rattle.ido_base.specs.Words.{Word, Entry}
+use Rattle.ido_base.specs.Layout.{variable_at}
 use Rattle.rv64_isa.specs.Machine.{Hart, World}
+use Rattle.rv64_isa.specs.Rows.{Effect}
 use Rattle.flow_graph.proofs.Public.{contains_none, below_or_past}
 use Rattle.rv64_isa.specs.Rows as rows
-use Rattle.rv64_isa.specs.Rows.{Effect}
-use Rattle.ido_base.specs.Layout.{variable_at}
 use Rattle.recovery_semantics.specs.ElementHistories.{Memory, IsSince, history_at}
 use Rattle.recovery_semantics.specs.Attempts.{Attempt, attempt_at}
 use Rattle.recovery_semantics.specs.Configs.{Config, attempt_of}
@@ -16,20 +17,38 @@ use Rattle.region_attempts.specs.PendingCleans.{line_of, Cleans, CleansSince}
 use Rattle.log_states.specs.Stages.{fences_ahead}
 use Rattle.recovered_threads.specs.RecordDescriptions.{Code}
 use Rattle.crash_simulation.specs.Systems.{System, flat_of, shapes_of}
-use Rattle.crash_simulation.specs.AbstractRuns.{AbstractRun, attempts_of}
 use Rattle.crash_simulation.specs.ThreadGhosts.{ThreadGhost, IsComing, is_reached, is_ahead, IsFlushed}
+use Rattle.crash_simulation.specs.AbstractRuns.{AbstractRun, attempts_of}
 use Rattle.crash_simulation.specs.InstructionSteps.{abstract_next}
 
 -- the config with the same kept state, with other steps begun, in other memory
 abbrev pub config_with : Config → (pending : List ℕ) → Memory → List Attempt → Config
 config_with m pending memory attempts = record { kept = m.kept; uncommitted = pending; memory = memory; attempts = attempts }
 
-module _ (y : System) (w v : World) (b : AbstractRun y) (code : Code y.plan) (c : ThreadGhost) (none : c.cleans ≡ []) (old : Hart)
-    (pending : List ℕ) (memory : Memory) (attempts : List Attempt)
-    (execution : Execution (flat_of y) b.origin.source (config_with b.config pending memory attempts) b.schedule)
-    (respects : RespectsAll (flat_of y) y.plan.boundaries b.origin execution) (new : ThreadGhost) (after : Hart) where
-  abbrev next : AbstractRun y
-  next = abstract_next y b (config_with b.config pending memory attempts) execution respects
+-- how that comes about
+abbrev pub Leads : (y : System) (b : AbstractRun y) (pending : List ℕ) → Memory → List Attempt → Type 0
+Leads y b pending memory attempts = (l : Execution (flat_of y) b.origin.source (config_with b.config pending memory attempts) b.schedule) ×
+    RespectsAll (flat_of y) y.plan.boundaries b.origin l
+
+-- a step of a thread's own that keeps none, in its hart and its ghost state: before it, after it, and what is begun and in memory then
+pub record Passage (y : System) (code : Code y.plan) : Type 0 where
+  pub w : World
+  pub b : AbstractRun y
+  pub c : ThreadGhost
+  pub old : Hart
+  pub v : World
+  pub pending : List ℕ
+  pub memory : Memory
+  pub attempts : List Attempt
+  pub leads : Leads y b pending memory attempts
+  pub new : ThreadGhost
+  pub after : Hart
+
+module _ {y : System} {code : Code y.plan} (p : Passage y code) where
+  open p use {w, b, c, old, v, pending, memory, attempts, new, after}
+
+  abbrev pub run_after : AbstractRun y
+  run_after = abstract_next y b (config_with b.config pending memory attempts) p.leads.0 p.leads.1
 
   abbrev number : ℕ
   number = code.thread.number
@@ -41,7 +60,7 @@ module _ (y : System) (w v : World) (b : AbstractRun y) (code : Code y.plan) (c 
   now = (attempt_at attempts number).done
 
   -- the attempt's steps clean what they did
-  pub as_before : (at line : ℕ) → Cleans (attempts_of y next) number at line → Cleans (attempts_of y b) number at line
+  pub as_before : (at line : ℕ) → Cleans (attempts_of y run_after) number at line → Cleans (attempts_of y b) number at line
   as_before at line k = record {
     node = k.node;
     at = k.at;
@@ -55,21 +74,31 @@ module _ (y : System) (w v : World) (b : AbstractRun y) (code : Code y.plan) (c 
   -- what the step itself cleans is coming
   abbrev pub ComesNow : Type 0
   ComesNow = now ≡ suc before → (line : ℕ) → Cleans (attempts_of y b) number before line →
-      (u e position : ℕ) → line_of (shapes_of y) u e ≡ line → IsComing y v next code new after u e position
+      (u e position : ℕ) → line_of (shapes_of y) u e ≡ line → IsComing y v run_after code new after u e position
 
-  module _ (reach : (j position : ℕ) → PersistsThrough w.words old.queue j position → PersistsThrough v.words after.queue j position) (grows : before ≤ now)
-      (at_most : now ≤ suc before) (comes : ComesNow) where
-    coming_still : (u e position : ℕ) → IsComing y w b code c old u e position → IsComing y v next code new after u e position
-    coming_still u e position (is_reached r) = is_reached (reach _ position r)
-    coming_still u e position (is_ahead variable element has line) =
-        absurd (contains_none (rows.Cleans (variable_at (shapes_of y) variable element))
-        (subst (λ (es : List Effect). Contains es (rows.Cleans (variable_at (shapes_of y) variable element))) none has))
+  -- what was coming is so still
+  abbrev pub StillComes : Type 0
+  StillComes = (u e position : ℕ) → position < length (history_at b.config.memory u e).values → IsComing y w b code c old u e position →
+      IsComing y v run_after code new after u e position
 
-    pub flushed_still : (u e : ℕ) → ((p : ℕ) → IsSince (history_at b.config.memory u e) p → IsSince (history_at memory u e) p) →
-        (f : IsFlushed y w b code c old u e) →
-        (new.committed ≡ false → fences_ahead new.rest < 2 → f.position ≤ (history_at memory u e).durable) →
-        IsFlushed y v next code new after u e
-    flushed_still u e since f fenced = record {
+  abbrev pub Reaches : Type 0
+  Reaches = (j position : ℕ) → PersistsThrough w.words old.queue j position → PersistsThrough v.words after.queue j position
+
+  pub reaches_same : v.words ≡ w.words → after.queue ≡ old.queue → Reaches
+  reaches_same words queue j position r = subst (λ (q : List Entry). PersistsThrough v.words q j position) (sym queue)
+      (subst (λ (ws : List Word). PersistsThrough ws old.queue j position) (sym words) r)
+
+  -- where no cleans are ahead
+  pub still_reached : c.cleans ≡ [] → Reaches → StillComes
+  still_reached none reach u e position within (is_reached r) = is_reached (reach _ position r)
+  still_reached none reach u e position within (is_ahead variable element has line) =
+      absurd (contains_none (rows.Cleans (variable_at (shapes_of y) variable element))
+      (subst (λ (es : List Effect). Contains es (rows.Cleans (variable_at (shapes_of y) variable element))) none has))
+
+  module _ (still : StillComes) (u e : ℕ) (since : (p : ℕ) → IsSince (history_at b.config.memory u e) p → IsSince (history_at memory u e) p)
+      (f : IsFlushed y w b code c old u e) (fenced : new.committed ≡ false → fences_ahead new.rest < 2 → f.position ≤ (history_at memory u e).durable) where
+    pub flushed_still : before ≤ now → now ≤ suc before → ComesNow → IsFlushed y v run_after code new after u e
+    flushed_still grows at_most comes = record {
       before = f.before;
       within = let l = f.within in omega (arith, l, grows);
       writes = f.writes;
@@ -79,10 +108,10 @@ module _ (y : System) (w v : World) (b : AbstractRun y) (code : Code y.plan) (c 
       fenced = fenced;
     }
       where
-        by : (cleaned : CleansSince (attempts_of y next) number f.before now (line_of (shapes_of y) u e)) →
-            (cleaned.last < before) ⊎ (before ≤ cleaned.last) → IsComing y v next code new after u e f.position
+        by : (cleaned : CleansSince (attempts_of y run_after) number f.before now (line_of (shapes_of y) u e)) →
+            (cleaned.last < before) ⊎ (before ≤ cleaned.last) → IsComing y v run_after code new after u e f.position
         by cleaned (inl less) =
-            coming_still u e f.position (f.comes (record {
+            still u e f.position f.since.there (f.comes (record {
               last = cleaned.last;
               since = cleaned.since;
               within = less;
@@ -95,3 +124,7 @@ module _ (y : System) (w v : World) (b : AbstractRun y) (code : Code y.plan) (c 
             comes longer (line_of (shapes_of y) u e)
             (subst (λ (n : ℕ). Cleans (attempts_of y b) number n (line_of (shapes_of y) u e)) same
             (as_before cleaned.last (line_of (shapes_of y) u e) cleaned.at)) u e f.position refl
+
+    -- where the attempt is as long as it was
+    pub flushed_same : now ≡ before → IsFlushed y v run_after code new after u e
+    flushed_same same = flushed_still (omega (arith, same)) (omega (arith, same)) (λ longer. absurd (omega (arith, longer, same)))

@@ -1,7 +1,7 @@
--- A thread that has unlocked a mutex by a step that isn't kept is giving it back.
-use Rattle.std.proofs.Common.{◌≡◌, ⊎_elim, ℕ, List, [], ◌∷◌, sym, ◌∙◌, subst, arith, Option, Some, None}
+-- Where a thread is, by what it has begun: at a boundary that isn't committed, or giving back a mutex that it has unlocked.
+use Rattle.std.proofs.Common.{◌≡◌, refl, ⊎_elim, ℕ, List, [], ◌∷◌, sym, ◌∙◌, subst, arith, Option, Some, None, true, false}
 use Rattle.std.specs.Prelude.{slice_get}
-use Rattle.std.proofs.lemmas.Bool.{cases_Bool}
+use Rattle.std.proofs.lemmas.Bool.{true≢false, cases_Bool}
 use Rattle.std.proofs.lemmas.Option.{none-some, same_Some}
 use Rattle.c_tree.specs.Flats as f
 use Rattle.c_tree.specs.Source as m
@@ -19,17 +19,13 @@ use Rattle.recovery_semantics.specs.Laws.{HasUnlocked}
 use Rattle.recovered_threads.specs.RecordDescriptions.{Code}
 use Rattle.crash_simulation.specs.Systems.{System}
 use Rattle.crash_simulation.specs.AbstractRuns.{AbstractRun}
-use Rattle.crash_simulation.specs.ThreadGhosts.{ThreadGhost, IsBounded, ExitInv, InPhase, IsRunningThread, on_fragment, at_core, ThreadInv}
+use Rattle.crash_simulation.specs.ThreadGhosts.{ThreadGhost, IsBounded, ExitInv, InFragment, InPhase, IsRunningThread, on_fragment, at_core, ThreadInv}
 
 -- ---- No step both locks and unlocks
 
 statement_both : (x : f.Statement) (k j : ℕ) → lock_of x ≡ Some k → unlock_of x ≡ Some j → ⊥
-statement_both (f.Assign place target value) k j h g = cc
-statement_both (f.If place arms otherwise) k j h g = cc
-statement_both (f.While place condition body) k j h g = cc
-statement_both (f.Do place body condition) k j h g = cc
 statement_both (f.Lock place mutex) k j h g = cc
-statement_both (f.Unlock place mutex) k j h g = cc
+statement_both x k j h g = cc
 
 first_both : (left : List f.Statement) (k j : ℕ) → first_lock left ≡ Some k → first_unlock left ≡ Some j → ⊥
 first_both [] k j h g = cc
@@ -49,6 +45,48 @@ found_both (Some thread) k j h g = thread_both thread.pending thread.left k j h 
 
 not_both : (s : m.State) (t k j : ℕ) → locks s t ≡ Some k → unlocks s t ≡ Some j → ⊥
 not_both s t k j h g = found_both (slice_get s.threads t) k j h g
+
+-- ---- Where a thread is whose boundary isn't taken as committed
+
+-- where a fragment leads to a boundary, or through one
+pub data IsAtBoundary : ExitPoint → Type 0 where
+  at_keeps : IsAtBoundary Keeps
+  at_took : (from : ℕ) → IsAtBoundary (Took from)
+  at_gives : (from mutex : ℕ) → IsAtBoundary (Gives from mutex)
+
+module _ (y : System) (w : World) (b : AbstractRun y) (code : Code y.plan) (c : ThreadGhost) (t : ThreadInv y w b code c) where
+  -- its hart runs such a fragment
+  pub record IsUnderWay : Type 0 where
+    pub runs : t.log.hart.phase ≡ Run
+    pub on : InFragment y w b code c t.log.hart t.graph_thread
+    pub exit : IsAtBoundary on.exit
+
+  module _ (not_yet : c.committed ≡ false) where
+    is_taken : {A : Type 0} → c.committed ≡ true → A
+    is_taken e = absurd (true≢false (sym e ∙ not_yet))
+
+    under_by_exit : (exit : ExitPoint) → ExitInv y b code c t.graph_thread exit → IsAtBoundary exit
+    under_by_exit Arrives f = is_taken f.0.committed
+    under_by_exit Keeps f = at_keeps
+    under_by_exit (Asks mutex next) f = is_taken f.goes.committed
+    under_by_exit (Took from) f = at_took from
+    under_by_exit (Gives from mutex) f = at_gives from mutex
+    under_by_exit Ends f = is_taken f.goes.committed
+
+    under_by_run : t.log.hart.phase ≡ Run → IsRunningThread y w b code c t.log.hart t.graph_thread → IsUnderWay
+    under_by_run runs (on_fragment o) = record { runs = runs; on = o; exit = under_by_exit o.exit o.fits }
+    under_by_run runs (at_core o) = is_taken o.goes.goes.committed
+
+    under_by_phase : (phase : Phase) → t.log.hart.phase ≡ phase → InPhase y w b code c t.log.hart t.graph_thread phase → IsUnderWay
+    under_by_phase Take is p = is_taken p.committed
+    under_by_phase Wait is p = is_taken p.committed
+    under_by_phase Resume is p = is_taken p.committed
+    under_by_phase Run is p = under_by_run is p
+    under_by_phase Done is p = is_taken p.0.committed
+    under_by_phase Ended is p = is_taken p.0.goes.committed
+
+    pub under_way : IsUnderWay
+    under_way = under_by_phase t.log.hart.phase refl t.phase
 
 -- ---- Where a thread is that has unlocked
 

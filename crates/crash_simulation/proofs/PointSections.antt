@@ -28,12 +28,12 @@ use Rattle.crash_simulation.proofs.StatesMatchSource.{kept_matches}
 
 module _ (y : System) (s : IsSystem y) (w : World) (stands : Simulates y s w) (n : ℕ) (below : n < thread_count y) where
   abbrev b : AbstractRun y
-  b = stands.before_commit.abstract
+  b = stands.abstract
 
   abbrev code : Code y.plan
   code = s.codes.each n below
 
-  point_says : kept_between y b n ≡ (durable_point w.words n == 0)
+  point_says : kept_between y b n ≡ (durable_point w.log w.words n == 0)
   point_says =
       ap (λ (hs : List (Option ℕ)). holds_none hs n) (sym (kept_matches y s b).holders)
       ∙ (ap (λ (k : ℕ). holds_none (kept_of y b).holders k) (sym (s.codes.number n below))
@@ -47,7 +47,7 @@ module _ (ready : RunsReady) (fragments_step : FragmentsStep) (cores_step : Core
       (was : SimulatesCounted y s (first_beginning y) w steps r) where
     -- the sections that are kept, by the account's steps
     kept_is : (v : World) (later : Steps) {releases : ℕ → ℕ} (is : SimulatesCounted y s (first_beginning y) v later releases) (n : ℕ) →
-        sections_kept y is.stands.before_commit.abstract n ≡ m.ended_from (m.start (flat_of y)) later.kept n
+        sections_kept y is.stands.abstract n ≡ m.ended_from (m.start (flat_of y)) later.kept n
     kept_is v later is n = ap₂ (λ (from : m.State) (us : List ℕ). m.ended_from from us n) is.counted.begins (sym is.counted.kept)
 
     ends_at_point : (event : Event) (n : ℕ) → n < thread_count y →
@@ -62,7 +62,7 @@ module _ (ready : RunsReady) (fragments_step : FragmentsStep) (cores_step : Core
         let was_held = point_says y s w was.stands n below in
         let is_held = point_says y s (after_event y.runs.program w event) e.next n below in
         sym (kept_is (after_event y.runs.program w event) later next n)
-        ∙ (e.ends n below ∙ (λ i. before i + one_if (not (was_held i) && is_held i)))
+        ∙ (e.ends n ∙ (λ i. before i + one_if (not (was_held i) && is_held i)))
 
   -- ---- Whatever has happened
 

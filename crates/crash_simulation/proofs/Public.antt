@@ -16,5 +16,6 @@ pub use Rattle.crash_simulation.proofs.RunOrCall.{IsWhere, RunsOn, at_call, is_w
 pub use Rattle.crash_simulation.proofs.SectionsAfterEvents.{released_by}
 pub use Rattle.crash_simulation.proofs.SettledMemory.{settled_is_kept}
 pub use Rattle.crash_simulation.proofs.SimulationAtStart.{row_of, start_simulates}
-pub use Rattle.crash_simulation.proofs.SimulationInRecovery.{all_describe, phase_of}
+pub use Rattle.crash_simulation.proofs.SimulationInRecovery.{all_describe}
 pub use Rattle.crash_simulation.proofs.StatesMatchSource.{free_holds_none, kept_good, kept_matches, orderly, resumed}
+pub use Rattle.crash_simulation.proofs.ThreadsOfMachines.{phase_of}

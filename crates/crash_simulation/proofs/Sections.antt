@@ -10,9 +10,7 @@ use Rattle.c_tree.specs.LockDiscipline.{Held}
 use Rattle.source_machine.specs.Discipline.{StateKeeps}
 use Rattle.source_machine.specs.Mutexes.{locks, unlocks, held_by}
 use Rattle.source_machine.proofs.Public.{Passed, locks_found, stepped, apart, run_keeps, unlocks_held, solo as solo_law, mutex_passed, ends_by, goes_on}
-use Rattle.rv64_isa.specs.declared.phase.Phase.{Phase}
-use Rattle.rv64_isa.specs.declared.phase.Phase.TheVariants.{Take, Wait, Resume, Run, Done, Ended}
-use Rattle.rv64_isa.specs.Machine.{Hart, World}
+use Rattle.rv64_isa.specs.Machine.{World}
 use Rattle.recovery_semantics.specs.Attempts.{IsInner, solo}
 use Rattle.recovery_semantics.specs.Configs.{Invariant, now, attempt_of}
 use Rattle.recovery_semantics.specs.Events.{steps_begun}
@@ -20,14 +18,15 @@ use Rattle.recovery_semantics.specs.Laws.{HasLocked, HasUnlocked, IsKeptBy}
 use Rattle.recovery_semantics.proofs.Public.{solo_holders, last_first, more_empty, LastStep, prefix_runs, last_step}
 use Rattle.region_attempts.specs.Origins.{Origin}
 use Rattle.region_attempts.proofs.Public.{graph_stands}
-use Rattle.thread_runs.specs.CodeFragments.{ExitPoint, Arrives, Keeps, Asks, Took, Gives, Ends}
+use Rattle.thread_runs.specs.CodeFragments.{ExitPoint}
 use Rattle.recovered_threads.specs.RecordDescriptions.{Code}
 use Rattle.recovered_threads.proofs.Public.{none_where}
 use Rattle.crash_simulation.specs.Systems.{System, IsSystem, flat_of}
 use Rattle.crash_simulation.specs.AbstractRuns.{AbstractRun, now_of}
-use Rattle.crash_simulation.specs.ThreadGhosts.{ThreadGhost, ExitInv, on_fragment, at_core, IsRunningThread, InPhase, ThreadInv}
+use Rattle.crash_simulation.specs.ThreadGhosts.{ThreadGhost, ExitInv, ThreadInv}
 use Rattle.crash_simulation.specs.ReleasedSections.{one_if, sections_kept}
 use Rattle.crash_simulation.proofs.LastReleases.{holds_some, describes_test}
+use Rattle.crash_simulation.proofs.PendingReleases.{IsAtBoundary, at_keeps, at_took, at_gives, under_way}
 use Rattle.crash_simulation.proofs.ThreadCommits.{invariant, kept_by}
 use Rattle.boundary_code.specs.Boundaries.{is_empty}
 use Rattle.thread_code.specs.Plans.{locks_held}
@@ -124,9 +123,6 @@ module _ (y : System) (s : IsSystem y) (w : World) (b : AbstractRun y) (code : C
   abbrev Leaves : Type 0
   Leaves = m.ended_from K (replicate (steps_begun b.config u) u) u ≡ one_if (is_some c.giving && (c.new.point == 0))
 
-  is_taken : c.committed ≡ true → ⊥
-  is_taken e = true≢false (sym e ∙ not_yet)
-
   runs : m.runs_from K (replicate (steps_begun b.config u) u) ≡ true
   runs = (solo_law x K b.config.uncommitted u i.keeps i.runs i.hands).runs
 
@@ -192,28 +188,13 @@ module _ (y : System) (s : IsSystem y) (w : World) (b : AbstractRun y) (code : C
   locked_ends : c.giving ≡ None → (h : (mutex : ℕ) × HasLocked b.config u mutex) → Leaves
   locked_ends none h = last_ends h.1.begun ∙ (lock_ends h.1.begun h.0 h.1.locks_it ∙ sym (none_given none))
 
-  fits_end : (exit : ExitPoint) → ExitInv y b code c t.graph_thread exit → Leaves
-  fits_end Arrives h = absurd (is_taken h.0.committed)
-  fits_end Keeps h = inner_ends h.1 ∙ sym (none_given h.2.gives)
-  fits_end (Asks mutex to) h = absurd (is_taken h.goes.committed)
-  fits_end (Took from) h = locked_ends h.gives (h.before not_yet)
-  fits_end (Gives from mutex) h = given_ends mutex h.gives (h.before not_yet)
-  fits_end Ends h = absurd (is_taken h.goes.committed)
-
-  runs_end : (hart : Hart) → IsRunningThread y w b code c hart t.graph_thread → Leaves
-  runs_end hart (on_fragment o) = fits_end o.exit o.fits
-  runs_end hart (at_core o) = absurd (is_taken o.goes.goes.committed)
-
-  phase_ends : (hart : Hart) (phase : Phase) → InPhase y w b code c hart t.graph_thread phase → Leaves
-  phase_ends hart Take p = absurd (is_taken p.committed)
-  phase_ends hart Wait p = absurd (is_taken p.committed)
-  phase_ends hart Resume p = absurd (is_taken p.committed)
-  phase_ends hart Run p = runs_end hart p
-  phase_ends hart Done p = absurd (is_taken p.0.committed)
-  phase_ends hart Ended p = absurd (is_taken p.0.goes.committed)
+  leaves_by : (exit : ExitPoint) → IsAtBoundary exit → ExitInv y b code c t.graph_thread exit → Leaves
+  leaves_by _ at_keeps h = inner_ends h.1 ∙ sym (none_given h.2.gives)
+  leaves_by _ (at_took from) h = locked_ends h.gives (h.before not_yet)
+  leaves_by _ (at_gives from mutex) h = given_ends mutex h.gives (h.before not_yet)
 
   pub leaves : Leaves
-  leaves = phase_ends t.log.hart t.log.hart.phase t.phase
+  leaves = let u = under_way y w b code c t not_yet in leaves_by u.on.exit u.exit u.on.fits
 
 -- ---- The schedule with the thread's steps after it
 

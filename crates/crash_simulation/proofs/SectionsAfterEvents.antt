@@ -1,6 +1,5 @@
--- The sections that are kept and the machine's releases, where it simulates before commit after an event, or simulates the same abstract run as before.
-use Rattle.std.proofs.Common.{◌≡◌, ◌≢◌, ◌⊎◌, inl, inr, refl, ℕ, suc, ◌+◌, ◌<◌, List, [], ap, sym, ◌∙◌, subst, arith, Option, Some, None}
-use Rattle.std.proofs.Common.{Bool, true, false}
+-- The sections that are kept and the machine's releases, after an event, where commits are still to be taken.
+use Rattle.std.proofs.Common.{◌≡◌, ◌≢◌, ◌⊎◌, inl, inr, refl, ℕ, suc, ◌+◌, ◌<◌, List, [], ap, sym, ◌∙◌, subst, arith, Option, Some, None, Bool, true, false}
 use Rattle.std.specs.Prelude.{slice_get, is_some, ◌&&◌, ◌==◌, if◌then◌else◌}
 use Rattle.std.proofs.lemmas.Bool.{true≢false, cases_Bool, and_parts, eqb-true}
 use Rattle.std.proofs.lemmas.List.{append-nil}
@@ -26,8 +25,7 @@ use Rattle.crash_simulation.specs.ReleasedSections.{one_if, sections_kept, IsRel
 use Rattle.crash_simulation.proofs.LastReleases.{no_release, holders_stay_none, other_release}
 use Rattle.crash_simulation.proofs.RecordsAfterCrash.{left}
 use Rattle.crash_simulation.proofs.SimulationAfterCrash as crashing
-use Rattle.crash_simulation.proofs.StepSimulation.{evicted_simulates}
-use Rattle.crash_simulation.proofs.CommitSimulation.{stopped_rests}
+use Rattle.crash_simulation.proofs.ThreadsOfMachines.{phase_of}
 use Rattle.crash_simulation.proofs.EndedSections.{led_sections}
 
 -- the releases after an event
@@ -112,11 +110,11 @@ module _ (y : System) (s : IsSystem y) (w : World) (h : ℕ) (stands : Simulates
   abbrev later : World
   later = after_event y.runs.program w (Step h)
 
-  pub kept_own : (n : ℕ) → sections_kept y o.next n ≡ sections_kept y stands.before_commit.abstract n
-  kept_own n = (led_sections y stands.before_commit.abstract h o.next o.led n).sections
+  pub kept_own : (n : ℕ) → sections_kept y o.next n ≡ sections_kept y stands.abstract n
+  kept_own n = (led_sections y stands.abstract h o.next o.led n).sections
 
-  own_lag : Releases y w h (stands.before_commit.ghosts h) o.ghost →
-      r h + one_if (is_leaving (stands.before_commit.ghosts h)) ≡ then_own h + one_if (is_leaving o.ghost)
+  own_lag : Releases y w h (stands.ghosts h) o.ghost →
+      r h + one_if (is_leaving (stands.ghosts h)) ≡ then_own h + one_if (is_leaving o.ghost)
   own_lag (nothing_released none same) =
       let zero = ap one_if none in
       let as_before = ap one_if same in
@@ -132,16 +130,9 @@ module _ (y : System) (s : IsSystem y) (w : World) (h : ℕ) (stands : Simulates
       let same : d.hart ≡ i.hart = same_there (slice_get w.harts h) d.hart i.hart d.here i.here in
       true≢false (sym (ap is_running (sym d.phase_is ∙ (ap (λ (x : Hart). x.phase) same ∙ i.phase_is))))
 
-  pub released_own : IsReleasedOf y w stands.before_commit.abstract h (stands.before_commit.ghosts h) (r h) → IsReleasedOf y later o.next h o.ghost (then_own h)
+  pub released_own : IsReleasedOf y w stands.abstract h (stands.ghosts h) (r h) → IsReleasedOf y later o.next h o.ghost (then_own h)
   released_own (in_step e) = in_step (kept_own h ∙ (e ∙ own_lag o.released))
   released_own (cut_off d e) = absurd (not_done d)
-
-  pub released_other : (n : ℕ) → n ≢ h → IsReleasedOf y w stands.before_commit.abstract n (stands.before_commit.ghosts n) (r n) →
-      IsReleasedOf y later o.next n (stands.before_commit.ghosts n) (then_own n)
-  released_other n other (in_step e) =
-      in_step (kept_own n ∙ (e ∙ ap (λ (k : ℕ). k + one_if (is_leaving (stands.before_commit.ghosts n))) (sym (other_released y.runs.program w h r n other))))
-  released_other n other (cut_off d e) =
-      cut_off (stays_done y.runs.program w h stands.before_commit.sound n d) (kept_own n ∙ (e ∙ ap suc (sym (other_released y.runs.program w h r n other))))
 
 -- ---- An eviction
 
@@ -152,33 +143,26 @@ pub evicted_done : (program : List (List Slot)) (w : World) (line mask n : ℕ) 
 evicted_done program w line mask n i =
     record { hart = i.hart; here = ap (λ (v : World). harts_in v n) (evictions_touch program w line mask).1 ∙ i.here; phase_is = i.phase_is }
 
-module _ (y : System) (s : IsSystem y) (w : World) (line mask : ℕ) (stands : Simulates y s w) (r : ℕ → ℕ) where
-  pub evicted_by : (n : ℕ) → IsReleasedOf y w stands.before_commit.abstract n (stands.before_commit.ghosts n) (r n) →
-      IsReleasedOf y (after_event y.runs.program w (Evict line mask)) (evicted_simulates y s w line mask stands).abstract n
-      (stands.before_commit.ghosts n) (r n + 0)
-  evicted_by n (in_step e) = in_step (e ∙ ap (λ (k : ℕ). k + one_if (is_leaving (stands.before_commit.ghosts n))) (none_more (r n)))
-  evicted_by n (cut_off i e) = cut_off (evicted_done y.runs.program w line mask n i) (e ∙ ap suc (none_more (r n)))
-
 -- ---- A crash
 
 pub kept_crashed : (y : System) (s : IsSystem y) (w : World) (stands : Simulates y s w) (n : ℕ) →
-    sections_kept y (crashing.stands_after y s w stands).before_commit.abstract n ≡ sections_kept y stands.before_commit.abstract n
+    sections_kept y (crashing.stands_after y s w stands).abstract n ≡ sections_kept y stands.abstract n
 kept_crashed y s w stands n =
-    ap (λ (us : List ℕ). ended_from stands.before_commit.abstract.origin.source us n) (append-nil stands.before_commit.abstract.schedule)
+    ap (λ (us : List ℕ). ended_from stands.abstract.origin.source us n) (append-nil stands.abstract.schedule)
 
 module _ (y : System) (s : IsSystem y) (w : World) (stands : Simulates y s w) (r : ℕ → ℕ) where
   abbrev crashed : World
   crashed = after_event y.runs.program w Crash
 
   -- where a record without a point is kept, the hart is left with nothing to do
-  left_none : (n : ℕ) → n < thread_count y → (stands.before_commit.ghosts n).committed ≡ true → (stands.before_commit.ghosts n).new.point ≡ 0 →
+  left_none : (n : ℕ) → n < thread_count y → (stands.ghosts n).committed ≡ true → (stands.ghosts n).new.point ≡ 0 →
       (left y s w stands n).point ≡ 0
   left_none n below committed none =
-      let c = stands.before_commit.ghosts n in
+      let c = stands.ghosts n in
       let code = s.codes.each n below in
-      let told : (left_by_crash code.thread.number c.old c.new (record { words = w.words; queue = []; rest = c.rest })).point ≡ 0 =
-      ap (λ (done : Bool). (if done then c.new else c.old).point) (stands.caught_up n below ∙ committed) ∙ none in
-      subst (λ (k : ℕ). (left_by_crash k c.old c.new (record { words = w.words; queue = []; rest = c.rest })).point ≡ 0) (s.codes.number n below) told
+      let told : (left_by_crash w.log code.thread.number c.old c.new (record { words = w.words; queue = []; rest = c.rest })).point ≡ 0 =
+      ap (λ (done : Bool). (if done then c.new else c.old).point) (stands.caught_up n below (λ e. e) ∙ committed) ∙ none in
+      subst (λ (k : ℕ). (left_by_crash w.log k c.old c.new (record { words = w.words; queue = []; rest = c.rest })).point ≡ 0) (s.codes.number n below) told
 
   phase_none : (n : ℕ) (phase : Phase) → (left y s w stands n).point ≡ 0 → Gathers crashed n (left y s w stands n) phase → phase ≡ Done
   phase_none n Take none g = absurd (g none)
@@ -188,11 +172,11 @@ module _ (y : System) (s : IsSystem y) (w : World) (stands : Simulates y s w) (r
   phase_none n Done none g = refl
   phase_none n Ended none g = absurd g
 
-  crashed_done : (n : ℕ) → n < thread_count y → (stands.before_commit.ghosts n).committed ≡ true → (stands.before_commit.ghosts n).new.point ≡ 0 →
+  crashed_done : (n : ℕ) → n < thread_count y → (stands.ghosts n).committed ≡ true → (stands.ghosts n).new.point ≡ 0 →
       IsInPhase crashed n Done
   crashed_done n below committed none =
       let gathers = crashing.gathers y s w stands in
-      let count = crashing.count_after y s w stands in
+      let count = (crashing.machine y s w stands).count in
       let log = gathers.logs n (omega (arith, below, count)) in
       record {
         hart = log.hart;
@@ -202,15 +186,15 @@ module _ (y : System) (s : IsSystem y) (w : World) (stands : Simulates y s w) (r
 
   abbrev Crashed : ℕ → Type 0
   Crashed n =
-      IsReleasedOf y crashed (crashing.stands_after y s w stands).before_commit.abstract n
-      ((crashing.stands_after y s w stands).before_commit.ghosts n) (r n + 0)
+      IsReleasedOf y crashed (crashing.stands_after y s w stands).abstract n
+      ((crashing.stands_after y s w stands).ghosts n) (r n + 0)
 
-  pub crashed_by : (n : ℕ) → n < thread_count y → IsReleasedOf y w stands.before_commit.abstract n (stands.before_commit.ghosts n) (r n) → Crashed n
+  pub crashed_by : (n : ℕ) → n < thread_count y → IsReleasedOf y w stands.abstract n (stands.ghosts n) (r n) → Crashed n
   crashed_by n below (cut_off i e) =
-      let rests = stopped_rests y s w stands.before_commit n below i in
+      let rests = phase_of y s w n stands Done i below in
       cut_off (crashed_done n below rests.0.committed rests.1) (kept_crashed y s w stands n ∙ (e ∙ ap suc (none_more (r n))))
   crashed_by n below (in_step e) =
-      let c = stands.before_commit.ghosts n in
+      let c = stands.ghosts n in
       elim (cases_Bool (is_leaving c)) [
         | inl leaves ↦
             let one = and_parts c.committed (is_some c.giving && (c.new.point == 0)) leaves in

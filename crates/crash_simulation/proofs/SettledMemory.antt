@@ -13,15 +13,16 @@ use Rattle.crash_simulation.proofs.RecordsAfterCrash.{left, left_describes, left
 
 pub settled_is_kept : SettledIsKept
 settled_is_kept y s w stands zeros =
-    let b = stands.before_commit.abstract in
+    let b = stands.abstract in
     let r = resumed y s b in
     let kept = orderly y s b in
-    let free = (points_settle y.plan s.codes (kept_of y b) (left y s w stands) w.words kept (left_describes y s w stands) (left_point y s w stands)).0 zeros in
+    let free = (points_settle w.log y.plan s.codes (kept_of y b) (left y s w stands) w.words kept (left_describes y s w stands) (left_point y s w stands)).0
+    zeros in
     let none : (thread : ℕ) → holds_none b.config.kept.holders thread ≡ true =
     λ thread. subst (λ (hs : List (Option ℕ)). holds_none hs thread ≡ true) (kept_matches y s b).holders
     (free_holds_none thread 0 (kept_of y b).holders free) in
     let durable = between_is_kept (flat_of y) b.config r.resumed.invariant none in
     record {
       runs = r.resumed.kept.runs;
-      durable = ap (λ (m : Memory). map (map durable_number) m) stands.before_commit.memory ∙ durable ∙ ap (λ (z : State). z.variables) (sym r.resumed.kept.is);
+      durable = ap (λ (m : Memory). map (map durable_number) m) stands.memory ∙ durable ∙ ap (λ (z : State). z.variables) (sym r.resumed.kept.is);
     }

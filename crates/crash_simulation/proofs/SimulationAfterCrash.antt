@@ -1,9 +1,8 @@
 -- After a crash the machine simulates an abstract run at what is kept.
-use Rattle.std.proofs.Common.{◌≡◌, refl, ℕ, zero, suc, List, [], ◌∷◌, ◌++◌, length, map, sym, ◌∙◌, ap, subst, arith}
+use Rattle.std.proofs.Common.{◌≡◌, refl, ℕ, zero, suc, List, [], ◌∷◌, ◌++◌, map, sym, ◌∙◌, ap, subst, arith}
 use Rattle.std.proofs.lemmas.List.{append-nil}
 use Rattle.ido_base.specs.declared.event.Event.TheVariants.{Crash}
 use Rattle.rv64_isa.specs.Machine.{World, after_event}
-use Rattle.rv64_isa.proofs.Public.{queues_stand}
 use Rattle.flow_graph.specs.Actions.{FlowState}
 use Rattle.recovery_semantics.specs.ElementHistories.{crashed}
 use Rattle.recovery_semantics.specs.Attempts.{Attempt, attempt_at}
@@ -12,16 +11,15 @@ use Rattle.recovery_semantics.specs.Events.{IsAgain, crashes}
 use Rattle.recovery_semantics.specs.Executions.{then}
 use Rattle.region_attempts.specs.GraphStates.{flow_kept}
 use Rattle.variable_words.proofs.Public.{crashes_hold}
-use Rattle.hart_runs.specs.Laws.{IsCrashed}
-use Rattle.hart_runs.proofs.Public.{crashes_step, queues_stay_short}
 use Rattle.recovered_threads.specs.RecordDescriptions.{Describes, AllDescribe}
 use Rattle.recovered_threads.specs.RecoveryStates.{AreGathering}
 use Rattle.recovered_threads.proofs.Public.{crashes_gather}
-use Rattle.crash_simulation.specs.Systems.{System, IsSystem, flat_of, places_of, thread_count}
+use Rattle.crash_simulation.specs.Systems.{System, IsSystem, flat_of, places_of}
 use Rattle.crash_simulation.specs.AbstractRuns.{AbstractRun, kept_of}
-use Rattle.crash_simulation.specs.SimulationRelation.{Simulates}
+use Rattle.crash_simulation.specs.SimulationRelation.{IsMachineOf, Simulates}
 use Rattle.crash_simulation.specs.Laws.{CrashSimulates}
 use Rattle.crash_simulation.proofs.RecordsAfterCrash.{left, log_of, left_describes}
+use Rattle.crash_simulation.proofs.ThreadsOfMachines.{machine_stays}
 use Rattle.crash_simulation.proofs.SimulationWhileGathering.{gathering_simulates}
 
 -- ---- Attempts
@@ -45,7 +43,7 @@ longest_again (a ∷ rest) (suc t) = longest_again rest t
 
 module _ (y : System) (s : IsSystem y) (w : World) (stands : Simulates y s w) where
   abbrev b : AbstractRun y
-  b = stands.before_commit.abstract
+  b = stands.abstract
 
   abbrev after : World
   after = after_event y.runs.program w Crash
@@ -70,32 +68,28 @@ module _ (y : System) (s : IsSystem y) (w : World) (stands : Simulates y s w) wh
 
   -- ---- Each thread
 
-  abbrev same_count : length y.runs.program ≡ length w.harts
-  same_count = s.count ∙ sym stands.before_commit.count
+  pub machine : IsMachineOf y after
+  machine = machine_stays y s w Crash stands.machine
 
   pub gathers : AreGathering after (left y s w stands)
   gathers =
-      crashes_gather y.runs.program w (λ n. (stands.before_commit.ghosts n).old) (λ n. (stands.before_commit.ghosts n).new) (left y s w stands)
-      (λ n. (stands.before_commit.ghosts n).rest) same_count
-      (λ n below. log_of y s w stands n (let c = stands.before_commit.count in omega (arith, below, c))) (λ n below. refl)
-
-  pub count_after : length after.harts ≡ thread_count y
-  count_after = (queues_stand y.runs.program w Crash same_count stands.before_commit.sound).1 ∙ stands.before_commit.count
+      crashes_gather y.runs.program w (λ n. (stands.ghosts n).old) (λ n. (stands.ghosts n).new) (left y s w stands)
+      (λ n. (stands.ghosts n).rest) (s.count ∙ sym stands.machine.count)
+      (λ n below. log_of y s w stands n (let c = stands.machine.count in omega (arith, below, c))) (λ n below. refl)
 
   pub describe : AllDescribe y.plan s.codes (kept_of y abstract) (left y s w stands)
   describe n below =
       subst (λ (k : FlowState). Describes y.plan (s.codes.each n below) k (left y s w stands n)) (sym kept_same) (left_describes y s w stands n below)
 
-  pub crashed_is : IsCrashed y.runs.program w after
-  crashed_is = crashes_step y.runs.program w
-
   abbrev pub stands_after : Simulates y s after
-  stands_after =
-      gathering_simulates y s after abstract (left y s w stands) refl (done_again b.config.attempts) count_after gathers describe
-      (crashes_hold (places_of y) y.runs.program w ∙ ap crashed stands.before_commit.memory)
-      (crashed_is.locks ∙ stands.before_commit.mutexes)
-      (queues_stand y.runs.program w Crash same_count stands.before_commit.sound).0
-      (queues_stay_short y.runs.program w Crash stands.before_commit.short)
+  stands_after = gathering_simulates y s after abstract (left y s w stands) (record {
+    machine = machine;
+    memory = crashes_hold (places_of y) y.runs.program w ∙ ap crashed stands.memory;
+    none = refl;
+    fresh = done_again b.config.attempts;
+    gathers = gathers;
+    describe = describe;
+  })
 
 pub crash_simulates : CrashSimulates
 crash_simulates y s w stands = stands_after y s w stands

@@ -141,7 +141,7 @@ module _ (y : System) (s : IsSystem y) where
       row_of (fresh_hart y.runs.program Run) 0 (length y.runs.program) n below ∙ ap (λ (k : ℕ). Some (fresh_hart y.runs.program Run k)) (omega arith)
 
   pub count : length w.harts ≡ length y.runs.program
-  count = (starts_simulate y.runs.program y.runs.mutexes y.runs.initial).1
+  count = (starts_simulate y.runs.log y.runs.program y.runs.mutexes y.runs.initial).1
 
   pub holders_are : w.holders ≡ replicate y.runs.mutexes None
   unfolding start_of
@@ -182,7 +182,7 @@ module _ (y : System) (s : IsSystem y) where
 
   enters : (code : Code y.plan) → Enters y.plan code.thread code.thread.part.first (seen_by (now_of y abstract) (graph_thread code)) 0 (replicate 32 0)
   enters code = record {
-    at_side = fresh_on_side;
+    at_side = fresh_on_side y.plan.log;
     count = length-replicate code.thread.part.locals (pos 0) ∙ locals_are y.plan code.thread s.plan code.of;
     locals = λ local k there live.
         let value = zero_local code.thread.part.locals local in
@@ -222,7 +222,7 @@ module _ (y : System) (s : IsSystem y) where
         fits = (record { going = nothing_done (flat_of y).threads number; rest = refl; giving = refl; committed = refl }, refl);
         soon =
             let all = entry_soon y s n below code.thread.part.first (length hart.queue) (first_node code)
-            (starts_are_short y.runs.program y.runs.mutexes y.runs.initial number hart here) in
+            (starts_are_short y.runs.log y.runs.program y.runs.mutexes y.runs.initial number hart here) in
             let is : most_ahead y number ≡ most_ahead y n = ap (most_ahead y) same in
             (omega (arith, all, is), omega (arith, is));
       }
@@ -234,13 +234,13 @@ module _ (y : System) (s : IsSystem y) where
       let c = s.count in
       let same = s.codes.number n below in
       let inside : number < length y.runs.program = omega (arith, below, c, same) in
-      let log = starts_standing y.runs.program y.runs.mutexes number y.runs.initial inside in
+      let log = starts_standing y.runs.log y.runs.program y.runs.mutexes number y.runs.initial inside in
       let is : fresh_hart y.runs.program Run number ≡ log.hart = same_Some _ _ (sym (fresh number inside) ∙ log.here) in
       let runs : Run ≡ log.hart.phase = ap (λ (h : Hart). h.phase) is in
       let none = free_holds_none number 0 (kept_of y abstract).holders (nothing_free (length (flat_of y).mutexes)) in
       record {
         log = log;
-        no_sooner = λ e. ends_committed number nothing_recorded nothing_recorded (config_of w log.hart []) log.log refl;
+        no_sooner = λ e. ends_committed w.log number nothing_recorded nothing_recorded (config_of w log.hart []) log.log refl;
         describes = between none refl;
         will_describe = λ un. absurd (true≢false un);
         unlocked = λ mutex gives over. absurd (none-some mutex gives);
@@ -254,6 +254,10 @@ module _ (y : System) (s : IsSystem y) where
             absurd (omega (arith, within, zero_done));
       }
 
+  pub log_is : y.plan.log ≡ w.log
+  unfolding start_of
+  log_is = s.log
+
   pub all_run : (h : ℕ) (hart : Hart) → slice_get w.harts h ≡ Some hart → HasGathered w h nothing_recorded hart.phase
   all_run h hart there =
       let inside = slice_get_within w.harts h hart there in
@@ -263,24 +267,24 @@ module _ (y : System) (s : IsSystem y) where
 
   abbrev pub stands : Simulates y s w
   stands = record {
-    before_commit = record {
-      abstract = abstract;
-      memory = starts_hold (flat_of y) y.runs.program y.runs.mutexes y.runs.initial s.plan.formed s.initial;
+    machine = record {
       count = count ∙ s.count;
+      log = log_is;
       mutexes = ap length holders_are ∙ length-replicate y.runs.mutexes None ∙ s.mutexes;
-      sound = (starts_simulate y.runs.program y.runs.mutexes y.runs.initial).0;
-      short = starts_are_short y.runs.program y.runs.mutexes y.runs.initial;
-      ghosts = ghosts;
-      each = thread;
-      locks = gathered (record { each = all_run })
-          (record {
-            held = λ lock n there. absurd (none_holds y.runs.mutexes lock n
-                (ap (λ (hs : List (Option ℕ)). slice_get hs lock) (sym holders_are) ∙ there));
-            holds = λ lock n there. absurd (none_holds (length (flat_of y).mutexes) lock n there);
-            giving = λ lock n inside gives. absurd (none-some lock gives);
-          });
+      sound = (starts_simulate y.runs.log y.runs.program y.runs.mutexes y.runs.initial).0;
+      short = starts_are_short y.runs.log y.runs.program y.runs.mutexes y.runs.initial;
     };
-    caught_up = λ n below. over_is_caught y w abstract (s.codes.each n below) (ghosts n) (thread n below) refl refl;
+    abstract = abstract;
+    memory = starts_hold y.runs.log (flat_of y) y.runs.program y.runs.mutexes y.runs.initial s.plan.formed s.initial;
+    ghosts = ghosts;
+    each = thread;
+    locks = gathered (record { each = all_run })
+        (record {
+          held = λ lock n there. absurd (none_holds y.runs.mutexes lock n (ap (λ (hs : List (Option ℕ)). slice_get hs lock) (sym holders_are) ∙ there));
+          holds = λ lock n there. absurd (none_holds (length (flat_of y).mutexes) lock n there);
+          giving = λ lock n inside gives. absurd (none-some lock gives);
+        });
+    caught_up = λ n below all. over_is_caught y w abstract (s.codes.each n below) (ghosts n) (thread n below) refl refl;
   }
 
 pub start_simulates : StartSimulates

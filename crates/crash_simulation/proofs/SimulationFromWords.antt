@@ -5,6 +5,7 @@ use Rattle.std.specs.Prelude.{slice_get, Contains}
 use Rattle.std.proofs.lemmas.Bool.{true≢false}
 use Rattle.std.proofs.lemmas.Option.{none-some, same_Some}
 use Rattle.std.proofs.lemmas.List.{length-replicate}
+use Rattle.ido_base.specs.declared.log.Log.{Log}
 use Rattle.ido_base.specs.declared.event.Event.TheVariants.{Crash}
 use Rattle.ido_base.specs.Layout.{word_count}
 use Rattle.ido_base.specs.Words.{Word, durable_value, word_of}
@@ -20,7 +21,6 @@ use Rattle.flow_graph.specs.IdempotentCuts as cutting
 use Rattle.flow_graph.specs.IdempotentCuts.{AreCuts, at_boundary}
 use Rattle.recovery_semantics.specs.ElementHistories.{Memory, AreStable, crashed, durable_number}
 use Rattle.recovery_semantics.specs.Attempts.{Attempt}
-use Rattle.recovery_semantics.specs.Configs.{attempt_of}
 use Rattle.recovery_semantics.specs.Executions.{first_config, begins}
 use Rattle.recovery_semantics.specs.VariableSpots.{memory_in}
 use Rattle.recovery_semantics.proofs.Public.{crashed_are_stable, none_yet}
@@ -49,15 +49,15 @@ left_again [] = refl
 left_again (n ∷ words) = λ i. n ∷ left_again words i
 
 -- another crash leaves the machine as it is
-pub crashed_again : (program : List (List Slot)) (locks : ℕ) (words : List ℕ) →
-    after_event program (after_crash_of program locks words) Crash ≡ after_crash_of program locks words
+pub crashed_again : (log : Log) (program : List (List Slot)) (locks : ℕ) (words : List ℕ) →
+    after_event program (after_crash_of log program locks words) Crash ≡ after_crash_of log program locks words
 unfolding happens after_crash_of
-crashed_again program locks words =
-    λ i. after_crash_of program (length-replicate locks (let none : Option ℕ = None in none) i) (left_again words i)
+crashed_again log program locks words =
+    λ i. after_crash_of log program (length-replicate locks (let none : Option ℕ = None in none) i) (left_again words i)
 
 module _ (y : System) (s : IsSystem y) (o : Origin (flat_of y)) (words : List ℕ) (is : IsRecoveredFrom y s o words) where
   abbrev v : World
-  v = after_crash_of y.runs.program y.runs.mutexes words
+  v = after_crash_of y.runs.log y.runs.program y.runs.mutexes words
 
   pub words_are : v.words ≡ map word_of words
   unfolding after_crash_of
@@ -68,18 +68,19 @@ module _ (y : System) (s : IsSystem y) (o : Origin (flat_of y)) (words : List �
   holders_are = refl
 
   pub stand : IsWellFormedWorld v × (length v.harts ≡ length y.runs.program)
-  stand = crashes_simulate y.runs.program y.runs.mutexes words (is.size ∙ ap word_count (sym s.count))
+  stand = crashes_simulate y.runs.log y.runs.program y.runs.mutexes words (is.size ∙ ap (word_count y.runs.log) (sym s.count))
 
-  pub count : length v.harts ≡ thread_count y
-  count = stand.1 ∙ s.count
+  pub log_is : y.plan.log ≡ v.log
+  unfolding after_crash_of
+  log_is = s.log
 
   -- a world without harts that a crash leaves so
   abbrev bare : World
-  bare = record { words = map word_of words; harts = []; holders = replicate y.runs.mutexes None; recovering = true }
+  bare = record { log = y.runs.log; words = map word_of words; harts = []; holders = replicate y.runs.mutexes None; recovering = true }
 
   pub bare_crashed : after_event y.runs.program bare Crash ≡ v
   unfolding happens
-  bare_crashed = λ i. after_crash_of y.runs.program (length-replicate y.runs.mutexes (let none : Option ℕ = None in none) i) (left_again words i)
+  bare_crashed = λ i. after_crash_of y.runs.log y.runs.program (length-replicate y.runs.mutexes (let none : Option ℕ = None in none) i) (left_again words i)
 
   pub short : AreShort v
   short = subst AreShort bare_crashed (queues_stay_short y.runs.program bare Crash (λ h hart there. absurd (none-some hart there)))
@@ -91,7 +92,7 @@ module _ (y : System) (s : IsSystem y) (o : Origin (flat_of y)) (words : List �
 
   pub left_memory : memory ≡ crashed memory
   left_memory =
-      ap (λ (z : World). memory_in (places_of y) z.words) (sym (crashed_again y.runs.program y.runs.mutexes words))
+      ap (λ (z : World). memory_in (places_of y) z.words) (sym (crashed_again y.runs.log y.runs.program y.runs.mutexes words))
       ∙ crashes_hold (places_of y) y.runs.program v
 
   pub stable : AreStable o.source memory
@@ -152,14 +153,21 @@ module _ (y : System) (s : IsSystem y) (o : Origin (flat_of y)) (words : List �
     respects = at_boundaries;
   }
 
-  pub fresh : (n : ℕ) → (attempt_of abstract.config n).done ≡ 0
-  fresh n = ap (λ (a : Attempt). a.done) (none_yet (flat_of y).threads n)
-
   abbrev pub stands : Simulates y s v
-  stands =
-      gathering_simulates y s v abstract is.recovers.records refl fresh count is.recovers.gathering is.recovers.describe refl
-      (ap (λ (hs : List (Option ℕ)). length hs) holders_are ∙ length-replicate y.runs.mutexes (let none : Option ℕ = None in none) ∙ s.mutexes)
-      stand.0 short
+  stands = gathering_simulates y s v abstract is.recovers.records (record {
+    machine = record {
+      count = stand.1 ∙ s.count;
+      log = log_is;
+      mutexes = ap (λ (hs : List (Option ℕ)). length hs) holders_are ∙ length-replicate y.runs.mutexes (let none : Option ℕ = None in none) ∙ s.mutexes;
+      sound = stand.0;
+      short = short;
+    };
+    memory = refl;
+    none = refl;
+    fresh = λ n. ap (λ (a : Attempt). a.done) (none_yet (flat_of y).threads n);
+    gathers = is.recovers.gathering;
+    describe = is.recovers.describe;
+  })
 
 pub recovered_words_simulate : RecoveredWordsSimulate
 recovered_words_simulate y s o words is = record { stands = stands y s o words is; begins = refl }

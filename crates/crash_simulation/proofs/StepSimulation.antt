@@ -1,14 +1,10 @@
--- After a step of a hart that executes instructions, and after an eviction, the machine simulates an abstract run before commit.
-use denote.Struct.Props.{props}
-use Rattle.std.proofs.Common.{◌≡◌, ◌≢◌, inl, inr, refl, ℕ, suc, ◌<◌, List, [], length, ap, arith, sym, ◌∙◌, subst, Option, Some}
-use Rattle.std.specs.Prelude.{slice_get, ◌==◌}
-use Rattle.std.proofs.lemmas.Bool.{cond-true, cond-false, eq-eqb, ne_eqb}
-use Rattle.ido_base.specs.declared.event.Event.{Event}
+-- After a step of a hart that executes instructions, and after an eviction, the machine simulates an abstract run, where commits may still be to be taken.
+use Rattle.std.proofs.Common.{◌≡◌, ◌≢◌, refl, ℕ, suc, ◌<◌, List, [], length, ap, arith, sym, ◌∙◌, subst, Option, Some}
+use Rattle.std.specs.Prelude.{slice_get}
 use Rattle.ido_base.specs.declared.event.Event.TheVariants.{Step, Evict}
 use Rattle.rv64_isa.specs.declared.phase.Phase.TheVariants.{Run}
 use Rattle.rv64_isa.specs.Machine.{Hart, World, after_event}
-use Rattle.rv64_isa.specs.Frames.{IsWellFormedWorld}
-use Rattle.rv64_isa.proofs.Public.{queues_stand, evictions_touch}
+use Rattle.rv64_isa.proofs.Public.{evictions_touch}
 use Rattle.recovery_semantics.specs.ElementHistories.{Memory, ArePersisted}
 use Rattle.recovery_semantics.specs.Configs.{Config}
 use Rattle.recovery_semantics.specs.Events.{persists}
@@ -17,104 +13,53 @@ use Rattle.recovery_semantics.specs.VariableSpots.{memory_in}
 use Rattle.region_attempts.specs.AttemptsInRegion.{RespectsAll}
 use Rattle.variable_words.proofs.Public.{events_raise}
 use Rattle.log_states.specs.Logs.{Record, nothing_recorded}
-use Rattle.log_states.specs.Machines.{MovesTo}
 use Rattle.log_states.proofs.Public.{steps_move, evictions_move, evictions_keep}
-use Rattle.code_runs.specs.CodeTraces.{MarkedEnvironment}
 use Rattle.hart_runs.specs.Calls.{IsInPhase}
-use Rattle.hart_runs.specs.HartsOnRuns.{Agrees}
-use Rattle.hart_runs.specs.Laws.{IsOfOthers}
-use Rattle.hart_runs.proofs.Public.{evictions_agree, queues_stay_short}
-use Rattle.recovered_threads.proofs.Public.{same_or_other, gathers_on, gathered_on}
+use Rattle.hart_runs.proofs.Public.{evictions_agree}
+use Rattle.recovered_threads.proofs.Public.{gathers_on, gathered_on}
 use Rattle.recovered_threads.specs.RecoveryStates.{HasRecord, AreGathering, AreGathered}
 use Rattle.crash_simulation.specs.Systems.{System, IsSystem, flat_of, places_of, thread_count}
 use Rattle.crash_simulation.specs.AbstractRuns.{AbstractRun, now_of}
-use Rattle.crash_simulation.specs.ThreadGhosts.{ThreadGhost, AnswersGuarded, ThreadInv}
-use Rattle.crash_simulation.specs.SimulationRelation.{AreLocked, gathering, gathered, records_of, SimulatesBeforeCommit, Simulates}
-use Rattle.crash_simulation.specs.InstructionSteps.{StepsOrStutters, stays, goes, abstract_next, with_ghost, OwnStep, OwnStepsSimulate}
+use Rattle.crash_simulation.specs.ThreadGhosts.{ThreadGhost, ThreadInv}
+use Rattle.crash_simulation.specs.SimulationRelation.{AreLocked, gathering, gathered, records_of, SimulatesBut, Simulates, anybody}
+use Rattle.crash_simulation.specs.InstructionSteps.{goes, abstract_next, with_ghost, OwnStep, OwnStepsSimulate}
 use Rattle.crash_simulation.specs.Laws.{EvictionsSimulate}
 use Rattle.crash_simulation.proofs.LocksAfterStep.{held_alike}
-use Rattle.crash_simulation.proofs.StatesMatchSource.{resumed}
 use Rattle.crash_simulation.proofs.UncommittedSteps.{leads_on}
-use Rattle.crash_simulation.proofs.UnmovedThreads.{stays_unmoved, unmoved}
 use Rattle.crash_simulation.proofs.DisjointStores.{elsewhere, agrees_after}
-use Rattle.crash_simulation.proofs.OtherEventsKeepThreads.{stands_on}
-
--- ---- Threads while another one does something
-
-module _ (y : System) (s : IsSystem y) (w : World) (event : Event) (sound : IsWellFormedWorld w) (b : AbstractRun y) (thread n : ℕ) (below : n < thread_count y)
-    (c : ThreadGhost) (differs : n ≢ thread)
-    (of_others : IsOfOthers (s.codes.each n below).thread.number event)
-    (moves : (hart : Hart) → slice_get w.harts (s.codes.each n below).thread.number ≡ Some hart →
-    MovesTo (s.codes.each n below).thread.number w hart c.rest (after_event y.runs.program w event) c.rest)
-    (agrees : (z : MarkedEnvironment) → AnswersGuarded y b (s.codes.each n below) c z → Agrees y.runs.program w (s.codes.each n below).thread.number z →
-    Agrees y.runs.program (after_event y.runs.program w event) (s.codes.each n below).thread.number z)
-    (t : ThreadInv y w b (s.codes.each n below) c) where
-  -- whatever that is to the source
-  pub led_on : (next : AbstractRun y) → StepsOrStutters y b thread next → ThreadInv y (after_event y.runs.program w event) next (s.codes.each n below) c
-  led_on _ stays =
-      stands_on y b b.config b.execution b.respects (s.codes.each n below) c
-      (stays_unmoved (flat_of y) b.origin b.schedule b.config (s.codes.each n below).thread.number) w event sound of_others moves agrees t
-  led_on _ (goes next h by execution respects) =
-      let r = (resumed y s b).resumed in
-      let number = s.codes.number n below in
-      stands_on y b next execution respects (s.codes.each n below) c
-      (unmoved (flat_of y) s.plan.formed b.origin b.schedule b.config next r.invariant r.kept thread (s.codes.each n below).thread.number
-      (λ e. differs (sym number ∙ e)) h by)
-      w event sound of_others moves agrees t
+use Rattle.crash_simulation.proofs.OtherEventsKeepThreads.{led_on}
+use Rattle.crash_simulation.proofs.ThreadsOfMachines.{machine_stays, each_placed}
 
 -- ---- A step
 
 module _ (y : System) (s : IsSystem y) (w : World) (h : ℕ) (stands : Simulates y s w) (i : IsInPhase w h Run) (o : OwnStep y s w h stands) where
-  abbrev before_commit : SimulatesBeforeCommit y s w
-  before_commit = stands.before_commit
-
   abbrev after : World
   after = after_event y.runs.program w (Step h)
 
-  abbrev ghosts : ℕ → ThreadGhost
-  ghosts = with_ghost before_commit.ghosts h o.ghost
-
-  others_simulate : (n : ℕ) (below : n < thread_count y) → n ≢ h → ThreadInv y after o.next (s.codes.each n below) (ghosts n)
+  pub others_simulate : (n : ℕ) (below : n < thread_count y) → n ≢ h → ThreadInv y after o.next (s.codes.each n below) (stands.ghosts n)
   others_simulate n below differs =
       let code = s.codes.each n below in
-      let number : code.thread.number ≡ n = s.codes.number n below in
-      let other : h ≢ code.thread.number = λ e. differs (sym (e ∙ number)) in
-      let c : ThreadGhost = before_commit.ghosts n in
-      subst (λ (x : ThreadGhost). ThreadInv y after o.next code x) (sym (cond-false (n == h) o.ghost c (ne_eqb n h differs)))
-      (led_on y s w (Step h) before_commit.sound before_commit.abstract h n below c differs other
-      (λ hart here. steps_move y.runs.program w h code.thread.number hart c.rest before_commit.sound here
-      (elsewhere y s w h before_commit.abstract o.stores_own code.thread.number other))
-      (λ z answers agrees. agrees_after y s w h before_commit.abstract o.stores_own code c other z answers before_commit.sound agrees i.hart i.here)
-      (before_commit.each n below) o.next o.led)
+      let c : ThreadGhost = stands.ghosts n in
+      let sound = stands.machine.sound in
+      let other : h ≢ code.thread.number = λ e. differs (sym (e ∙ s.codes.number n below)) in
+      led_on y stands.abstract code c w (Step h) (record {
+        sound = sound;
+        of_others = other;
+        moves = λ hart here. steps_move y.runs.program w h code.thread.number hart c.rest sound here
+            (elsewhere y s w h stands.abstract stands.machine.log o.stores_own code.thread.number other);
+        agrees = λ z answers agrees. agrees_after y s w h stands.abstract stands.machine.log o.stores_own code c other z answers sound agrees i.hart i.here;
+      }) s h (λ e. other (sym e)) o.next o.led (stands.each n below)
 
-  own_simulates : (below : h < thread_count y) → ThreadInv y after o.next (s.codes.each h below) (ghosts h)
-  own_simulates below =
-      let same : o.below ≡ below = prop o.below below in
-      subst (λ (inside : h < thread_count y). ThreadInv y after o.next (s.codes.each h inside) (ghosts h)) same
-      (subst (λ (x : ThreadGhost). ThreadInv y after o.next (s.codes.each h o.below) x)
-      (sym (cond-true (h == h) o.ghost (before_commit.ghosts h) (eq-eqb h h refl))) o.own)
-    where
-      prop : IsProp (h < thread_count y)
-      prop = hlevel props
-
-  pub each_simulates : (n : ℕ) (below : n < thread_count y) → ThreadInv y after o.next (s.codes.each n below) (ghosts n)
-  each_simulates n below = elim (same_or_other n h) [
-    | inl same ↦
-        subst (λ (k : ℕ). (inside : k < thread_count y) → ThreadInv y after o.next (s.codes.each k inside) (ghosts k)) (sym same) own_simulates below
-    | inr differs ↦ others_simulate n below differs
-  ]
-
-  abbrev pub simulates_after : SimulatesBeforeCommit y s after
+  abbrev pub simulates_after : SimulatesBut y s after anybody
   simulates_after = record {
+    machine = machine_stays y s w (Step h) stands.machine;
     abstract = o.next;
     memory = o.memory;
-    count = (queues_stand y.runs.program w (Step h) (s.count ∙ sym before_commit.count) before_commit.sound).1 ∙ before_commit.count;
-    mutexes = o.mutexes ∙ before_commit.mutexes;
-    sound = (queues_stand y.runs.program w (Step h) (s.count ∙ sym before_commit.count) before_commit.sound).0;
-    short = queues_stay_short y.runs.program w (Step h) before_commit.short;
-    ghosts = ghosts;
-    each = each_simulates;
+    ghosts = with_ghost stands.ghosts h o.ghost;
+    each = each_placed (thread_count y) stands.ghosts h o.below o.ghost
+        (λ (n : ℕ) (inside : n < thread_count y) (c : ThreadGhost). ThreadInv y after o.next (s.codes.each n inside) c) o.own others_simulate;
     locks = o.locks;
+    caught_up = λ n below none. absurd (none tt);
   }
 
 pub own_steps_simulate : OwnStepsSimulate
@@ -123,40 +68,41 @@ own_steps_simulate y s w h stands i o = simulates_after y s w h stands i o
 -- ---- An eviction
 
 module _ (y : System) (s : IsSystem y) (w : World) (line mask : ℕ) (stands : Simulates y s w) where
-  abbrev before : SimulatesBeforeCommit y s w
-  before = stands.before_commit
-
   abbrev evicted : World
   evicted = after_event y.runs.program w (Evict line mask)
 
   abbrev persisted : Memory
   persisted = memory_in (places_of y) evicted.words
 
-  pub raises : ArePersisted before.abstract.config.memory persisted
+  pub raises : ArePersisted stands.abstract.config.memory persisted
   raises =
-      subst (λ (memory : Memory). ArePersisted memory persisted) before.memory (events_raise y.runs.program w (places_of y) (Evict line mask) before.sound tt)
+      subst (λ (memory : Memory). ArePersisted memory persisted) stands.memory
+      (events_raise y.runs.program w (places_of y) (Evict line mask) stands.machine.sound tt)
 
   abbrev next : Config
-  next = record before.abstract.config { memory = persisted }
+  next = record stands.abstract.config { memory = persisted }
 
-  abbrev abstract_persisted : (l : Execution (flat_of y) before.abstract.origin.source next before.abstract.schedule)
-      × RespectsAll (flat_of y) y.plan.boundaries before.abstract.origin l
-  abstract_persisted = leads_on y before.abstract next (persists persisted raises) refl tt
+  abbrev abstract_persisted : (l : Execution (flat_of y) stands.abstract.origin.source next stands.abstract.schedule)
+      × RespectsAll (flat_of y) y.plan.boundaries stands.abstract.origin l
+  abstract_persisted = leads_on y stands.abstract next (persists persisted raises) refl tt
 
   abbrev run_after : AbstractRun y
-  run_after = abstract_next y before.abstract next abstract_persisted.0 abstract_persisted.1
+  run_after = abstract_next y stands.abstract next abstract_persisted.0 abstract_persisted.1
 
-  pub holders_same : evicted.holders ≡ w.holders
-  holders_same = ap (λ (v : World). v.holders) (evictions_touch y.runs.program w line mask).1
-
-  pub each_evicted : (n : ℕ) (below : n < thread_count y) → ThreadInv y evicted run_after (s.codes.each n below) (before.ghosts n)
+  pub each_evicted : (n : ℕ) (below : n < thread_count y) → ThreadInv y evicted run_after (s.codes.each n below) (stands.ghosts n)
   each_evicted n below =
       let code = s.codes.each n below in
-      let c : ThreadGhost = before.ghosts n in
-      led_on y s w (Evict line mask) before.sound before.abstract (suc n) n below c (λ e. omega (arith, e)) tt
-      (λ hart here. evictions_move y.runs.program w line mask code.thread.number hart c.rest here)
-      (λ z answers agrees. evictions_agree y.runs.program w line mask code.thread.number z agrees)
-      (before.each n below) run_after (goes next (persists persisted raises) tt abstract_persisted.0 abstract_persisted.1)
+      let c : ThreadGhost = stands.ghosts n in
+      led_on y stands.abstract code c w (Evict line mask) (record {
+        sound = stands.machine.sound;
+        of_others = tt;
+        moves = λ hart here. evictions_move y.runs.program w line mask code.thread.number hart c.rest here;
+        agrees = λ z answers agrees. evictions_agree y.runs.program w line mask code.thread.number z agrees;
+      }) s (suc code.thread.number) (λ e. omega (arith, e)) run_after (goes next (persists persisted raises) tt abstract_persisted.0 abstract_persisted.1)
+      (stands.each n below)
+
+  holders_same : evicted.holders ≡ w.holders
+  holders_same = ap (λ (v : World). v.holders) (evictions_touch y.runs.program w line mask).1
 
   harts_same : evicted.harts ≡ w.harts
   harts_same = ap (λ (v : World). v.harts) (evictions_touch y.runs.program w line mask).1
@@ -192,23 +138,21 @@ module _ (y : System) (s : IsSystem y) (w : World) (line mask : ℕ) (stands : S
         (are.each h hart (there_before h hart there));
   }
 
-  pub locked_evicted : AreLocked y w before.abstract before.ghosts → AreLocked y evicted run_after before.ghosts
-  locked_evicted (gathering none gathers) = gathering none (gathering_evicted (records_of before.ghosts) gathers)
+  pub locked_evicted : AreLocked y w stands.abstract stands.ghosts → AreLocked y evicted run_after stands.ghosts
+  locked_evicted (gathering none gathers) = gathering none (gathering_evicted (records_of stands.ghosts) gathers)
   locked_evicted (gathered are held) =
-      gathered (gathered_evicted (records_of before.ghosts) are)
-      (held_alike w evicted before.ghosts before.ghosts (now_of y before.abstract) holders_same (λ n. refl) held)
+      gathered (gathered_evicted (records_of stands.ghosts) are)
+      (held_alike w evicted stands.ghosts stands.ghosts (now_of y stands.abstract) holders_same (λ n. refl) held)
 
-  abbrev pub evicted_simulates : SimulatesBeforeCommit y s evicted
+  abbrev pub evicted_simulates : SimulatesBut y s evicted anybody
   evicted_simulates = record {
+    machine = machine_stays y s w (Evict line mask) stands.machine;
     abstract = run_after;
     memory = refl;
-    count = (queues_stand y.runs.program w (Evict line mask) (s.count ∙ sym before.count) before.sound).1 ∙ before.count;
-    mutexes = ap length holders_same ∙ before.mutexes;
-    sound = (queues_stand y.runs.program w (Evict line mask) (s.count ∙ sym before.count) before.sound).0;
-    short = queues_stay_short y.runs.program w (Evict line mask) before.short;
-    ghosts = before.ghosts;
+    ghosts = stands.ghosts;
     each = each_evicted;
-    locks = locked_evicted before.locks;
+    locks = locked_evicted stands.locks;
+    caught_up = λ n below none. absurd (none tt);
   }
 
 pub evictions_simulate : EvictionsSimulate

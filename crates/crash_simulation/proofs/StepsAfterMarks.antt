@@ -1,15 +1,15 @@
 -- What is ahead of a thread once it has passed a mark, has taken a mutex, or begins, is no more than the most.
 use Rattle.std.proofs.Common.{◌≡◌, ◌≢◌, refl, ℕ, zero, suc, ◌+◌, ◌*◌, ◌<◌, ◌≤◌, List, [], ◌∷◌, length, ap, arith, sym, ◌∙◌, subst, Option, Some, None}
+use Rattle.std.proofs.lemmas.Option.{none-some, same_Some}
 use Rattle.std.specs.Prelude.{slice_get, ◌-◌}
 use Rattle.std.specs.List.{Contains}
-use Rattle.std.proofs.lemmas.Option.{none-some, same_Some}
 use Rattle.rv64_isa.specs.Rows.{Effect}
 use Rattle.rv64_isa.specs.Machine.{World}
 use Rattle.flow_graph.specs.Nodes.{Action, Eval, Store, Test, Lock, Unlock, End, Node, Graph, successors}
 use Rattle.flow_graph.specs.Lowering.{lowered}
 use Rattle.flow_graph.specs.Liveness.{NodeAt}
-use Rattle.flow_graph.specs.Actions as a
 use Rattle.flow_graph.specs.Actions.{Seen, effect_of}
+use Rattle.flow_graph.specs.Actions as a
 use Rattle.code_runs.specs.CodeTraces.{Program, MarkedEnvironment, seen_effects}
 use Rattle.hart_runs.specs.RunSteps.{cleans_in}
 use Rattle.thread_code.specs.Plans.{Plan, IsNodeOf}
@@ -18,29 +18,21 @@ use Rattle.thread_runs.specs.Laws.{IsAtSomeMark, PassesMark, left_of, left_at}
 use Rattle.thread_runs.specs.CodeFragments.{AreSeen, stage_after, on_machine}
 use Rattle.thread_runs.proofs.Public.{next_by, next_follows, marks_are_bounded, few_cleans}
 use Rattle.recovered_threads.specs.RecordDescriptions.{Code}
+use Rattle.crash_simulation.specs.StepsToMark.{weight, call_weight, entry_ahead, core_ahead, beyond, most_ahead, IsSoon}
 use Rattle.crash_simulation.specs.Systems.{System, IsSystem, flat_of, thread_count}
 use Rattle.crash_simulation.specs.SimulationRelation.{Simulates}
-use Rattle.crash_simulation.specs.StepsToMark.{weight, call_weight, entry_ahead, core_ahead, beyond, most_ahead, IsSoon}
 use Rattle.crash_simulation.proofs.NoSelfLoops.{lock_goes_on, unlock_goes_on, store_goes_on, node_there}
 use Rattle.crash_simulation.proofs.StepsBetweenMarks.{last, alone_fits, fits}
 
 -- ---- What is ahead is no more than twice the words
 
 entry_few : (words : ℕ) (z : Action) → weight z words ≤ 2 * words
-entry_few words (Eval target value next) = omega arith
 entry_few words (Store variable kind next) = omega arith
-entry_few words (Test condition holds fails) = omega arith
-entry_few words (Lock mutex next) = omega arith
-entry_few words (Unlock mutex next) = omega arith
-entry_few words End = omega arith
+entry_few words z = omega arith
 
 pub less_by : (words : ℕ) (z : Action) → call_weight z words ≤ weight z words
-less_by words (Eval target value next) = omega arith
 less_by words (Store variable kind next) = omega arith
-less_by words (Test condition holds fails) = omega arith
-less_by words (Lock mutex next) = omega arith
-less_by words (Unlock mutex next) = omega arith
-less_by words End = omega arith
+less_by words z = omega arith
 
 pub core_less : (p : Plan) (c : Places) (node : ℕ) → core_ahead p c node ≤ entry_ahead p c node
 core_less p c node = by (slice_get p.graph.nodes node)
@@ -68,9 +60,7 @@ whole_soon y thread before_mark ahead whole l = (omega (arith, whole, l), omega 
 pub one_less : (y : System) (thread before_mark ahead less : ℕ) → IsSoon y thread before_mark ahead → suc less ≤ ahead →
     (before_mark ≡ suc (before_mark - 1)) × IsSoon y thread (before_mark - 1) less
 one_less y thread before_mark ahead less soon l =
-    let fits = soon.0 in
-    let whole = soon.1 in
-    (omega (arith, fits, l), (omega (arith, fits, l), omega (arith, fits, l, whole)))
+    (omega (arith, l), (omega (arith, l), omega (arith, l)))
 
 module _ (y : System) (s : IsSystem y) (h : ℕ) (below : h < thread_count y) where
   abbrev code : Code y.plan
@@ -92,9 +82,8 @@ module _ (y : System) (s : IsSystem y) (h : ℕ) (below : h < thread_count y) wh
   pub entry_soon : (node queued : ℕ) → IsNodeOf code.thread node → queued ≤ 16 → queued + entry_ahead y.plan c node ≤ most_ahead y n
   entry_soon node queued of short =
       let whole : c.words node ≤ L = alone_fits y.plan code.thread code.program code.is s.plan code.of node of in
-      let few = by (slice_get y.plan.graph.nodes node) in
       let is = most_is in
-      omega (arith, whole, few, short, is)
+      omega (arith, whole, by (slice_get y.plan.graph.nodes node), short, is)
     where
       by : (o : Option Node) → (let k : ℕ = elim o [
         | None ↦ 0
@@ -189,15 +178,12 @@ module _ (y : System) (s : IsSystem y) (h : ℕ) (below : h < thread_count y) wh
       (stage_after y.plan code.thread c node seen side e).node ≤ most_ahead y n
   passed_soon w stands z node seen side registers is e of at does m p =
       let few = marks_are_bounded y.plan code.thread c y.runs.program w n z e (stage_after y.plan code.thread c node seen side e) m.steps m.effects
-      stands.before_commit.short m.at in
-      let short = m.short in
-      let less = p.less in
-      let queue : length m.at.on.hart.queue ≤ 16 = stands.before_commit.short n m.at.on.hart m.at.on.here in
+      stands.machine.short m.at in
+      let queue : length m.at.on.hart.queue ≤ 16 = stands.machine.short n m.at.on.hart m.at.on.here in
       let whole : left_at y.plan code.thread c m.at ≡ suc m.steps + cleans_in (seen_effects m.effects) + length m.at.on.hart.queue = refl in
       let all = soon_by node seen side registers m.effects e (left_of y.plan code.thread c p.on) p.on.own
       (λ next next_of by. fits_by node is of (subst (λ (g : Graph). NodeAt g node is) (sym s.plan.lowered) at) next next_of
       (next_follows is.action seen e next does by) (not_end is.action seen e next does by))
-      m.seen_are (omega (arith, few, short, less)) (λ cleans. omega (arith, short, less, queue, whole, cleans))
+      m.seen_are (omega (arith, few)) (λ cleans. omega (arith, queue, whole, cleans))
       (alone_fits y.plan code.thread code.program code.is s.plan code.of node of) in
-      let most = most_is in
-      omega (arith, all, most)
+      omega (arith, all, most_is)

@@ -1,10 +1,10 @@
 -- What is ahead of a thread between two marks fits into its code.
-use Rattle.std.proofs.Common.{◌≡◌, ◌≢◌, inl, inr, refl, ℕ, zero, suc, ◌+◌, ◌-◌, ◌*◌, ◌<◌, ◌≤◌, List, [], ◌∷◌, length, sym, ◌∙◌, ap, arith, subst}
-use Rattle.std.proofs.Common.{cond, Bool, Option, Some, None}
+use Rattle.std.proofs.Common.{◌≡◌, ◌≢◌, inl, inr, refl, ℕ, zero, suc, ◌+◌, ◌-◌, ◌*◌, ◌<◌, ◌≤◌, List, [], ◌∷◌, length, sym, ◌∙◌, ap, arith, subst, cond, Bool}
+use Rattle.std.proofs.Common.{Option, Some, None}
 use Rattle.std.proofs.lemmas.Bool.{cases_lt, cases_eq}
 use Rattle.std.proofs.lemmas.Option.{same_Some}
 use Rattle.std.specs.Prelude.{slice_get}
-use Rattle.flow_graph.specs.Nodes.{Action, Eval, Store, Test, Lock, Unlock, End, Node, Graph}
+use Rattle.flow_graph.specs.Nodes.{Action, Store, Lock, End, Node, Graph}
 use Rattle.flow_graph.specs.Liveness.{NodeAt}
 use Rattle.code_runs.specs.CodeTraces.{Program, Observation, Mark, marked}
 use Rattle.thread_code.specs.Plans.{Plan, Thread, IsThread, IsNodeOf, IsPlan}
@@ -67,42 +67,27 @@ module _ (p : Plan) (t : Thread) (own : Program) (code : IsThreadCode p t own) w
 
   room : (n : ℕ) → IsNodeOf t n → Room n
   room n of =
-      let low = of.from_first in
-      let high = of.below_end in
-      let begins = code.begins in
-      let ends = code.ends in
       let start : c.program.start ≡ own.start = ap (λ (x : Program). x.start) code.of_program in
-      let from : c.entry first ≤ c.entry n = up_to first n (omega arith) low (omega (arith, high)) in
-      let to : c.entry (n + 1) ≤ c.entry end = up_to (n + 1) end (omega (arith, low)) (omega (arith, high)) (omega arith) in
-      let next = code.follows n of in
-      record { above = omega (arith, begins, from); within = omega (arith, to, next, ends) }
+      let from : c.entry first ≤ c.entry n = up_to first n (omega arith) of.from_first (omega arith) in
+      let to : c.entry (n + 1) ≤ c.entry end = up_to (n + 1) end (omega arith) (omega arith) (omega arith) in
+      record { above = omega (arith, code.begins, from); within = omega (arith, to, code.follows n of, code.ends) }
 
   after : (n m : ℕ) → IsNodeOf t n → IsNodeOf t m → n < m → c.entry n + 4 * c.words n ≤ c.entry m
   after n m of there less =
-      let low = of.from_first in
-      let high = there.below_end in
-      let to : c.entry (n + 1) ≤ c.entry m = up_to (n + 1) m (omega (arith, low)) (omega (arith, less)) (omega (arith, high)) in
-      let next = code.follows n of in
-      omega (arith, to, next)
+      let to : c.entry (n + 1) ≤ c.entry m = up_to (n + 1) m (omega arith) (omega (arith, less)) (omega arith) in
+      omega (arith, to, code.follows n of)
 
   two_fit : (n m : ℕ) → IsNodeOf t n → IsNodeOf t m → n < m → c.words n + c.words m ≤ length own.code
   two_fit n m of there less =
       let a = room n of in
       let b = room m there in
-      let apart = after n m of there less in
-      let above = a.above in
-      let within = b.within in
-      omega (arith, apart, above, within)
+      omega (arith, after n m of there less)
 
   three_fit : (n m k : ℕ) → IsNodeOf t n → IsNodeOf t m → IsNodeOf t k → n < m → m < k → c.words n + c.words m + c.words k ≤ length own.code
   three_fit n m k of there last less more =
       let a = room n of in
       let b = room k last in
-      let apart = after n m of there less in
-      let further = after m k there last more in
-      let above = a.above in
-      let within = b.within in
-      omega (arith, apart, further, above, within)
+      omega (arith, after n m of there less, after m k there last more)
 
   -- an end has two: its mark, and after it its call, which is none
   ending_words : (n : ℕ) (is : Node) → IsNodeOf t n → NodeAt p.graph n is → is.action ≡ End → 2 ≤ c.words n
@@ -110,19 +95,14 @@ module _ (p : Plan) (t : Thread) (own : Program) (code : IsThreadCode p t own) w
       let node : IsNodeCode p t c n is = code.code n is of at in
       let calls = subst (λ (a : Action). IsCalling p t c a n) ends node.calls in
       let within = subst (λ (a : Action). IsCallWithin c a n) ends node.within.call in
-      let low = of.from_first in
-      let i : first + (n - first) ≡ n = omega (arith, low) in
+      let i : first + (n - first) ≡ n = omega arith in
       let there = code.marks (n - first) is (subst (λ (k : ℕ). IsNodeOf t k) (sym i) of) (subst (λ (k : ℕ). NodeAt p.graph k is) (sym i) at) in
       let here : slice_get own.nodes (n - first) ≡ Some (c.core n) =
       there ∙ (ap (λ (k : ℕ). Some (mark_of c is.action k)) i ∙ ap (λ (a : Action). Some (mark_of c a n)) ends) in
       let marked_there : marked own.nodes (c.core n) ≡ Mark ∷ [] = ap (λ (b : Bool). cond b (Mark ∷ []) []) (any_at own.nodes (n - first) (c.core n) here) in
       let plain : marked own.nodes (c.call n) ≡ [] = subst (λ (x : Program). marked x.nodes (c.call n) ≡ []) code.of_program calls.1 in
-      let core = node.within.core.is in
       let call = within.0.is in
-      let after_call = within.1.is in
-      let next = code.follows n of in
-      let some = apart own.nodes (c.core n) (c.call n) within.0.words call marked_there plain in
-      omega (arith, core, call, after_call, next, some)
+      omega (arith, node.within.core.is, call, within.1.is, code.follows n of, apart own.nodes (c.core n) (c.call n) within.0.words call marked_there plain)
 
   -- ---- Between two marks
 
@@ -132,10 +112,8 @@ module _ (p : Plan) (t : Thread) (own : Program) (code : IsThreadCode p t own) w
 
     last_own : (n : ℕ) → IsNodeOf t n → IsNodeOf t last.number
     last_own n of =
-        let low = of.from_first in
-        let high = of.below_end in
         let is = last.last in
-        record { from_first = omega (arith, low, high, is); below_end = omega (arith, is) }
+        record { from_first = omega (arith, is); below_end = omega (arith, is) }
 
     last_at : NodeAt p.graph last.number last.is
     last_at = subst (λ (g : Graph). NodeAt g last.number last.is) (sym plan.lowered) last.at
@@ -148,11 +126,9 @@ module _ (p : Plan) (t : Thread) (own : Program) (code : IsThreadCode p t own) w
 
     below_last : (n : ℕ) → IsNodeOf t n → n ≢ last.number → n < last.number
     below_last n of other =
-        let high = of.below_end in
-        let is = last.last in
         elim (cases_lt n last.number) [
           | inl less ↦ less
-          | inr more ↦ absurd (other (omega (arith, high, is, more)))
+          | inr more ↦ absurd (other (omega (arith, last.last, more)))
         ]
 
     -- a node alone
@@ -162,9 +138,7 @@ module _ (p : Plan) (t : Thread) (own : Program) (code : IsThreadCode p t own) w
     -- a node, and the end
     pub one_fits : (n : ℕ) → IsNodeOf t n → n ≢ last.number → 2 * c.words n + 4 ≤ 2 * L
     one_fits n of other =
-        let both = two_fit n last.number of (last_own n of) (below_last n of other) in
-        let two = last_words n of in
-        omega (arith, both, two)
+        omega (arith, two_fit n last.number of (last_own n of) (below_last n of other), last_words n of)
 
     -- two nodes, and the end
     pub both_fit : (n m : ℕ) → IsNodeOf t n → IsNodeOf t m → n ≢ last.number → m ≢ last.number → n ≢ m → 2 * c.words n + 2 * c.words m + 4 ≤ 2 * L
@@ -189,9 +163,8 @@ module _ (p : Plan) (t : Thread) (own : Program) (code : IsThreadCode p t own) w
       where
         light : (action : Action) → is.action ≡ action → weight action (c.words m) ≡ 0 → 2 * c.words n + entry_ahead p c m + 4 ≤ 2 * L
         light action e none =
-            let one = one_fits n of other in
             let zero_ahead : entry_ahead p c m ≡ 0 = weight_is weight p c m is at ∙ (ap (λ (a : Action). weight a (c.words m)) e ∙ none) in
-            omega (arith, one, zero_ahead)
+            omega (arith, one_fits n of other, zero_ahead)
 
         not_last : (action : Action) → is.action ≡ action → weight action 1 ≢ 0 → m ≢ last.number
         not_last action e some same =
@@ -202,17 +175,13 @@ module _ (p : Plan) (t : Thread) (own : Program) (code : IsThreadCode p t own) w
         heavy : (action : Action) → is.action ≡ action → weight action 1 ≢ 0 → weight action (c.words m) ≡ 2 * c.words m →
             2 * c.words n + entry_ahead p c m + 4 ≤ 2 * L
         heavy action e some whole =
-            let both = both_fit n m of there other (not_last action e some) (apart_they action e some) in
             let all : entry_ahead p c m ≡ 2 * c.words m = weight_is weight p c m is at ∙ (ap (λ (a : Action). weight a (c.words m)) e ∙ whole) in
-            omega (arith, both, all)
+            omega (arith, both_fit n m of there other (not_last action e some) (apart_they action e some), all)
 
         two_some : (k : ℕ) → k ≡ 2 → k ≢ 0
         two_some k e z = omega (arith, e, z)
 
         by : (action : Action) → is.action ≡ action → 2 * c.words n + entry_ahead p c m + 4 ≤ 2 * L
-        by (Eval target value next) e = light _ e refl
         by (Store variable kind next) e = heavy _ e (two_some (2 * 1) refl) refl
-        by (Test condition holds fails) e = light _ e refl
         by (Lock mutex next) e = heavy _ e (two_some (2 * 1) refl) refl
-        by (Unlock mutex next) e = light _ e refl
-        by End e = light _ e refl
+        by action e = light _ e refl

@@ -1,14 +1,13 @@
 -- A hart at the code of a node that makes its thread's pending store.
 use Rattle.std.proofs.Common.{◌≡◌, ◌≢◌, ◌⊎◌, inl, inr, refl, ℕ, zero, suc, ◌<◌, List, [], ◌∷◌, ◌++◌, length, ap, sym, ◌∙◌, subst, arith, Option, Some, None}
 use Rattle.std.proofs.Common.{Bool, true, false}
+use Rattle.std.proofs.lemmas.Bool.{true≢false, ne_eqb}
+use Rattle.std.proofs.lemmas.Option.{none-some, same_Some, slice_get-map}
 use Rattle.std.specs.Prelude.{slice_get, slice_index_or, Contains, ℤ, ◌*◌, ◌%◌, ◌^◌, if◌then◌else◌}
 use Rattle.std.specs.List.{AllZip}
 use Rattle.std.specs.Option.{option_map}
-use Rattle.std.proofs.lemmas.Bool.{true≢false, ne_eqb}
-use Rattle.std.proofs.lemmas.Option.{none-some, same_Some, slice_get-map}
 use Rattle.ido_base.specs.Words as words
 use Rattle.ido_base.specs.Words.{Word}
-use Rattle.ido_base.specs.Growth.{PersistsThrough}
 use Rattle.ido_base.specs.Layout.{variable_at, byte_number, word_number, point_at}
 use Rattle.ido_ints.specs.declared.kinds.Kind.{Kind}
 use Rattle.ido_ints.specs.Kinds.{bytes_of}
@@ -16,26 +15,25 @@ use Rattle.ido_ints.specs.TypedNumbers.{typed, register_form_of}
 use Rattle.c_tree.specs.Source.{Pending}
 use Rattle.c_tree.specs.Programs.{Variable}
 use Rattle.source_machine.specs.ElementLocks.{element_lock}
+use Rattle.source_machine.specs.Discipline.{Guards}
 use Rattle.c_ranges.specs.RunInvariants as ranges
 use Rattle.c_ranges.specs.RunInvariants.{AreNumbersOf}
 use Rattle.c_ranges.proofs.Public.{zip_at}
-use Rattle.source_machine.specs.Discipline.{Guards}
 use Rattle.source_machine.proofs.Public.{held_found}
 use Rattle.rv64_isa.specs.Rows as r
 use Rattle.rv64_isa.specs.Rows.{Effect}
 use Rattle.rv64_isa.specs.Machine.{Hart, World}
-use Rattle.rv64_isa.specs.Schedule.{is_running, is_point_store}
+use Rattle.rv64_isa.specs.Schedule.{is_point_store}
 use Rattle.memory_layout.specs.Roles.{pending_value}
 use Rattle.code_runs.specs.CodeTraces.{MarkedEnvironment}
 use Rattle.variable_words.proofs.Public.{addresses_reach, variables_apart}
 use Rattle.flow_graph.specs.Nodes.{Node, Action, Store}
 use Rattle.flow_graph.specs.Lowering.{lowered}
 use Rattle.flow_graph.specs.Liveness.{NodeAt}
+use Rattle.flow_graph.specs.Actions.{GraphThread, effect_of}
 use Rattle.flow_graph.specs.Actions as a
-use Rattle.flow_graph.specs.Actions.{GraphThread, Seen, effect_of, seen_by, graph_step}
 use Rattle.flow_graph.proofs.Public.{contains_none}
 use Rattle.hart_runs.specs.RunSteps.{Contents, Changes, is_clean}
-use Rattle.hart_runs.proofs.Public.{forward_reaches}
 use Rattle.recovery_semantics.specs.ElementHistories.{Memory, IsStored, IsOther, history_at}
 use Rattle.recovery_semantics.specs.Attempts.{WritesAt, Writes, store_ahead}
 use Rattle.recovery_semantics.specs.Configs.{now, attempt_of}
@@ -46,36 +44,33 @@ use Rattle.region_attempts.specs.PendingCleans.{line_of, Cleans}
 use Rattle.region_attempts.specs.AttemptsInRegion.{HasCome}
 use Rattle.region_attempts.proofs.Public.{is_there}
 use Rattle.log_states.specs.Logs.{log_word}
-use Rattle.log_states.specs.Machines.{IsNext, IsElsewhere}
+use Rattle.log_states.specs.Machines.{IsNext}
 use Rattle.log_states.proofs.Public.{stores_to_variable, variables_are_apart}
-use Rattle.recovered_threads.proofs.Public.{same_there, same_or_other}
+use Rattle.recovered_threads.proofs.Public.{same_or_other}
 use Rattle.thread_code.specs.RegistersAtNodes.{IsAnswered, source_of}
 use Rattle.thread_code.specs.NodeCodeEffects.{kind_at}
-use Rattle.thread_runs.specs.CodeFragments.{MayDo, stage_after, cleans_of, effects_of, on_machine}
-use Rattle.thread_runs.specs.Laws as laws
-use Rattle.thread_runs.specs.Laws.{IsAtSomeMark, MarksPass, run_at}
+use Rattle.thread_runs.specs.CodeFragments.{MayDo, cleans_of, effects_of}
+use Rattle.thread_runs.specs.Laws.{MarksPass}
 use Rattle.crash_simulation.specs.Systems.{System, IsSystem, flat_of, shapes_of, places_of}
 use Rattle.crash_simulation.specs.AbstractRuns.{AbstractRun, kept_of, now_of, attempts_of}
 use Rattle.crash_simulation.specs.ThreadGhosts.{ThreadGhost, IsFlushed, IsComing, is_ahead}
 use Rattle.crash_simulation.specs.InstructionSteps.{MayStore, element}
+use Rattle.crash_simulation.proofs.ConfigAfterBegin.{one_longer, attempted, done_longer, wrote, alone_ahead}
+use Rattle.crash_simulation.proofs.GraphAfterBegin.{after_effect, matches_now, follows_on, not_come, boundary_after_is}
+use Rattle.crash_simulation.proofs.MarksAtNodes.{MarkIn, AtMark, Passes, environment_of, graph_step_is, at_some_mark}
+use Rattle.crash_simulation.proofs.LoadFreeEnvironment.{bare_answers, bare_reads}
 use Rattle.crash_simulation.proofs.StatesMatchSource.{resumed, now_orderly, now_good}
 use Rattle.crash_simulation.proofs.Boundaries.{store_is}
 use Rattle.crash_simulation.proofs.Elements.{room}
 use Rattle.crash_simulation.proofs.DisjointElements.{variables_end, element_below}
-use Rattle.crash_simulation.proofs.NodeEffects.{step_is, ahead_is}
-use Rattle.crash_simulation.proofs.ConfigAfterBegin.{one_longer, attempted, done_longer, wrote, alone_ahead}
-use Rattle.crash_simulation.proofs.GraphAfterBegin.{after_effect, done_is, follows_on, not_come, boundary_after_is}
-use Rattle.crash_simulation.proofs.UncommittedSteps.{leads_on}
-use Rattle.crash_simulation.proofs.NodeEnvironments.{reads_none, answers_none, element_access}
-use Rattle.crash_simulation.proofs.OwnHartSteps.{going, code, number, abstract, ghost, after, StepOf, AtNode, own_thread}
-use Rattle.crash_simulation.proofs.PendingFlushes.{flushed_still, as_before}
+use Rattle.crash_simulation.proofs.NodeEffects.{ahead_is}
+use Rattle.crash_simulation.proofs.NodeEnvironments.{element_access}
+use Rattle.crash_simulation.proofs.OwnHartSteps.{view, StepOf, AtNode}
+use Rattle.crash_simulation.proofs.PendingFlushes.{flushed_still, still_reached, as_before}
 use Rattle.crash_simulation.proofs.WriteBackSteps.{mark_step}
-use Rattle.crash_simulation.proofs.MarksAtNodes.{inside, environment, at_some_mark}
-use Rattle.crash_simulation.proofs.LocalNodeSteps.{matches_now}
-use Rattle.crash_simulation.proofs.MarkSteps as passing
-use Rattle.crash_simulation.specs.StepsToMark.{most_ahead}
 use Rattle.crash_simulation.proofs.StepsAfterMarks.{passed_soon}
-use Rattle.crash_simulation.proofs.MarkSteps.{passed_step}
+use Rattle.crash_simulation.proofs.MarkSteps.{passed_step, is_next, reaches_on}
+use Rattle.crash_simulation.proofs.MarkSteps as passing
 
 -- memory takes of a value the bytes that a store writes
 stored_low : (ws : List Word) (number count v w : ℕ) → v % 2 ^ (8 * count) ≡ w % 2 ^ (8 * count) →
@@ -93,46 +88,35 @@ clean_if : (b : Bool) (address : ℕ) (effect : Effect) → Contains (if b then 
 clean_if true address effect has = clean_first address effect has
 clean_if false address effect has = absurd (contains_none effect has)
 
-module _ {y : System} {s : IsSystem y} {w : World} {h : ℕ} (site : AtNode y s w h)
-    (marks : MarksPass) (node : Node) (at : NodeAt (lowered (flat_of y)) (own_thread site).graph_thread.at node)
-    (variable : ℕ) (kind : Kind) (next_node : ℕ) (action : node.action ≡ Store variable kind next_node) (store : Pending)
-    (pending : (own_thread site).graph_thread.pending ≡ Some store) where
-  abbrev graph_thread : GraphThread
-  graph_thread = (own_thread site).graph_thread
+-- a node that makes the thread's pending store
+pub record MakesStore (node : Node) (graph_thread : GraphThread) : Type 0 where
+  pub variable : ℕ
+  pub kind : Kind
+  pub next : ℕ
+  pub action : node.action ≡ Store variable kind next
+  pub store : Pending
+  pub pending : graph_thread.pending ≡ Some store
 
-  abbrev n : ℕ
-  n = number site
-
-  abbrev b : AbstractRun y
-  b = abstract site
-
-  abbrev v : World
-  v = after site
-
-  abbrev seen : Seen
-  seen = seen_by (now_of y b) graph_thread
-
-  abbrev none : ℕ → ℕ → Bool
-  none address bytes = false
+module _ {y : System} {s : IsSystem y} {w : World} {h : ℕ} (site : AtNode y s w h) (node : Node)
+    (at : NodeAt (lowered (flat_of y)) (view site.hart).graph_thread.at node) (makes : MakesStore node (view site.hart).graph_thread) where
+  open view site.hart use {b, code, c, t, n, v, places, graph_thread, seen}
+  open makes use {store, pending}
 
   abbrev here : MarkedEnvironment
-  here = environment site node at none
+  here = environment_of site (λ address bytes. false)
 
   abbrev e : a.Effect
-  e = a.Makes store next_node
+  e = a.Makes store makes.next
 
   does : effect_of node.action seen ≡ Some e
   does =
-      ap (λ (z : Action). effect_of z seen) action
-      ∙ ap (λ (p : Option Pending). let o : Option a.Effect = elim p [ Some q ↦ Some (a.Makes q next_node) | None ↦ None ] in o) pending
-
-  walks : slice_get (now_of y b).graph_threads n ≡ Some graph_thread
-  walks = (own_thread site).walks
+      ap (λ (z : Action). effect_of z seen) makes.action
+      ∙ ap (λ (p : Option Pending). let o : Option a.Effect = elim p [ Some q ↦ Some (a.Makes q makes.next) | None ↦ None ] in o) pending
 
   -- ---- The store
 
   formed : ranges.IsStoreInRange (flat_of y).variables store
-  formed = store_is y.plan (code site) s.plan (now_of y b) (now_good y s b) graph_thread walks store pending
+  formed = store_is y.plan code s.plan (now_of y b) (now_good y s b) graph_thread t.walks store pending
 
   abbrev k : Kind
   k = formed.it.kind
@@ -146,42 +130,34 @@ module _ {y : System} {s : IsSystem y} {w : World} {h : ℕ} (site : AtNode y s 
   in_variables : address < variables_end
   in_variables = element_below (flat_of y).variables (room y s) store.variable store.element formed.it formed.found formed.element
 
-  may_do : MayDo y.plan (code site).thread (code site).is.places (length w.harts) here e
+  may_do : MayDo y.plan code.thread places w.log (length w.harts) here e
   may_do = (
     k,
     kind_is,
     record {
-      access = element_access (flat_of y).variables (length w.harts) store.variable store.element formed.it (room y s) formed.found formed.element;
+      access = element_access w.log (flat_of y).variables (length w.harts) store.variable store.element formed.it (room y s) formed.found formed.element;
       apart = λ at count value answer. absurd (none-some value answer);
     },
   )
 
-  nothing_read : IsAnswered (source_of y.plan (code site).thread seen) here.around.loads node.action
-  nothing_read = subst (λ (z : Action). IsAnswered (source_of y.plan (code site).thread seen) here.around.loads z) (sym action) tt
+  pub mark : MarkIn site here e
+  mark = at_some_mark site node at e refl does (λ address bytes. false)
+      (bare_reads y s w h site.hart.below)
+      (subst (λ (z : Action). IsAnswered (source_of y.plan code.thread seen) here.around.loads z) (sym makes.action) tt) may_do
 
-  pub mark : IsAtSomeMark y.plan (code site).thread (code site).is.places (on_machine y.runs.program w n here)
-      graph_thread.at seen site.core.side
-      site.core.registers e
-  mark =
-      at_some_mark site node at none e refl does
-      (reads_none y s w b (code site) (s.own h site.below) site.stands.before_commit.count (inside site node at none))
-      nothing_read may_do
+  abbrev at_mark : AtMark site
+  at_mark = record { environment = here; effect = e; mark = mark }
 
   -- ---- The source
 
-  graph_step_is : graph_step (lowered (flat_of y)) (now_of y b) n ≡ Some (after_effect (now_of y b) n graph_thread e)
-  graph_step_is =
-      step_is (flat_of y) s.plan.formed (now_of y b) (now b.config) n (matches_now y s b) graph_thread walks node at e does
-      ∙ done_is (now_of y b) n graph_thread e refl site.core.goes.execution
-
   ahead : store_ahead (now b.config) n ≡ Some store
-  ahead = ahead_is (flat_of y) s.plan.formed (now_of y b) (now b.config) n (matches_now y s b) graph_thread walks node at ∙ pending
+  ahead = ahead_is (flat_of y) s.plan.formed (now_of y b) (now b.config) n (matches_now y s b) graph_thread t.walks node at ∙ pending
 
   abbrev memory : Memory
   memory = memory_in (places_of y) v.words
 
   minded : HasCome (flat_of y) y.plan.boundaries (kept_of y b) b.config n → ⊥
-  minded = not_come y s b n graph_thread node e site.core.goes.goes.going walks at does (λ mutex next gives. cc) site.core.fresh
+  minded = not_come y s b n site.core.goes.goes.going t.walks at does (λ mutex next gives. cc) site.core.fresh
 
   exists : store.element < length (slice_index_or (now b.config).variables store.variable [])
   exists =
@@ -189,9 +165,7 @@ module _ {y : System} {s : IsSystem y} {w : World} {h : ℕ} (site : AtNode y s 
       subst (λ (ns : List (List ℤ)). AllZip AreNumbersOf (flat_of y).variables ns) (sym (now_good y s b).matches.variables ∙ (matches_now y s b).variables)
       (now_good y s b).formed.variables in
       let numbers = zip_at AreNumbersOf (flat_of y).variables (now b.config).variables store.variable formed.it [] held formed.found in
-      let count = numbers.count in
-      let l = formed.element in
-      omega (arith, count, l)
+      omega (arith, formed.element)
 
   -- what the present step writes is the store
   written : (u i : ℕ) → WritesAt b.config.kept n (attempt_of b.config n).done u i → (u ≡ store.variable) × (i ≡ store.element)
@@ -205,21 +179,18 @@ module _ {y : System} {s : IsSystem y} {w : World} {h : ℕ} (site : AtNode y s 
   guards : Guards (flat_of y) (now b.config) n store.variable store.element
   guards =
       let o = now_orderly y s b in
-      let there = is_there (flat_of y) s.plan.formed n (now_of y b) o.source o.matches graph_thread node walks at in
+      let there = is_there (flat_of y) s.plan.formed n (now_of y b) o.source o.matches graph_thread node t.walks at in
       let held = (o.keeps.each n there.thread there.there).pending store (sym there.match.pending ∙ pending) in
       let lock = element_lock (flat_of y).variables store.variable store.element in
-      let found = held_found n o.source.holders lock held in
       ap (λ (hs : List (Option ℕ)). slice_get hs lock)
-      (sym (matches_now y s b).holders ∙ o.matches.holders) ∙ found
+      (sym (matches_now y s b).holders ∙ o.matches.holders) ∙ held_found n o.source.holders lock held
 
   -- ---- The mark is passed
 
   abbrev cleans : List Effect
-  cleans = cleans_of y.plan (code site).thread (code site).is.places graph_thread.at store
+  cleans = cleans_of y.plan code.thread places graph_thread.at store
 
-  module _ (p : laws.PassesMark y.plan (code site).thread (code site).is.places (on_machine y.runs.program w n here) e
-      (stage_after y.plan (code site).thread (code site).is.places graph_thread.at seen site.core.side e) mark.steps mark.effects
-      mark.at) where
+  module _ (p : Passes site at_mark) where
     abbrev value : ℕ
     value = (p.made k kind_is).value
 
@@ -232,20 +203,14 @@ module _ {y : System} {s : IsSystem y} {w : World} {h : ℕ} (site : AtNode y s 
         sym (mark.seen_are k kind_is) ∙ p.effects_are ∙ ap (λ (z : Effect). effects_of z ++ p.later) effect_is in
         same_tail _ _ cleans p.later all
 
-    is_next : IsNext y.runs.program w n mark.at.on.hart (r.Stores address (bytes_of k) value)
-    is_next = record { here = mark.at.on.here; runs = ap is_running mark.at.on.runs; is = p.forward.effect_is ∙ ap Some effect_is }
-
-    elsewhere : IsElsewhere y.runs.program w n n
-    elsewhere = stores_to_variable y.runs.program w n n mark.at.on.hart address (bytes_of k) value is_next in_variables
-
     may : MayStore y b n p.forward.effect
     may = subst (λ (z : Effect). MayStore y b n z) (sym effect_is) (element store.variable store.element value formed.it formed.found formed.element guards)
 
-    no_point : is_point_store n p.forward.effect ≡ false
+    no_point : is_point_store w.log n p.forward.effect ≡ false
     no_point =
-        ap (is_point_store n) effect_is
-        ∙ ne_eqb (word_number address) (word_number (point_at n)) (λ same. variables_are_apart n address 0 in_variables
-        (let zero : word_number (point_at n) ≡ log_word n 0 = omega arith in same ∙ zero))
+        ap (is_point_store w.log n) effect_is
+        ∙ ne_eqb (word_number address) (word_number (point_at w.log n)) (λ same. variables_are_apart w.log n address 0 in_variables
+        (let zero : word_number (point_at w.log n) ≡ log_word w.log n 0 = omega arith in same ∙ zero))
 
     words_are : v.words ≡ words.stored w.words (byte_number address) (bytes_of k) (register_form_of (typed k store.number))
     words_are =
@@ -256,15 +221,16 @@ module _ {y : System} {s : IsSystem y} {w : World} {h : ℕ} (site : AtNode y s 
 
     stored : IsStored b.config.memory memory store.variable store.element store.number
     stored =
-        let size = site.stands.before_commit.sound.size in
+        let size = site.hart.stands.machine.sound.size in
         let apart : AreSpotsApart (places_of y) (length w.words) =
         variables_apart (flat_of y).variables (length w.words) (room y s) (omega (arith, size)) in
-        let is_at = (addresses_reach (flat_of y).variables (length w.harts) store.variable store.element formed.it (room y s) formed.found formed.element).at in
+        let is_at = (addresses_reach w.log (flat_of y).variables (length w.harts) store.variable store.element formed.it (room y s) formed.found
+        formed.element).at in
         let new : IsStored (memory_in (places_of y) w.words)
         (memory_in (places_of y) (words.stored w.words (byte_number address) (bytes_of k) (register_form_of (typed k store.number))))
         store.variable store.element store.number =
         memory_stored (places_of y) w.words store.variable store.element k (byte_number address) store.number apart is_at formed.held in
-        subst (λ (old : Memory). IsStored old memory store.variable store.element store.number) site.stands.before_commit.memory
+        subst (λ (old : Memory). IsStored old memory store.variable store.element store.number) site.hart.stands.memory
         (subst (λ (ws : List Word). IsStored (memory_in (places_of y) w.words) (memory_in (places_of y) ws) store.variable store.element store.number)
         (sym words_are) new)
 
@@ -278,27 +244,21 @@ module _ {y : System} {s : IsSystem y} {w : World} {h : ℕ} (site : AtNode y s 
       attempt = attempted b.config.attempts n _;
     })
 
-    clean : (effect : Effect) → Contains cleans effect → is_clean effect ≡ true
-    clean effect has = clean_if ((code site).is.places.cleans graph_thread.at) address effect has
-
     no_end : e ≡ a.Ends → cleans ≡ []
     no_end is = cc
 
     abbrev passed : passing.Passing site
     passed = record {
-      effect = e;
-      plain = refl;
-      environment = here;
-      marks = refl;
-      steps = mark.steps;
-      effects = mark.effects;
-      at = mark.at;
+      mark = at_mark;
       passes = p;
+      plain = refl;
+      marks = refl;
       cleans = cleans;
       later = later_is;
-      clean = clean;
+      clean = clean_if (places.cleans graph_thread.at) address;
       ends = no_end;
-      elsewhere = elsewhere;
+      elsewhere = stores_to_variable y.runs.program w n n mark.at.on.hart address (bytes_of k) value
+          (subst (IsNext y.runs.program w n mark.at.on.hart) effect_is (is_next site at_mark p)) in_variables;
       may = may;
       no_point = no_point;
       memory = memory;
@@ -308,47 +268,48 @@ module _ {y : System} {s : IsSystem y} {w : World} {h : ℕ} (site : AtNode y s 
       none_kept = refl;
       minded = minded;
       is_step = refl;
-      soon = passed_soon y s h site.below w site.stands here graph_thread.at seen site.core.side site.core.registers node e site.core.core.own at does mark p;
+      soon = passed_soon y s h site.hart.below w site.hart.stands here graph_thread.at seen site.core.side site.core.registers node e site.core.core.own at
+          does mark p;
     }
 
     abbrev next : AbstractRun y
     next = passing.next site passed
 
     abbrev new : ThreadGhost
-    new = going (ghost site) cleans (most_ahead y n)
+    new = passing.new site passed
 
     state : now_of y next ≡ after_effect (now_of y b) n graph_thread e
-    state = same_Some _ _ (sym (follows_on y s b _ happened refl) ∙ graph_step_is)
+    state = same_Some _ _ (sym (follows_on y s b _ happened refl) ∙ graph_step_is site node at e refl does)
 
     -- what this step cleans is coming
     comes_now : (other : Hart) (line : ℕ) → Cleans (attempts_of y b) n (attempt_of b.config n).done line →
-        (u i position : ℕ) → line_of (shapes_of y) u i ≡ line → IsComing y v next (code site) new other u i position
+        (u i position : ℕ) → line_of (shapes_of y) u i ≡ line → IsComing y v next code new other u i position
     comes_now other line cleaned u i position in_line =
         let is = written cleaned.variable cleaned.element cleaned.stores in
         let at_node : cleaned.node ≡ graph_thread.at =
-        same_Some _ _ (sym cleaned.at ∙ boundary_after_is y s b n graph_thread site.core.goes.goes.going walks) in
+        same_Some _ _ (sym cleaned.at ∙ boundary_after_is y s b n graph_thread site.core.goes.goes.going t.walks) in
         let same_line : line_of (shapes_of y) store.variable store.element ≡ line_of (shapes_of y) u i =
         ap (λ (j : ℕ). line_of (shapes_of y) j store.element) (sym is.0) ∙ ap (λ (j : ℕ). line_of (shapes_of y) cleaned.variable j) (sym is.1)
         ∙ cleaned.in_line ∙ sym in_line in
         is_ahead store.variable store.element
-        (there ((code site).is.places.cleans graph_thread.at) refl (λ uncleaned. cleaned.cleans
-        (ap (slice_get y.left_out) at_node ∙ (s.own h site.below).cleans graph_thread.at site.core.core.own uncleaned))) same_line
+        (there (places.cleans graph_thread.at) refl (λ uncleaned. cleaned.cleans
+        (ap (slice_get y.left_out) at_node ∙ (s.own h site.hart.below).cleans graph_thread.at site.core.core.own uncleaned))) same_line
       where
-        there : (q : Bool) → (code site).is.places.cleans graph_thread.at ≡ q →
-            ((code site).is.places.cleans graph_thread.at ≡ false → ⊥) →
+        there : (q : Bool) → places.cleans graph_thread.at ≡ q →
+            (places.cleans graph_thread.at ≡ false → ⊥) →
             Contains cleans (r.Cleans address)
         there false is never = absurd (never is)
         there true is never =
             subst (λ (z : Bool). Contains (if z then r.Cleans address ∷ [] else []) (r.Cleans address)) (sym is) (0, omega arith, refl)
 
     flushed : (other : Hart) → p.on.on.hart ≡ other → (u i : ℕ) → Writes next.config.kept n (attempt_of next.config n).done u i →
-        IsFlushed y v next (code site) new other u i
+        IsFlushed y v next code new other u i
     flushed other is u i writes = by (same_or_other u store.variable) (same_or_other i store.element)
       where
         longer : (attempt_of next.config n).done ≡ suc (attempt_of b.config n).done
         longer = done_longer b.config n
 
-        newest : IsFlushed y v next (code site) new other store.variable store.element
+        newest : IsFlushed y v next code new other store.variable store.element
         newest =
             let r = (resumed y s b).resumed in
             record {
@@ -364,55 +325,42 @@ module _ {y : System} {s : IsSystem y} {w : World} {h : ℕ} (site : AtNode y s 
               since = stored_is_since b.config.memory memory store.variable store.element store.number stored;
               comes = λ cleaned.
                   let l = longer in
-                  let first = cleaned.since in
-                  let last = cleaned.within in
-                  let same : cleaned.last ≡ (attempt_of b.config n).done = omega (arith, l, first, last) in
+                  let same : cleaned.last ≡ (attempt_of b.config n).done = omega (arith, l) in
                   let line : ℕ = line_of (shapes_of y) store.variable store.element in
                   comes_now other line
                   (subst (λ (j : ℕ). Cleans (attempts_of y b) n j line) same
-                  (as_before y w v b (code site) (ghost site) site.core.goes.cleans mark.at.on.hart (b.config.uncommitted ++ n ∷ [])
-                  memory (one_longer b.config n) (leads_on y b _ happened refl minded).0 (leads_on y b _ happened refl minded).1 new other cleaned.last line
-                  cleaned.at))
+                  (as_before (passing.passage site passed other) cleaned.last line cleaned.at))
                   store.variable store.element _ refl;
               fenced = λ un. absurd (true≢false un);
             }
 
-        older : IsOther store.variable store.element u i → IsFlushed y v next (code site) new other u i
+        older : IsOther store.variable store.element u i → IsFlushed y v next code new other u i
         older apart = from (wrote b.config.kept n (attempt_of b.config n).done u i
             (subst (λ (j : ℕ). Writes b.config.kept n j u i) longer writes))
           where
             from : Writes b.config.kept n (attempt_of b.config n).done u i ⊎ WritesAt b.config.kept n (attempt_of b.config n).done u i →
-                IsFlushed y v next (code site) new other u i
+                IsFlushed y v next code new other u i
             from (inr at_once) = let same = written u i at_once in absurd (apart same.0 same.1)
             from (inl old) =
-                let t = own_thread site in
-                let old_is : mark.at.on.hart ≡ t.log.hart = same_there (slice_get w.harts n) mark.at.on.hart t.log.hart mark.at.on.here t.log.here in
                 let l = longer in
-                flushed_still y w v b (code site) (ghost site) site.core.goes.cleans t.log.hart (b.config.uncommitted ++ n ∷ [])
-                memory (one_longer b.config n) (leads_on y b _ happened refl minded).0 (leads_on y b _ happened refl minded).1 new other
-                (λ j position reach. subst (λ (x : Hart). PersistsThrough v.words x.queue j position) (sym p.same ∙ is)
-                (forward_reaches y.runs.program w n (run_at y.plan (code site).thread (code site).is.places mark.at) p.forward j
-                position
-                (subst (λ (x : Hart). PersistsThrough w.words x.queue j position) (sym old_is) reach)))
-                (omega (arith, l)) (omega (arith, l)) (λ now line cleaned. comes_now other line cleaned) u i
+                let step = passing.passage site passed other in
+                flushed_still step (still_reached step site.core.goes.cleans (reaches_on site at_mark p other is)) u i
                 (λ position since. since_stays b.config.memory memory store.variable store.element store.number stored u i position apart since)
-                (t.flushed u i old) (λ un. absurd (true≢false un))
+                (t.flushed u i old) (λ un. absurd (true≢false un)) (omega (arith, l)) (omega (arith, l)) (λ now line cleaned. comes_now other line cleaned)
 
         by : (u ≡ store.variable) ⊎ (u ≢ store.variable) → (i ≡ store.element) ⊎ (i ≢ store.element) →
-            IsFlushed y v next (code site) new other u i
+            IsFlushed y v next code new other u i
         by (inr apart) other_element = older (λ same same_element. apart same)
         by (inl same) (inr apart) = older (λ also same_element. apart same_element)
         by (inl same) (inl same_element) =
-            subst (λ (j : ℕ). IsFlushed y v next (code site) new other j i) (sym same)
-            (subst (λ (j : ℕ). IsFlushed y v next (code site) new other store.variable j) (sym same_element) newest)
+            subst (λ (j : ℕ). IsFlushed y v next code new other j i) (sym same)
+            (subst (λ (j : ℕ). IsFlushed y v next code new other store.variable j) (sym same_element) newest)
 
-    store_passes : StepOf site n
+    store_passes : StepOf site.hart n
     store_passes =
         passed_step site passed state
-        (answers_none y s w b (code site) (s.own h site.below) site.stands.before_commit.count (inside site node at none) next new)
+        (bare_answers y s w h site.hart.below next new)
         flushed
 
-  pub store_step : StepOf site n
-  store_step = mark_step site marks here e
-      (stage_after y.plan (code site).thread (code site).is.places graph_thread.at seen site.core.side e) mark.steps mark.effects
-      mark.at store_passes
+  pub store_step : MarksPass → StepOf site.hart n
+  store_step marks = mark_step site at_mark marks store_passes

@@ -43,6 +43,11 @@ is_emptied attempts t = record {
   others = λ u other. get_or-set_other attempts t u no_attempt no_attempt other;
 }
 
+-- the thread's begun steps may be kept
+pub record MaySettle (y : System) (b : AbstractRun y) (thread : ℕ) : Type 0 where
+  pub settled : IsSettled b.config thread (slice_set b.config.attempts thread no_attempt)
+  pub there : SettlesThere (flat_of y) y.plan.boundaries (kept_of y b) b.config thread
+
 module _ (y : System) (s : IsSystem y) (b : AbstractRun y) where
   abbrev old : Config
   old = b.config
@@ -74,14 +79,17 @@ module _ (y : System) (s : IsSystem y) (b : AbstractRun y) where
 
   -- ---- Thread t's are kept
 
-  module _ (t : ℕ) (attempts : List Attempt) (settled : IsSettled old t attempts) (there : SettlesThere x y.plan.boundaries (kept_of y b) old t) where
+  module _ (t : ℕ) (may : MaySettle y b t) where
+    abbrev attempts : List Attempt
+    attempts = slice_set old.attempts t no_attempt
+
     abbrev pub committed_run : AbstractRun y
     committed_run = record {
       origin = b.origin;
       config = settled_by old t attempts;
       schedule = b.schedule ++ replicate (steps_begun old t) t;
-      execution = then b.execution (commits t attempts settled);
-      respects = (b.respects, there);
+      execution = then b.execution (commits t attempts may.settled);
+      respects = (b.respects, may.there);
     }
 
     abbrev K' : m.State
@@ -89,7 +97,7 @@ module _ (y : System) (s : IsSystem y) (b : AbstractRun y) where
 
     -- all states now are as they were
     pub now_same : now_of y committed_run ≡ now_of y b
-    now_same = graph_follows x b.origin old (settled_by old t attempts) b.schedule s.plan.formed invariant kept_by (commits t attempts settled)
+    now_same = graph_follows x b.origin old (settled_by old t attempts) b.schedule s.plan.formed invariant kept_by (commits t attempts may.settled)
 
     pub source_same : now (settled_by old t attempts) ≡ now old
     source_same = rest_after x old t invariant
@@ -103,7 +111,7 @@ module _ (y : System) (s : IsSystem y) (b : AbstractRun y) where
     own_begun = none_left t (steps_begun old t) old.uncommitted refl
 
     pub own_done : (attempt_of committed_run.config t).done ≡ 0
-    own_done = ap (λ (a : Attempt). a.done) settled.attempt.own
+    own_done = ap (λ (a : Attempt). a.done) may.settled.attempt.own
 
     -- a record that describes the state now describes what is kept then
     pub own_describes : (code : Code y.plan) (r : Record) → code.thread.number ≡ t → Describes y.plan code (now_of y b) r →
@@ -137,7 +145,7 @@ module _ (y : System) (s : IsSystem y) (b : AbstractRun y) where
       longest = (attempt_of old u).longest
 
       pub attempt_same : attempt_of committed_run.config u ≡ attempt_of old u
-      attempt_same = settled.attempt.others u apart
+      attempt_same = may.settled.attempt.others u apart
 
       pub done_same : (attempt_of committed_run.config u).done ≡ (attempt_of old u).done
       done_same = ap (λ (a : Attempt). a.done) attempt_same

@@ -149,7 +149,7 @@ module _ (x : f.Flat) (w : IsWellFormed x) (o : Origin x) (schedule : List ℕ) 
           (subst (λ (k : ℕ). Writes old.kept n (attempt_of next n).longest v k) equal (mine v e written))) its
 
   -- what happens by one thread leaves the others
-  unmoved_by : (thread : ℕ) → n ≢ thread → (next : Config) (h : ConfigStep old next) → IsDoneBy thread h → IsUnmoved x o schedule old next n
+  pub unmoved_by : (thread : ℕ) → n ≢ thread → (next : Config) (h : ConfigStep old next) → IsDoneBy thread h → IsUnmoved x o schedule old next n
   unmoved_by thread differs _ (steps_locally u attempts h) own =
       let other : n ≢ u = λ e. differs (e ∙ own) in
       record {
@@ -203,7 +203,3 @@ module _ (x : f.Flat) (w : IsWellFormed x) (o : Origin x) (schedule : List ℕ) 
   }
   unmoved_by thread differs _ (commits u attempts h) own = absurd own
   unmoved_by thread differs _ (crashes attempts h) own = absurd own
-
-pub unmoved : (x : f.Flat) (w : IsWellFormed x) (o : Origin x) (schedule : List ℕ) (old next : Config) (i : Invariant x old)
-    (by : IsKeptBy o.source old.kept schedule) (thread n : ℕ) → n ≢ thread → (h : ConfigStep old next) → IsDoneBy thread h → IsUnmoved x o schedule old next n
-unmoved x w o schedule old next i by thread n differs h own = unmoved_by x w o schedule old i by n thread differs next h own

@@ -11,7 +11,7 @@ use Rattle.log_states.specs.Logs.{point_in}
 use Rattle.crash_simulation.specs.Systems.{System, IsSystem, flat_of, thread_count}
 use Rattle.crash_simulation.specs.AbstractRuns.{AbstractRun}
 use Rattle.crash_simulation.specs.ThreadGhosts.{ThreadGhost}
-use Rattle.crash_simulation.specs.SimulationRelation.{SimulatesBeforeCommit, Simulates}
+use Rattle.crash_simulation.specs.SimulationRelation.{Simulates}
 use Rattle.crash_simulation.specs.InstructionSteps.{is_bound}
 use Rattle.crash_simulation.specs.ReleasedSections.{sections_kept, IsReleasedOf}
 
@@ -19,7 +19,7 @@ use Rattle.crash_simulation.specs.ReleasedSections.{sections_kept, IsReleasedOf}
 pub record IsCountedOf (y : System) (w : World) (b : AbstractRun y) (thread : ℕ) (c : ThreadGhost) (steps : HartSteps) : Type 0 where
   pub free : is_bound c ≡ false → (steps.free ≡ steps_begun b.config thread) × (steps.bound ≡ [])
   pub bound : is_bound c ≡ true → (steps.free ≡ 0)
-      × (steps.bound ≡ record { position = last_position (point_in w.words thread); steps = steps_begun b.config thread } ∷ [])
+      × (steps.bound ≡ record { position = last_position (point_in w.log w.words thread); steps = steps_begun b.config thread } ∷ [])
 
 -- what an account goes on from: the state in which the abstract run began, and steps that were kept before
 pub record Beginning : Type 0 where
@@ -35,20 +35,20 @@ pub record IsAccountedOf (y : System) (w : World) (b : AbstractRun y) (thread : 
   pub counted : IsCountedOf y w b thread c steps
   pub released : IsReleasedOf y w b thread c releases
 
-pub record AreCounted (y : System) (s : IsSystem y) (g : Beginning) (w : World) (t : SimulatesBeforeCommit y s w) (steps : Steps) (releases : ℕ → ℕ) :
-    Type 0 where
-  pub begins : t.abstract.origin.source ≡ g.from
-  pub kept : steps.kept ≡ g.kept ++ t.abstract.schedule
-  pub pending : steps.pending ≡ t.abstract.config.uncommitted
+-- the steps of all threads are counted, and their releases
+pub record AreCounted (y : System) (g : Beginning) (w : World) (b : AbstractRun y) (ghosts : ℕ → ThreadGhost) (steps : Steps) (releases : ℕ → ℕ) : Type 0 where
+  pub begins : b.origin.source ≡ g.from
+  pub kept : steps.kept ≡ g.kept ++ b.schedule
+  pub pending : steps.pending ≡ b.config.uncommitted
   pub count : length steps.harts ≡ thread_count y
-  pub each : (n : ℕ) → n < thread_count y → IsAccountedOf y w t.abstract n (t.ghosts n) (hart_steps steps n) (releases n)
+  pub each : (n : ℕ) → n < thread_count y → IsAccountedOf y w b n (ghosts n) (hart_steps steps n) (releases n)
   -- past the last thread, as many sections are kept as are released
-  pub beyond : (n : ℕ) → thread_count y ≤ n → sections_kept y t.abstract n ≡ releases n
+  pub beyond : (n : ℕ) → thread_count y ≤ n → sections_kept y b n ≡ releases n
 
 -- the machine simulates an abstract run, its steps are counted, and so many releases ended a section of each thread
 pub record SimulatesCounted (y : System) (s : IsSystem y) (g : Beginning) (w : World) (steps : Steps) (releases : ℕ → ℕ) : Type 0 where
   pub stands : Simulates y s w
-  pub counted : AreCounted y s g w stands.before_commit steps releases
+  pub counted : AreCounted y g w stands.abstract stands.ghosts steps releases
 
 -- the machine simulates an abstract run and its steps are counted after all events that may happen, in whatever order
 abbrev pub MachinesResume : Type 0

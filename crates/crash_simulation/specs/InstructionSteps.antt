@@ -1,9 +1,9 @@
 -- A step of a hart that executes instructions: what it is to its own thread, and all that the others need to know of it.
-use Rattle.std.specs.Prelude.{◌≡◌, ◌≢◌, ◌⊎◌, ℕ, suc, ◌*◌, ◌/◌, ◌<◌, length, slice_get, Option, Some, is_some, Bool, true, false, not, ◌&&◌, ◌==◌, if◌then◌else◌}
+use Rattle.std.specs.Prelude.{◌≡◌, ◌≢◌, ◌⊎◌, ℕ, suc, ◌/◌, ◌<◌, slice_get, Option, Some, is_some, Bool, true, false, not, ◌&&◌, ◌==◌, if◌then◌else◌}
 use Rattle.std.specs.List.{list_any}
 use Rattle.ido_base.specs.declared.event.Event.TheVariants.{Step}
 use Rattle.ido_base.specs.declared.event.Reply.TheVariants.{Waits}
-use Rattle.ido_base.specs.Layout.{log_lines, variable_at, byte_number}
+use Rattle.ido_base.specs.Layout.{log_words, variable_at, byte_number}
 use Rattle.ido_ints.specs.Kinds.{bytes_of}
 use Rattle.c_tree.specs.Programs.{Variable}
 use Rattle.c_tree.specs.WellFormed.{elements_in}
@@ -29,7 +29,7 @@ use Rattle.log_states.specs.Machines.{IsNext}
 use Rattle.crash_simulation.specs.Systems.{System, IsSystem, flat_of, shapes_of, places_of, thread_count}
 use Rattle.crash_simulation.specs.AbstractRuns.{AbstractRun}
 use Rattle.crash_simulation.specs.ThreadGhosts.{ThreadGhost, InFragment, AtCore, ThreadInv}
-use Rattle.crash_simulation.specs.SimulationRelation.{AreLocked, SimulatesBeforeCommit, Simulates}
+use Rattle.crash_simulation.specs.SimulationRelation.{AreLocked, SimulatesBut, Simulates, anybody}
 
 -- what happens is a step of the thread, or more is durable
 abbrev pub IsDoneBy : (thread : ℕ) → {m next : Config} → ConfigStep m next → Type 0
@@ -54,7 +54,8 @@ pub data StepsOrStutters (y : System) (b : AbstractRun y) (thread : ℕ) : Abstr
 -- the thread may make the effect: it stores to its own log, or to an element that it guards, or nothing
 pub data MayStore (y : System) (b : AbstractRun y) (thread : ℕ) : Effect → Type 0 where
   nothing : (effect : Effect) → is_store effect ≡ false → MayStore y b thread effect
-  in_log : (address value i : ℕ) → i < 8 * log_lines → byte_number address / 8 ≡ log_word thread i → MayStore y b thread (Stores address 8 value)
+  in_log : (address value i : ℕ) → i < log_words y.plan.log → byte_number address / 8 ≡ log_word y.plan.log thread i →
+      MayStore y b thread (Stores address 8 value)
   element : (variable number value : ℕ) (is : Variable) → slice_get (flat_of y).variables variable ≡ Some is → number < elements_in is.length →
       Guards (flat_of y) (now b.config) thread variable number →
       MayStore y b thread (Stores (variable_at (shapes_of y) variable number) (bytes_of is.kind) value)
@@ -117,28 +118,27 @@ pub data Releases (y : System) (w : World) (h : ℕ) (old new : ThreadGhost) : T
 pub record OwnStep (y : System) (s : IsSystem y) (w : World) (h : ℕ) (stands : Simulates y s w) : Type 0 where
   pub below : h < thread_count y
   pub next : AbstractRun y
-  pub led : StepsOrStutters y stands.before_commit.abstract h next
+  pub led : StepsOrStutters y stands.abstract h next
   pub memory : memory_in (places_of y) (after_event y.runs.program w (Step h)).words ≡ next.config.memory
-  pub stores_own : (hart : Hart) (effect : Effect) → IsNext y.runs.program w h hart effect → MayStore y stands.before_commit.abstract h effect
+  pub stores_own : (hart : Hart) (effect : Effect) → IsNext y.runs.program w h hart effect → MayStore y stands.abstract h effect
   pub ghost : ThreadGhost
   pub own : ThreadInv y (after_event y.runs.program w (Step h)) next (s.codes.each h below) ghost
-  pub locks : AreLocked y (after_event y.runs.program w (Step h)) next (with_ghost stands.before_commit.ghosts h ghost)
-  pub mutexes : length (after_event y.runs.program w (Step h)).holders ≡ length w.holders
-  pub counted : IsCounted y w stands.before_commit.abstract h (begins led) (stands.before_commit.ghosts h) ghost
-  pub released : Releases y w h (stands.before_commit.ghosts h) ghost
+  pub locks : AreLocked y (after_event y.runs.program w (Step h)) next (with_ghost stands.ghosts h ghost)
+  pub counted : IsCounted y w stands.abstract h (begins led) (stands.ghosts h) ghost
+  pub released : Releases y w h (stands.ghosts h) ghost
 
 -- ---- By where the hart is
 
 -- the graph thread of a thread, and its ghost state, in a machine that simulates an abstract run
 module _ (y : System) (s : IsSystem y) (w : World) (h : ℕ) (stands : Simulates y s w) (below : h < thread_count y) where
-  abbrev pub thread_of : ThreadInv y w stands.before_commit.abstract (s.codes.each h below) (stands.before_commit.ghosts h)
-  thread_of = stands.before_commit.each h below
+  abbrev pub thread_of : ThreadInv y w stands.abstract (s.codes.each h below) (stands.ghosts h)
+  thread_of = stands.each h below
 
   abbrev pub OnFragmentNow : Type 0
-  OnFragmentNow = InFragment y w stands.before_commit.abstract (s.codes.each h below) (stands.before_commit.ghosts h) thread_of.log.hart thread_of.graph_thread
+  OnFragmentNow = InFragment y w stands.abstract (s.codes.each h below) (stands.ghosts h) thread_of.log.hart thread_of.graph_thread
 
   abbrev pub AtCoreNow : Type 0
-  AtCoreNow = AtCore y w stands.before_commit.abstract (s.codes.each h below) (stands.before_commit.ghosts h) thread_of.log.hart thread_of.graph_thread
+  AtCoreNow = AtCore y w stands.abstract (s.codes.each h below) (stands.ghosts h) thread_of.log.hart thread_of.graph_thread
 
   -- a fragment whose end is where the hart makes a call
   pub data IsCalling : ExitPoint → Type 0 where
@@ -161,8 +161,8 @@ pub record SaysSame (new old : ThreadGhost) : Type 0 where
 
 -- two machines simulate the same abstract run, and the same is said of each thread
 pub record AreSimilar (y : System) (s : IsSystem y) {w v : World} (old : Simulates y s w) (new : Simulates y s v) : Type 0 where
-  pub abstract : new.before_commit.abstract ≡ old.before_commit.abstract
-  pub same : (n : ℕ) → SaysSame (new.before_commit.ghosts n) (old.before_commit.ghosts n)
+  pub abstract : new.abstract ≡ old.abstract
+  pub same : (n : ℕ) → SaysSame (new.ghosts n) (old.ghosts n)
 
 -- the machine simulates the same abstract run, and the hart is ready
 pub record SimulatesReady (y : System) (s : IsSystem y) (w : World) (h : ℕ) (old : Simulates y s w) : Type 0 where
@@ -191,7 +191,7 @@ abbrev pub CallsStep : Type 0
 CallsStep = (y : System) (s : IsSystem y) (w : World) (h : ℕ) (stands : Simulates y s w) (below : h < thread_count y) → IsInPhase w h Run →
     (o : OnFragmentNow y s w h stands below) → o.steps ≡ 0 → IsCalling y s w h stands below o.exit → OwnStep y s w h stands
 
--- where a step of a hart that executes instructions is one of its thread's own, the machine simulates an abstract run before commit after it
+-- where a step of a hart that executes instructions is one of its thread's own, the machine simulates an abstract run after it, with commits still to be taken
 abbrev pub OwnStepsSimulate : Type 0
 OwnStepsSimulate = (y : System) (s : IsSystem y) (w : World) (h : ℕ) (stands : Simulates y s w) → IsInPhase w h Run → OwnStep y s w h stands →
-    SimulatesBeforeCommit y s (after_event y.runs.program w (Step h))
+    SimulatesBut y s (after_event y.runs.program w (Step h)) anybody

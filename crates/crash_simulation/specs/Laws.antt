@@ -13,7 +13,7 @@ use Rattle.hart_runs.specs.Calls.{IsInPhase}
 use Rattle.recovery_semantics.specs.ElementHistories.{durable_number}
 use Rattle.recovery_semantics.specs.VariableSpots.{memory_in}
 use Rattle.crash_simulation.specs.Systems.{System, IsSystem, places_of, thread_count}
-use Rattle.crash_simulation.specs.SimulationRelation.{SimulatesBeforeCommit, Simulates}
+use Rattle.crash_simulation.specs.SimulationRelation.{SimulatesBut, Simulates, anybody}
 
 -- the machine simulates an abstract run at its start
 abbrev pub StartSimulates : Type 0
@@ -42,17 +42,17 @@ StoppedStand = (y : System) (s : IsSystem y) (w : World) (h : ℕ) (phase : Phas
 
 -- where boundaries have been committed, the steps before them are kept
 abbrev pub CommitStutters : Type 0
-CommitStutters = (y : System) (s : IsSystem y) (w : World) → SimulatesBeforeCommit y s w → Simulates y s w
+CommitStutters = (y : System) (s : IsSystem y) (w : World) → SimulatesBut y s w anybody → Simulates y s w
 
--- after an eviction the machine simulates an abstract run before commit
+-- after an eviction the machine simulates an abstract run, with commits still to be taken
 abbrev pub EvictionsSimulate : Type 0
 EvictionsSimulate =
-    (y : System) (s : IsSystem y) (w : World) (line mask : ℕ) → Simulates y s w → SimulatesBeforeCommit y s (after_event y.runs.program w (Evict line mask))
+    (y : System) (s : IsSystem y) (w : World) (line mask : ℕ) → Simulates y s w → SimulatesBut y s (after_event y.runs.program w (Evict line mask)) anybody
 
--- after a step of a hart that executes instructions the machine simulates an abstract run before commit
+-- after a step of a hart that executes instructions the machine simulates an abstract run, with commits still to be taken
 abbrev pub RunsSimulate : Type 0
 RunsSimulate =
-    (y : System) (s : IsSystem y) (w : World) (h : ℕ) → Simulates y s w → IsInPhase w h Run → SimulatesBeforeCommit y s (after_event y.runs.program w (Step h))
+    (y : System) (s : IsSystem y) (w : World) (h : ℕ) → Simulates y s w → IsInPhase w h Run → SimulatesBut y s (after_event y.runs.program w (Step h)) anybody
 
 -- the machine still simulates an abstract run after every event
 abbrev pub EventsStand : Type 0
@@ -65,8 +65,8 @@ pub record IsSettled (y : System) (w : World) (from : State) (schedule : List �
 
 abbrev pub SettledIsKept : Type 0
 SettledIsKept = (y : System) (s : IsSystem y) (w : World) (stands : Simulates y s w) →
-    ((n : ℕ) → n < thread_count y → durable_point w.words n ≡ 0) →
-    IsSettled y w stands.before_commit.abstract.origin.source stands.before_commit.abstract.schedule
+    ((n : ℕ) → n < thread_count y → durable_point w.log w.words n ≡ 0) →
+    IsSettled y w stands.abstract.origin.source stands.abstract.schedule
 
 -- no hart is ever stuck
 abbrev pub NoneIsStuck : Type 0

@@ -9,7 +9,7 @@ use Rattle.crash_simulation.specs.ReleasedSections.{one_if, ended_in_source}
 
 -- the durable point of hart h isn't 0 in the one world, and is 0 in the other
 abbrev pub loses_point : (before after : World) → (h : ℕ) → Bool
-loses_point before after h = not (durable_point before.words h == 0) && (durable_point after.words h == 0)
+loses_point before after h = not (durable_point before.log before.words h == 0) && (durable_point after.log after.words h == 0)
 
 -- whatever has happened, an event ends a section of a thread by the kept schedule exactly where its hart's durable point becomes 0
 abbrev pub SectionsEndAtPoints : Type 0

@@ -14,23 +14,23 @@ use Rattle.crash_simulation.specs.AccountRelation.{SimulatesCounted}
 
 -- as many words as the machine has, by whose records harts recover to the origin; and variables have its numbers
 pub record IsRecoveredFrom (y : System) (s : IsSystem y) (o : Origin (flat_of y)) (words : List ℕ) : Type 0 where
-  pub size : length words ≡ word_count (thread_count y)
-  pub recovers : RecoversTo y.plan s.codes o.flow (after_crash_of y.runs.program y.runs.mutexes words)
+  pub size : length words ≡ word_count y.runs.log (thread_count y)
+  pub recovers : RecoversTo y.plan s.codes o.flow (after_crash_of y.runs.log y.runs.program y.runs.mutexes words)
   pub variables : durable_variables (map word_of words) (flat_of y).variables ≡ o.source.variables
 
 -- the machine simulates an abstract run that began there
 pub record SimulatesFrom (y : System) (s : IsSystem y) (o : Origin (flat_of y)) (w : World) : Type 0 where
   pub stands : Simulates y s w
-  pub begins : stands.before_commit.abstract.origin ≡ o
+  pub begins : stands.abstract.origin ≡ o
 
 abbrev pub RecoveredWordsSimulate : Type 0
 RecoveredWordsSimulate = (y : System) (s : IsSystem y) (o : Origin (flat_of y)) (words : List ℕ) → IsRecoveredFrom y s o words →
-    SimulatesFrom y s o (after_crash_of y.runs.program y.runs.mutexes words)
+    SimulatesFrom y s o (after_crash_of y.runs.log y.runs.program y.runs.mutexes words)
 
 -- the account of its steps goes on from there, after steps that were kept before
 abbrev pub RecoveredAreCounted : Type 0
 RecoveredAreCounted = (y : System) (s : IsSystem y) (o : Origin (flat_of y)) (words kept : List ℕ) → IsRecoveredFrom y s o words → (events : List Event) →
     SimulatesCounted y s (record { from = o.source; kept = kept })
-    (after_events y.runs.program (after_crash_of y.runs.program y.runs.mutexes words) events)
-    (steps_along y.runs.marks y.runs.program (after_crash_of y.runs.program y.runs.mutexes words) events (first_steps (length y.runs.program) kept))
-    (released_count y.runs.program (after_crash_of y.runs.program y.runs.mutexes words) events)
+    (after_events y.runs.program (after_crash_of y.runs.log y.runs.program y.runs.mutexes words) events)
+    (steps_along y.runs.marks y.runs.program (after_crash_of y.runs.log y.runs.program y.runs.mutexes words) events (first_steps (length y.runs.program) kept))
+    (released_count y.runs.program (after_crash_of y.runs.log y.runs.program y.runs.mutexes words) events)

@@ -38,20 +38,31 @@ pub data AreLocked (y : System) (w : World) (b : AbstractRun y) (ghosts : ℕ �
 
 -- ---- The machine
 
--- memory is that of the abstract run's config, and each thread is where its graph thread is; boundaries that are committed may not be taken so yet
-pub record SimulatesBeforeCommit (y : System) (s : IsSystem y) (w : World) : Type 0 where
-  pub abstract : AbstractRun y
-  pub memory : memory_in (places_of y) w.words ≡ abstract.config.memory
+-- it has the system's harts, log and mutexes, it is well formed, and what its harts have queued is short
+pub record IsMachineOf (y : System) (w : World) : Type 0 where
   pub count : length w.harts ≡ thread_count y
+  pub log : y.plan.log ≡ w.log
   pub mutexes : length w.holders ≡ length (flat_of y).mutexes
   pub sound : IsWellFormedWorld w
   pub short : AreShort w
+
+-- memory is that of the abstract run's config, and each thread is where its graph thread is; boundaries that are committed are taken so, but of the
+-- threads whose commit is still to be taken
+pub record SimulatesBut (y : System) (s : IsSystem y) (w : World) (waiting : ℕ → Type 0) : Type 0 where
+  pub machine : IsMachineOf y w
+  pub abstract : AbstractRun y
+  pub memory : memory_in (places_of y) w.words ≡ abstract.config.memory
   pub ghosts : ℕ → ThreadGhost
   pub each : (n : ℕ) (below : n < thread_count y) → ThreadInv y w abstract (s.codes.each n below) (ghosts n)
   pub locks : AreLocked y w abstract ghosts
+  pub caught_up : (n : ℕ) (below : n < thread_count y) → (waiting n → ⊥) → HasCommittedLog y w abstract (s.codes.each n below) (ghosts n) (each n below)
+
+abbrev pub nobody : ℕ → Type 0
+nobody n = ⊥
+
+abbrev pub anybody : ℕ → Type 0
+anybody n = Unit {0}
 
 -- the machine simulates an abstract run in which all boundaries that are committed are taken so
-pub record Simulates (y : System) (s : IsSystem y) (w : World) : Type 0 where
-  pub before_commit : SimulatesBeforeCommit y s w
-  pub caught_up : (n : ℕ) (below : n < thread_count y) →
-      HasCommittedLog y w before_commit.abstract (s.codes.each n below) (before_commit.ghosts n) (before_commit.each n below)
+abbrev pub Simulates : (y : System) → IsSystem y → World → Type 0
+Simulates y s w = SimulatesBut y s w nobody

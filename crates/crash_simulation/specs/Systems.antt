@@ -47,5 +47,6 @@ pub record IsSystem (y : System) : Type 0 where
   pub codes : Codes y.plan
   pub own : (n : ℕ) (below : n < thread_count y) → IsOwnCode y (codes.each n below)
   pub initial : AreInitial (map shape_of (flat_of y).variables) (map initial_numbers (flat_of y).variables) y.runs.initial
+  pub log : y.plan.log ≡ y.runs.log
   pub mutexes : y.runs.mutexes ≡ length (flat_of y).mutexes
   pub left_out : AreLeftOut (flat_of y) y.plan.boundaries (shapes_of y) y.left_out

@@ -113,7 +113,7 @@ module _ (y : System) (b : AbstractRun y) (code : Code y.plan) (c : ThreadGhost)
 module _ (y : System) (w : World) (b : AbstractRun y) (code : Code y.plan) (c : ThreadGhost) where
   -- a boundary is committed once its point is durable
   abbrev pub committed : Hart → Bool
-  committed hart = is_committed code.thread.number (config_of w hart c.rest)
+  committed hart = is_committed w.log code.thread.number (config_of w hart c.rest)
 
   -- ---- By its phase
 

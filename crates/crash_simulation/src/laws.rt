@@ -67,18 +67,18 @@ pub fn calls_step()
     ensures { CallsStep }
 {}
 
-/// After an eviction the machine simulates an abstract run before commit: all threads are where they were, and what is committed may not be taken so yet.
+/// After an eviction the machine simulates an abstract run: all threads are where they were, and what is committed may not be taken so yet.
 pub fn evictions_simulate()
     ensures { EvictionsSimulate }
 {}
 
-/// After a step of a hart that executes instructions the machine simulates an abstract run before commit, if after it the hart's own thread is where
-/// its graph thread is: all others are where they were.
+/// After a step of a hart that executes instructions the machine simulates an abstract run, with commits still to be taken, if after it the hart's own
+/// thread is where its graph thread is: all others are where they were.
 pub fn own_steps_simulate()
     ensures { OwnStepsSimulate }
 {}
 
-/// After each step of a hart that executes instructions the machine simulates an abstract run before commit.
+/// After each step of a hart that executes instructions the machine simulates an abstract run, with commits still to be taken.
 pub fn runs_simulate()
     ensures { RunsSimulate }
 {

@@ -52,12 +52,12 @@ module _ (ascend : LocksAscend) (c : Translation) (is : IsCompilation c) (order 
     same h = ap₂ (λ (r : Executable) (v : World). reply_to r.program v (Step h)) runs_is world_is
 
     forth : least_enabled living life (length life.runs.program) ≡ None → HaveStopped w
-    forth none = all_stopped c.runs.program w (holders_go_on c.runs.program c.runs.mutexes c.runs.initial events) idles takes ascends
+    forth none = all_stopped c.runs.program w (holders_go_on c.runs.log c.runs.program c.runs.mutexes c.runs.initial events) idles takes ascends
       where
         idles : (h : ℕ) (hart : Hart) → slice_get w.harts h ≡ Some hart → is_idle (reply_to c.runs.program w (Step h)) ≡ true
         idles h hart here =
             let within : h < length w.harts = slice_get_within w.harts h hart here in
-            let count : length w.harts ≡ length c.runs.program = harts_stay c.runs.program c.runs.mutexes c.runs.initial events in
+            let count : length w.harts ≡ length c.runs.program = harts_stay c.runs.log c.runs.program c.runs.mutexes c.runs.initial events in
             let below : h < length life.runs.program = omega (arith, within, count, ap (λ (r : Executable). length r.program) runs_is) in
             let waits : is_enabled living life h ≡ false = each_waits living life (length life.runs.program) none h below in
             not_false (is_idle (reply_to c.runs.program w (Step h))) (ap (λ (r : Reply). not (is_idle r)) (sym (same h)) ∙ waits)

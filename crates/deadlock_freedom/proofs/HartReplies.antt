@@ -73,7 +73,7 @@ module _ (w : World) (h : ℕ) (hart : Hart) (here : slice_get w.harts h ≡ Som
 
   accesses : (address bytes : ℕ) (o : Outcome) → Leads w h hart C o → Leads w h hart C (access w address bytes o)
   accesses address bytes o leads =
-      cond_both (in_range (length w.harts) address bytes) _ _ (λ (x : Outcome). Leads w h hart C x)
+      cond_both (in_range w.log (length w.harts) address bytes) _ _ (λ (x : Outcome). Leads w h hart C x)
       (λ _. cond_both (aligned address bytes) _ _ (λ (x : Outcome). Leads w h hart C x) (λ _. leads) (λ _. stays _ refl))
       (λ _. stays _ refl)
 

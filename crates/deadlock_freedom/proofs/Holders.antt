@@ -3,6 +3,7 @@ use Rattle.std.proofs.Common.{◌≡◌, ◌≢◌, ◌⊎◌, inl, inr, refl, �
 use Rattle.std.proofs.Common.{Option, Some, None, arith}
 use Rattle.std.specs.Prelude.{slice_get, is_none, ◌==◌}
 use Rattle.std.proofs.lemmas.Bool.{cases_eq, cond_both}
+use Rattle.ido_base.specs.declared.log.Log.{Log}
 use Rattle.ido_base.specs.declared.event.Event.{Event}
 use Rattle.ido_base.specs.declared.event.Event.TheVariants.{Step, Evict, Crash}
 use Rattle.ido_base.specs.declared.event.Reply.TheVariants.{Waits}
@@ -92,7 +93,7 @@ module _ (w : World) (h : ℕ) (hart : Hart) (here : slice_get w.harts h ≡ Som
 
     -- what the step leaves, or the world stays
     left : (phase : Phase) → hart.phase ≡ phase → IsLeft h (phase_step program w h hart phase).0 ⊎ ((phase_step program w h hart phase).0 ≡ w)
-    left Take is = inl (takes is (first_missing w.holders (record_of w.words h) h))
+    left Take is = inl (takes is (first_missing w.holders (record_of w.log w.words h) h))
     left Wait is = inl (waits is (taking_from 0 w.harts))
     left Resume is = inl (goes w _ refl (run_goes_on _ refl))
     left Run is = inl (runs is)
@@ -155,9 +156,9 @@ along program w (event ∷ events) count sound on =
     let next = queues_stand program w event count sound in
     along program (after_event program w event) events (count ∙ sym next.1) next.0 (stays_on program w event sound on)
 
-start_on : (program : List (List Slot)) (locks : ℕ) (initial : List ℕ) → HoldersGoOn (start_of program locks initial)
+start_on : (log : Log) (program : List (List Slot)) (locks : ℕ) (initial : List ℕ) → HoldersGoOn (start_of log program locks initial)
 unfolding start_of
-start_on program locks initial = record { each = λ lock h held. absurd (none_free locks lock h held) }
+start_on log program locks initial = record { each = λ lock h held. absurd (none_free locks lock h held) }
 
 counts : (program : List (List Slot)) (w : World) (events : List Event) → length program ≡ length w.harts → IsWellFormedWorld w →
     length (after_events program w events).harts ≡ length program
@@ -167,14 +168,14 @@ counts program w (event ∷ events) count sound =
     counts program (after_event program w event) events (count ∙ sym next.1) next.0
 
 -- there goes on to be a hart for each thread
-pub harts_stay : (program : List (List Slot)) (locks : ℕ) (initial : List ℕ) (events : List Event) →
-    length (after_events program (start_of program locks initial) events).harts ≡ length program
-harts_stay program locks initial events =
-    let starts = starts_simulate program locks initial in
-    counts program (start_of program locks initial) events (sym starts.1) starts.0
+pub harts_stay : (log : Log) (program : List (List Slot)) (locks : ℕ) (initial : List ℕ) (events : List Event) →
+    length (after_events program (start_of log program locks initial) events).harts ≡ length program
+harts_stay log program locks initial events =
+    let starts = starts_simulate log program locks initial in
+    counts program (start_of log program locks initial) events (sym starts.1) starts.0
 
-pub holders_go_on : (program : List (List Slot)) (locks : ℕ) (initial : List ℕ) (events : List Event) →
-    HoldersGoOn (after_events program (start_of program locks initial) events)
-holders_go_on program locks initial events =
-    let starts = starts_simulate program locks initial in
-    along program (start_of program locks initial) events (sym starts.1) starts.0 (start_on program locks initial)
+pub holders_go_on : (log : Log) (program : List (List Slot)) (locks : ℕ) (initial : List ℕ) (events : List Event) →
+    HoldersGoOn (after_events program (start_of log program locks initial) events)
+holders_go_on log program locks initial events =
+    let starts = starts_simulate log program locks initial in
+    along program (start_of log program locks initial) events (sym starts.1) starts.0 (start_on log program locks initial)

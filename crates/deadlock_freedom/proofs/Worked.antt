@@ -1,6 +1,7 @@
 -- Worked rows: harts that wait for each other. None can step, and none has stopped; where one of their locks is free, who wants it can.
 use Rattle.std.proofs.Common.{◌≡◌, ℕ, List, [], ◌∷◌, replicate, refl, true, Option, Some, None}
 use Rattle.std.specs.Prelude.{slice_set}
+use Rattle.ido_base.specs.declared.log.Log.TheVariants.{V1}
 use Rattle.ido_base.specs.Cores.{least_enabled}
 use Rattle.rv64_isa.specs.declared.instr.Instr.TheVariants.{Ecall}
 use Rattle.rv64_isa.specs.declared.object.Slot.{Slot}
@@ -30,9 +31,9 @@ asks h lock phase = record {
 config : (holders : List (Option ℕ)) → List Hart → LifeConfig
 unfolding program
 config holders harts = record {
-  runs = record { program = program; marks = []; resumes = []; initial = []; mutexes = 2 };
+  runs = record { log = V1; program = program; marks = []; resumes = []; initial = []; mutexes = 2 };
   kept_before = [];
-  world = record { words = []; harts = harts; holders = holders; recovering = true };
+  world = record { log = V1; words = []; harts = harts; holders = holders; recovering = true };
 }
 
 -- each wants what the other holds

@@ -1,0 +1,75 @@
+-- What stays so of a machine by every event, and what is so of each of its threads since it is so of one and of all others.
+use Rattle.std.proofs.Common.{◌≡◌, ◌≢◌, inl, inr, ℕ, ◌<◌, List, length, ap, sym, ◌∙◌, subst}
+use Rattle.std.specs.Prelude.{slice_get}
+use Rattle.std.proofs.Props.{props}
+use Rattle.ido_base.specs.declared.event.Event.{Event}
+use Rattle.ido_base.specs.declared.event.Event.TheVariants.{Step, Evict, Crash}
+use Rattle.rv64_isa.specs.declared.object.Slot.{Slot}
+use Rattle.rv64_isa.specs.declared.phase.Phase.{Phase}
+use Rattle.rv64_isa.specs.Machine.{Hart, World, after_event}
+use Rattle.rv64_isa.specs.Frames.{IsWellFormedWorld}
+use Rattle.rv64_isa.proofs.Public.{log_stays, queues_stand, steps_touch, evictions_touch}
+use Rattle.hart_runs.specs.Calls.{IsInPhase}
+use Rattle.hart_runs.proofs.Public.{crashes_step, queues_stay_short}
+use Rattle.recovered_threads.proofs.Public.{same_there, same_or_other}
+use Rattle.crash_simulation.specs.Systems.{System, IsSystem, thread_count}
+use Rattle.crash_simulation.specs.ThreadGhosts.{ThreadGhost, InPhase}
+use Rattle.crash_simulation.specs.SimulationRelation.{IsMachineOf, SimulatesBut}
+use Rattle.crash_simulation.specs.InstructionSteps.{with_ghost}
+use Rattle.crash_simulation.proofs.LocksAfterStep.{own_ghost, other_ghost}
+
+-- ---- The machine
+
+mutexes_stay : (program : List (List Slot)) (w : World) (event : Event) → IsWellFormedWorld w →
+    length (after_event program w event).holders ≡ length w.holders
+mutexes_stay program w (Step h) sound = (steps_touch program w h sound).locks
+mutexes_stay program w (Evict line mask) sound = ap (λ (v : World). length v.holders) (evictions_touch program w line mask).1
+mutexes_stay program w Crash sound = (crashes_step program w).locks
+
+pub machine_stays : (y : System) (s : IsSystem y) (w : World) (event : Event) → IsMachineOf y w → IsMachineOf y (after_event y.runs.program w event)
+machine_stays y s w event m =
+    let stand = queues_stand y.runs.program w event (s.count ∙ sym m.count) m.sound in
+    record {
+      count = stand.1 ∙ m.count;
+      log = m.log ∙ sym (log_stays y.runs.program w event m.sound);
+      mutexes = mutexes_stay y.runs.program w event m.sound ∙ m.mutexes;
+      sound = stand.0;
+      short = queues_stay_short y.runs.program w event m.short;
+    }
+
+-- ---- Its threads
+
+abbrev pub OfEach : (count : ℕ) → ((n : ℕ) → n < count → Type 0) → Type 0
+OfEach count P = (n : ℕ) (inside : n < count) → P n inside
+
+-- what is so of one thread and of all others is so of each
+pub each_thread : (count h : ℕ) (below : h < count) (P : (n : ℕ) → n < count → Type 0) → P h below → ((n : ℕ) (inside : n < count) → n ≢ h → P n inside) →
+    OfEach count P
+each_thread count h below P own others n inside = elim (same_or_other n h) [
+  | inl same ↦ subst (λ (k : ℕ). (within : k < count) → P k within) (sym same) (λ within. subst (P h) (prop below within) own) inside
+  | inr other ↦ others n inside other
+]
+  where
+    prop : IsProp (h < count)
+    prop = hlevel props
+
+-- and with its ghost state, where the one thread has another
+pub each_placed : (count : ℕ) (ghosts : ℕ → ThreadGhost) (h : ℕ) (below : h < count) (ghost : ThreadGhost)
+    (P : (n : ℕ) → n < count → ThreadGhost → Type 0) → P h below ghost → ((n : ℕ) (inside : n < count) → n ≢ h → P n inside (ghosts n)) →
+    OfEach count (λ n inside. P n inside (with_ghost ghosts h ghost n))
+each_placed count ghosts h below ghost P own others =
+    each_thread count h below (λ (n : ℕ) (inside : n < count). P n inside (with_ghost ghosts h ghost n))
+    (subst (P h below) (sym (own_ghost ghosts h ghost)) own)
+    (λ n inside other. subst (P n inside) (sym (other_ghost ghosts h ghost n other)) (others n inside other))
+
+-- a thread whose hart is in a phase, by it
+pub phase_of : (y : System) (s : IsSystem y) (w : World) (h : ℕ) {waiting : ℕ → Type 0} (stands : SimulatesBut y s w waiting) (phase : Phase)
+    (i : IsInPhase w h phase) (below : h < thread_count y) →
+    InPhase y w stands.abstract (s.codes.each h below) (stands.ghosts h) i.hart (stands.each h below).graph_thread phase
+phase_of y s w h stands phase i below =
+    let t = stands.each h below in
+    let code = s.codes.each h below in
+    let is : t.log.hart ≡ i.hart =
+    same_there (slice_get w.harts h) t.log.hart i.hart (ap (slice_get w.harts) (sym (s.codes.number h below)) ∙ t.log.here) i.here in
+    subst (λ (p : Phase). InPhase y w stands.abstract code (stands.ghosts h) i.hart t.graph_thread p) i.phase_is
+    (subst (λ (x : Hart). InPhase y w stands.abstract code (stands.ghosts h) x t.graph_thread x.phase) is t.phase)
