@@ -66,7 +66,7 @@ pending_step s t thread o = elim o [
 ]
 
 one_step : (s : m.State) (t : ℕ) (thread : m.Thread) (place : Place) (local : ℕ) (kind : Kind) (x : e.Placed) (more : List f.Statement) →
-    slice_get s.threads t ≡ Some thread → thread.pending ≡ None → thread.left ≡ f.Assign place (e.ToLocal local kind) x ∷ more →
+    slice_get s.threads t ≡ Some thread → thread.pending ≡ None → thread.left ≡ f.Assign place (e.ToLocal place local kind) x ∷ more →
     source_step s t ≡ Some (m.with_thread s t (passed_one s thread local kind x more))
 one_step s t thread place local kind x more found free is =
     step_is s t (Some thread) found ∙ ap (pending_step s t thread) free ∙ ap (m.left_step s t thread) is

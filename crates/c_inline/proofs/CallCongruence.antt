@@ -48,8 +48,8 @@ module _ (w : Weights) (call : ℕ) (fs : List p.Function) (F G : ℕ → ℕ) (
         min_sum _ _ (v.statements_weight w call fs F body) (v.statements_weight w call fs G body) m refl (near_statements body h)
     near_statement (p.Do place body condition) h =
         min_sum _ _ (v.statements_weight w call fs F body) (v.statements_weight w call fs G body) m refl (near_statements body h)
-    near_statement (p.Lock place mutex) h = refl
-    near_statement (p.Unlock place mutex) h = refl
+    near_statement (p.Lock place name) h = refl
+    near_statement (p.Unlock place name) h = refl
 
     pub near_statements : (xs : p.Statements) → ((c : i.Call) → Contains (i.statements_calls xs) c → min (F c.function) m ≡ min (G c.function) m) →
         min (v.statements_weight w call fs F xs) m ≡ min (v.statements_weight w call fs G xs) m
@@ -108,8 +108,8 @@ module _ (fs : List p.Function) (F G : i.Bodies) where
     same_statement n ks (p.Do place body condition) h =
         ap (λ (m : i.Made f.Statements). record { made = i.one (f.Do place m.made (i.shifted_placed n condition)); kinds = m.kinds })
         (same_statements n ks body h)
-    same_statement n ks (p.Lock place mutex) h = refl
-    same_statement n ks (p.Unlock place mutex) h = refl
+    same_statement n ks (p.Lock place name) h = refl
+    same_statement n ks (p.Unlock place name) h = refl
 
     pub same_statements : (n : ℕ) (ks : List Kind) (xs : p.Statements) →
         ((c : i.Call) (js : List Kind) → Contains (i.statements_calls xs) c → F c.function js ≡ G c.function js) →

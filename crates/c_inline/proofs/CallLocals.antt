@@ -53,8 +53,8 @@ uses_shifted assigned n x l h = absurd h
 target_shifted : (u : Use) (n : ℕ) (x : e.Lvalue) (l : ℕ) → TargetUses u (i.shifted_target n x) l → From n l (TargetUses u x)
 target_shifted u n (e.ToVariable place variable kind) l h = absurd h
 target_shifted u n (e.ToElement place variable kind index) l h = uses_shifted u n index.expr l h
-target_shifted read n (e.ToLocal local kind) l h = absurd h
-target_shifted assigned n (e.ToLocal local kind) l h = (local, h, refl)
+target_shifted read n (e.ToLocal place local kind) l h = absurd h
+target_shifted assigned n (e.ToLocal place local kind) l h = (local, h, refl)
 
 list_shifted : (u : Use) (n : ℕ) (xs : List e.Placed) (l : ℕ) → ListUses u (map (i.shifted_placed n) xs) l → From n l (ListUses u xs)
 list_shifted u n [] l h = absurd h
@@ -72,16 +72,16 @@ and_uses : (u : Use) (a b : f.Statements) (l : ℕ) → StatementsUse u (i.state
 and_uses u f.no_statement b l h = inr h
 and_uses u (f.statement_and x a) b l h = ⊎_elim (λ k. inl (inl k)) (λ k. ⊎_elim (λ m. inl (inr m)) inr (and_uses u a b l k)) h
 
-to_local : (u : Use) (n : ℕ) (kind : Kind) (l : ℕ) → TargetUses u (e.ToLocal n kind) l → l ≡ n
-to_local read n kind l h = absurd h
-to_local assigned n kind l h = h
+to_local : (u : Use) (place : Place) (n : ℕ) (kind : Kind) (l : ℕ) → TargetUses u (e.ToLocal place n kind) l → l ≡ n
+to_local read place n kind l h = absurd h
+to_local assigned place n kind l h = h
 
 passed_uses : (u : Use) (place : Place) (n : ℕ) (ks : List Kind) (xs : List e.Placed) (l : ℕ) → StatementsUse u (i.passed place n ks xs) l →
     ((n ≤ l) × (l < n + length xs)) ⊎ ListUses u xs l
 passed_uses u place n ks [] l h = absurd h
 passed_uses u place n ks (x ∷ xs) l h =
     ⊎_elim
-    (λ a. ⊎_elim (λ t. let is = to_local u n _ l t in inl (omega (arith, is), omega (arith, is))) (λ v. inr (inl v)) a)
+    (λ a. ⊎_elim (λ t. let is = to_local u place n _ l t in inl (omega (arith, is), omega (arith, is))) (λ v. inr (inl v)) a)
     (λ b. ⊎_elim (λ k. let low = k.0 in let high = k.1 in inl (omega (arith, low), omega (arith, high))) (λ k. inr (inr k))
     (passed_uses u place (n + 1) _ xs l b))
     h
@@ -174,8 +174,8 @@ module _ (fs : List p.Function) (F : i.Bodies) where
           grown_on ks (i.arms_of fs F by ks arms).kinds _ (grown_arms by ks arms) (grown_statements by (i.arms_of fs F by ks arms).kinds otherwise)
       grown_statement by ks (p.While place condition body) = grown_statements by ks body
       grown_statement by ks (p.Do place body condition) = grown_statements by ks body
-      grown_statement by ks (p.Lock place mutex) = same_kinds ks
-      grown_statement by ks (p.Unlock place mutex) = same_kinds ks
+      grown_statement by ks (p.Lock place name) = same_kinds ks
+      grown_statement by ks (p.Unlock place name) = same_kinds ks
 
       grown_statements : (by : ℕ) (ks : List Kind) (xs : p.Statements) → Grown ks (i.statements fs F by ks xs).kinds
       grown_statements by ks p.no_statement = same_kinds ks
@@ -222,8 +222,8 @@ module _ (fs : List p.Function) (F : i.Bodies) where
         least_statement by ks (p.Do place body condition) m a b u l h =
             ⊎_elim (λ k. ⊎_elim (λ y. least_statements by ks body m a b u l y)
             (λ x. from_least by m l (Uses u condition.expr) a (uses_shifted u by condition.expr l x)) k) (λ k. absurd k) h
-        least_statement by ks (p.Lock place mutex) m a b u l h = ⊎_elim (λ k. absurd k) (λ k. absurd k) h
-        least_statement by ks (p.Unlock place mutex) m a b u l h = ⊎_elim (λ k. absurd k) (λ k. absurd k) h
+        least_statement by ks (p.Lock place name) m a b u l h = ⊎_elim (λ k. absurd k) (λ k. absurd k) h
+        least_statement by ks (p.Unlock place name) m a b u l h = ⊎_elim (λ k. absurd k) (λ k. absurd k) h
 
         least_statements : (by : ℕ) (ks : List Kind) (xs : p.Statements) (m : ℕ) → m ≤ by → m ≤ length ks → (u : Use) (l : ℕ) → StatementsUse u
             (i.statements fs F by ks xs).made l → m ≤ l
@@ -360,8 +360,8 @@ module _ (fs : List p.Function) (F : i.Bodies) (scoped : AreFunctionsScoped fs) 
           ⊎_elim (λ k. ⊎_elim (λ y. below_statements by ks body s.0 good m a b u l y)
           (λ x. from_below by count m l (Uses u condition.expr) a (uses_below count condition.expr s.1 u) (uses_shifted u by condition.expr l x)) k)
           (λ k. absurd k) h
-      below_statement by ks (p.Lock place mutex) s good m a b u l h = ⊎_elim (λ k. absurd k) (λ k. absurd k) h
-      below_statement by ks (p.Unlock place mutex) s good m a b u l h = ⊎_elim (λ k. absurd k) (λ k. absurd k) h
+      below_statement by ks (p.Lock place name) s good m a b u l h = ⊎_elim (λ k. absurd k) (λ k. absurd k) h
+      below_statement by ks (p.Unlock place name) s good m a b u l h = ⊎_elim (λ k. absurd k) (λ k. absurd k) h
 
       below_statements : (by : ℕ) (ks : List Kind) (xs : p.Statements) → AreScoped fs count xs → AllGood (i.statements_calls xs) →
           (m : ℕ) → by + count ≤ m → length (i.statements fs F by ks xs).kinds ≤ m → (u : Use) (l : ℕ) → StatementsUse u

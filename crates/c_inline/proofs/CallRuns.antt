@@ -45,8 +45,8 @@ mutual
   opened_uses u (f.Assign place target value) l h = ⊎_elim (λ a. a) (λ n. absurd n) h
   opened_uses u (f.If place arms otherwise) l h = ⊎_elim (λ a. a) (λ n. absurd n) h
   opened_uses u (f.While place condition body) l h = ⊎_elim (λ a. a) (λ n. absurd n) h
-  opened_uses u (f.Lock place mutex) l h = ⊎_elim (λ a. a) (λ n. absurd n) h
-  opened_uses u (f.Unlock place mutex) l h = ⊎_elim (λ a. a) (λ n. absurd n) h
+  opened_uses u (f.Lock place name) l h = ⊎_elim (λ a. a) (λ n. absurd n) h
+  opened_uses u (f.Unlock place name) l h = ⊎_elim (λ a. a) (λ n. absurd n) h
 
   pub opened_all_uses : (u : Use) (xs : f.Statements) (l : ℕ) → LeftUses u (m.opened_all xs) l → StatementsUse u xs l
   opened_all_uses u f.no_statement l h = absurd h
@@ -101,7 +101,7 @@ module _ (s next : m.State) (t : ℕ) (thread : m.Thread) (found : slice_get s.t
 
   evaluated_keeps : (place : Place) (target : e.Lvalue) (x : e.Placed) (l : ℕ) → (StatementUses assigned (f.Assign place target x) l → ⊥) →
       slice_index_or (m.evaluated s thread target x.expr).locals l (pos 0) ≡ slice_index_or thread.locals l (pos 0)
-  evaluated_keeps place (e.ToLocal local kind) x l n = index_other thread.locals local l _ (pos 0) (λ h. n (inl h))
+  evaluated_keeps place (e.ToLocal name local kind) x l n = index_other thread.locals local l _ (pos 0) (λ h. n (inl h))
   evaluated_keeps place (e.ToVariable place' variable kind) x l n = refl
   evaluated_keeps place (e.ToElement place' variable kind index) x l n = refl
 
@@ -134,19 +134,20 @@ module _ (s next : m.State) (t : ℕ) (thread : m.Thread) (found : slice_get s.t
   lock_by mutex rest (Some None) = Some (m.with_thread (m.with_holder s mutex (Some t)) t (record thread { left = rest }))
   lock_by mutex rest (Some (Some u)) = None
 
-  lock_is : (place : Place) (mutex : ℕ) (rest : List f.Statement) (o : Option (Option ℕ)) → slice_get s.holders mutex ≡ o → m.statement_step s t thread
-      (f.Lock place mutex) rest ≡ lock_by mutex rest o
-  lock_is place mutex rest None h = rw (m.statement_step, h) refl
-  lock_is place mutex rest (Some None) h = rw (m.statement_step, h) refl
-  lock_is place mutex rest (Some (Some u)) h = rw (m.statement_step, h) refl
+  lock_is : (place : Place) (name : e.LockName) (rest : List f.Statement) (o : Option (Option ℕ)) → slice_get s.holders name.mutex ≡ o →
+      m.statement_step s t thread
+      (f.Lock place name) rest ≡ lock_by name.mutex rest o
+  lock_is place name rest None h = rw (m.statement_step, h) refl
+  lock_is place name rest (Some None) h = rw (m.statement_step, h) refl
+  lock_is place name rest (Some (Some u)) h = rw (m.statement_step, h) refl
 
-  by_lock : (place : Place) (mutex : ℕ) (rest : List f.Statement) → thread.left ≡ f.Lock place mutex ∷ rest → (o : Option (Option ℕ)) →
-      lock_by mutex rest o ≡ Some next → Goes s next t
-  by_lock place mutex rest is None h = cc
-  by_lock place mutex rest is (Some None) h =
-      by_some (m.with_holder s mutex (Some t)) (record thread { left = rest }) refl
-      (keeps_by thread (record thread { left = rest }) (f.Lock place mutex) rest [] is refl (λ l k. absurd k) (λ l n. refl)) h
-  by_lock place mutex rest is (Some (Some u)) h = cc
+  by_lock : (place : Place) (name : e.LockName) (rest : List f.Statement) → thread.left ≡ f.Lock place name ∷ rest → (o : Option (Option ℕ)) →
+      lock_by name.mutex rest o ≡ Some next → Goes s next t
+  by_lock place name rest is None h = cc
+  by_lock place name rest is (Some None) h =
+      by_some (m.with_holder s name.mutex (Some t)) (record thread { left = rest }) refl
+      (keeps_by thread (record thread { left = rest }) (f.Lock place name) rest [] is refl (λ l k. absurd k) (λ l n. refl)) h
+  by_lock place name rest is (Some (Some u)) h = cc
 
   by_statement : (x : f.Statement) (rest : List f.Statement) → thread.left ≡ x ∷ rest → m.statement_step s t thread x rest ≡ Some next → Goes s next t
   by_statement (f.Assign place target x) rest is h =
@@ -162,11 +163,11 @@ module _ (s next : m.State) (t : ℕ) (thread : m.Thread) (found : slice_get s.t
       (record thread { left = while_left place condition body rest (m.is_true s thread condition) }) refl
       (while_keeps place condition body rest is (m.is_true s thread condition)) h
   by_statement (f.Do place body condition) rest is h = cc
-  by_statement (f.Lock place mutex) rest is h = by_lock place mutex rest is (slice_get s.holders mutex)
-      (sym (lock_is place mutex rest (slice_get s.holders mutex) refl) ∙ h)
-  by_statement (f.Unlock place mutex) rest is h =
-      by_some (m.with_holder s mutex None) (record thread { left = rest }) refl
-      (keeps_by thread (record thread { left = rest }) (f.Unlock place mutex) rest [] is refl (λ l k. absurd k) (λ l n. refl)) h
+  by_statement (f.Lock place name) rest is h = by_lock place name rest is (slice_get s.holders name.mutex)
+      (sym (lock_is place name rest (slice_get s.holders name.mutex) refl) ∙ h)
+  by_statement (f.Unlock place name) rest is h =
+      by_some (m.with_holder s name.mutex None) (record thread { left = rest }) refl
+      (keeps_by thread (record thread { left = rest }) (f.Unlock place name) rest [] is refl (λ l k. absurd k) (λ l n. refl)) h
 
   same_keeps : (x : m.Thread) → x.left ≡ thread.left → x.locals ≡ thread.locals → Keeps thread x
   same_keeps x left locals local first rest h n unused = (first, left ∙ h, unused, ap (λ ls. slice_index_or ls local (pos 0)) locals)

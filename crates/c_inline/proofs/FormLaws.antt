@@ -143,7 +143,7 @@ module _ (vs : List p.Variable) where
         )
 
     target_fits_shifted : (x : e.Lvalue) → AllIn (r.target_indexes x) → TargetFits vs (shifted_target n x)
-    target_fits_shifted (e.ToLocal local kind) h = tt
+    target_fits_shifted (e.ToLocal place local kind) h = tt
     target_fits_shifted (e.ToVariable place variable kind) h = tt
     target_fits_shifted (e.ToElement place variable kind index) h = (
       index_fits_shifted variable index.place index.expr (head_in _ (r.expr_indexes index.expr) h),
@@ -164,7 +164,7 @@ module _ (vs : List p.Variable) where
       expr_shifted (e.Conditional kind condition chosen otherwise) h = (expr_shifted condition h.0, expr_shifted chosen h.1, expr_shifted otherwise h.2)
 
       target_shifted : (x : e.Lvalue) → IsTarget vs js x → IsTarget vs ks (shifted_target n x)
-      target_shifted (e.ToLocal local kind) h = at local kind h
+      target_shifted (e.ToLocal place local kind) h = at local kind h
       target_shifted (e.ToVariable place variable kind) h = h
       target_shifted (e.ToElement place variable kind index) h = (h.0, expr_shifted index.expr h.1)
 
@@ -357,8 +357,10 @@ module _ (x : p.Program) (prog : IsProgram x) (fit : AllFit x) where
                 tt,
               );
             }
-        statement_formed ks (p.Lock place mutex) at h k c = record { grows = into_self ks; formed = λ final into. (h, tt) }
-        statement_formed ks (p.Unlock place mutex) at h k c = record { grows = into_self ks; formed = λ final into. (h, tt) }
+        statement_formed ks (p.Lock place name) at h k c =
+            record { grows = into_self ks; formed = λ final into. ((h.0, ap (option_map (shifted_placed n)) h.1), tt) }
+        statement_formed ks (p.Unlock place name) at h k c =
+            record { grows = into_self ks; formed = λ final into. ((h.0, ap (option_map (shifted_placed n)) h.1), tt) }
 
         statements_formed : (ks : List Kind) (ys : p.Statements) → At n js ks → AreStatements x js ys → AllIn x.variables (r.statements_indexes ys) →
             Called (i.statements_calls ys) → Good ks (i.statements fs bodies n ks ys)

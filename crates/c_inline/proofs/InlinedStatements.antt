@@ -67,7 +67,7 @@ following_pushed xs x = sym (and_none (f.statements_of (xs ++ x ∷ []))) ∙ pu
 
 pub passed_more : (place : Place) (n j : ℕ) (ks : List Kind) (x : e.Placed) (xs : List e.Placed) →
     i.passed place n (drop j ks) (x ∷ xs)
-    ≡ f.statement_and (f.Assign place (e.ToLocal n (slice_index_or ks j Int)) x) (i.passed place (n + 1) (drop (suc j) ks) xs)
+    ≡ f.statement_and (f.Assign place (e.ToLocal place n (slice_index_or ks j Int)) x) (i.passed place (n + 1) (drop (suc j) ks) xs)
 passed_more place n zero [] x xs = refl
 passed_more place n (suc j) [] x xs = refl
 passed_more place n zero (k ∷ ks) x xs = refl
@@ -76,17 +76,17 @@ passed_more place n (suc j) (k ∷ ks) x xs = passed_more place n j ks x xs
 module _ (place : Place) (by j : ℕ) (locals : List Kind) (arguments : List placed.Placed) (xs made : List flat.Statement) where
   pub passed_step : (n n' : ℕ) (x value : placed.Placed) (kind : Kind) → j < length arguments → x ≡ get_or arguments j x →
       e.placed_of value ≡ i.shifted_placed by (e.placed_of x) → kind ≡ slice_index_or locals j Int → n' ≡ n + 1 →
-      made ≡ xs ++ flat.Assign place (target.Local n kind) value ∷ [] →
+      made ≡ xs ++ flat.Assign place (target.Local place n kind) value ∷ [] →
       i.statements_and (f.statements_of made) (i.passed place n' (drop (j + 1) locals) (map (i.shifted_placed by) (map e.placed_of (drop (j + 1) arguments))))
       ≡ i.statements_and (f.statements_of xs) (i.passed place n (drop j locals) (map (i.shifted_placed by) (map e.placed_of (drop j arguments))))
   passed_step n n' x value kind l is value_is kind_is next h =
       let rest = map (i.shifted_placed by) (map e.placed_of (drop (j + 1) arguments)) in
       let one : suc j ≡ j + 1 = omega arith in
-      let first : f.Statement = f.Assign place (e.ToLocal n (slice_index_or locals j Int)) (i.shifted_placed by (e.placed_of x)) in
+      let first : f.Statement = f.Assign place (e.ToLocal place n (slice_index_or locals j Int)) (i.shifted_placed by (e.placed_of x)) in
       ap₂ (λ (ys : List flat.Statement) (m : ℕ). i.statements_and (f.statements_of ys) (i.passed place m (drop (j + 1) locals) rest)) h next
-      ∙ pushed xs (flat.Assign place (target.Local n kind) value) (i.passed place (n + 1) (drop (j + 1) locals) rest)
+      ∙ pushed xs (flat.Assign place (target.Local place n kind) value) (i.passed place (n + 1) (drop (j + 1) locals) rest)
       ∙ ap (i.statements_and (f.statements_of xs))
-      (ap₂ (λ (k : Kind) (y : e.Placed). f.statement_and (f.Assign place (e.ToLocal n k) y) (i.passed place (n + 1) (drop (j + 1) locals) rest))
+      (ap₂ (λ (k : Kind) (y : e.Placed). f.statement_and (f.Assign place (e.ToLocal place n k) y) (i.passed place (n + 1) (drop (j + 1) locals) rest))
       kind_is value_is
       ∙ sym (passed_more place n j locals (i.shifted_placed by (e.placed_of x)) rest
       ∙ ap (λ (m : ℕ). f.statement_and first (i.passed place (n + 1) (drop m locals) rest)) one)
@@ -361,14 +361,14 @@ module _ (functions : List Function) where
 
 made_none : (m : f.Statements) → made_statements v.size m ≡ 0 → m ≡ f.no_statement
 made_none f.no_statement h = refl
-made_none (f.statement_and (f.Assign place (e.ToLocal local kind) value) rest) h = absurd (omega (arith, h))
+made_none (f.statement_and (f.Assign place (e.ToLocal name local kind) value) rest) h = absurd (omega (arith, h))
 made_none (f.statement_and (f.Assign place (e.ToVariable place' variable kind) value) rest) h = absurd (omega (arith, h))
 made_none (f.statement_and (f.Assign place (e.ToElement place' variable kind index) value) rest) h = absurd (omega (arith, h))
 made_none (f.statement_and (f.If place arms otherwise) rest) h = absurd (omega (arith, h))
 made_none (f.statement_and (f.While place condition body) rest) h = absurd (omega (arith, h))
 made_none (f.statement_and (f.Do place body condition) rest) h = absurd (omega (arith, h))
-made_none (f.statement_and (f.Lock place mutex) rest) h = absurd (omega (arith, h))
-made_none (f.statement_and (f.Unlock place mutex) rest) h = absurd (omega (arith, h))
+made_none (f.statement_and (f.Lock place name) rest) h = absurd (omega (arith, h))
+made_none (f.statement_and (f.Unlock place name) rest) h = absurd (omega (arith, h))
 
 kinds_kept : (m : f.Statements) (a b : List Kind) → (made_statements v.size m ≡ 0 → ⊥) → i.kinds_after m a b ≡ b
 kinds_kept f.no_statement a b h = absurd (h refl)

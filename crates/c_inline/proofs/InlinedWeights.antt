@@ -37,8 +37,8 @@ module _ (w : Weights) where
     made_statement (f.If place arms otherwise) = made_arms arms + made_statements otherwise + w.branch
     made_statement (f.While place condition body) = v.node_weight w (nodes_of condition.expr) + made_statements body
     made_statement (f.Do place body condition) = v.node_weight w (nodes_of condition.expr) + made_statements body
-    made_statement (f.Lock place mutex) = v.node_weight w 0
-    made_statement (f.Unlock place mutex) = v.node_weight w 0
+    made_statement (f.Lock place name) = v.node_weight w 0
+    made_statement (f.Unlock place name) = v.node_weight w 0
 
     pub made_statements : f.Statements → ℕ
     made_statements f.no_statement = 0
@@ -53,7 +53,7 @@ module _ (w : Weights) where
   made_and (f.statement_and x a) b = omega (arith, made_and a b)
 
   same_assign : (n : ℕ) (target : e.Lvalue) (value : ℕ) → v.assign_weight w (i.shifted_target n target) value ≡ v.assign_weight w target value
-  same_assign n (e.ToLocal local kind) value = refl
+  same_assign n (e.ToLocal place local kind) value = refl
   same_assign n (e.ToVariable place variable kind) value = refl
   same_assign n (e.ToElement place variable kind index) value = ap (λ (m : ℕ). v.node_weight w (m + value) + v.node_weight w 0) (same_nodes n index.expr)
 
@@ -105,8 +105,8 @@ module _ (w : Weights) where
           plus_zero _ ∙ sum3 _ _ _ _ (ap (λ (m : ℕ). v.node_weight w m) (same_nodes n condition.expr)) (statements_made n ks body)
       statement_made n ks (p.Do place body condition) =
           plus_zero _ ∙ sum3 _ _ _ _ (ap (λ (m : ℕ). v.node_weight w m) (same_nodes n condition.expr)) (statements_made n ks body)
-      statement_made n ks (p.Lock place mutex) = plus_zero _
-      statement_made n ks (p.Unlock place mutex) = plus_zero _
+      statement_made n ks (p.Lock place name) = plus_zero _
+      statement_made n ks (p.Unlock place name) = plus_zero _
 
       pub statements_made : (n : ℕ) (ks : List Kind) (xs : p.Statements) → made_statements (i.statements fs B n ks xs).made ≡ v.statements_weight w 0 fs F xs
       statements_made n ks p.no_statement = refl
@@ -136,7 +136,7 @@ module _ (w : Weights) where
 -- ---- Prices
 
 price_assign : (target : e.Lvalue) (value : ℕ) → assign_price target value ≡ v.assign_weight v.price target value
-price_assign (e.ToLocal local kind) value = refl
+price_assign (e.ToLocal place local kind) value = refl
 price_assign (e.ToVariable place variable kind) value = refl
 price_assign (e.ToElement place variable kind index) value = refl
 
@@ -146,8 +146,8 @@ mutual
   price_statement (f.If place arms otherwise) = sum3 _ _ _ _ (price_arms arms) (price_statements otherwise) ∙ sym (plus_zero v.price _)
   price_statement (f.While place condition body) = sum3 _ _ _ _ refl (price_statements body)
   price_statement (f.Do place body condition) = sum3 _ _ _ _ refl (price_statements body)
-  price_statement (f.Lock place mutex) = refl
-  price_statement (f.Unlock place mutex) = refl
+  price_statement (f.Lock place name) = refl
+  price_statement (f.Unlock place name) = refl
 
   pub price_statements : (xs : f.Statements) → statements_price xs ≡ made_statements v.price xs
   price_statements f.no_statement = refl

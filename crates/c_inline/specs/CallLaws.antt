@@ -44,8 +44,8 @@ ListUses u (x ∷ xs) l = Uses u x.expr l ⊎ ListUses u xs l
 abbrev pub TargetUses : Use → e.Lvalue → (local : ℕ) → Type 0
 TargetUses u (e.ToVariable place variable kind) l = ⊥
 TargetUses u (e.ToElement place variable kind index) l = Uses u index.expr l
-TargetUses read (e.ToLocal local kind) l = ⊥
-TargetUses assigned (e.ToLocal local kind) l = l ≡ local
+TargetUses read (e.ToLocal place local kind) l = ⊥
+TargetUses assigned (e.ToLocal place local kind) l = l ≡ local
 
 abbrev pub ResultUses : Use → Option e.Lvalue → (local : ℕ) → Type 0
 ResultUses u None l = ⊥
@@ -57,8 +57,8 @@ abbrev mutual
   StatementUses u (f.If place arms otherwise) l = ArmsUse u arms l ⊎ StatementsUse u otherwise l
   StatementUses u (f.While place condition body) l = Uses u condition.expr l ⊎ StatementsUse u body l
   StatementUses u (f.Do place body condition) l = StatementsUse u body l ⊎ Uses u condition.expr l
-  StatementUses u (f.Lock place mutex) l = ⊥
-  StatementUses u (f.Unlock place mutex) l = ⊥
+  StatementUses u (f.Lock place name) l = ⊥
+  StatementUses u (f.Unlock place name) l = ⊥
 
   pub StatementsUse : Use → f.Statements → (local : ℕ) → Type 0
   StatementsUse u f.no_statement l = ⊥
@@ -95,8 +95,8 @@ abbrev mutual
   IsScoped fs count (p.If place arms otherwise) = AreScopedArms fs count arms × AreScoped fs count otherwise
   IsScoped fs count (p.While place condition body) = AreBelow count condition.expr × AreScoped fs count body
   IsScoped fs count (p.Do place body condition) = AreScoped fs count body × AreBelow count condition.expr
-  IsScoped fs count (p.Lock place mutex) = Unit {0}
-  IsScoped fs count (p.Unlock place mutex) = Unit {0}
+  IsScoped fs count (p.Lock place name) = Unit {0}
+  IsScoped fs count (p.Unlock place name) = Unit {0}
 
   pub AreScoped : List p.Function → (count : ℕ) → p.Statements → Type 0
   AreScoped fs count p.no_statement = Unit {0}

@@ -11,7 +11,7 @@ ghost use Rattle.c_inline.specs.links.Weights as v;
 ghost use Rattle.c_inline.specs.links.InlinedBodies.{AreSized, IsTaken, whole, after, following_of, begun_made, begun_if_any};
 ghost use Rattle.c_inline.specs.links.InlinedBodies.{all_made, and_any, work_if_any, all_work, function_work};
 
-use crate::shift::{shift, shift_placed, shift_target};
+use crate::shift::{shift, shift_lock, shift_placed, shift_target};
 use crate::weight::{SIZE, call_weight};
 use c_tree::expr::{Expr, Lvalue, Placed};
 use c_tree::flat;
@@ -73,6 +73,7 @@ fn pass(
         made.push(flat::Statement::Assign {
             place,
             target: Lvalue::Local {
+                place,
                 local,
                 kind: kind_of(locals, index),
             },
@@ -327,17 +328,19 @@ fn make_or_begin(
             })?;
             Ok(None)
         }
-        Statement::Lock { place, mutex } => {
+        Statement::Lock { place, lock } => {
+            let lock = shift_lock(alloc, by, lock)?;
             made.push(flat::Statement::Lock {
                 place: *place,
-                mutex: *mutex,
+                lock,
             })?;
             Ok(None)
         }
-        Statement::Unlock { place, mutex } => {
+        Statement::Unlock { place, lock } => {
+            let lock = shift_lock(alloc, by, lock)?;
             made.push(flat::Statement::Unlock {
                 place: *place,
-                mutex: *mutex,
+                lock,
             })?;
             Ok(None)
         }

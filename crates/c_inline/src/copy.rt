@@ -1,9 +1,9 @@
 //! Copies of what the flat form has from the program.
 ghost use Rattle.std.specs.Prelude.{◌≡◌, map, IfOk};
 ghost use Rattle.c_tree.specs.Views.{name_of};
-ghost use Rattle.c_tree.specs.Programs.{variable_of};
+ghost use Rattle.c_tree.specs.Programs.{mutex_of, variable_of};
 
-use c_tree::program::Variable;
+use c_tree::program::{Mutex, Variable};
 use c_tree::tree::Name;
 use std::alloc::{AllocError, Global};
 
@@ -17,13 +17,23 @@ pub fn copy_name(name: &Name) -> Result<Name, AllocError>
     })
 }
 
-/// Copies of names.
-pub fn copy_names(alloc: Global, names: &[Name]) -> Result<Vec<Name>, AllocError>
-    ensures { IfOk result (λ copies. map name_of copies.items ≡ map name_of names.now) }
+/// A copy of a mutex.
+fn copy_mutex(mutex: &Mutex) -> Result<Mutex, AllocError>
+    ensures { IfOk result (λ copy. mutex_of copy ≡ mutex_of mutex.now) }
 {
-    let mut copies = Vec::with_capacity(alloc, names.len())?;
-    for name in names {
-        copies.push(copy_name(name)?)?;
+    Ok(Mutex {
+        name: copy_name(&mutex.name)?,
+        length: mutex.length,
+    })
+}
+
+/// Copies of mutexes.
+pub fn copy_mutexes(alloc: Global, mutexes: &[Mutex]) -> Result<Vec<Mutex>, AllocError>
+    ensures { IfOk result (λ copies. map mutex_of copies.items ≡ map mutex_of mutexes.now) }
+{
+    let mut copies = Vec::with_capacity(alloc, mutexes.len())?;
+    for mutex in mutexes {
+        copies.push(copy_mutex(mutex)?)?;
     }
     Ok(copies)
 }

@@ -12,7 +12,7 @@ ghost use Rattle.c_inline.specs.links.Faults.{fault_among};
 
 use crate::build::{Bodies, make_statements};
 use crate::calls::function_calls;
-use crate::copy::{copy_name, copy_names, copy_variables};
+use crate::copy::{copy_mutexes, copy_name, copy_variables};
 use crate::rank::order;
 use crate::recursion::first_back;
 use crate::weigh::weigh;
@@ -126,7 +126,7 @@ pub fn inline(alloc: Global, program: &Program) -> Result<Flat, InlineError>
         functions,
         sizes: &sizes,
     };
-    let mutexes = copy_names(alloc, &program.mutexes)?;
+    let mutexes = copy_mutexes(alloc, &program.mutexes)?;
     let variables = copy_variables(alloc, &program.variables)?;
     let threads = make_threads(alloc, bodies, &program.threads)?;
     Ok(Flat {

@@ -1,9 +1,9 @@
 //! Expressions and targets whose locals are those of a function that begin at a number.
 ghost use Rattle.std.specs.Prelude.{◌≡◌, ◌+◌, IfOk};
-ghost use Rattle.c_tree.specs.Exprs.{expr_of, placed_of, lvalue_of};
-ghost use Rattle.c_tree.specs.Inlining.{shifted, shifted_placed, shifted_target};
+ghost use Rattle.c_tree.specs.Exprs.{expr_of, placed_of, lvalue_of, lock_name_of};
+ghost use Rattle.c_tree.specs.Inlining.{shifted, shifted_placed, shifted_target, shifted_lock};
 
-use c_tree::expr::{Expr, Lvalue, Placed};
+use c_tree::expr::{Expr, LockName, Lvalue, Placed};
 use std::alloc::{AllocError, Global};
 
 /// A local's number; beyond 2^32 - 1 there is no memory for so many.
@@ -122,14 +122,37 @@ pub fn shift_placed(alloc: Global, by: u32, placed: &Placed) -> Result<Placed, A
     })
 }
 
+/// The name of a lock with its locals renumbered.
+pub fn shift_lock(alloc: Global, by: u32, lock: &LockName) -> Result<LockName, AllocError>
+    ensures { IfOk result (λ x. lock_name_of x ≡ shifted_lock by (lock_name_of lock.now)) }
+{
+    match &lock.key {
+        Some(key) => {
+            let key = shift_placed(alloc, by, key)?;
+            Ok(LockName {
+                mutex: lock.mutex,
+                key: Some(key),
+            })
+        }
+        None => Ok(LockName {
+            mutex: lock.mutex,
+            key: None,
+        }),
+    }
+}
+
 /// A target with its locals renumbered.
 pub fn shift_target(alloc: Global, by: u32, target: &Lvalue) -> Result<Lvalue, AllocError>
     ensures { IfOk result (λ x. lvalue_of x ≡ shifted_target by (lvalue_of target.now)) }
 {
     match target {
-        Lvalue::Local { local, kind } => {
+        Lvalue::Local { place, local, kind } => {
             let local = shift_local(by, *local)?;
-            Ok(Lvalue::Local { local, kind: *kind })
+            Ok(Lvalue::Local {
+                place: *place,
+                local,
+                kind: *kind,
+            })
         }
         Lvalue::Variable {
             place,

@@ -118,8 +118,8 @@ module _ (x : f.Flat) (ks : List Kind) where
     left_opened (f.Do place body condition) h =
         all_append (IsStatementLeft x ks) (opened_all body) (f.While place condition body ∷ []) (left_opened_all body h.0)
         ((tt, (h.1, h.0)), tt)
-    left_opened (f.Lock place mutex) h = ((tt, h), tt)
-    left_opened (f.Unlock place mutex) h = ((tt, h), tt)
+    left_opened (f.Lock place name) h = ((tt, h), tt)
+    left_opened (f.Unlock place name) h = ((tt, h), tt)
 
     pub left_opened_all : (ys : f.Statements) → AreFlatStatements x ks ys → AllByRecursion (IsStatementLeft x ks) (opened_all ys)
     left_opened_all f.no_statement h = tt

@@ -105,7 +105,7 @@ module _ (x : f.Flat) (s : m.State) (t : ℕ) (is : IsStateOf x s) (ft : f.Threa
     assigned : (target : e.Lvalue) (y : e.Placed) (rest : List f.Statement) → IsFlatTarget x ft.locals target →
         AllByRecursion (IsStatementLeft x ft.locals) rest →
         IsThreadOf x ft.locals (record (m.evaluated s thread target y.expr) { left = rest })
-    assigned (e.ToLocal local kind) y rest h k = record {
+    assigned (e.ToLocal place local kind) y rest h k = record {
       left = k;
       locals = zip_set Holds ft.locals thread.locals local kind _ own.locals h.0 (Holds-reduced kind (m.value_in s thread y.expr).number);
       pending = no_store;
@@ -141,15 +141,16 @@ module _ (x : f.Flat) (s : m.State) (t : ℕ) (is : IsStateOf x s) (ft : f.Threa
 
     module _ (next : m.State) (rest : List f.Statement) where
       -- a mutex is taken, if it is free
-      by_lock : (place : Place) (mutex : ℕ) (o : Option (Option ℕ)) → slice_get s.holders mutex ≡ o → AllByRecursion (IsStatementLeft x ft.locals) rest →
-          m.statement_step s t thread (f.Lock place mutex) rest ≡ Some next → IsStateOf x next
-      by_lock place mutex None e k h = let no : m.statement_step s t thread (f.Lock place mutex) rest ≡ None = rw (m.statement_step, e) refl in cc
-      by_lock place mutex (Some (Some u)) e k h = let no : m.statement_step s t thread (f.Lock place mutex) rest ≡ None = rw (m.statement_step, e) refl in cc
-      by_lock place mutex (Some None) e k h =
+      by_lock : (place : Place) (name : e.LockName) (o : Option (Option ℕ)) → slice_get s.holders name.mutex ≡ o →
+          AllByRecursion (IsStatementLeft x ft.locals) rest →
+          m.statement_step s t thread (f.Lock place name) rest ≡ Some next → IsStateOf x next
+      by_lock place name None e k h = let no : m.statement_step s t thread (f.Lock place name) rest ≡ None = rw (m.statement_step, e) refl in cc
+      by_lock place name (Some (Some u)) e k h = let no : m.statement_step s t thread (f.Lock place name) rest ≡ None = rw (m.statement_step, e) refl in cc
+      by_lock place name (Some None) e k h =
           let to : m.Thread = record thread { left = rest } in
-          let yes : m.statement_step s t thread (f.Lock place mutex) rest ≡ Some (m.with_thread (m.with_holder s mutex (Some t)) t to) = rw
+          let yes : m.statement_step s t thread (f.Lock place name) rest ≡ Some (m.with_thread (m.with_holder s name.mutex (Some t)) t to) = rw
           (m.statement_step, e) refl in
-          by (m.with_thread (m.with_holder s mutex (Some t)) t to) next (with_holder mutex (Some t) to (leaves rest k)) (sym yes ∙ h)
+          by (m.with_thread (m.with_holder s name.mutex (Some t)) t to) next (with_holder name.mutex (Some t) to (leaves rest k)) (sym yes ∙ h)
 
       by_statement : (y : f.Statement) → AllByRecursion (IsStatementLeft x ft.locals) (y ∷ rest) → m.statement_step s t thread y rest ≡ Some next →
           IsStateOf x next
@@ -169,10 +170,10 @@ module _ (x : f.Flat) (s : m.State) (t : ℕ) (is : IsStateOf x s) (ft : f.Threa
           by (m.with_thread s t (record thread { left = left })) next
           (becomes (record thread { left = left }) (leaves left (left_while x ft.locals b place condition body rest k))) h
       by_statement (f.Do place body condition) k h = absurd k.0.0
-      by_statement (f.Lock place mutex) k h = by_lock place mutex (slice_get s.holders mutex) refl k.1 h
-      by_statement (f.Unlock place mutex) k h =
-          by (m.with_thread (m.with_holder s mutex None) t (record thread { left = rest })) next
-          (with_holder mutex None (record thread { left = rest }) (leaves rest k.1)) h
+      by_statement (f.Lock place name) k h = by_lock place name (slice_get s.holders name.mutex) refl k.1 h
+      by_statement (f.Unlock place name) k h =
+          by (m.with_thread (m.with_holder s name.mutex None) t (record thread { left = rest })) next
+          (with_holder name.mutex None (record thread { left = rest }) (leaves rest k.1)) h
 
     by_end : (next : m.State) (ended : Bool) →
         (let o : Option m.State = if ended then None else Some (m.with_thread s t (record thread { ended = true })) in o ≡ Some next) → IsStateOf x next

@@ -26,15 +26,15 @@ module _ (x : f.Flat) (ks : List Kind) (ls : List ℤ) (ns : List (List ℤ)) (l
   seen z h = foreseen ls ns z.expr (all_held x.variables ks ls ns locals variables z.expr h.0)
 
   all_seen : (y : f.Statement) → IsFlatStatement x ks y → AllByRecursion (λ (z : e.Placed). IsForeseen ls ns z.expr) (step_exprs y)
-  all_seen (f.Assign place (e.ToLocal local kind) value) h = (seen value h.1, tt)
+  all_seen (f.Assign place (e.ToLocal name local kind) value) h = (seen value h.1, tt)
   all_seen (f.Assign place (e.ToVariable at variable kind) value) h = (seen value h.1, tt)
   all_seen (f.Assign place (e.ToElement at variable kind index) value) h = (seen index (h.0.0.1, h.0.1.1), (seen value h.1, tt))
   all_seen (f.If place f.no_arm otherwise) h = tt
   all_seen (f.If place (f.arm_and condition body arms) otherwise) h = (seen condition h.1.0, tt)
   all_seen (f.While place condition body) h = (seen condition h.0, tt)
   all_seen (f.Do place body condition) h = tt
-  all_seen (f.Lock place mutex) h = tt
-  all_seen (f.Unlock place mutex) h = tt
+  all_seen (f.Lock place name) h = tt
+  all_seen (f.Unlock place name) h = tt
 
   elements : (z : e.Expr) → IsExpr x.variables ks z → Fits x.variables z → AllByRecursion (IsElement x.variables ls ns) (expr_indexes z)
   elements (e.Constant value) h g = tt
@@ -56,7 +56,7 @@ module _ (x : f.Flat) (ks : List Kind) (ls : List ℤ) (ns : List (List ℤ)) (l
       (elements otherwise h.2 g.2)
 
   all_elements : (y : f.Statement) → IsFlatStatement x ks y → AllByRecursion (IsElement x.variables ls ns) (step_indexes y)
-  all_elements (f.Assign place (e.ToLocal local kind) value) h = elements value.expr h.1.0 h.1.1
+  all_elements (f.Assign place (e.ToLocal name local kind) value) h = elements value.expr h.1.0 h.1.1
   all_elements (f.Assign place (e.ToVariable at variable kind) value) h = elements value.expr h.1.0 h.1.1
   all_elements (f.Assign place (e.ToElement at variable kind index) value) h = (
     fits_element x.variables (record { variable = variable; place = index.place; expr = index.expr }) h.0.1.0 ls ns
@@ -68,8 +68,8 @@ module _ (x : f.Flat) (ks : List Kind) (ls : List ℤ) (ns : List (List ℤ)) (l
   all_elements (f.If place (f.arm_and condition body arms) otherwise) h = elements condition.expr h.1.0.0 h.1.0.1
   all_elements (f.While place condition body) h = elements condition.expr h.0.0 h.0.1
   all_elements (f.Do place body condition) h = tt
-  all_elements (f.Lock place mutex) h = tt
-  all_elements (f.Unlock place mutex) h = tt
+  all_elements (f.Lock place name) h = tt
+  all_elements (f.Unlock place name) h = tt
 
 module _ (x : f.Flat) (s : m.State) (t : ℕ) (it : m.Thread) (is : IsStateOf x s) where
   abbrev Own : Type 0
@@ -107,16 +107,16 @@ module _ (x : f.Flat) (s : m.State) (t : ℕ) (it : m.Thread) (is : IsStateOf x 
     at_end true e done h = inl (record { idle = idle; done = done; ended = e })
     at_end false e done h = absurd (none-some _ (sym h))
 
-    at_lock : (place : Place) (mutex : ℕ) (rest : List f.Statement) (o : Option (Option ℕ)) → slice_get s.holders mutex ≡ o →
-        it.left ≡ f.Lock place mutex ∷ rest → mutex < length x.mutexes → m.statement_step s t it (f.Lock place mutex) rest ≡ None → Stops
-    at_lock place mutex rest None e first below h = let there = slice_get-get_or s.holders mutex None (omega (arith, below, is.holders)) in absurd
+    at_lock : (place : Place) (name : e.LockName) (rest : List f.Statement) (o : Option (Option ℕ)) → slice_get s.holders name.mutex ≡ o →
+        it.left ≡ f.Lock place name ∷ rest → name.mutex < length x.mutexes → m.statement_step s t it (f.Lock place name) rest ≡ None → Stops
+    at_lock place name rest None e first below h = let there = slice_get-get_or s.holders name.mutex None (omega (arith, below, is.holders)) in absurd
         (none-some _ (sym e ∙ there))
-    at_lock place mutex rest (Some None) e first below h =
-        let yes : m.statement_step s t it (f.Lock place mutex) rest ≡ Some
-        (m.with_thread (m.with_holder s mutex (Some t)) t (record it { left = rest })) = rw (m.statement_step, e) refl in
+    at_lock place name rest (Some None) e first below h =
+        let yes : m.statement_step s t it (f.Lock place name) rest ≡ Some
+        (m.with_thread (m.with_holder s name.mutex (Some t)) t (record it { left = rest })) = rw (m.statement_step, e) refl in
         absurd (none-some _ (sym h ∙ yes))
-    at_lock place mutex rest (Some (Some u)) e first below h = inr
-        (mutex, record { place = place; rest = rest; next = record { found = found; idle = idle; first = first }; holder = u; held = e })
+    at_lock place name rest (Some (Some u)) e first below h = inr
+        (name.mutex, record { place = place; key = name.key; rest = rest; next = record { found = found; idle = idle; first = first }; holder = u; held = e })
 
     at_statement : (own : Own) (y : f.Statement) (rest : List f.Statement) → it.left ≡ y ∷ rest → AllByRecursion (IsStatementLeft x own.it.locals) (y ∷ rest) →
         m.statement_step s t it y rest ≡ None → Stops
@@ -125,8 +125,8 @@ module _ (x : f.Flat) (s : m.State) (t : ℕ) (it : m.Thread) (is : IsStateOf x 
     at_statement own (f.If place (f.arm_and condition body arms) otherwise) rest first k h = absurd (none-some _ (sym h))
     at_statement own (f.While place condition body) rest first k h = absurd (none-some _ (sym h))
     at_statement own (f.Do place body condition) rest first k h = absurd k.0.0
-    at_statement own (f.Lock place mutex) rest first k h = at_lock place mutex rest (slice_get s.holders mutex) refl first k.0.1 h
-    at_statement own (f.Unlock place mutex) rest first k h = absurd (none-some _ (sym h))
+    at_statement own (f.Lock place name) rest first k h = at_lock place name rest (slice_get s.holders name.mutex) refl first k.0.1.0 h
+    at_statement own (f.Unlock place name) rest first k h = absurd (none-some _ (sym h))
 
     at_left : (own : Own) (left : List f.Statement) → it.left ≡ left → m.left_step s t it left ≡ None → Stops
     at_left own [] first h = at_end it.ended refl first h

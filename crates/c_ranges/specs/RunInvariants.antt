@@ -1,5 +1,5 @@
 -- What every run of a well formed flat form keeps: numbers of their kinds, elements that are there, and what stops a thread.
-use Rattle.std.specs.Prelude.{◌≡◌, ◌⊎◌, ℕ, ◌<◌, List, [], ◌∷◌, ◌++◌, length, slice_get, Some, None, true, ℤ, pos, ◌≤ℤ◌}
+use Rattle.std.specs.Prelude.{◌≡◌, ◌⊎◌, ℕ, ◌<◌, List, [], ◌∷◌, ◌++◌, length, slice_get, Option, Some, None, true, ℤ, pos, ◌≤ℤ◌}
 use Rattle.std.specs.List.{AllByRecursion, AllZip}
 use Rattle.ido_base.specs.declared.place.Place.{Place}
 use Rattle.ido_ints.specs.declared.kinds.Kind.{Kind}
@@ -107,8 +107,9 @@ pub record IsOver (it : m.Thread) : Type 0 where
 -- the thread stands at the lock of a mutex that a thread holds
 pub record IsAtHeldLock (s : State) (thread : ℕ) (it : m.Thread) (mutex : ℕ) : Type 0 where
   pub place : Place
+  pub key : Option e.Placed
   pub rest : List f.Statement
-  pub next : IsNext s thread it (f.Lock place mutex) rest
+  pub next : IsNext s thread it (f.Lock place (record { mutex = mutex; key = key })) rest
   pub holder : ℕ
   pub held : slice_get s.holders mutex ≡ Some (Some holder)
 

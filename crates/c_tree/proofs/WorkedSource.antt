@@ -19,7 +19,7 @@ abbrev placed : ℕ → e.Expr → e.Placed
 placed place x = record { place = at place; expr = x }
 
 abbrev variable : List ℕ → ℕ → ℤ → p.Variable
-variable text place initial = record { name = name text place; guard = 0; kind = kind.Int; length = None; initial = initial ∷ [] }
+variable text place initial = record { name = name text place; guard = p.By 0; kind = kind.Int; length = None; initial = initial ∷ [] }
 
 -- the variable of this number, where its name stands
 abbrev read : ℕ → ℕ → e.Expr
@@ -33,7 +33,7 @@ all_of [] = p.no_statement
 all_of (x ∷ xs) = p.statement_and x (all_of xs)
 
 operators_typed : typed_program operators ≡ record {
-  mutexes = name (codes "m") 6 ∷ [];
+  mutexes = record { name = name (codes "m") 6; length = None } ∷ [];
   variables =
       variable (codes "a") 27 (pos 2147483647) ∷ variable (codes "b") 61 (pos 7) ∷ variable (codes "c") 86 (pos 0) ∷
       variable (codes "d") 107 (pos 0) ∷ variable (codes "z") 128 (pos 0) ∷ variable (codes "e") 149 (pos 1) ∷ [];
@@ -42,13 +42,13 @@ operators_typed : typed_program operators ≡ record {
     name = name (codes "t") 163;
     locals = [];
     body = all_of (
-        p.Lock (at 167) 0 ∷
+        p.Lock (at 167) (record { mutex = 0; key = None }) ∷
         store 176 0 (placed 180 (e.Binary b.Add (read 180 0) (e.Constant (int 1)))) ∷
         store 187 2 (placed 191 (e.Binary b.Div (read 191 1) (read 195 4))) ∷
         store 198 3 (placed 202 (e.Binary b.Rem (read 202 1) (read 206 4))) ∷
         store 209 1 (placed 213 (e.Binary b.Div (read 213 0) (e.Binary b.Sub (read 218 4) (e.Constant (int 1))))) ∷
         store 226 5 (placed 230 (e.Binary b.Less (e.Unary u.Minus (e.Constant (int 1))) (e.Constant (typed kind.UnsignedInt (pos 1))))) ∷
-        p.Unlock (at 239) 0 ∷ []);
+        p.Unlock (at 239) (record { mutex = 0; key = None }) ∷ []);
     closing = at 250;
   } ∷ [];
 }
@@ -68,13 +68,13 @@ operators_flat : (flat_form (typed_program operators)).threads ≡ record {
   name = name (codes "t") 163;
   locals = [];
   body = flat_all_of (
-      f.Lock (at 167) 0 ∷
+      f.Lock (at 167) (record { mutex = 0; key = None }) ∷
       flat_store 176 0 (placed 180 (e.Binary b.Add (read 180 0) (e.Constant (int 1)))) ∷
       flat_store 187 2 (placed 191 (e.Binary b.Div (read 191 1) (read 195 4))) ∷
       flat_store 198 3 (placed 202 (e.Binary b.Rem (read 202 1) (read 206 4))) ∷
       flat_store 209 1 (placed 213 (e.Binary b.Div (read 213 0) (e.Binary b.Sub (read 218 4) (e.Constant (int 1))))) ∷
       flat_store 226 5 (placed 230 (e.Binary b.Less (e.Unary u.Minus (e.Constant (int 1))) (e.Constant (typed kind.UnsignedInt (pos 1))))) ∷
-      f.Unlock (at 239) 0 ∷ []);
+      f.Unlock (at 239) (record { mutex = 0; key = None }) ∷ []);
   closing = at 250;
 } ∷ []
 unfolding typed_program flat_form reduction.from_least_on

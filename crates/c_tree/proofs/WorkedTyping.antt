@@ -69,16 +69,16 @@ ninth = refl
 abbrev placed : ℕ → e.Expr → e.Placed
 placed place x = record { place = at place; expr = x }
 
-abbrev set : ℕ → ℕ → Kind → e.Placed → p.Statements → p.Statements
-set place number kind value more = p.statement_and (p.Assign (at place) (e.ToLocal number kind) value) more
+abbrev set : ℕ → ℕ → ℕ → Kind → e.Placed → p.Statements → p.Statements
+set place own number kind value more = p.statement_and (p.Assign (at place) (e.ToLocal (at own) number kind) value) more
 
 -- an inner name is known after its own declaration; a `for`'s own local is known to the end of the `for`; a missing condition is 1
 scopes_typed : map (λ (x : p.Thread). x.body) (typed_program scopes).threads ≡
-    set 11 0 kind.Int (placed 19 (e.Constant (int 1))) (
-    set 24 1 kind.Long (placed 33 (e.Local 0 kind.Int)) (
-    set 36 1 kind.Long (placed 36 (e.Binary b.Add (e.Local 1 kind.Long) (e.Constant (int 1)))) (
-    set 43 0 kind.Int (placed 43 (e.Binary b.Add (e.Local 0 kind.Int) (e.Constant (typed kind.UnsignedInt (pos 2))))) (
-    set 52 2 kind.Int (placed 65 (e.Constant (int 0))) (
+    set 11 11 0 kind.Int (placed 19 (e.Constant (int 1))) (
+    set 24 24 1 kind.Long (placed 33 (e.Local 0 kind.Int)) (
+    set 36 36 1 kind.Long (placed 36 (e.Binary b.Add (e.Local 1 kind.Long) (e.Constant (int 1)))) (
+    set 43 43 0 kind.Int (placed 43 (e.Binary b.Add (e.Local 0 kind.Int) (e.Constant (typed kind.UnsignedInt (pos 2))))) (
+    set 52 57 2 kind.Int (placed 65 (e.Constant (int 0))) (
     p.statement_and (p.While (at 52) (placed 52 (e.Constant (int 1))) p.no_statement) p.no_statement))))) ∷ []
 unfolding typed_program reduction.from_least_on
 scopes_typed = refl

@@ -1,6 +1,6 @@
 -- Worked rows: values, nodes, temporaries and prices.
-use Rattle.std.proofs.Common.{◌≡◌, ℕ, List, [], ◌∷◌, map, None, refl}
-use Rattle.std.specs.Prelude.{pos, negsuc}
+use Rattle.std.proofs.Common.{◌≡◌, ℕ, List, [], ◌∷◌, map, Some, None, refl}
+use Rattle.std.specs.Prelude.{pos, negsuc, ℤ}
 use Rattle.ido_ints.specs.declared.kinds.Kind.TheVariants as kind
 use Rattle.ido_ints.specs.declared.operators.Unary.TheVariants as u
 use Rattle.ido_ints.specs.declared.operators.Binary.TheVariants as b
@@ -8,7 +8,7 @@ use Rattle.ido_ints.specs.TypedNumbers.{Typed, typed}
 use Rattle.ido_ints.specs.Reduction as reduction
 use Rattle.c_tree.specs.Trees as t
 use Rattle.c_tree.specs.Exprs as e
-use Rattle.c_tree.specs.Values.{value}
+use Rattle.c_tree.specs.Values.{value, lock_number}
 use Rattle.c_tree.specs.Prices.{nodes_of, need_of, thread_price}
 use Rattle.c_tree.specs.Elaboration.{typed_program, conditional}
 use Rattle.c_tree.specs.Inlining.{flat_form}
@@ -105,3 +105,13 @@ few_temporaries = refl
 cheap : price_fault (flat_form (typed_program calls)) ≡ None
 unfolding typed_program flat_form price_fault
 cheap = refl
+
+-- ---- Locks
+
+-- a name without key has its mutex's number, whatever locals are
+plain_lock : (ls : List ℤ) (mutex : ℕ) → lock_number ls (record { mutex = mutex; key = None }) ≡ mutex
+plain_lock ls mutex = refl
+
+-- of an array whose first mutex is 5 the one that the local 0 names, which is 2
+third_lock : lock_number (pos 2 ∷ []) (record { mutex = 5; key = Some (record { place = at 0; expr = e.Local 0 kind.Int }) }) ≡ 7
+third_lock = refl

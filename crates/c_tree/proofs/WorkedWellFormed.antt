@@ -37,8 +37,8 @@ masked_formed = record {
     (
       ((refl, tt), (tt, tt)),
       (
-        omega arith,
-        ((((record { it = _; found = refl; kind = refl; array = refl }, (refl, tt)), (refl, (tt, tt))), (tt, tt)), (omega arith, tt)),
+        (omega arith, refl),
+        ((((record { it = _; found = refl; kind = refl; array = refl }, (refl, tt)), (refl, (tt, tt))), (tt, tt)), ((omega arith, refl), tt)),
       ),
     ),
     tt,

@@ -126,15 +126,15 @@ module _ (gs : List n.Global) where
 
   abbrev pub target_named : n.Scope → t.Name → e.Lvalue
   target_named s x = elim (n.meaning gs s x.text) [
-    | n.IsLocal l ↦ e.ToLocal l.number l.kind
+    | n.IsLocal l ↦ e.ToLocal x.place l.number l.kind
     | n.IsGlobal (n.Variable number kind is_array) ↦ e.ToVariable x.place number kind
-    | _ ↦ e.ToLocal 0 kind.Int
+    | _ ↦ e.ToLocal x.place 0 kind.Int
   ]
 
   abbrev pub target_element : n.Scope → t.Name → e.Placed → e.Lvalue
   target_element s x index = elim (n.meaning gs s x.text) [
     | n.IsGlobal (n.Variable number kind is_array) ↦ e.ToElement x.place number kind index
-    | _ ↦ e.ToLocal 0 kind.Int
+    | _ ↦ e.ToLocal x.place 0 kind.Int
   ]
 
   abbrev pub target : n.Scope → t.Lvalue → e.Lvalue
@@ -169,7 +169,7 @@ module _ (gs : List n.Global) where
 
   -- the local that a declaration makes takes its value, or 0
   abbrev pub declaration_at : Place → n.Scope → t.Declaration → p.Statement
-  declaration_at place s x = let new = e.ToLocal (length s.kinds) x.kind in elim x.initial [
+  declaration_at place s x = let new = e.ToLocal x.place (length s.kinds) x.kind in elim x.initial [
     | t.Absent ↦ p.Assign place new (record { place = x.place; expr = int 0 })
     | t.Value value ↦ p.Assign place new (placed s value)
     | t.Result c ↦ call place s c (Some new)
@@ -191,11 +191,14 @@ module _ (gs : List n.Global) where
   condition_at place s None = record { place = place; expr = int 1 }
   condition_at place s (Some x) = placed s x
 
-  abbrev pub lock_number : n.Scope → t.Name → ℕ
-  lock_number s x = elim (n.meaning gs s x.text) [
+  abbrev pub mutex_number : n.Scope → t.Name → ℕ
+  mutex_number s x = elim (n.meaning gs s x.text) [
     | n.IsGlobal (n.Mutex number) ↦ number
     | _ ↦ 0
   ]
+
+  abbrev pub lock_name : n.Scope → t.Name → e.LockName
+  lock_name s x = record { mutex = mutex_number s x; key = None }
 
   abbrev mutual
     pub statement : n.Scope → t.Statement → Made p.Statements
@@ -218,8 +221,8 @@ module _ (gs : List n.Global) where
           made = statements_and f.made (one (p.While place (condition_at place f.scope x) (statements_and m.made (last_at place f.scope last))));
           scope = n.left s m.scope;
         }
-    statement s (t.Lock place mutex) = record { made = one (p.Lock place (lock_number s mutex)); scope = s }
-    statement s (t.Unlock place mutex) = record { made = one (p.Unlock place (lock_number s mutex)); scope = s }
+    statement s (t.Lock place mutex) = record { made = one (p.Lock place (lock_name s mutex)); scope = s }
+    statement s (t.Unlock place mutex) = record { made = one (p.Unlock place (lock_name s mutex)); scope = s }
 
     -- a block has a scope of its own
     pub inside : n.Scope → t.Block → Made p.Statements
@@ -264,7 +267,7 @@ module _ (gs : List n.Global) where
   abbrev pub variable : t.Persistent → p.Variable
   variable x = record {
     name = x.name;
-    guard = lock_number n.no_locals x.guard;
+    guard = p.By (mutex_number n.no_locals x.guard);
     kind = x.kind;
     length = option_map length_number x.length;
     initial = filled (element_count x.length) (map (reduced x.kind) (numbers_of x.initialiser));
@@ -273,7 +276,7 @@ module _ (gs : List n.Global) where
   -- ---- Programs
 
   abbrev pub with_item : t.Item → p.Program → p.Program
-  with_item (t.MutexItem x) q = record q { mutexes = x ∷ q.mutexes }
+  with_item (t.MutexItem x) q = record q { mutexes = record { name = x; length = None } ∷ q.mutexes }
   with_item (t.PersistentItem x) q = record q { variables = variable x ∷ q.variables }
   with_item (t.FunctionItem x) q = record q { functions = function x ∷ q.functions }
   with_item (t.ThreadItem x) q = record q { threads = thread x ∷ q.threads }

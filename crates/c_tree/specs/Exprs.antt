@@ -1,5 +1,6 @@
 -- Expressions whose names are resolved and whose kinds are fixed, as contracts see them.
-use Rattle.std.specs.Prelude.{ℕ}
+use Rattle.std.specs.Prelude.{ℕ, Option}
+use Rattle.std.specs.Option.{option_map}
 use Rattle.ido_base.specs.declared.place.Place.{Place}
 use Rattle.ido_ints.specs.declared.kinds.Kind.{Kind}
 use Rattle.ido_ints.specs.declared.operators.Unary as u
@@ -7,6 +8,7 @@ use Rattle.ido_ints.specs.declared.operators.Binary as b
 use Rattle.ido_ints.specs.TypedNumbers.{Typed}
 use Rattle.c_tree.specs.declared.expr.Expr as e
 use Rattle.c_tree.specs.declared.expr.Placed as placed
+use Rattle.c_tree.specs.declared.expr.LockName as lock
 use Rattle.c_tree.specs.declared.expr.Lvalue as target
 use Rattle.c_tree.specs.declared.expr.Lvalue.TheVariants as targets
 
@@ -30,9 +32,14 @@ pub record Placed : Type 0 where
   pub place : Place
   pub expr : Expr
 
--- what is assigned; places are those of names
+-- the name of a lock: a mutex, by its number, or an element of an array of mutexes, by that of its first one and by a key, which reads locals alone
+pub record LockName : Type 0 where
+  pub mutex : ℕ
+  pub key : Option Placed
+
+-- what is assigned; places are those of names, of a local that is declared that of the declaration
 pub data Lvalue : Type 0 where
-  ToLocal : (local : ℕ) → Kind → Lvalue
+  ToLocal : (place : Place) → (local : ℕ) → Kind → Lvalue
   ToVariable : (place : Place) → (variable : ℕ) → Kind → Lvalue
   ToElement : (place : Place) → (variable : ℕ) → Kind → (index : Placed) → Lvalue
 
@@ -52,7 +59,10 @@ expr_of (e.Conditional' kind _ condition _ chosen _ otherwise) = Conditional kin
 abbrev pub placed_of : placed.Placed → Placed
 placed_of x = record { place = x.place; expr = expr_of x.expr }
 
+abbrev pub lock_name_of : lock.LockName → LockName
+lock_name_of x = record { mutex = x.mutex; key = option_map placed_of x.key }
+
 abbrev pub lvalue_of : target.Lvalue → Lvalue
-lvalue_of (targets.Local local kind) = ToLocal local kind
+lvalue_of (targets.Local place local kind) = ToLocal place local kind
 lvalue_of (targets.Variable place variable kind) = ToVariable place variable kind
 lvalue_of (targets.Element place variable kind index) = ToElement place variable kind (placed_of index)

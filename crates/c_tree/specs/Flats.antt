@@ -4,8 +4,8 @@ use Rattle.ido_base.specs.declared.place.Place.{Place}
 use Rattle.ido_ints.specs.declared.kinds.Kind.{Kind}
 use Rattle.c_tree.specs.Trees.{Name}
 use Rattle.c_tree.specs.Views.{name_of}
-use Rattle.c_tree.specs.Programs.{Variable, variable_of}
-use Rattle.c_tree.specs.Exprs.{Placed, Lvalue, placed_of, lvalue_of}
+use Rattle.c_tree.specs.Programs.{Mutex, Variable, mutex_of, variable_of}
+use Rattle.c_tree.specs.Exprs.{Placed, Lvalue, LockName, placed_of, lvalue_of, lock_name_of}
 use Rattle.c_tree.specs.declared.flat.Statement as f
 use Rattle.c_tree.specs.declared.flat.Arm as arm
 use Rattle.c_tree.specs.declared.flat.Thread as thread
@@ -17,8 +17,8 @@ mutual
     If : (place : Place) → Arms → (otherwise : Statements) → Statement
     While : (place : Place) → (condition : Placed) → (body : Statements) → Statement
     Do : (place : Place) → (body : Statements) → (condition : Placed) → Statement
-    Lock : (place : Place) → (mutex : ℕ) → Statement
-    Unlock : (place : Place) → (mutex : ℕ) → Statement
+    Lock : (place : Place) → LockName → Statement
+    Unlock : (place : Place) → LockName → Statement
 
   pub data Statements : Type 0 where
     no_statement : Statements
@@ -38,7 +38,8 @@ pub record Thread : Type 0 where
   pub closing : Place
 
 pub record Flat : Type 0 where
-  pub mutexes : List Name
+  -- by the numbers of locks
+  pub mutexes : List Mutex
   pub variables : List Variable
   pub threads : List Thread
 
@@ -51,8 +52,8 @@ abbrev mutual
   statement_of (f.If' place _ arms _ otherwise) = If place (arms_of arms) (row_of otherwise)
   statement_of (f.While' place condition _ body) = While place (placed_of condition) (row_of body)
   statement_of (f.Do' place _ body condition) = Do place (row_of body) (placed_of condition)
-  statement_of (f.Lock place mutex) = Lock place mutex
-  statement_of (f.Unlock place mutex) = Unlock place mutex
+  statement_of (f.Lock place lock) = Lock place (lock_name_of lock)
+  statement_of (f.Unlock place lock) = Unlock place (lock_name_of lock)
 
   pub row_of : {m : _} → f.Row_of-Statement m → Statements
   row_of f.end_of-Statement = no_statement
@@ -74,4 +75,4 @@ abbrev pub thread_of : thread.Thread → Thread
 thread_of x = record { name = name_of x.name; locals = x.locals.items; body = statements_of x.body.items; closing = x.closing }
 
 abbrev pub flat_of : flat.Flat → Flat
-flat_of x = record { mutexes = map name_of x.mutexes.items; variables = map variable_of x.variables.items; threads = map thread_of x.threads.items }
+flat_of x = record { mutexes = map mutex_of x.mutexes.items; variables = map variable_of x.variables.items; threads = map thread_of x.threads.items }

@@ -22,8 +22,8 @@ abbrev mutual
   statement_calls (p.If place arms otherwise) = arms_calls arms ++ statements_calls otherwise
   statement_calls (p.While place condition body) = statements_calls body
   statement_calls (p.Do place body condition) = statements_calls body
-  statement_calls (p.Lock place mutex) = []
-  statement_calls (p.Unlock place mutex) = []
+  statement_calls (p.Lock place lock) = []
+  statement_calls (p.Unlock place lock) = []
 
   pub statements_calls : p.Statements → List Call
   statements_calls p.no_statement = []
@@ -74,9 +74,12 @@ abbrev pub shifted_placed : (by : ℕ) → e.Placed → e.Placed
 shifted_placed n x = record x { expr = shifted n x.expr }
 
 abbrev pub shifted_target : (by : ℕ) → e.Lvalue → e.Lvalue
-shifted_target n (e.ToLocal local kind) = e.ToLocal (n + local) kind
+shifted_target n (e.ToLocal place local kind) = e.ToLocal place (n + local) kind
 shifted_target n (e.ToVariable place variable kind) = e.ToVariable place variable kind
 shifted_target n (e.ToElement place variable kind index) = e.ToElement place variable kind (shifted_placed n index)
+
+abbrev pub shifted_lock : (by : ℕ) → e.LockName → e.LockName
+shifted_lock n x = record x { key = option_map (shifted_placed n) x.key }
 
 -- ---- The flat form
 
@@ -95,7 +98,7 @@ pub record Made (A : Type 0) : Type 0 where
 -- parameters take the arguments, as if by assignment (C11 6.5.2.2, paragraph 7): the locals from the first number on
 abbrev pub passed : Place → (first : ℕ) → List Kind → List e.Placed → f.Statements
 passed place n ks [] = f.no_statement
-passed place n ks (x ∷ xs) = f.statement_and (f.Assign place (e.ToLocal n (slice_index_or ks 0 Int)) x) (passed place (n + 1) (drop_first ks) xs)
+passed place n ks (x ∷ xs) = f.statement_and (f.Assign place (e.ToLocal place n (slice_index_or ks 0 Int)) x) (passed place (n + 1) (drop_first ks) xs)
   where
     drop_first : List Kind → List Kind
     drop_first [] = []
@@ -139,8 +142,8 @@ module _ (fs : List p.Function) (bodies : Bodies) where
         let m = statements n ks body in record { made = one (f.While place (shifted_placed n condition) m.made); kinds = m.kinds }
     statement n ks (p.Do place body condition) =
         let m = statements n ks body in record { made = one (f.Do place m.made (shifted_placed n condition)); kinds = m.kinds }
-    statement n ks (p.Lock place mutex) = record { made = one (f.Lock place mutex); kinds = ks }
-    statement n ks (p.Unlock place mutex) = record { made = one (f.Unlock place mutex); kinds = ks }
+    statement n ks (p.Lock place lock) = record { made = one (f.Lock place (shifted_lock n lock)); kinds = ks }
+    statement n ks (p.Unlock place lock) = record { made = one (f.Unlock place (shifted_lock n lock)); kinds = ks }
 
     pub statements : (by : ℕ) → List Kind → p.Statements → Made f.Statements
     statements n ks p.no_statement = record { made = f.no_statement; kinds = ks }

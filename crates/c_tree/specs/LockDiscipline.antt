@@ -6,7 +6,7 @@ use Rattle.ido_base.specs.declared.place.Place.{Place}
 use Rattle.c_tree.specs.declared.rule.Rule as r
 use Rattle.c_tree.specs.declared.rule.Rule.TheVariants as rule
 use Rattle.c_tree.specs.Exprs as e
-use Rattle.c_tree.specs.Programs.{Variable}
+use Rattle.c_tree.specs.Programs.{Variable, Guard, By, Each}
 use Rattle.c_tree.specs.Flats as f
 
 -- 0 up to a number, without it
@@ -44,7 +44,7 @@ expr_uses (e.Binary operator left right) = expr_uses left ++ expr_uses right
 expr_uses (e.Conditional kind condition chosen otherwise) = expr_uses condition ++ expr_uses chosen ++ expr_uses otherwise
 
 abbrev pub target_uses : e.Lvalue → List Use
-target_uses (e.ToLocal local kind) = []
+target_uses (e.ToLocal place local kind) = []
 target_uses (e.ToVariable place variable kind) = record { variable = variable; place = place } ∷ []
 target_uses (e.ToElement place variable kind index) = record { variable = variable; place = place } ∷ expr_uses index.expr
 
@@ -52,9 +52,14 @@ target_uses (e.ToElement place variable kind index) = record { variable = variab
 abbrev pub assign_uses : e.Lvalue → (value : e.Placed) → List Use
 assign_uses target value = expr_uses value.expr ++ target_uses target
 
+-- the number of the mutex, of an array of them that of its first one
+abbrev pub guard_number : Guard → ℕ
+guard_number (By mutex) = mutex
+guard_number (Each first) = first
+
 abbrev pub guard_of : List Variable → (variable : ℕ) → ℕ
 guard_of vs variable = elim (slice_get vs variable) [
-  | Some x ↦ x.guard
+  | Some x ↦ guard_number x.guard
   | None ↦ 0
 ]
 
@@ -64,6 +69,20 @@ is_guarded vs h u = holds h (guard_of vs u.variable)
 -- every use is of a variable whose mutex is held
 abbrev pub AreGuarded : List Variable → Held → List Use → Type 0
 AreGuarded vs h us = find (λ u. not (is_guarded vs h u)) us ≡ None
+
+-- ---- What expressions read of locals
+
+-- the locals that an expression reads
+abbrev pub expr_locals : e.Expr → List ℕ
+expr_locals (e.Constant value) = []
+expr_locals (e.Local local kind) = local ∷ []
+expr_locals (e.Variable place variable kind) = []
+expr_locals (e.Element place variable kind index_place index) = expr_locals index
+expr_locals (e.Unary operator operand) = expr_locals operand
+expr_locals (e.Cast kind operand) = expr_locals operand
+expr_locals (e.Converted kind operand) = expr_locals operand
+expr_locals (e.Binary operator left right) = expr_locals left ++ expr_locals right
+expr_locals (e.Conditional kind condition chosen otherwise) = expr_locals condition ++ expr_locals chosen ++ expr_locals otherwise
 
 -- ---- Before, statement, after
 
@@ -79,8 +98,8 @@ module _ (vs : List Variable) where
           → Keeps h (f.While place condition body) h
       again : {h : Held} (place : Place) (body : f.Statements) (condition : e.Placed) → KeepAll h body h → AreGuarded vs h (expr_uses condition.expr)
           → Keeps h (f.Do place body condition) h
-      lock : {h : Held} (place : Place) (mutex : ℕ) → holds h mutex ≡ false → Keeps h (f.Lock place mutex) (slice_set h mutex true)
-      unlock : {h : Held} (place : Place) (mutex : ℕ) → holds h mutex ≡ true → Keeps h (f.Unlock place mutex) (slice_set h mutex false)
+      lock : {h : Held} (place : Place) (x : e.LockName) → holds h x.mutex ≡ false → Keeps h (f.Lock place x) (slice_set h x.mutex true)
+      unlock : {h : Held} (place : Place) (x : e.LockName) → holds h x.mutex ≡ true → Keeps h (f.Unlock place x) (slice_set h x.mutex false)
 
     pub data KeepAll : Held → f.Statements → Held → Type 0 where
       no_more : {h : Held} → KeepAll h f.no_statement h
@@ -155,8 +174,8 @@ module _ (vs : List Variable) (mutexes : ℕ) where
         and_then (walk_uses h (expr_uses condition.expr)) (λ _. and_then (walk_all h body) (λ after. join place h (after ∷ [])))
     walk h (f.Do place body condition) =
         and_then (walk_all h body) (λ after. and_then (walk_uses after (expr_uses condition.expr)) (λ _. join place h (after ∷ [])))
-    walk h (f.Lock place mutex) = if holds h mutex then broken rule.Again place mutex else After (slice_set h mutex true)
-    walk h (f.Unlock place mutex) = if holds h mutex then After (slice_set h mutex false) else broken rule.NotHeld place mutex
+    walk h (f.Lock place x) = if holds h x.mutex then broken rule.Again place x.mutex else After (slice_set h x.mutex true)
+    walk h (f.Unlock place x) = if holds h x.mutex then After (slice_set h x.mutex false) else broken rule.NotHeld place x.mutex
 
     pub walk_all : Held → f.Statements → Walked
     walk_all h f.no_statement = After h

@@ -49,7 +49,7 @@ node_price nodes = 96 + 16 * nodes
 
 -- an assignment of a variable has a second node, the store
 abbrev pub assign_price : e.Lvalue → (value : ℕ) → ℕ
-assign_price (e.ToLocal local kind) value = node_price value
+assign_price (e.ToLocal place local kind) value = node_price value
 assign_price (e.ToVariable place variable kind) value = node_price value + node_price 0
 assign_price (e.ToElement place variable kind index) value = node_price (nodes_of index.expr + value) + node_price 0
 
@@ -59,8 +59,8 @@ abbrev mutual
   statement_price (f.If place arms otherwise) = arms_price arms + statements_price otherwise
   statement_price (f.While place condition body) = node_price (nodes_of condition.expr) + statements_price body
   statement_price (f.Do place body condition) = node_price (nodes_of condition.expr) + statements_price body
-  statement_price (f.Lock place mutex) = node_price 0
-  statement_price (f.Unlock place mutex) = node_price 0
+  statement_price (f.Lock place lock) = node_price 0
+  statement_price (f.Unlock place lock) = node_price 0
 
   pub statements_price : f.Statements → ℕ
   statements_price f.no_statement = 0

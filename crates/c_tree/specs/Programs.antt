@@ -4,8 +4,11 @@ use Rattle.std.specs.Option.{option_map}
 use Rattle.ido_base.specs.declared.place.Place.{Place}
 use Rattle.ido_ints.specs.declared.kinds.Kind.{Kind}
 use Rattle.c_tree.specs.Trees.{Name}
-use Rattle.c_tree.specs.Exprs.{Placed, Lvalue, placed_of, lvalue_of}
+use Rattle.c_tree.specs.Exprs.{Placed, Lvalue, LockName, placed_of, lvalue_of, lock_name_of}
 use Rattle.c_tree.specs.Views.{name_of}
+use Rattle.c_tree.specs.declared.program.Mutex as mutex
+use Rattle.c_tree.specs.declared.program.Guard as guard
+use Rattle.c_tree.specs.declared.program.Guard.TheVariants as guards
 use Rattle.c_tree.specs.declared.program.Variable as variable
 use Rattle.c_tree.specs.declared.program.Statement as p
 use Rattle.c_tree.specs.declared.program.Arm as arm
@@ -14,10 +17,22 @@ use Rattle.c_tree.specs.declared.program.Function as function
 use Rattle.c_tree.specs.declared.program.Thread as thread
 use Rattle.c_tree.specs.declared.program.Program as program
 
+-- a mutex, or an element of an array of mutexes
+pub record Mutex : Type 0 where
+  pub name : Name
+  -- elements of its array; none where it is in none
+  pub length : Option ℕ
+
+-- what guards a variable
+pub data Guard : Type 0 where
+  -- the mutex of that number guards all of it
+  By : (mutex : ℕ) → Guard
+  -- of an array of mutexes, the first of which has that number, each guards the element of its place
+  Each : (first : ℕ) → Guard
+
 pub record Variable : Type 0 where
   pub name : Name
-  -- the number of the mutex that guards it
-  pub guard : ℕ
+  pub guard : Guard
   pub kind : Kind
   -- elements of an array; none where it is no array
   pub length : Option ℕ
@@ -32,8 +47,8 @@ mutual
     If : (place : Place) → Arms → (otherwise : Statements) → Statement
     While : (place : Place) → (condition : Placed) → (body : Statements) → Statement
     Do : (place : Place) → (body : Statements) → (condition : Placed) → Statement
-    Lock : (place : Place) → (mutex : ℕ) → Statement
-    Unlock : (place : Place) → (mutex : ℕ) → Statement
+    Lock : (place : Place) → LockName → Statement
+    Unlock : (place : Place) → LockName → Statement
 
   pub data Statements : Type 0 where
     no_statement : Statements
@@ -65,7 +80,8 @@ pub record Thread : Type 0 where
   pub closing : Place
 
 pub record Program : Type 0 where
-  pub mutexes : List Name
+  -- by the numbers of locks: an array of mutexes has as many as it has elements
+  pub mutexes : List Mutex
   pub variables : List Variable
   pub functions : List Function
   pub threads : List Thread
@@ -73,8 +89,15 @@ pub record Program : Type 0 where
 -- ---- What the types of `program` represent
 -- `row_of` and `arms_of` need not be believed: `proofs/ProgramRows` proves that they agree with `statements_of` and `arms_list_of`.
 
+abbrev pub mutex_of : mutex.Mutex → Mutex
+mutex_of x = record { name = name_of x.name; length = x.length }
+
+abbrev pub guard_of : guard.Guard → Guard
+guard_of (guards.By mutex) = By mutex
+guard_of (guards.Each first) = Each first
+
 abbrev pub variable_of : variable.Variable → Variable
-variable_of x = record { name = name_of x.name; guard = x.guard; kind = x.kind; length = x.length; initial = x.initial.items }
+variable_of x = record { name = name_of x.name; guard = guard_of x.guard; kind = x.kind; length = x.length; initial = x.initial.items }
 
 abbrev mutual
   pub statement_of : p.Statement → Statement
@@ -83,8 +106,8 @@ abbrev mutual
   statement_of (p.If' place _ arms _ otherwise) = If place (arms_of arms) (row_of otherwise)
   statement_of (p.While' place condition _ body) = While place (placed_of condition) (row_of body)
   statement_of (p.Do' place _ body condition) = Do place (row_of body) (placed_of condition)
-  statement_of (p.Lock place mutex) = Lock place mutex
-  statement_of (p.Unlock place mutex) = Unlock place mutex
+  statement_of (p.Lock place lock) = Lock place (lock_name_of lock)
+  statement_of (p.Unlock place lock) = Unlock place (lock_name_of lock)
 
   pub row_of : {m : _} → p.Row_of-Statement m → Statements
   row_of p.end_of-Statement = no_statement
@@ -119,7 +142,7 @@ thread_of x = record { name = name_of x.name; locals = x.locals.items; body = st
 
 abbrev pub program_of : program.Program → Program
 program_of x = record {
-  mutexes = map name_of x.mutexes.items;
+  mutexes = map mutex_of x.mutexes.items;
   variables = map variable_of x.variables.items;
   functions = map function_of x.functions.items;
   threads = map thread_of x.threads.items;

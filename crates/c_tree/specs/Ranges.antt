@@ -155,7 +155,7 @@ abbrev pub placed_indexes : e.Placed → List Index
 placed_indexes x = expr_indexes x.expr
 
 abbrev pub target_indexes : e.Lvalue → List Index
-target_indexes (e.ToLocal local kind) = []
+target_indexes (e.ToLocal place local kind) = []
 target_indexes (e.ToVariable place variable kind) = []
 target_indexes (e.ToElement place variable kind index) = record { variable = variable; place = index.place; expr = index.expr } ∷ placed_indexes index
 
@@ -170,8 +170,8 @@ abbrev mutual
   statement_indexes (p.If place arms otherwise) = arms_indexes arms ++ statements_indexes otherwise
   statement_indexes (p.While place condition body) = placed_indexes condition ++ statements_indexes body
   statement_indexes (p.Do place body condition) = statements_indexes body ++ placed_indexes condition
-  statement_indexes (p.Lock place mutex) = []
-  statement_indexes (p.Unlock place mutex) = []
+  statement_indexes (p.Lock place lock) = []
+  statement_indexes (p.Unlock place lock) = []
 
   pub statements_indexes : p.Statements → List Index
   statements_indexes p.no_statement = []

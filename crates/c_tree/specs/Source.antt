@@ -43,8 +43,8 @@ abbrev mutual
   opened (f.Assign place target value) = f.Assign place target value ∷ []
   opened (f.If place arms otherwise) = f.If place arms otherwise ∷ []
   opened (f.While place condition body) = f.While place condition body ∷ []
-  opened (f.Lock place mutex) = f.Lock place mutex ∷ []
-  opened (f.Unlock place mutex) = f.Unlock place mutex ∷ []
+  opened (f.Lock place lock) = f.Lock place lock ∷ []
+  opened (f.Unlock place lock) = f.Unlock place lock ∷ []
 
   pub opened_all : f.Statements → List f.Statement
   opened_all f.no_statement = []
@@ -77,7 +77,7 @@ value_in s thread x = value thread.locals s.variables x
 
 -- the thread once it has evaluated a value for a target: a local has it, a store of a variable is pending
 abbrev pub evaluated : State → Thread → Lvalue → Expr → Thread
-evaluated s thread (ToLocal local kind) x =
+evaluated s thread (ToLocal place local kind) x =
     record thread { locals = slice_set thread.locals local (reduced kind (value_in s thread x).number) }
 evaluated s thread (ToVariable place variable kind) x =
     record thread { pending = Some (record { variable = variable; element = 0; number = reduced kind (value_in s thread x).number }) }
@@ -111,11 +111,11 @@ statement_step s t thread (f.If place (f.arm_and condition body arms) otherwise)
 statement_step s t thread (f.While place condition body) rest =
     Some (with_thread s t (record thread { left = if is_true s thread condition then opened_all body ++ (f.While place condition body ∷ rest) else rest }))
 statement_step s t thread (f.Do place body condition) rest = None
-statement_step s t thread (f.Lock place mutex) rest = elim (slice_get s.holders mutex) [
-  | Some None ↦ Some (with_thread (with_holder s mutex (Some t)) t (record thread { left = rest }))
+statement_step s t thread (f.Lock place lock) rest = elim (slice_get s.holders lock.mutex) [
+  | Some None ↦ Some (with_thread (with_holder s lock.mutex (Some t)) t (record thread { left = rest }))
   | _ ↦ None
 ]
-statement_step s t thread (f.Unlock place mutex) rest = Some (with_thread (with_holder s mutex None) t (record thread { left = rest }))
+statement_step s t thread (f.Unlock place lock) rest = Some (with_thread (with_holder s lock.mutex None) t (record thread { left = rest }))
 
 -- after the last statement stands one more step, the end
 abbrev pub left_step : State → ℕ → Thread → List f.Statement → Option State

@@ -9,7 +9,7 @@ use Rattle.c_tree.specs.Prices.{need_of, thread_price}
 
 -- the index before the value
 abbrev pub assign_exprs : e.Lvalue → e.Placed → List e.Placed
-assign_exprs (e.ToLocal local kind) value = value ∷ []
+assign_exprs (e.ToLocal place local kind) value = value ∷ []
 assign_exprs (e.ToVariable place variable kind) value = value ∷ []
 assign_exprs (e.ToElement place variable kind index) value = index ∷ value ∷ []
 
@@ -20,8 +20,8 @@ abbrev mutual
   statement_exprs (f.If place arms otherwise) = arms_exprs arms ++ statements_exprs otherwise
   statement_exprs (f.While place condition body) = condition ∷ statements_exprs body
   statement_exprs (f.Do place body condition) = statements_exprs body ++ condition ∷ []
-  statement_exprs (f.Lock place mutex) = []
-  statement_exprs (f.Unlock place mutex) = []
+  statement_exprs (f.Lock place lock) = []
+  statement_exprs (f.Unlock place lock) = []
 
   pub statements_exprs : f.Statements → List e.Placed
   statements_exprs f.no_statement = []

@@ -1,5 +1,5 @@
 -- The value of an expression (C11 6.5), from the numbers of locals and variables.
-use Rattle.std.specs.Prelude.{ℕ, List, [], slice_index_or, if◌then◌else◌, ℤ, pos, unsigned_abs}
+use Rattle.std.specs.Prelude.{ℕ, ◌+◌, List, [], slice_index_or, Option, Some, None, if◌then◌else◌, ℤ, pos, unsigned_abs}
 use Rattle.ido_ints.specs.TypedNumbers.{Typed, typed, converted}
 use Rattle.ido_ints.specs.Operators.{is_zero, unary_of, binary_of}
 use Rattle.c_tree.specs.Exprs as e
@@ -23,3 +23,16 @@ value ls vs (e.Converted kind operand) = converted (value ls vs operand) kind
 value ls vs (e.Binary operator left right) = binary_of operator (value ls vs left) (value ls vs right)
 value ls vs (e.Conditional kind condition chosen otherwise) =
     converted (if is_zero (value ls vs condition).number then value ls vs otherwise else value ls vs chosen) kind
+
+-- ---- Locks
+
+-- the element of an array of mutexes that a key names: it reads locals alone
+abbrev pub key_element : (locals : List ℤ) → e.Placed → ℕ
+key_element ls key = element_at (value ls [] key.expr)
+
+-- the number of the lock that a name has where locals have these numbers
+abbrev pub lock_number : (locals : List ℤ) → e.LockName → ℕ
+lock_number ls x = elim x.key [
+  | None ↦ x.mutex
+  | Some key ↦ x.mutex + key_element ls key
+]

@@ -19,9 +19,16 @@ abbrev pub elements_in : (length : Option ℕ) → ℕ
 elements_in None = 1
 elements_in (Some n) = n
 
+-- what guards a variable is a mutex that is there
+abbrev pub IsGuard : (mutexes : ℕ) → p.Variable → Type 0
+IsGuard mutexes v = elim v.guard [
+  | p.By mutex ↦ mutex < mutexes
+  | p.Each first ↦ ⊥
+]
+
 -- a variable, where there are so many mutexes
 pub record IsVariable (mutexes : ℕ) (v : p.Variable) : Type 0 where
-  pub guarded : v.guard < mutexes
+  pub guarded : IsGuard mutexes v
   pub not_empty : 0 < elements_in v.length
   pub not_too_long : elements_in v.length ≤ MOST_ELEMENTS
   -- a number for each element, which the kind holds
@@ -68,7 +75,7 @@ module _ (vs : List p.Variable) (ks : List Kind) where
   IsPlaced x = IsExpr x.expr
 
   abbrev pub IsTarget : e.Lvalue → Type 0
-  IsTarget (e.ToLocal local kind) = slice_get ks local ≡ Some kind
+  IsTarget (e.ToLocal place local kind) = slice_get ks local ≡ Some kind
   IsTarget (e.ToVariable place variable kind) = IsDeclared vs variable kind false
   IsTarget (e.ToElement place variable kind index) = IsDeclared vs variable kind true × IsExpr index.expr
 
@@ -90,9 +97,15 @@ module _ (vs : List p.Variable) where
   Fits (e.Conditional kind condition chosen otherwise) = Fits condition × Fits chosen × Fits otherwise
 
   abbrev pub TargetFits : e.Lvalue → Type 0
-  TargetFits (e.ToLocal local kind) = Unit {0}
+  TargetFits (e.ToLocal place local kind) = Unit {0}
   TargetFits (e.ToVariable place variable kind) = Unit {0}
   TargetFits (e.ToElement place variable kind index) = IndexFits variable index.place index.expr × Fits index.expr
+
+-- ---- Names of locks
+
+-- a mutex, where there are so many, and no key
+abbrev pub IsLockName : (mutexes : ℕ) → e.LockName → Type 0
+IsLockName mutexes x = (x.mutex < mutexes) × (x.key ≡ None)
 
 -- ---- Programs, with calls; whether indexes fit is asked apart, by `AllFit`
 
@@ -120,8 +133,8 @@ module _ (x : p.Program) (ks : List Kind) where
     IsStatement (p.If place arms otherwise) = HasProgramArm arms × AreArms arms × AreStatements otherwise
     IsStatement (p.While place condition body) = IsPlaced x.variables ks condition × AreStatements body
     IsStatement (p.Do place body condition) = AreStatements body × IsPlaced x.variables ks condition
-    IsStatement (p.Lock place mutex) = mutex < length x.mutexes
-    IsStatement (p.Unlock place mutex) = mutex < length x.mutexes
+    IsStatement (p.Lock place lock) = IsLockName (length x.mutexes) lock
+    IsStatement (p.Unlock place lock) = IsLockName (length x.mutexes) lock
 
     pub AreStatements : p.Statements → Type 0
     AreStatements p.no_statement = Unit {0}
@@ -165,8 +178,8 @@ module _ (x : f.Flat) (ks : List Kind) where
     IsFlatStatement (f.If place arms otherwise) = HasArm arms × AreFlatArms arms × AreFlatStatements otherwise
     IsFlatStatement (f.While place condition body) = IsFlatPlaced condition × AreFlatStatements body
     IsFlatStatement (f.Do place body condition) = AreFlatStatements body × IsFlatPlaced condition
-    IsFlatStatement (f.Lock place mutex) = mutex < length x.mutexes
-    IsFlatStatement (f.Unlock place mutex) = mutex < length x.mutexes
+    IsFlatStatement (f.Lock place lock) = IsLockName (length x.mutexes) lock
+    IsFlatStatement (f.Unlock place lock) = IsLockName (length x.mutexes) lock
 
     pub AreFlatStatements : f.Statements → Type 0
     AreFlatStatements f.no_statement = Unit {0}

@@ -92,11 +92,21 @@ pub struct Placed {
     pub expr: Expr,
 }
 
+/// The name of a lock: a mutex, or an element of an array of mutexes, which the key tells.
+#[derive(Drop)]
+pub struct LockName {
+    /// The number of the mutex; of an array that of its first one.
+    pub mutex: u32,
+    /// It reads locals alone.
+    pub key: Option<Placed>,
+}
+
 /// What is assigned.
 #[derive(Drop)]
 pub enum Lvalue {
-    /// A local, by its number.
+    /// A local, by its number; the place is that of its name, or that of its declaration.
     Local {
+        place: Place,
         local: u32,
         kind: Kind,
     },

@@ -1,6 +1,6 @@
 //! The flat form: threads with their calls replaced and their locals numbered a thread at a time.
-use crate::expr::{Lvalue, Placed};
-use crate::program::Variable;
+use crate::expr::{LockName, Lvalue, Placed};
+use crate::program::{Mutex, Variable};
 use crate::tree::Name;
 use ido_base::place::Place;
 use ido_ints::Kind;
@@ -33,15 +33,15 @@ pub enum Statement {
         body: Vec<Statement>,
         condition: Placed,
     },
-    /// Takes a mutex, by its number.
+    /// Takes a lock.
     Lock {
         place: Place,
-        mutex: u32,
+        lock: LockName,
     },
-    /// Gives a mutex back, by its number.
+    /// Gives a lock back.
     Unlock {
         place: Place,
-        mutex: u32,
+        lock: LockName,
     },
 }
 
@@ -67,7 +67,8 @@ pub struct Thread {
 /// A program without calls.
 #[derive(Drop)]
 pub struct Flat {
-    pub mutexes: Vec<Name>,
+    /// By the numbers of locks.
+    pub mutexes: Vec<Mutex>,
     pub variables: Vec<Variable>,
     pub threads: Vec<Thread>,
 }

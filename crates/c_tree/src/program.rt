@@ -1,15 +1,31 @@
 //! Programs whose names are resolved and whose kinds are fixed.
-use crate::expr::{Lvalue, Placed};
+use crate::expr::{LockName, Lvalue, Placed};
 use crate::tree::Name;
 use ido_base::place::Place;
 use ido_ints::Kind;
+
+/// A mutex, or an element of an array of mutexes.
+#[derive(Drop)]
+pub struct Mutex {
+    pub name: Name,
+    /// How many elements its array has; none where it is in none.
+    pub length: Option<u32>,
+}
+
+/// What guards a variable.
+#[derive(Clone, Copy, PartialEq, Eq, Debug)]
+pub enum Guard {
+    /// The mutex of this number guards all of it.
+    By { mutex: u32 },
+    /// Of an array of mutexes, the first of which has this number, each guards the element of its place.
+    Each { first: u32 },
+}
 
 /// A persistent variable.
 #[derive(Drop)]
 pub struct Variable {
     pub name: Name,
-    /// The number of the mutex that guards it.
-    pub guard: u32,
+    pub guard: Guard,
     /// The kind of its elements.
     pub kind: Kind,
     /// How many elements an array has; none where it is no array.
@@ -54,15 +70,15 @@ pub enum Statement {
         body: Vec<Statement>,
         condition: Placed,
     },
-    /// Takes a mutex, by its number.
+    /// Takes a lock.
     Lock {
         place: Place,
-        mutex: u32,
+        lock: LockName,
     },
-    /// Gives a mutex back, by its number.
+    /// Gives a lock back.
     Unlock {
         place: Place,
-        mutex: u32,
+        lock: LockName,
     },
 }
 
@@ -108,7 +124,8 @@ pub struct Thread {
 /// A program.
 #[derive(Drop)]
 pub struct Program {
-    pub mutexes: Vec<Name>,
+    /// By the numbers of locks: an array of mutexes has as many as it has elements.
+    pub mutexes: Vec<Mutex>,
     pub variables: Vec<Variable>,
     pub functions: Vec<Function>,
     pub threads: Vec<Thread>,

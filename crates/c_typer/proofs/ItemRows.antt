@@ -10,7 +10,7 @@ use Rattle.c_typer.specs.links.JoinedPrograms.{and_item, joined, nothing}
 
 -- ---- Programs
 
-abbrev program : List t.Name → List p.Variable → List p.Function → List p.Thread → p.Program
+abbrev program : List p.Mutex → List p.Variable → List p.Function → List p.Thread → p.Program
 program ms vs fs ts = record { mutexes = ms; variables = vs; functions = fs; threads = ts }
 
 -- one item more after those that were made, or before those that follow
@@ -19,7 +19,7 @@ joined_item gs q x r = joined_both q (with_item gs x nothing) r ∙ ap (joined q
   where
     joined_both : (a b c : p.Program) → joined (joined a b) c ≡ joined a (joined b c)
     joined_both a b c =
-        ap (λ (ms : List t.Name). program ms ((a.variables ++ b.variables) ++ c.variables) ((a.functions ++ b.functions) ++ c.functions)
+        ap (λ (ms : List p.Mutex). program ms ((a.variables ++ b.variables) ++ c.variables) ((a.functions ++ b.functions) ++ c.functions)
         ((a.threads ++ b.threads) ++ c.threads))
         (append_assoc a.mutexes b.mutexes c.mutexes)
         ∙ ap (λ (vs : List p.Variable). program (a.mutexes ++ (b.mutexes ++ c.mutexes)) vs ((a.functions ++ b.functions) ++ c.functions)
@@ -39,7 +39,7 @@ joined_item gs q x r = joined_both q (with_item gs x nothing) r ∙ ap (joined q
 
 pub joined_nothing : (q : p.Program) → joined q nothing ≡ q
 joined_nothing q =
-    ap (λ (ms : List t.Name). program ms (q.variables ++ []) (q.functions ++ []) (q.threads ++ [])) (append-nil q.mutexes)
+    ap (λ (ms : List p.Mutex). program ms (q.variables ++ []) (q.functions ++ []) (q.threads ++ [])) (append-nil q.mutexes)
     ∙ ap (λ (vs : List p.Variable). program q.mutexes vs (q.functions ++ []) (q.threads ++ [])) (append-nil q.variables)
     ∙ ap (λ (fs : List p.Function). program q.mutexes q.variables fs (q.threads ++ [])) (append-nil q.functions)
     ∙ ap (program q.mutexes q.variables q.functions) (append-nil q.threads)

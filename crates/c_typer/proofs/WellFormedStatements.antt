@@ -163,9 +163,9 @@ module _ (x : p.Program) (gs : List n.Global) (sorts : AllByRecursion (λ (y : n
           | n.IsGlobal (n.Variable number kind is_array) ↦ broken_if (if is_array then not false else false) rule.WrongSort y.place
           | _ ↦ broken rule.WrongSort y.place
         ]) [] → IsTarget x.variables ks (elim m [
-          | n.IsLocal l ↦ e.ToLocal l.number l.kind
+          | n.IsLocal l ↦ e.ToLocal y.place l.number l.kind
           | n.IsGlobal (n.Variable number kind is_array) ↦ e.ToVariable y.place number kind
-          | _ ↦ e.ToLocal 0 Int
+          | _ ↦ e.ToLocal y.place 0 Int
         ])
         go n.IsUnknown k q = absurd (not_broken rule.Unknown y.place q)
         go (n.IsLocal l) k q = k
@@ -187,7 +187,7 @@ module _ (x : p.Program) (gs : List n.Global) (sorts : AllByRecursion (λ (y : n
           | _ ↦ broken rule.WrongSort y.place
         ]) [] → IsTarget x.variables ks (elim m [
           | n.IsGlobal (n.Variable number kind is_array) ↦ e.ToElement y.place number kind index
-          | _ ↦ e.ToLocal 0 Int
+          | _ ↦ e.ToLocal y.place 0 Int
         ])
         go n.IsUnknown k q = absurd (not_broken rule.Unknown y.place q)
         go (n.IsLocal l) k q = absurd (not_broken rule.WrongSort y.place q)
@@ -315,15 +315,15 @@ module _ (x : p.Program) (gs : List n.Global) (sorts : AllByRecursion (λ (y : n
           | t.Value value ↦ rules.expression_faults gs s value
           | t.Result c ↦ rules.call_faults gs s c true
         ]) [] → IsStatement x ks (elim i [
-          | t.Absent ↦ p.Assign place (e.ToLocal (length s.kinds) y.kind) (record { place = y.place; expr = made.int 0 })
-          | t.Value value ↦ p.Assign place (e.ToLocal (length s.kinds) y.kind) (made.placed gs s value)
-          | t.Result c ↦ made.call gs place s c (Some (e.ToLocal (length s.kinds) y.kind))
+          | t.Absent ↦ p.Assign place (e.ToLocal y.place (length s.kinds) y.kind) (record { place = y.place; expr = made.int 0 })
+          | t.Value value ↦ p.Assign place (e.ToLocal y.place (length s.kinds) y.kind) (made.placed gs s value)
+          | t.Result c ↦ made.call gs place s c (Some (e.ToLocal y.place (length s.kinds) y.kind))
         ])
         go t.Absent q = (new, tt)
         go (t.Value value) q = (new, expr_formed value q)
-        go (t.Result c) q = call_formed place c (Some (e.ToLocal (length s.kinds) y.kind)) q new
+        go (t.Result c) q = call_formed place c (Some (e.ToLocal y.place (length s.kinds) y.kind)) q new
 
-    pub lock_formed : (y : t.Name) → rules.mutex_faults gs s y ≡ [] → made.lock_number gs s y < length x.mutexes
+    pub lock_formed : (y : t.Name) → rules.mutex_faults gs s y ≡ [] → made.mutex_number gs s y < length x.mutexes
     lock_formed y h = go (n.meaning gs s y.text) (meaning_in s y.text known) h
       where
         go : (m : n.Meaning) → MeaningIn x ks m → ◌≡◌ {A = List Fault} (elim m [
@@ -468,8 +468,8 @@ module _ (x : p.Program) (gs : List n.Global) (sorts : AllByRecursion (λ (y : n
         let body_is = inside_formed s1 body d.4.4.4.4.4.4.4.1 block known1 into (nil_right (maybe ++ after) inner h1) in
         let start_is = first_formed place s0 start known within h0 in
         both_formed (made.first_at gs place s0 start).made _ start_is ((condition, both_formed (made.inside gs s1 body).made _ body_is third), tt)
-    statement_formed s (t.Lock place mutex) ts d known into h = (lock_formed s known mutex h, tt)
-    statement_formed s (t.Unlock place mutex) ts d known into h = (lock_formed s known mutex h, tt)
+    statement_formed s (t.Lock place mutex) ts d known into h = ((lock_formed s known mutex h, refl), tt)
+    statement_formed s (t.Unlock place mutex) ts d known into h = ((lock_formed s known mutex h, refl), tt)
 
     inside_formed : (s : n.Scope) (y : t.Block) (ts : List Token) → g.block y ts → Known ks s.known → Into (made.inside gs s y).scope.kinds ks →
         rules.block_faults gs s y ≡ [] → AreStatements x ks (made.inside gs s y).made

@@ -228,6 +228,7 @@ pub fn declaration(
 {
     note_twice(scope, faults, &read.name);
     let target = Lvalue::Local {
+        place: read.place,
         local: scope.next_number()?,
         kind: read.kind,
     };

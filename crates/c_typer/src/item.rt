@@ -17,7 +17,7 @@ use crate::faults::Faults;
 use crate::globals::{Globals, copied};
 use crate::scope::Scope;
 use crate::statement::{mutex, statements};
-use c_tree::program::{Function, Returned, Thread, Variable};
+use c_tree::program::{Function, Guard, Returned, Thread, Variable};
 use c_tree::rule::Rule;
 use c_tree::tree;
 use c_tree::tree::{Initialiser, Length, Parameter, Persistent, Return, Signed};
@@ -299,7 +299,7 @@ pub fn variable(
     fill(&mut initial, checked_count(&read.length) as usize)?;
     Ok(Variable {
         name: copied(&read.name)?,
-        guard,
+        guard: Guard::By { mutex: guard },
         kind: read.kind,
         length: checked_length(&read.length),
         initial,

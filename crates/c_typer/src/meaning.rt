@@ -90,6 +90,7 @@ impl<'a> Meaning<'a> {
     {
         match self {
             Meaning::Local(local) => Lvalue::Local {
+                place,
                 local: local.number,
                 kind: local.kind,
             },
@@ -99,6 +100,7 @@ impl<'a> Meaning<'a> {
                 kind: *kind,
             },
             _ => Lvalue::Local {
+                place,
                 local: 0,
                 kind: Kind::Int,
             },
@@ -117,6 +119,7 @@ impl<'a> Meaning<'a> {
                 index,
             },
             _ => Lvalue::Local {
+                place,
                 local: 0,
                 kind: Kind::Int,
             },

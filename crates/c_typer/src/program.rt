@@ -13,7 +13,7 @@ use crate::faults::Faults;
 use crate::globals::{Globals, copied};
 use crate::item::{function, thread, variable};
 use crate::text::{note_bytes, note_mutexes, note_second_declarations, note_threads};
-use c_tree::program::Program;
+use c_tree::program::{Mutex, Program};
 use c_tree::refusal::SourceError;
 use c_tree::tree::{Item, Tree};
 use std::alloc::{AllocError, Global};
@@ -42,7 +42,10 @@ fn add(
     ensures noted { OnOk result (first_of faults.new ≡ noted (first_of faults.old) (rules.item_faults (globals_of globals.now) (item_of item.now))) }
 {
     match item {
-        Item::Mutex(name) => made.mutexes.push(copied(name)?)?,
+        Item::Mutex(name) => made.mutexes.push(Mutex {
+            name: copied(name)?,
+            length: None,
+        })?,
         Item::Persistent(read) => {
             made.variables
                 .push(variable(alloc, globals, faults, read)?)?;

@@ -19,7 +19,7 @@ use crate::faults::Faults;
 use crate::globals::Globals;
 use crate::meaning::{int, resolve};
 use crate::scope::Scope;
-use c_tree::expr::Placed;
+use c_tree::expr::{LockName, Placed};
 use c_tree::program::Arm;
 use c_tree::tree::{Assignment, Block, Expression, First, Head, Name, Statement};
 use c_tree::{program, tree};
@@ -80,7 +80,7 @@ fn do_of(place: Place, body: Vec<program::Statement>, condition: Placed) -> prog
 
 /// The number of a mutex; notes the rule that the use of its name breaks.
 pub fn mutex(globals: &Globals, scope: &Scope, faults: &mut Faults, name: &Name) -> u32
-    ensures made { result ≡ typing.lock_number (globals_of globals.now) (scope_of scope.now) (v.name_of name.now) }
+    ensures made { result ≡ typing.mutex_number (globals_of globals.now) (scope_of scope.now) (v.name_of name.now) }
     ensures noted { first_of faults.new ≡ noted (first_of faults.old) (rules.mutex_faults (globals_of globals.now) (scope_of scope.now) (v.name_of name.now)) }
 {
     let meaning = resolve(globals, scope, &name.text);
@@ -261,7 +261,7 @@ fn statement(
                 made,
                 program::Statement::Lock {
                     place: *place,
-                    mutex,
+                    lock: LockName { mutex, key: None },
                 },
             )
         }
@@ -271,7 +271,7 @@ fn statement(
                 made,
                 program::Statement::Unlock {
                     place: *place,
-                    mutex,
+                    lock: LockName { mutex, key: None },
                 },
             )
         }

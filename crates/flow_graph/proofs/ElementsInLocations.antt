@@ -19,7 +19,7 @@ use Rattle.c_ranges.specs.RunInvariants.{AreNumbersOf}
 use Rattle.c_ranges.proofs.Public.{foreseen, fits_element, all_held, elements_is}
 use Rattle.flow_graph.specs.Lowering.{element_number, elements, scalar, expr_reads, target_reads}
 use Rattle.flow_graph.specs.Actions.{Seen}
-use Rattle.flow_graph.specs.Paths.{Element, element, expr_elements, target_elements, Lies, LiesInOne}
+use Rattle.flow_graph.specs.Paths.{Element, element, expr_elements, target_elements, no_names, Lies, LiesInOne}
 
 -- ---- Ends of ranges
 
@@ -49,25 +49,25 @@ contains_head x xs = (0, omega arith, refl)
 contains_tail : {X : Type 0} (x y : X) (ys : List X) → Contains ys x → Contains (y ∷ ys) x
 contains_tail x y ys (k, h, is) = (suc k, omega arith, is)
 
-one_head : (l : Location) (ls : List Location) (one : Element) → Lies l one → LiesInOne (l ∷ ls) one
+one_head : (l : Location) (ls : List Location) (one : Element) → Lies no_names l one → LiesInOne no_names (l ∷ ls) one
 one_head l ls one h = record { location = l; of = contains_head l ls; lies = h }
 
-one_tail : (l : Location) (ls : List Location) (one : Element) → LiesInOne ls one → LiesInOne (l ∷ ls) one
+one_tail : (l : Location) (ls : List Location) (one : Element) → LiesInOne no_names ls one → LiesInOne no_names (l ∷ ls) one
 one_tail l ls one h = record { location = h.location; of = contains_tail h.location l ls h.of; lies = h.lies }
 
-one_left : (ls ms : List Location) (one : Element) → LiesInOne ls one → LiesInOne (ls ++ ms) one
+one_left : (ls ms : List Location) (one : Element) → LiesInOne no_names ls one → LiesInOne no_names (ls ++ ms) one
 one_left ls ms one h = record { location = h.location; of = Contains-append_left ls ms h.location h.of; lies = h.lies }
 
-one_right : (ls ms : List Location) (one : Element) → LiesInOne ms one → LiesInOne (ls ++ ms) one
+one_right : (ls ms : List Location) (one : Element) → LiesInOne no_names ms one → LiesInOne no_names (ls ++ ms) one
 one_right ls ms one h = record { location = h.location; of = Contains-append_right ls ms h.location h.of; lies = h.lies }
 
-pub one_of_both : (es fs : List Element) (ls ms : List Location) (one : Element) → (Contains es one → LiesInOne ls one) → (Contains fs one →
-    LiesInOne ms one) →
-    Contains (es ++ fs) one → LiesInOne (ls ++ ms) one
+pub one_of_both : (es fs : List Element) (ls ms : List Location) (one : Element) → (Contains es one → LiesInOne no_names ls one) → (Contains fs one →
+    LiesInOne no_names ms one) →
+    Contains (es ++ fs) one → LiesInOne no_names (ls ++ ms) one
 one_of_both es fs ls ms one h k c = ⊎_elim (λ l. one_left ls ms one (h l)) (λ r. one_right ls ms one (k r)) (Contains-append_cases es fs one c)
 
-pub lies_scalar : (variable : ℕ) → Lies (scalar variable) (element variable 0)
-lies_scalar variable = record { variable = refl; from_lo = omega arith; to_hi = omega arith }
+pub lies_scalar : (variable : ℕ) → Lies no_names (scalar variable) (element variable 0)
+lies_scalar variable = record { variable = refl; from_lo = omega arith; to_hi = omega arith; by_key = λ key h. cc }
 
 -- ---- Expressions
 
@@ -77,7 +77,7 @@ module _ (vs : List Variable) (ks : List Kind) (ls : List ℤ) (ns : List (List 
   seen p = record { locals = ls; pending = p; variables = ns }
 
   pub lies_element : (variable : ℕ) (kind : Kind) (place : Place) (index : e.Expr) → IsDeclared vs variable kind true → IsExpr vs ks index →
-      IndexFits vs variable place index → Lies (elements variable (range_of index)) (element variable (element_at (value ls ns index)))
+      IndexFits vs variable place index → Lies no_names (elements variable (range_of index)) (element variable (element_at (value ls ns index)))
   lies_element variable kind place index d w fit =
       let held = all_held vs ks ls ns locals variables index w in
       let range = (foreseen ls ns index held).within in
@@ -88,19 +88,20 @@ module _ (vs : List Variable) (ks : List Kind) (ls : List ℤ) (ns : List (List 
         variable = refl;
         from_lo = low_le _ _ named.from_zero range.from_low;
         to_hi = le_high _ _ named.from_zero range.to_high (omega (arith, named.below, count, most));
+        by_key = λ key h. cc;
       }
 
   pub lies_expr : (x : e.Expr) (p : Option Pending) (one : Element) → IsExpr vs ks x → Fits vs x → Contains (expr_elements x (seen p)) one →
-      LiesInOne (expr_reads x) one
+      LiesInOne no_names (expr_reads x) one
   lies_expr (e.Constant v) p one w fit c = absurd (contains_none one c)
   lies_expr (e.Local local kind) p one w fit c = absurd (contains_none one c)
   lies_expr (e.Variable place variable kind) p one w fit c = ⊎_elim
-      (λ is. let P : Element → Type 0 = λ z. Lies (scalar variable) z in one_head (scalar variable) [] one (subst P is (lies_scalar variable)))
+      (λ is. let P : Element → Type 0 = λ z. Lies no_names (scalar variable) z in one_head (scalar variable) [] one (subst P is (lies_scalar variable)))
       (λ none. absurd (contains_none one none))
       (contains_cons one (element variable 0) [] c)
   lies_expr (e.Element place variable kind index_place index) p one w fit c = ⊎_elim
       (λ is.
-      let P : Element → Type 0 = λ z. Lies (elements variable (range_of index)) z in
+      let P : Element → Type 0 = λ z. Lies no_names (elements variable (range_of index)) z in
       one_head (elements variable (range_of index)) (expr_reads index) one (subst P is (lies_element variable kind index_place index w.0 w.1 fit.0)))
       (λ more. one_tail (elements variable (range_of index)) (expr_reads index) one (lies_expr index p one w.1 fit.1 more))
       (contains_cons one (element variable (element_at (value ls ns index))) (expr_elements index (seen p)) c)
@@ -118,7 +119,7 @@ module _ (vs : List Variable) (ks : List Kind) (ls : List ℤ) (ns : List (List 
       (lies_expr otherwise p one w.2 fit.2) c
 
   pub lies_target : (target : e.Lvalue) (p : Option Pending) (one : Element) → IsTarget vs ks target → TargetFits vs target →
-      Contains (target_elements target (seen p)) one → LiesInOne (target_reads target) one
-  lies_target (e.ToLocal local kind) p one w fit c = absurd (contains_none one c)
+      Contains (target_elements target (seen p)) one → LiesInOne no_names (target_reads target) one
+  lies_target (e.ToLocal place local kind) p one w fit c = absurd (contains_none one c)
   lies_target (e.ToVariable place variable kind) p one w fit c = absurd (contains_none one c)
   lies_target (e.ToElement place variable kind index) p one w fit c = lies_expr index.expr p one w.1 fit.1 c

@@ -31,7 +31,7 @@ use Rattle.flow_graph.specs.Actions.{effect_step, node_step, graph_thread_step, 
 use Rattle.flow_graph.specs.Lockstep.{Standing, free, threads_standings, GraphThreadMatches, Matches, StepsMatch}
 use Rattle.flow_graph.specs.IdempotentCuts.{Boundaries, IsEdge, IsBoundary, BeginsRegion, IsInside, stays, goes_on, ReadsAt, WritesAt, IsWrittenBefore, AreCuts}
 use Rattle.flow_graph.specs.Paths.{Element, expr_elements, target_elements, reads_of, stored_element, write_of, Visit, solo_path}
-use Rattle.flow_graph.specs.Paths.{ReadsElement, WritesElement, IsWithinRegion, IsReachedFlow, Lies, LiesInOne, LiesInWritten, IsAtNode}
+use Rattle.flow_graph.specs.Paths.{ReadsElement, WritesElement, IsWithinRegion, IsReachedFlow, no_names, Lies, LiesInOne, LiesInWritten, IsAtNode}
 use Rattle.flow_graph.proofs.NodeContinuations.{ActionLeads, chooses, repeats, node_at}
 use Rattle.flow_graph.proofs.Lockstep.{set_same, set_other, found_in, graph_is, lowered_nodes, begins_lockstep, steps_lockstep}
 use Rattle.flow_graph.proofs.Shapes.{ShapedAs, node_shaped}
@@ -142,7 +142,7 @@ OnlyNext next graph_thread effect = Contains (next ∷ []) (moved graph_thread e
 -- an effect goes on at one of the node's successors, or it ends
 pub goes_by : (a : Action) (seen : Seen) (graph_thread : GraphThread) (effect : Effect) → effect_of a seen ≡ Some effect →
     Contains (successors a) (moved graph_thread effect).at ⊎ (effect ≡ Ends)
-goes_by (Eval (e.ToLocal local kind) value next) seen graph_thread effect h = subst (OnlyNext next graph_thread) (sym (effects_same _ effect h)) (inl
+goes_by (Eval (e.ToLocal place local kind) value next) seen graph_thread effect h = subst (OnlyNext next graph_thread) (sym (effects_same _ effect h)) (inl
     (0, omega arith, refl))
 goes_by (Eval (e.ToVariable place variable kind) value next) seen graph_thread effect h =
     subst (OnlyNext next graph_thread) (sym (effects_same _ effect h)) (inl (0, omega arith, refl))
@@ -193,7 +193,7 @@ steps_go_along_edges graph s next t graph_thread after h found there live =
 pub record OwesThere (x : f.Flat) (at : ℕ) (p : Pending) : Type 0 where
   pub node : Node
   pub here : slice_get (threads_nodes x.threads 0) at ≡ Some node
-  pub lies : LiesInWritten node.writes (stored_element p)
+  pub lies : LiesInWritten no_names node.writes (stored_element p)
 
 pub record Good (x : f.Flat) (s : FlowState) : Type 0 where
   pub source : m.State
@@ -272,11 +272,11 @@ module _ (x : f.Flat) (w : IsWellFormed x) (s : FlowState) (good : Good x s) (t 
   -- ---- Locations
 
   reads_lie_by : (h : Here) (node : Node) (a : Action) (one : Element) → ActionLeads all a (standing h) → ShapedAs nodes node a →
-      Contains (reads_of a (seen_by s graph_thread)) one → LiesInOne node.reads one
+      Contains (reads_of a (seen_by s graph_thread)) one → LiesInOne no_names node.reads one
   reads_lie_by h node (Eval target value next) one d shape c =
       let formed = left_formed h (f.Assign d.place target value) d.rest d.is in
       let ks = h.own.it.locals in
-      let P : List Location → Type 0 = λ ls. LiesInOne ls one in
+      let P : List Location → Type 0 = λ ls. LiesInOne no_names ls one in
       subst P (sym shape.reads) (one_of_both (target_elements target (seen_by s graph_thread)) (expr_elements value.expr (seen_by s graph_thread))
       (target_reads target)
       (expr_reads value.expr) one
@@ -287,7 +287,7 @@ module _ (x : f.Flat) (w : IsWellFormed x) (s : FlowState) (good : Good x s) (t 
   reads_lie_by h node (Store variable kind next) one d shape c = absurd (contains_none one c)
   reads_lie_by h node (Test condition holds fails) one d shape c =
       let formed = test_formed h condition holds fails d in
-      let P : List Location → Type 0 = λ ls. LiesInOne ls one in
+      let P : List Location → Type 0 = λ ls. LiesInOne no_names ls one in
       subst P (sym shape.reads)
       (lies_expr x.variables h.own.it.locals graph_thread.locals s.variables (locals_held h) variables_held
       (bounded x w) condition.expr graph_thread.pending one formed.0 formed.1 c)
@@ -297,22 +297,22 @@ module _ (x : f.Flat) (w : IsWellFormed x) (s : FlowState) (good : Good x s) (t 
 
   pub reads_lie_here : (node : Node) (one : Element) → slice_get nodes graph_thread.at ≡ Some node →
       Contains (reads_of node.action (seen_by s graph_thread)) one →
-      LiesInOne node.reads one
+      LiesInOne no_names node.reads one
   reads_lie_here node one at c = reads_lie_by here node node.action one (does_at here node at) (node_shaped x graph_thread.at node at) c
 
   stored_lies : (node : Node) (o : Option Pending) (one : Element) → slice_get nodes graph_thread.at ≡ Some node → graph_thread.pending ≡ o →
-      option_map stored_element o ≡ Some one → LiesInWritten node.writes one
+      option_map stored_element o ≡ Some one → LiesInWritten no_names node.writes one
   stored_lies node None one at is h = cc
   stored_lies node (Some p) one at is h =
       let owes = good.owes t graph_thread p found is in
       let same_node : owes.node ≡ node = let e = owes.here in cc in
       let same_one : stored_element p ≡ one = cc in
-      let P : Node → Type 0 = λ z. LiesInWritten z.writes one in
-      let Q : Element → Type 0 = λ z. LiesInWritten owes.node.writes z in
+      let P : Node → Type 0 = λ z. LiesInWritten no_names z.writes one in
+      let Q : Element → Type 0 = λ z. LiesInWritten no_names owes.node.writes z in
       subst P same_node (subst Q same_one owes.lies)
 
   writes_lie_by : (node : Node) (a : Action) (one : Element) → slice_get nodes graph_thread.at ≡ Some node → write_of a (seen_by s graph_thread) ≡ Some one →
-      LiesInWritten node.writes one
+      LiesInWritten no_names node.writes one
   writes_lie_by node (Eval target value next) one at h = cc
   writes_lie_by node (Store variable kind next) one at h = stored_lies node graph_thread.pending one at refl h
   writes_lie_by node (Test condition holds fails) one at h = cc
@@ -321,7 +321,7 @@ module _ (x : f.Flat) (w : IsWellFormed x) (s : FlowState) (good : Good x s) (t 
   writes_lie_by node End one at h = cc
 
   pub writes_lie_here : (node : Node) (one : Element) → slice_get nodes graph_thread.at ≡ Some node → write_of node.action (seen_by s graph_thread) ≡ Some one →
-      LiesInWritten node.writes one
+      LiesInWritten no_names node.writes one
   writes_lie_here node one at h = writes_lie_by node node.action one at h
 
   -- ---- The store that is pending after a step
@@ -337,7 +337,7 @@ module _ (x : f.Flat) (w : IsWellFormed x) (s : FlowState) (good : Good x s) (t 
   owes_by : (h : Here) (node : Node) (a : Action) (effect : Effect) → ActionLeads all a (standing h) → ShapedAs nodes node a →
       effect_of a (seen_by s graph_thread) ≡ Some effect →
       Owing effect
-  owes_by h node (Eval (e.ToLocal local kind) value next) effect d shape is = subst Owing (sym (effects_same _ effect is)) (λ q i. absurd
+  owes_by h node (Eval (e.ToLocal place local kind) value next) effect d shape is = subst Owing (sym (effects_same _ effect is)) (λ q i. absurd
       (free_idle h _ q d.is i))
   owes_by h node (Eval (e.ToVariable place variable kind) value next) effect d shape is = subst Owing (sym (effects_same _ effect is))
       (λ q i.
@@ -445,11 +445,11 @@ good_reached x s w r = subst (Good x) (sym r.is) (good_after x r.schedule w (gra
 
 pub reads_lie : (x : f.Flat) (s : FlowState) (thread : ℕ) (graph_thread : GraphThread) (node : Node) (read : Element) → IsWellFormed x →
     IsAtNode x s thread graph_thread node →
-    Contains (reads_of node.action (seen_by s graph_thread)) read → LiesInOne node.reads read
+    Contains (reads_of node.action (seen_by s graph_thread)) read → LiesInOne no_names node.reads read
 reads_lie x s thread graph_thread node read w st c =
     reads_lie_here x w s (good_reached x s w st.reached) thread graph_thread st.found node read (nodes_at x graph_thread.at node st.at) c
 
 pub writes_lie : (x : f.Flat) (s : FlowState) (thread : ℕ) (graph_thread : GraphThread) (node : Node) (written : Element) → IsWellFormed x →
-    IsAtNode x s thread graph_thread node → write_of node.action (seen_by s graph_thread) ≡ Some written → LiesInWritten node.writes written
+    IsAtNode x s thread graph_thread node → write_of node.action (seen_by s graph_thread) ≡ Some written → LiesInWritten no_names node.writes written
 writes_lie x s thread graph_thread node written w st h =
     writes_lie_here x w s (good_reached x s w st.reached) thread graph_thread st.found node written (nodes_at x graph_thread.at node st.at) h

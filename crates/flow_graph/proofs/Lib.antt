@@ -4,6 +4,7 @@ mod NodeContinuations
 mod Lockstep
 mod NodeCounts
 mod Shapes
+mod Locations
 mod ElementsInLocations
 mod GraphStateInvariants
 mod Paths

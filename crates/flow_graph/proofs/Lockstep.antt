@@ -111,7 +111,7 @@ module _ (x : f.Flat) (graph_threads : List GraphThread) (threads : List m.Threa
 
     evals : (target : e.Lvalue) (value : e.Placed) (next at : ℕ) (ls : List ℤ) (ended : Bool) (place : Place) (rest : List f.Statement) →
         At all next (after_eval target rest) → ActionLockstep (Eval target value next) at ls None ended (f.Assign place target value ∷ rest)
-    evals (e.ToLocal local kind) value next at ls ended place rest a = one_changes vs hs _ _ (moved next rest _ None ended a)
+    evals (e.ToLocal name local kind) value next at ls ended place rest a = one_changes vs hs _ _ (moved next rest _ None ended a)
     evals (e.ToVariable name variable kind) value next at ls ended place rest a = one_changes vs hs _ _ (moved next rest ls (Some _) ended a)
     evals (e.ToElement name variable kind index) value next at ls ended place rest a = one_changes vs hs _ _ (moved next rest ls (Some _) ended a)
 

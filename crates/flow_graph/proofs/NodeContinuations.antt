@@ -1,6 +1,6 @@
 -- What is left to do at each node of a well formed flat form's graph is what the node does, and then what is left after it.
 use Rattle.std.proofs.Common.{◌≡◌, ◌<◌, refl, ℕ, zero, suc, ◌+◌, List, [], ◌∷◌, ◌++◌, length, sym, ◌∙◌}
-use Rattle.std.proofs.Common.{ap, ap₂, subst, arith, Some, append_assoc, append-nil, length-append}
+use Rattle.std.proofs.Common.{ap, ap₂, subst, arith, Option, Some, None, append_assoc, append-nil, length-append}
 use Rattle.std.specs.Prelude.{slice_get}
 use Rattle.std.specs.List.{AllZip, AllByRecursion}
 use Rattle.ido_base.specs.declared.place.Place.{Place}
@@ -64,7 +64,7 @@ has_itself all = record { each = λ k s g. at_same all k (0 + k) s (omega arith)
 
 -- after an evaluation for a target
 abbrev pub after_eval : e.Lvalue → List f.Statement → Standing
-after_eval (e.ToLocal local kind) rest = free rest
+after_eval (e.ToLocal place local kind) rest = free rest
 after_eval (e.ToVariable place variable kind) rest = owing rest
 after_eval (e.ToElement place variable kind index) rest = owing rest
 
@@ -95,13 +95,13 @@ pub data Tests (all : List Standing) (condition : e.Placed) (holds fails : ℕ) 
 pub record Locks (all : List Standing) (mutex next : ℕ) (s : Standing) : Type 0 where
   pub place : Place
   pub rest : List f.Statement
-  pub is : s ≡ free (f.Lock place mutex ∷ rest)
+  pub is : s ≡ free (f.Lock place (record { mutex = mutex; key = None }) ∷ rest)
   pub follows : At all next (free rest)
 
 pub record Unlocks (all : List Standing) (mutex next : ℕ) (s : Standing) : Type 0 where
   pub place : Place
   pub rest : List f.Statement
-  pub is : s ≡ free (f.Unlock place mutex ∷ rest)
+  pub is : s ≡ free (f.Unlock place (record { mutex = mutex; key = None }) ∷ rest)
   pub follows : At all next (free rest)
 
 abbrev pub ActionLeads : List Standing → Action → Standing → Type 0
@@ -125,7 +125,7 @@ agree_append all (n ∷ ns) ms (s ∷ ss) rs h k = (h.0, agree_append all ns ms 
 
 length-assign_standings : (target : e.Lvalue) (place : Place) (value : e.Placed) (rest : List f.Statement) →
     length (assign_standings place target value rest) ≡ assign_count target
-length-assign_standings (e.ToLocal local kind) place value rest = refl
+length-assign_standings (e.ToLocal name local kind) place value rest = refl
 length-assign_standings (e.ToVariable name variable kind) place value rest = refl
 length-assign_standings (e.ToElement name variable kind index) place value rest = refl
 
@@ -143,8 +143,8 @@ mutual
             (f.While place condition body ∷ rest) ∷ []),
         length-all_standings body (f.While place condition body ∷ rest),
       )
-  length-standings (f.Lock place mutex) rest = refl
-  length-standings (f.Unlock place mutex) rest = refl
+  length-standings (f.Lock place name) rest = refl
+  length-standings (f.Unlock place name) rest = refl
 
   length-all_standings : (xs : f.Statements) (rest : List f.Statement) → length (all_standings xs rest) ≡ statements_count xs
   length-all_standings f.no_statement rest = refl
@@ -170,7 +170,7 @@ entry_end zero first = omega arith
 entry_end (suc n) first = refl
 
 assign_some : (target : e.Lvalue) → 0 < assign_count target
-assign_some (e.ToLocal local kind) = omega arith
+assign_some (e.ToLocal place local kind) = omega arith
 assign_some (e.ToVariable place variable kind) = omega arith
 assign_some (e.ToElement place variable kind index) = omega arith
 
@@ -184,12 +184,12 @@ module _ (x : f.Flat) (ks : List Kind) (all : List Standing) where
   count_some (f.If place arms otherwise) h = omega (arith, arms_some arms h.0)
   count_some (f.While place condition body) h = omega arith
   count_some (f.Do place body condition) h = omega arith
-  count_some (f.Lock place mutex) h = omega arith
-  count_some (f.Unlock place mutex) h = omega arith
+  count_some (f.Lock place name) h = omega arith
+  count_some (f.Unlock place name) h = omega arith
 
   enters_assign : (target : e.Lvalue) (place : Place) (value : e.Placed) (first : ℕ) (rest : List f.Statement) →
       Has all first (assign_standings place target value rest) → At all first (free (f.Assign place target value ∷ rest))
-  enters_assign (e.ToLocal local kind) place value first rest h = has_head all first _ _ h
+  enters_assign (e.ToLocal name local kind) place value first rest h = has_head all first _ _ h
   enters_assign (e.ToVariable name variable kind) place value first rest h = has_head all first _ _ h
   enters_assign (e.ToElement name variable kind index) place value first rest h = has_head all first _ _ h
 
@@ -219,8 +219,8 @@ module _ (x : f.Flat) (ks : List Kind) (all : List Standing) where
         (sym (append_assoc (opened_all body) (f.While place condition body ∷ []) rest))
         (at_same all _ first _ (entry_end (statements_count body) first)
         (enters_all body first (first + statements_count body) again w.0 (has_prefix all first (all_standings body again) (free again ∷ []) h) last))
-    enters (f.Lock place mutex) first rest w h = has_head all first _ _ h
-    enters (f.Unlock place mutex) first rest w h = has_head all first _ _ h
+    enters (f.Lock place name) first rest w h = has_head all first _ _ h
+    enters (f.Unlock place name) first rest w h = has_head all first _ _ h
 
     enters_all : (ys : f.Statements) (first next : ℕ) (rest : List f.Statement) → AreFlatStatements x ks ys → Has all first (all_standings ys rest) →
         At all next (free rest) → At all (entry (statements_count ys) first next) (free (opened_all ys ++ rest))
@@ -236,7 +236,7 @@ module _ (x : f.Flat) (ks : List Kind) (all : List Standing) where
   agree_assign : (target : e.Lvalue) (place : Place) (value : e.Placed) (first next : ℕ) (rest : List f.Statement) →
       Has all first (assign_standings place target value rest) → At all next (free rest) →
       Agree all (assign_nodes place target value first next) (assign_standings place target value rest)
-  agree_assign (e.ToLocal local kind) place value first next rest h a = (record { place = place; rest = rest; is = refl; follows = a }, tt)
+  agree_assign (e.ToLocal name local kind) place value first next rest h a = (record { place = place; rest = rest; is = refl; follows = a }, tt)
   agree_assign (e.ToVariable name variable kind) place value first next rest h a = (
     record { place = place; rest = rest; is = refl; follows = has_head all (suc first) _ _ (has_tail all first _ _ h) },
     (record { rest = rest; is = refl; follows = a }, tt),
@@ -274,8 +274,12 @@ module _ (x : f.Flat) (ks : List Kind) (all : List Standing) where
               (enters_all body first test again w.0 inner there)) a,
           tt,
         )
-    agree (f.Lock place mutex) first next rest w h a = (record { place = place; rest = rest; is = refl; follows = a }, tt)
-    agree (f.Unlock place mutex) first next rest w h a = (record { place = place; rest = rest; is = refl; follows = a }, tt)
+    agree (f.Lock place name) first next rest w h a =
+        let P : Option e.Placed → Standing = λ key. free (f.Lock place (record { mutex = name.mutex; key = key }) ∷ rest) in
+        (record { place = place; rest = rest; is = ap P w.1; follows = a }, tt)
+    agree (f.Unlock place name) first next rest w h a =
+        let P : Option e.Placed → Standing = λ key. free (f.Unlock place (record { mutex = name.mutex; key = key }) ∷ rest) in
+        (record { place = place; rest = rest; is = ap P w.1; follows = a }, tt)
 
     agree_all : (ys : f.Statements) (first next : ℕ) (rest : List f.Statement) → AreFlatStatements x ks ys → Has all first (all_standings ys rest) →
         At all next (free rest) → Agree all (statements_nodes ys first next) (all_standings ys rest)

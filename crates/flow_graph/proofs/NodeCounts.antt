@@ -9,7 +9,7 @@ use Rattle.flow_graph.specs.Lowering.{thread_count, entry, statement_nodes, stat
 
 length-assign_nodes : (target : e.Lvalue) (place : Place) (value : e.Placed) (first next : ℕ) →
     length (assign_nodes place target value first next) ≡ assign_count target
-length-assign_nodes (e.ToLocal local kind) place value first next = refl
+length-assign_nodes (e.ToLocal name local kind) place value first next = refl
 length-assign_nodes (e.ToVariable name variable kind) place value first next = refl
 length-assign_nodes (e.ToElement name variable kind index) place value first next = refl
 
@@ -28,8 +28,8 @@ mutual
             (test_node place condition first next ∷ []),
         length-statements_nodes body first (first + statements_count body),
       )
-  length-statement_nodes (f.Lock place mutex) first next = refl
-  length-statement_nodes (f.Unlock place mutex) first next = refl
+  length-statement_nodes (f.Lock place name) first next = refl
+  length-statement_nodes (f.Unlock place name) first next = refl
 
   pub length-statements_nodes : (xs : f.Statements) (first next : ℕ) → length (statements_nodes xs first next) ≡ statements_count xs
   length-statements_nodes f.no_statement first next = refl

@@ -30,10 +30,11 @@ use Rattle.flow_graph.specs.Actions.{effect_step, node_step, graph_thread_step, 
 use Rattle.flow_graph.specs.Lockstep.{Standing, free, threads_standings, GraphThreadMatches, Matches, StepsMatch}
 use Rattle.flow_graph.specs.IdempotentCuts.{Boundaries, IsEdge, IsBoundary, BeginsRegion, IsInside, stays, goes_on, ReadsAt, WritesAt, IsWrittenBefore, AreCuts}
 use Rattle.flow_graph.specs.Paths.{Element, expr_elements, target_elements, reads_of, stored_element, write_of, Visit, solo_path}
-use Rattle.flow_graph.specs.Paths.{ReadsElement, WritesElement, IsWithinRegion, IsReachedFlow, Lies, LiesInOne, LiesInWritten, IsAtNode}
+use Rattle.flow_graph.specs.Paths.{ReadsElement, WritesElement, IsWithinRegion, IsReachedFlow, no_names, Lies, LiesInOne, LiesInWritten, IsAtNode}
 use Rattle.flow_graph.proofs.NodeContinuations.{ActionLeads, chooses, repeats, node_at}
 use Rattle.flow_graph.proofs.Lockstep.{set_same, set_other, found_in, graph_is, lowered_nodes, begins_lockstep, steps_lockstep}
 use Rattle.flow_graph.proofs.Shapes.{ShapedAs, node_shaped}
+use Rattle.flow_graph.proofs.Locations.{common_overlaps, none_apart, same_element}
 use Rattle.flow_graph.proofs.ElementsInLocations.{contains_none, one_of_both, lies_scalar, lies_element, lies_expr, lies_target}
 use Rattle.flow_graph.proofs.GraphStateInvariants.{reads_lie_here, writes_lie_here, Stepped, stepped, moved, effects_same, goes_by}
 use Rattle.flow_graph.proofs.GraphStateInvariants.{after_is, not_again, Done, Good, nodes_at, good_step, after_by, good_reached}
@@ -46,7 +47,7 @@ ends_store next None h = cc
 ends_store next (Some p) h = cc
 
 ends_at_end : (a : Action) (seen : Seen) → effect_of a seen ≡ Some Ends → a ≡ End
-ends_at_end (Eval (e.ToLocal local kind) value next) seen h = cc
+ends_at_end (Eval (e.ToLocal place local kind) value next) seen h = cc
 ends_at_end (Eval (e.ToVariable place variable kind) value next) seen h = cc
 ends_at_end (Eval (e.ToElement place variable kind index) value next) seen h = cc
 ends_at_end (Store variable kind next) seen h = absurd (ends_store next seen.pending h)
@@ -245,42 +246,13 @@ inside graph b v (u ∷ path) edge free =
     goes_on v.graph_thread.at u.graph_thread.at (numbers path) (edge 0 v u refl refl) (free 0 v u refl refl)
     (inside graph b u path (λ i one next h k. edge (suc i) one next h k) (λ i one next h k. free (suc i) one next h k))
 
--- ---- Locations of one element
+-- ---- The location of a node
 
-overlaps : (l r : Location) (one : Element) → Lies l one → Lies r one → overlap l r ≡ true
-overlaps l r one h k =
-    let v : l.variable ≡ r.variable = h.variable ∙ sym k.variable in
-    let a : l.lo ≤ r.hi = omega (arith, h.from_lo, k.to_hi) in
-    let b : r.lo ≤ l.hi = omega (arith, k.from_lo, h.to_hi) in
-    grind (arith, nat_tests)
-
-record IsSame (l r : Location) : Type 0 where
-  variable : l.variable ≡ r.variable
-  left : l.lo ≡ l.hi
-  right : r.lo ≡ r.hi
-  both : l.lo ≡ r.lo
-
-same_is : (l r : Location) → same l r ≡ true → IsSame l r
-same_is l r h = record {
-  variable = grind (arith, nat_tests);
-  left = grind (arith, nat_tests);
-  right = grind (arith, nat_tests);
-  both = grind
-      (arith, nat_tests);
-}
-
-very_same : (l r : Location) (one other : Element) → same l r ≡ true → Lies l one → Lies r other → one ≡ other
-very_same l r one other s h k =
-    let is = same_is l r s in
-    let v : one.variable ≡ other.variable = sym h.variable ∙ (is.variable ∙ k.variable) in
-    let n : one.element ≡ other.element = omega (arith, is.left, is.right, is.both, h.from_lo, h.to_hi, k.from_lo, k.to_hi) in
-    λ i. record { variable = v i; element = n i }
-
-lies_in : (ls : Option Location) (l : Location) (one : Element) → LiesInWritten ls one → ls ≡ Some l → Lies l one
+lies_in : (ls : Option Location) (l : Location) (one : Element) → LiesInWritten no_names ls one → ls ≡ Some l → Lies no_names l one
 lies_in ls l one h is =
     let of = h.of in
     let same_location : h.location ≡ l = cc in
-    let P : Location → Type 0 = λ z. Lies z one in
+    let P : Location → Type 0 = λ z. Lies no_names z one in
     subst P same_location h.lies
 
 -- ---- Reads are right
@@ -328,18 +300,18 @@ module _ (x : f.Flat) (w : IsWellFormed x) (t : ℕ) (visit : Visit) (v : IsVisi
       subst P same_node (subst Q same_graph_thread st.does)
 
   writes_here : (l : Location) (made : Element) → node.writes ≡ Some l →
-      write_of node.action (seen_by visit.before visit.graph_thread) ≡ Some made → Lies l made
+      write_of node.action (seen_by visit.before visit.graph_thread) ≡ Some made → Lies no_names l made
   writes_here l made is h =
       lies_in node.writes l made (writes_lie_here x w visit.before v.good t visit.graph_thread v.found node made (nodes_at x visit.graph_thread.at node at) h)
       is
 
-  written_at : (l r : Location) (one : Element) → node.writes ≡ Some l → same l r ≡ true → Lies r one →
+  written_at : (l r : Location) (one : Element) → node.writes ≡ Some l → same l r ≡ true → Lies no_names r one →
       write_of node.action (seen_by visit.before visit.graph_thread) ≡ Some one
   written_at l r one is lockstep lies =
       let st = stepped (lowered x) visit.before v.next t v.step in
       let made = written_by (threads_nodes x.threads 0) node.action node (seen_by visit.before visit.graph_thread) st.effect l
       (node_shaped x visit.graph_thread.at node (nodes_at x visit.graph_thread.at node at)) is (does_here st) in
-      made.1 ∙ ap Some (very_same l r made.0 one lockstep (writes_here l made.0 is made.1) lies)
+      made.1 ∙ ap Some (same_element no_names l r made.0 one lockstep (writes_here l made.0 is made.1) lies)
 
 module _ (x : f.Flat) (b : Boundaries) (s : FlowState) (t n : ℕ) (w : IsWellFormed x) (cuts : AreCuts (lowered x) b) (good : Good x s)
     (region : IsWithinRegion (lowered x) b (solo_path (lowered x) s t n)) where
@@ -363,12 +335,12 @@ module _ (x : f.Flat) (b : Boundaries) (s : FlowState) (t n : ℕ) (w : IsWellFo
         ∙ a) (ap (λ (p : List Visit). slice_get p (suc j)) (sym is) ∙ c)),
   )
 
-  read_location : (i : ℕ) (one : Element) (r : ReadsElement (lowered x) path i one) → LiesInOne r.is.reads one
+  read_location : (i : ℕ) (one : Element) (r : ReadsElement (lowered x) path i one) → LiesInOne no_names r.is.reads one
   read_location i one r =
       let v = visits x w t n s good i r.visit r.there in
       reads_lie_here x w r.visit.before v.good t r.visit.graph_thread v.found r.is one (nodes_at x r.visit.graph_thread.at r.is r.at) r.reads
 
-  write_location : (j : ℕ) (one : Element) (r : WritesElement (lowered x) path j one) → LiesInWritten r.is.writes one
+  write_location : (j : ℕ) (one : Element) (r : WritesElement (lowered x) path j one) → LiesInWritten no_names r.is.writes one
   write_location j one r =
       let v = visits x w t n s good j r.visit r.there in
       writes_lie_here x w r.visit.before v.good t r.visit.graph_thread v.found r.is one (nodes_at x r.visit.graph_thread.at r.is r.at) r.writes
@@ -384,7 +356,7 @@ module _ (x : f.Flat) (b : Boundaries) (s : FlowState) (t n : ℕ) (w : IsWellFo
       not_both r.is.action (seen_by r.visit.before r.visit.graph_thread) one other r.reads (subst Q (sym same_visit) (subst P (sym same_node) q.writes))
 
   -- what was written at a node that writes the very element
-  written_there : (k : ℕ) (l r : Location) (one : Element) → WritesAt (lowered x) (numbers path) k l → same l r ≡ true → Lies r one →
+  written_there : (k : ℕ) (l r : Location) (one : Element) → WritesAt (lowered x) (numbers path) k l → same l r ≡ true → Lies no_names r one →
       WritesElement (lowered x) path k one
   written_there k l r one q is lies =
       let found = visit_at path k q.node q.there in
@@ -414,7 +386,7 @@ module _ (x : f.Flat) (b : Boundaries) (s : FlowState) (t n : ℕ) (w : IsWellFo
       record { node = q.visit.graph_thread.at; is = q.is; there = number_at path j q.visit q.there; at = q.at; writes = wrote.of } in
       let before = subst R (sym within.2) (cuts.idempotent within.0 within.1 within.3 within.4 i j read.location wrote.location earlier
       (subst P within.2 reads)
-      (subst Q within.2 writes) (overlaps wrote.location read.location one wrote.lies read.lies)) in
+      (subst Q within.2 writes) (common_overlaps no_names wrote.location read.location one none_apart wrote.lies read.lies)) in
       (before.earlier, before.before, written_there before.earlier before.written read.location one before.writes before.is read.lies)
 
 pub reads_are_right : (x : f.Flat) (b : Boundaries) (s : FlowState) (thread steps : ℕ) → IsWellFormed x → AreCuts (lowered x) b → IsReachedFlow x s →

@@ -53,7 +53,7 @@ pub record WritesThere (all : List Node) (next : ℕ) (l : Location) : Type 0 wh
   pub writes : node.writes ≡ Some l
 
 abbrev pub OwedAt : List Node → e.Lvalue → (next : ℕ) → Type 0
-OwedAt all (e.ToLocal local kind) next = Unit {0}
+OwedAt all (e.ToLocal place local kind) next = Unit {0}
 OwedAt all (e.ToVariable place variable kind) next = WritesThere all next (scalar variable)
 OwedAt all (e.ToElement place variable kind index) next = WritesThere all next (elements variable (range_of index.expr))
 
@@ -84,7 +84,7 @@ module _ (all : List Node) where
 
   shaped_assign : (target : e.Lvalue) (place : Place) (value : e.Placed) (first next : ℕ) → Has all first (assign_nodes place target value first next) →
       AllShaped all (assign_nodes place target value first next)
-  shaped_assign (e.ToLocal local kind) place value first next h = (record { reads = refl; writes = refl; owed = tt }, tt)
+  shaped_assign (e.ToLocal name local kind) place value first next h = (record { reads = refl; writes = refl; owed = tt }, tt)
   shaped_assign (e.ToVariable name variable kind) place value first next h = (
     record {
       reads = refl;
@@ -128,8 +128,8 @@ module _ (all : List Node) where
         let prefix = statements_nodes body first (first + statements_count body) in
         joined prefix (test_node place condition first next ∷ []) (shaped_all body first (first + statements_count body) (has_prefix all first prefix _ h))
         (record { reads = refl; writes = refl }, tt)
-    shaped (f.Lock place mutex) first next h = (refl, tt)
-    shaped (f.Unlock place mutex) first next h = (refl, tt)
+    shaped (f.Lock place name) first next h = (refl, tt)
+    shaped (f.Unlock place name) first next h = (refl, tt)
 
     shaped_all : (ys : f.Statements) (first next : ℕ) → Has all first (statements_nodes ys first next) → AllShaped all (statements_nodes ys first next)
     shaped_all f.no_statement first next h = tt

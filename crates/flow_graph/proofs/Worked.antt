@@ -47,9 +47,9 @@ counting = record {
     name = name (codes "t") 7;
     locals = kind.Int ∷ [];
     body = all_of (
-        f.Assign (at 11) (e.ToLocal 0 kind.Int) (placed 24 (int 0)) ∷
+        f.Assign (at 11) (e.ToLocal (at 16) 0 kind.Int) (placed 24 (int 0)) ∷
         f.While (at 11) (placed 27 (e.Binary b.Less (e.Local 0 kind.Int) (int 2)))
-        (all_of (f.Assign (at 11) (e.ToLocal 0 kind.Int) (placed 34 (e.Binary b.Add (e.Local 0 kind.Int) (int 1))) ∷ [])) ∷ []);
+        (all_of (f.Assign (at 11) (e.ToLocal (at 34) 0 kind.Int) (placed 34 (e.Binary b.Add (e.Local 0 kind.Int) (int 1))) ∷ [])) ∷ []);
     closing = at 43;
   } ∷ [];
 }
@@ -104,14 +104,14 @@ dead_after = not_live (lowered counting) 0 3 _ refl refl (inr refl)
 -- ---- A section
 
 abbrev scalar : ℕ → Location
-scalar variable = record { variable = variable; lo = 0; hi = 0 }
+scalar variable = record { variable = variable; lo = 0; hi = 0; key = None }
 
 abbrev x : ℕ → e.Expr
 x place = e.Variable (at place) 0 kind.Long
 
 abbrev one_thread : List f.Statement → ℕ → f.Flat
 one_thread body closing = record {
-  mutexes = name (codes "m") 6 ∷ [];
+  mutexes = record { name = name (codes "m") 6; length = None } ∷ [];
   variables = [];
   threads = record { name = name (codes "t") 39; locals = kind.Long ∷ []; body = all_of body; closing = at closing } ∷ [];
 }
@@ -119,9 +119,9 @@ one_thread body closing = record {
 -- `mutex m; persistent(m) long x = 5; thread t { lock(m); x = x + 1; unlock(m); }`
 abbrev section : f.Flat
 section = one_thread (
-    f.Lock (at 46) 0 ∷
+    f.Lock (at 46) (record { mutex = 0; key = None }) ∷
     f.Assign (at 55) (e.ToVariable (at 55) 0 kind.Long) (placed 59 (e.Binary b.Add (x 59) (e.Converted kind.Long (int 1)))) ∷
-    f.Unlock (at 66) 0 ∷ []) 77
+    f.Unlock (at 66) (record { mutex = 0; key = None }) ∷ []) 77
 
 section_edges : edges (lowered section) ≡ (1 ∷ []) ∷ (2 ∷ []) ∷ (3 ∷ []) ∷ (4 ∷ []) ∷ [] ∷ []
 unfolding lowered
@@ -145,8 +145,9 @@ section_writes = refl
 -- `if (1) { lock(m); } else if (2) { } else { unlock(m); } do { } while (3); while (4) { }`
 abbrev choices : List f.Statement
 choices =
-    f.If (at 10) (f.arm_and (placed 14 (int 1)) (all_of (f.Lock (at 19) 0 ∷ [])) (f.arm_and (placed 40 (int 2)) f.no_statement f.no_arm))
-    (all_of (f.Unlock (at 54) 0 ∷ [])) ∷
+    f.If (at 10) (f.arm_and (placed 14 (int 1)) (all_of (f.Lock (at 19) (record { mutex = 0; key = None }) ∷ []))
+    (f.arm_and (placed 40 (int 2)) f.no_statement f.no_arm))
+    (all_of (f.Unlock (at 54) (record { mutex = 0; key = None }) ∷ [])) ∷
     f.Do (at 67) f.no_statement (placed 80 (int 3)) ∷
     f.While (at 84) (placed 91 (int 4)) f.no_statement ∷ []
 
@@ -154,7 +155,7 @@ abbrev thread : f.Thread
 thread = record { name = name (codes "t") 7; locals = []; body = all_of choices; closing = at 98 }
 
 abbrev two_threads : f.Flat
-two_threads = record { mutexes = name (codes "m") 6 ∷ []; variables = []; threads = thread ∷ thread ∷ [] }
+two_threads = record { mutexes = record { name = name (codes "m") 6; length = None } ∷ []; variables = []; threads = thread ∷ thread ∷ [] }
 
 -- a condition without a part of its own has the next node on both paths; the numbers of the second thread go on from the first's
 choices_edges : edges (lowered two_threads) ≡
@@ -171,7 +172,7 @@ choices_places = refl
 -- ---- Elements
 
 abbrev elements : ℕ → ℕ → Location
-elements lo hi = record { variable = 1; lo = lo; hi = hi }
+elements lo hi = record { variable = 1; lo = lo; hi = hi; key = None }
 
 -- `a[i & 7] = a[3] + i;`, where a is the second variable
 abbrev array : f.Flat

@@ -7,6 +7,7 @@ use Rattle.ido_ints.specs.declared.operators.Binary.TheVariants as b
 use Rattle.ido_ints.specs.TypedNumbers.{typed}
 use Rattle.ido_ints.specs.Reduction.{residue, from_least_on}
 use Rattle.c_tree.specs.Exprs as e
+use Rattle.c_tree.specs.Programs.{By}
 use Rattle.c_tree.specs.Flats as f
 use Rattle.flow_graph.specs.Nodes.{Eval, Store, Test}
 use Rattle.flow_graph.specs.Lowering.{lowered}
@@ -29,7 +30,7 @@ abbrev seen : Seen
 seen = record { locals = pos 3 ∷ pos 0 ∷ []; pending = None; variables = (pos 7 ∷ pos 8 ∷ []) ∷ [] }
 
 -- what is kept in a local is converted to its kind
-sets : effect_of (Eval (e.ToLocal 1 kind.UnsignedInt) (placed (e.Binary b.Sub (e.Local 1 kind.Int) (int 1))) 5) seen ≡ Some (Sets 1 (pos 4294967295) 5)
+sets : effect_of (Eval (e.ToLocal (at 0) 1 kind.UnsignedInt) (placed (e.Binary b.Sub (e.Local 1 kind.Int) (int 1))) 5) seen ≡ Some (Sets 1 (pos 4294967295) 5)
 unfolding residue from_least_on
 sets = refl
 
@@ -51,14 +52,14 @@ fails = refl
 -- `mutex m; persistent(m) long x = 5; thread t { lock(m); x = 6; unlock(m); }`
 abbrev section : f.Flat
 section = record {
-  mutexes = record { text = codes "m"; place = at 6 } ∷ [];
-  variables = record { name = record { text = codes "x"; place = at 28 }; guard = 0; kind = kind.Long; length = None; initial = pos 5 ∷ [] } ∷ [];
+  mutexes = record { name = record { text = codes "m"; place = at 6 }; length = None } ∷ [];
+  variables = record { name = record { text = codes "x"; place = at 28 }; guard = By 0; kind = kind.Long; length = None; initial = pos 5 ∷ [] } ∷ [];
   threads = record {
     name = record { text = codes "t"; place = at 42 };
     locals = [];
-    body = f.statement_and (f.Lock (at 46) 0)
+    body = f.statement_and (f.Lock (at 46) (record { mutex = 0; key = None }))
         (f.statement_and (f.Assign (at 55) (e.ToVariable (at 55) 0 kind.Long) (placed (e.Converted kind.Long (int 6))))
-        (f.statement_and (f.Unlock (at 66) 0) f.no_statement));
+        (f.statement_and (f.Unlock (at 66) (record { mutex = 0; key = None })) f.no_statement));
     closing = at 77;
   } ∷ [];
 }

@@ -42,7 +42,7 @@ element_in seen x = element_at (value seen.locals seen.variables x)
 
 -- a store is made only where one is pending
 abbrev pub effect_of : Action → Seen → Option Effect
-effect_of (Eval (ToLocal local kind) x next) seen = Some (Sets local (reduced kind (number_in seen x.expr)) next)
+effect_of (Eval (ToLocal place local kind) x next) seen = Some (Sets local (reduced kind (number_in seen x.expr)) next)
 effect_of (Eval (ToVariable place variable kind) x next) seen =
     Some (Owes (record { variable = variable; element = 0; number = reduced kind (number_in seen x.expr) }) next)
 effect_of (Eval (ToElement place variable kind index) x next) seen =

@@ -24,7 +24,7 @@ owing left = record { left = left; owes = true }
 
 -- of an assignment with `rest` after it: the store of a variable has a node of its own
 abbrev pub assign_standings : Place → e.Lvalue → e.Placed → (rest : List f.Statement) → List Standing
-assign_standings place (e.ToLocal local kind) value rest = free (f.Assign place (e.ToLocal local kind) value ∷ rest) ∷ []
+assign_standings place (e.ToLocal name local kind) value rest = free (f.Assign place (e.ToLocal name local kind) value ∷ rest) ∷ []
 assign_standings place (e.ToVariable name variable kind) value rest =
     free (f.Assign place (e.ToVariable name variable kind) value ∷ rest) ∷ owing rest ∷ []
 assign_standings place (e.ToElement name variable kind index) value rest =
@@ -39,8 +39,8 @@ abbrev mutual
       free (f.While place condition body ∷ rest) ∷ all_standings body (f.While place condition body ∷ rest)
   standings (f.Do place body condition) rest =
       all_standings body (f.While place condition body ∷ rest) ++ free (f.While place condition body ∷ rest) ∷ []
-  standings (f.Lock place mutex) rest = free (f.Lock place mutex ∷ rest) ∷ []
-  standings (f.Unlock place mutex) rest = free (f.Unlock place mutex ∷ rest) ∷ []
+  standings (f.Lock place name) rest = free (f.Lock place name ∷ rest) ∷ []
+  standings (f.Unlock place name) rest = free (f.Unlock place name ∷ rest) ∷ []
 
   pub all_standings : f.Statements → (rest : List f.Statement) → List Standing
   all_standings f.no_statement rest = []

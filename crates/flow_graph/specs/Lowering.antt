@@ -5,22 +5,12 @@ use Rattle.ido_base.specs.declared.location.Location.{Location}
 use Rattle.ido_ints.specs.declared.kinds.Kind.{Kind}
 use Rattle.c_tree.specs.Exprs as e
 use Rattle.c_tree.specs.Flats as f
+use Rattle.c_tree.specs.LockDiscipline.{expr_locals}
 use Rattle.c_tree.specs.Ranges.{Interval, range_of}
 use Rattle.flow_graph.specs.declared.graph.Part.{Part}
 use Rattle.flow_graph.specs.Nodes.{Action, Eval, Store, Test, Lock, Unlock, End, Node, Graph}
 
--- ---- What an expression reads
-
-abbrev pub expr_locals : e.Expr → List ℕ
-expr_locals (e.Constant value) = []
-expr_locals (e.Local local kind) = local ∷ []
-expr_locals (e.Variable place variable kind) = []
-expr_locals (e.Element place variable kind index_place index) = expr_locals index
-expr_locals (e.Unary operator operand) = expr_locals operand
-expr_locals (e.Cast kind operand) = expr_locals operand
-expr_locals (e.Converted kind operand) = expr_locals operand
-expr_locals (e.Binary operator left right) = expr_locals left ++ expr_locals right
-expr_locals (e.Conditional kind condition chosen otherwise) = expr_locals condition ++ expr_locals chosen ++ expr_locals otherwise
+-- ---- What an expression reads of variables
 
 -- the number of an element: an end of an index's range, which an array's elements hold where the index fits
 abbrev pub element_number : ℤ → ℕ
@@ -29,11 +19,11 @@ element_number (negsuc n) = 0
 
 -- the elements that an index may name
 abbrev pub elements : (variable : ℕ) → Interval → Location
-elements variable range = record { variable = variable; lo = element_number range.lo; hi = element_number range.hi }
+elements variable range = record { variable = variable; lo = element_number range.lo; hi = element_number range.hi; key = None }
 
 -- a variable that is no array has one element
 abbrev pub scalar : (variable : ℕ) → Location
-scalar variable = record { variable = variable; lo = 0; hi = 0 }
+scalar variable = record { variable = variable; lo = 0; hi = 0; key = None }
 
 abbrev pub expr_reads : e.Expr → List Location
 expr_reads (e.Constant value) = []
@@ -50,17 +40,17 @@ expr_reads (e.Conditional kind condition chosen otherwise) = expr_reads conditio
 
 -- the index of an element is read before the value
 abbrev pub target_locals : e.Lvalue → List ℕ
-target_locals (e.ToLocal local kind) = []
+target_locals (e.ToLocal place local kind) = []
 target_locals (e.ToVariable place variable kind) = []
 target_locals (e.ToElement place variable kind index) = expr_locals index.expr
 
 abbrev pub target_reads : e.Lvalue → List Location
-target_reads (e.ToLocal local kind) = []
+target_reads (e.ToLocal place local kind) = []
 target_reads (e.ToVariable place variable kind) = []
 target_reads (e.ToElement place variable kind index) = expr_reads index.expr
 
 abbrev pub target_local : e.Lvalue → Option ℕ
-target_local (e.ToLocal local kind) = Some local
+target_local (e.ToLocal place local kind) = Some local
 target_local (e.ToVariable place variable kind) = None
 target_local (e.ToElement place variable kind index) = None
 
@@ -94,7 +84,7 @@ store_node place variable kind location next =
 
 -- an assignment of a variable has a second node, the store
 abbrev pub assign_nodes : Place → e.Lvalue → e.Placed → (first next : ℕ) → List Node
-assign_nodes place (e.ToLocal local kind) value first next = eval_node place (e.ToLocal local kind) value next ∷ []
+assign_nodes place (e.ToLocal name local kind) value first next = eval_node place (e.ToLocal name local kind) value next ∷ []
 assign_nodes place (e.ToVariable name variable kind) value first next =
     eval_node place (e.ToVariable name variable kind) value (suc first) ∷ store_node place variable kind (scalar variable) next ∷ []
 assign_nodes place (e.ToElement name variable kind index) value first next =
@@ -104,7 +94,7 @@ assign_nodes place (e.ToElement name variable kind index) value first next =
 -- ---- How many nodes
 
 abbrev pub assign_count : e.Lvalue → ℕ
-assign_count (e.ToLocal local kind) = 1
+assign_count (e.ToLocal place local kind) = 1
 assign_count (e.ToVariable place variable kind) = 2
 assign_count (e.ToElement place variable kind index) = 2
 
@@ -114,8 +104,8 @@ abbrev mutual
   count (f.If place arms otherwise) = arms_count arms + statements_count otherwise
   count (f.While place condition body) = suc (statements_count body)
   count (f.Do place body condition) = suc (statements_count body)
-  count (f.Lock place mutex) = 1
-  count (f.Unlock place mutex) = 1
+  count (f.Lock place name) = 1
+  count (f.Unlock place name) = 1
 
   pub statements_count : f.Statements → ℕ
   statements_count f.no_statement = 0
@@ -149,8 +139,8 @@ abbrev mutual
   -- the test stands after the body
   statement_nodes (f.Do place body condition) first next =
       statements_nodes body first (first + statements_count body) ++ test_node place condition first next ∷ []
-  statement_nodes (f.Lock place mutex) first next = plain_node place (Lock mutex next) ∷ []
-  statement_nodes (f.Unlock place mutex) first next = plain_node place (Unlock mutex next) ∷ []
+  statement_nodes (f.Lock place name) first next = plain_node place (Lock name.mutex next) ∷ []
+  statement_nodes (f.Unlock place name) first next = plain_node place (Unlock name.mutex next) ∷ []
 
   pub statements_nodes : f.Statements → (first next : ℕ) → List Node
   statements_nodes f.no_statement first next = []

@@ -2,6 +2,7 @@
 use Rattle.std.specs.Prelude.{◌≡◌, ℕ, zero, suc, ◌<◌, ◌≤◌, List, [], ◌∷◌, ◌++◌, length, replicate, slice_get, Contains, Option, Some, None, true}
 use Rattle.std.specs.Option.{option_map}
 use Rattle.ido_base.specs.declared.location.Location.{Location}
+use Rattle.ido_base.specs.Locations.{overlap, same}
 use Rattle.c_tree.specs.Exprs as e
 use Rattle.c_tree.specs.Flats as f
 use Rattle.c_tree.specs.Source.{Pending}
@@ -35,7 +36,7 @@ expr_elements (e.Conditional kind condition chosen otherwise) seen =
     expr_elements condition seen ++ expr_elements chosen seen ++ expr_elements otherwise seen
 
 abbrev pub target_elements : e.Lvalue → Seen → List Element
-target_elements (e.ToLocal local kind) seen = []
+target_elements (e.ToLocal place local kind) seen = []
 target_elements (e.ToVariable place variable kind) seen = []
 target_elements (e.ToElement place variable kind index) seen = expr_elements index.expr seen
 
@@ -106,21 +107,43 @@ pub record IsReachedFlow (x : f.Flat) (s : FlowState) : Type 0 where
   pub schedule : List ℕ
   pub is : s ≡ graph_after (lowered x) (graph_start (lowered x) x) schedule
 
--- the location has the element
-pub record Lies (l : Location) (one : Element) : Type 0 where
+-- which element of a variable each key names, where it names one
+abbrev pub Naming : Type 0
+Naming = (variable key : ℕ) → Option ℕ
+
+-- two keys name two elements of a variable
+abbrev pub AreApart : Naming → Type 0
+AreApart names = (variable one other element : ℕ) → names variable one ≡ Some element → names variable other ≡ Some element → one ≡ other
+
+-- no key names an element
+abbrev pub no_names : Naming
+no_names variable key = None
+
+-- the location has the element: it is of its range, and the one that its key names, where it has one
+pub record Lies (names : Naming) (l : Location) (one : Element) : Type 0 where
   pub variable : l.variable ≡ one.variable
   pub from_lo : l.lo ≤ one.element
   pub to_hi : one.element ≤ l.hi
+  pub by_key : (key : ℕ) → l.key ≡ Some key → names one.variable key ≡ Some one.element
 
-pub record LiesInOne (ls : List Location) (one : Element) : Type 0 where
+pub record LiesInOne (names : Naming) (ls : List Location) (one : Element) : Type 0 where
   pub location : Location
   pub of : Contains ls location
-  pub lies : Lies location one
+  pub lies : Lies names location one
 
-pub record LiesInWritten (l : Option Location) (one : Element) : Type 0 where
+pub record LiesInWritten (names : Naming) (l : Option Location) (one : Element) : Type 0 where
   pub location : Location
   pub of : l ≡ Some location
-  pub lies : Lies location one
+  pub lies : Lies names location one
+
+-- two locations that have one element overlap, whatever the keys name
+abbrev pub CommonElementsOverlap : Type 0
+CommonElementsOverlap = (names : Naming) (l r : Location) (one : Element) → AreApart names → Lies names l one → Lies names r one → overlap l r ≡ true
+
+-- two locations that are the same have one element, whatever the keys name
+abbrev pub SameHaveOneElement : Type 0
+SameHaveOneElement =
+    (names : Naming) (l r : Location) (one other : Element) → same l r ≡ true → Lies names l one → Lies names r other → one ≡ other
 
 -- a thread at a node, in a state that is reached
 pub record IsAtNode (x : f.Flat) (s : FlowState) (thread : ℕ) (graph_thread : GraphThread) (node : Node) : Type 0 where
@@ -133,12 +156,12 @@ abbrev pub ReadsLie : Type 0
 ReadsLie =
     (x : f.Flat) (s : FlowState) (thread : ℕ) (graph_thread : GraphThread) (node : Node) (read : Element) → IsWellFormed x →
     IsAtNode x s thread graph_thread node →
-    Contains (reads_of node.action (seen_by s graph_thread)) read → LiesInOne node.reads read
+    Contains (reads_of node.action (seen_by s graph_thread)) read → LiesInOne no_names node.reads read
 
 -- what a node writes lies in the location that it writes
 abbrev pub WritesLie : Type 0
 WritesLie = (x : f.Flat) (s : FlowState) (thread : ℕ) (graph_thread : GraphThread) (node : Node) (written : Element) → IsWellFormed x →
-    IsAtNode x s thread graph_thread node → write_of node.action (seen_by s graph_thread) ≡ Some written → LiesInWritten node.writes written
+    IsAtNode x s thread graph_thread node → write_of node.action (seen_by s graph_thread) ≡ Some written → LiesInWritten no_names node.writes written
 
 -- a visit of a solo path is made after as many steps of the thread as there are before it
 abbrev pub VisitsAreRuns : Type 0

@@ -1,6 +1,7 @@
 //! Laws of flow graphs: nothing is computed here.
 ghost use Rattle.flow_graph.specs.Lockstep.{BeginsLockstep, StepsLockstep, RunsLockstep};
-ghost use Rattle.flow_graph.specs.Paths.{ReadsAreRight, ReadsLie, RunsAreVisited, StepsGoAlongEdges, VisitsAreRuns, WritesLie};
+ghost use Rattle.flow_graph.specs.Paths.{CommonElementsOverlap, ReadsAreRight, ReadsLie, RunsAreVisited, SameHaveOneElement, StepsGoAlongEdges};
+ghost use Rattle.flow_graph.specs.Paths.{VisitsAreRuns, WritesLie};
 
 /// A source and the flow graph of its well formed flat form step in lockstep, on every schedule: the same variables, holders, locals and
 /// pending stores, the same steps that are there or not, and the same sections that end.
@@ -15,6 +16,13 @@ pub fn graph_and_source_step_lockstep()
 pub fn elements_lie_in_locations()
     ensures reads { ReadsLie }
     ensures writes { WritesLie }
+{}
+
+/// Whatever elements the keys name, as long as two keys name two: locations that have an element in common overlap, and locations that are
+/// the same have but one element.
+pub fn locations_tell_elements()
+    ensures overlap { CommonElementsOverlap }
+    ensures same { SameHaveOneElement }
 {}
 
 /// The path of one thread alone is what its own steps make, one after another, and it goes along edges.

@@ -2,7 +2,8 @@
 ghost use Rattle.std.specs.Prelude.{◌≡◌, ◌++◌, IfOk};
 ghost use Rattle.c_tree.specs.Exprs.{expr_of};
 ghost use Rattle.c_tree.specs.Ranges.{range_of};
-ghost use Rattle.flow_graph.specs.Lowering.{element_number, elements, expr_locals, expr_reads};
+ghost use Rattle.c_tree.specs.LockDiscipline.{expr_locals};
+ghost use Rattle.flow_graph.specs.Lowering.{element_number, elements, expr_reads};
 
 use c_ranges::range;
 use c_tree::expr::Expr;
@@ -31,6 +32,7 @@ pub(crate) fn elements(variable: u32, index: &Expr) -> Location
         variable,
         lo: element_number(range.lo),
         hi: element_number(range.hi),
+        key: None,
     }
 }
 
@@ -73,6 +75,7 @@ pub(crate) fn add_reads(reads: &mut Vec<Location>, expr: &Expr) -> Result<(), Ou
             variable: *variable,
             lo: 0,
             hi: 0,
+            key: None,
         })?,
         Expr::Element {
             variable,

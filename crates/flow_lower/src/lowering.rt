@@ -73,17 +73,17 @@ fn lower_statement<'a>(
             body,
             condition,
         } => lower_do(alloc, nodes, *place, condition, body, next),
-        Statement::Lock { place, mutex } => {
+        Statement::Lock { place, lock } => {
             let action = Action::Lock {
-                mutex: *mutex,
+                mutex: lock.mutex,
                 next,
             };
             nodes.push(plain(alloc, *place, action))?;
             Ok(())
         }
-        Statement::Unlock { place, mutex } => {
+        Statement::Unlock { place, lock } => {
             let action = Action::Unlock {
-                mutex: *mutex,
+                mutex: lock.mutex,
                 next,
             };
             nodes.push(plain(alloc, *place, action))?;

@@ -139,6 +139,7 @@ pub(crate) fn add_assignment<'a>(
                 variable: *variable,
                 lo: 0,
                 hi: 0,
+                key: None,
             };
             nodes.push(store(alloc, place, *variable, *kind, location, next))?;
         }

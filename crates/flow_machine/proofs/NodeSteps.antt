@@ -76,7 +76,7 @@ pub eval_made : (t : Lvalue) (x : Placed) (next number : ℕ) (h : Hand) (graph_
     effect_step (state_in h graph_threads) number h.graph_thread (effect_of (Eval t x next) (seen_by (state_in h graph_threads) h.graph_thread)) ≡
     Some (with_graph_thread (state_in h graph_threads) number
     (record { at = next; locals = thread.locals; pending = thread.pending; ended = h.graph_thread.ended }))
-eval_made (ToLocal local kind) x next number h graph_threads thread is =
+eval_made (ToLocal place local kind) x next number h graph_threads thread is =
     ap (λ (e : m.Thread).
     Some (with_graph_thread (state_in h graph_threads) number (record { at = next; locals = e.locals; pending = e.pending; ended = h.graph_thread.ended })))
     (sym is)

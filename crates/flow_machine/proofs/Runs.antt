@@ -4,8 +4,7 @@ use Rattle.std.proofs.Common.{sym, ◌∙◌, ap, subst, arith, add-zero, Option
 use Rattle.std.specs.Prelude.{slice_get}
 use Rattle.std.proofs.lemmas.List.{length-map, length-replicate, get_or-replicate}
 use Rattle.c_tree.specs.Flats as f
-use Rattle.c_tree.specs.Programs.{Variable, variable_of}
-use Rattle.c_tree.specs.Views.{name_of}
+use Rattle.c_tree.specs.Programs.{Variable, mutex_of, variable_of}
 use Rattle.c_tree.specs.declared.flat.Flat as flat
 use Rattle.c_tree.specs.declared.program.Variable as variable
 use Rattle.flow_graph.specs.Nodes.{Graph, graph_of}
@@ -124,7 +123,7 @@ starts state x variables holders graph_threads sections =
     λ k l. get_or-replicate (length state.graph.now.threads.items) k 0 0 (omega (arith, length-replicate {A = ℕ} (length state.graph.now.threads.items) 0)) in
     let P : List ℕ → Type 0 = λ ns. AreCounted ns (λ _. 0) in
     let vs = map_map (λ (v : Variable). v.initial) variable_of x.variables.items ∙ sym variables in
-    let hs = ap (λ n. replicate n None) (length-map x.mutexes.items name_of) ∙ sym holders in
+    let hs = ap (λ n. replicate n None) (length-map x.mutexes.items mutex_of) ∙ sym holders in
     record {
       graph_is = refl;
       state_is = λ i. record { variables = vs i; holders = hs i; graph_threads = sym graph_threads i };

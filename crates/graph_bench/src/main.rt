@@ -6,7 +6,7 @@
 #![tactic(auto)]
 
 use anyhow::{Error, anyhow};
-use c_tree::expr::{Expr, Lvalue, Placed};
+use c_tree::expr::{Expr, LockName, Lvalue, Placed};
 use c_tree::flat::{Flat, Statement, Thread};
 use c_tree::tree::Name;
 use flow_live::live;
@@ -54,7 +54,11 @@ fn to_local(a: Global, local: u32, variable: u32) -> Result<Statement, AllocErro
     };
     Ok(Statement::Assign {
         place: HERE,
-        target: Lvalue::Local { local, kind: KIND },
+        target: Lvalue::Local {
+            place: HERE,
+            local,
+            kind: KIND,
+        },
         value: placed(sum(a, held, number)?),
     })
 }
@@ -138,14 +142,20 @@ fn thread(a: Global, inner: Vec<Statement>) -> Result<Thread, AllocError> {
     let mut body = Vec::new(a);
     body.push(Statement::Lock {
         place: HERE,
-        mutex: 0,
+        lock: LockName {
+            mutex: 0,
+            key: None,
+        },
     })?;
     for statement in inner {
         body.push(statement)?;
     }
     body.push(Statement::Unlock {
         place: HERE,
-        mutex: 0,
+        lock: LockName {
+            mutex: 0,
+            key: None,
+        },
     })?;
     Ok(Thread {
         name: Name {

@@ -1,6 +1,7 @@
 -- Worked rows of the definitions.
-use Rattle.std.proofs.Common.{◌≡◌, List, [], ◌∷◌, refl, true, false}
+use Rattle.std.proofs.Common.{◌≡◌, ℕ, List, [], ◌∷◌, Option, Some, None, refl, true, false}
 use Rattle.ido_base.specs.declared.location.Shape.{Shape}
+use Rattle.ido_base.specs.declared.location.Location.{Location}
 use Rattle.ido_base.specs.declared.log.Log.TheVariants.{V1}
 use Rattle.ido_base.specs.Words.{Word, word_of, live_value, durable_value, word_at, stored, entry_of, drained, evicted}
 use Rattle.ido_base.specs.Layout.{variable_at, slot_at, word_number, point_at, in_range}
@@ -53,17 +54,40 @@ masked_out : durable_value (word_at (evicted (stored eight_words 0 8 6) 0 254) 0
 unfolding eight_words
 masked_out = refl
 
-halves_apart : overlap (record { variable = 0; lo = 0; hi = 7 }) (record { variable = 0; lo = 8; hi = 15 }) ≡ false
+abbrev part : (lo hi : ℕ) → Option ℕ → Location
+part lo hi key = record { variable = 0; lo = lo; hi = hi; key = key }
+
+halves_apart : overlap (part 0 7 None) (part 8 15 None) ≡ false
 halves_apart = refl
 
-halves_meet : overlap (record { variable = 0; lo = 0; hi = 8 }) (record { variable = 0; lo = 8; hi = 15 }) ≡ true
+halves_meet : overlap (part 0 8 None) (part 8 15 None) ≡ true
 halves_meet = refl
 
-one_element : same (record { variable = 0; lo = 3; hi = 3 }) (record { variable = 0; lo = 3; hi = 3 }) ≡ true
+one_element : same (part 3 3 None) (part 3 3 None) ≡ true
 one_element = refl
 
-no_element : same (record { variable = 0; lo = 0; hi = 7 }) (record { variable = 0; lo = 0; hi = 7 }) ≡ false
+no_element : same (part 0 7 None) (part 0 7 None) ≡ false
 no_element = refl
+
+-- `a[i]` and `a[j]` of an array of 8, each with the mutex of its own key
+one_key : same (part 0 7 (Some 2)) (part 0 7 (Some 2)) ≡ true
+one_key = refl
+
+two_keys : same (part 0 7 (Some 2)) (part 0 7 (Some 3)) ≡ false
+two_keys = refl
+
+two_keys_apart : overlap (part 0 7 (Some 2)) (part 0 7 (Some 3)) ≡ false
+two_keys_apart = refl
+
+one_key_meets : overlap (part 0 7 (Some 2)) (part 0 7 (Some 2)) ≡ true
+one_key_meets = refl
+
+-- an element without a key may be that of any key
+no_key_meets : overlap (part 0 7 None) (part 0 7 (Some 2)) ≡ true
+no_key_meets = refl
+
+no_key_is_no_key : same (part 0 7 None) (part 0 7 None) ≡ false
+no_key_is_no_key = refl
 
 second_line : line_of (97 ∷ 10 ∷ 98 ∷ []) 2 ≡ 2
 second_line = refl

@@ -54,8 +54,8 @@ module _ (vs : List Variable) where
     keeps_length (choose place arms otherwise p q) = keep_all_length q
     keeps_length (repeat place condition body g p) = refl
     keeps_length (again place body condition p g) = refl
-    keeps_length (lock {h = h} place mutex free) = length-set h mutex true
-    keeps_length (unlock {h = h} place mutex held) = length-set h mutex false
+    keeps_length (lock {h = h} place name free) = length-set h name.mutex true
+    keeps_length (unlock {h = h} place name held) = length-set h name.mutex false
 
     pub keep_all_length : {h after : Held} {ss : f.Statements} → KeepAll vs h ss after → length after ≡ length h
     keep_all_length no_more = refl
@@ -110,12 +110,12 @@ module _ (vs : List Variable) where
           subst (λ x. Keeps vs h (f.Do place body condition) x) joined.0
           (again place body condition (subst (λ x. KeepAll vs h body x) joined.1.0 kept)
           (subst (λ x. AreGuarded vs x (expr_uses condition.expr)) joined.1.0 guarded.0))
-      after_keeps (f.Lock place mutex) h k l e =
-          let both = unless_after (holds h mutex) _ (set h mutex true) k e in
-          subst (λ x. Keeps vs h (f.Lock place mutex) x) both.1 (lock place mutex both.0)
-      after_keeps (f.Unlock place mutex) h k l e =
-          let both = where_after (holds h mutex) _ (set h mutex false) k e in
-          subst (λ x. Keeps vs h (f.Unlock place mutex) x) both.1 (unlock place mutex both.0)
+      after_keeps (f.Lock place name) h k l e =
+          let both = unless_after (holds h name.mutex) _ (set h name.mutex true) k e in
+          subst (λ x. Keeps vs h (f.Lock place name) x) both.1 (lock place name both.0)
+      after_keeps (f.Unlock place name) h k l e =
+          let both = where_after (holds h name.mutex) _ (set h name.mutex false) k e in
+          subst (λ x. Keeps vs h (f.Unlock place name) x) both.1 (unlock place name both.0)
 
       pub after_keep_all : (ss : f.Statements) (h k : Held) → length h ≡ mutexes → walk_all vs mutexes h ss ≡ After k → KeepAll vs h ss k
       after_keep_all f.no_statement h k l e = subst (λ x. KeepAll vs h f.no_statement x) (cc) no_more
@@ -167,8 +167,8 @@ module _ (vs : List Variable) where
       keeps_after (again {h = h} place body condition p g) =
           after_then _ _ h (keep_all_after p) ∙ after_then _ (λ _. join vs mutexes place h (h ∷ [])) h (guarded_after h (expr_uses condition.expr) g)
           ∙ same_after place h (h ∷ []) (refl, tt)
-      keeps_after (lock {h = h} place mutex free) = ap (λ b. cond b (broken vs mutexes rule.Again place mutex) (After (set h mutex true))) free
-      keeps_after (unlock {h = h} place mutex held) = ap (λ b. cond b (After (set h mutex false)) (broken vs mutexes rule.NotHeld place mutex)) held
+      keeps_after (lock {h = h} place name free) = ap (λ b. cond b (broken vs mutexes rule.Again place name.mutex) (After (set h name.mutex true))) free
+      keeps_after (unlock {h = h} place name held) = ap (λ b. cond b (After (set h name.mutex false)) (broken vs mutexes rule.NotHeld place name.mutex)) held
 
       keep_all_after : {h after : Held} {ss : f.Statements} → KeepAll vs h ss after → walk_all vs mutexes h ss ≡ After after
       keep_all_after no_more = refl

@@ -42,7 +42,7 @@ module _ (vs : List Variable) (none : Held) where
 
   assign_keeps : (place : Place) (target : e.Lvalue) (value : e.Placed) (h : Held) (rest : List f.Statement) → AreGuarded vs h (assign_uses target value) →
       KeepList vs h rest none → AllKeep (sets_in h (f.Assign place target value)) (assign_lefts place target value rest)
-  assign_keeps place (e.ToLocal local kind) value h rest g k = ((h, l.assign place (e.ToLocal local kind) value g, k), tt)
+  assign_keeps place (e.ToLocal name local kind) value h rest g k = ((h, l.assign place (e.ToLocal name local kind) value g, k), tt)
   assign_keeps place (e.ToVariable name variable kind) value h rest g k = ((h, l.assign place (e.ToVariable name variable kind) value g, k), (k, tt))
   assign_keeps place (e.ToElement name variable kind index) value h rest g k = ((h, l.assign place (e.ToElement name variable kind index) value g, k), (k, tt))
 
@@ -62,8 +62,8 @@ module _ (vs : List Variable) (none : Held) where
         ((f.While place condition body ∷ rest) ∷ [])
         (keep_in_all p (f.While place condition body ∷ rest) again)
         (subst (λ (b : Held). KeepList vs b (f.While place condition body ∷ rest) none) (sym (after_all_is vs p)) again, tt)
-    keep_in (l.lock {h = h} place mutex free) rest k = ((_, l.lock place mutex free, k), tt)
-    keep_in (l.unlock {h = h} place mutex held) rest k = ((_, l.unlock place mutex held, k), tt)
+    keep_in (l.lock {h = h} place name free) rest k = ((_, l.lock place name free, k), tt)
+    keep_in (l.unlock {h = h} place name held) rest k = ((_, l.unlock place name held, k), tt)
 
     keep_in_all : {h after : Held} {ss : f.Statements} → KeepAll vs h ss after → (rest : List f.Statement) → KeepList vs after rest none →
         AllKeep (sets_in_all h ss) (lefts_in_all ss rest)

@@ -22,8 +22,8 @@ mutual
       ∙ ap₂ ◌+◌ (length-sets_in_arms arms h) (length-sets_in_all otherwise h)
   length-sets_in (f.While place condition body) h = ap suc (length-sets_in_all body h)
   length-sets_in (f.Do place body condition) h = length-append (sets_in_all h body) (held_after_all h body ∷ []) ∙ ap (λ n. n + 1) (length-sets_in_all body h)
-  length-sets_in (f.Lock place mutex) h = refl
-  length-sets_in (f.Unlock place mutex) h = refl
+  length-sets_in (f.Lock place name) h = refl
+  length-sets_in (f.Unlock place name) h = refl
 
   length-sets_in_all : (ss : f.Statements) (h : Held) → length (sets_in_all h ss) ≡ steps_of_all ss
   length-sets_in_all f.no_statement h = refl
@@ -70,8 +70,8 @@ module _ (vs : List Variable) where
     boundary_after_is (choose place arms otherwise p q) = after_all_is q
     boundary_after_is (repeat place condition body g p) = refl
     boundary_after_is (again place body condition p g) = refl
-    boundary_after_is (lock place mutex free) = refl
-    boundary_after_is (unlock place mutex held) = refl
+    boundary_after_is (lock place name free) = refl
+    boundary_after_is (unlock place name held) = refl
 
     pub after_all_is : {h after : Held} {ss : f.Statements} → KeepAll vs h ss after → held_after_all h ss ≡ after
     after_all_is no_more = refl
@@ -80,7 +80,7 @@ module _ (vs : List Variable) where
   -- ---- A set before a step is the one at its place
 
   first_step : (target : e.Lvalue) (h : Held) → slice_get (replicate (assign_steps target) h) 0 ≡ Some h
-  first_step (e.ToLocal local kind) h = refl
+  first_step (e.ToLocal place local kind) h = refl
   first_step (e.ToVariable name variable kind) h = refl
   first_step (e.ToElement name variable kind index) h = refl
 
@@ -117,9 +117,10 @@ module _ (vs : List Variable) where
 
   at_assign : (place : Place) (target : e.Lvalue) (value : e.Placed) (h : Held) (n : ℕ) (k : Held) → slice_get (replicate (assign_steps target) h) n ≡ Some k →
       HeldIn vs h (f.Assign place target value) n k
-  at_assign place (e.ToLocal local kind) value h zero k p = subst (λ x. HeldIn vs h (f.Assign place (e.ToLocal local kind) value) 0 x) (same_some h k p)
+  at_assign place (e.ToLocal name local kind) value h zero k p =
+      subst (λ x. HeldIn vs h (f.Assign place (e.ToLocal name local kind) value) 0 x) (same_some h k p)
       (evaluate place _ value)
-  at_assign place (e.ToLocal local kind) value h (suc n) k p = absurd (cc)
+  at_assign place (e.ToLocal name local kind) value h (suc n) k p = absurd (cc)
   at_assign place (e.ToVariable name variable kind) value h zero k p = subst (λ x. HeldIn vs h (f.Assign place (e.ToVariable name variable kind) value) 0 x)
       (same_some h k p) (evaluate place _ value)
   at_assign place (e.ToVariable name variable kind) value h (suc zero) k p =
@@ -156,12 +157,12 @@ module _ (vs : List Variable) where
           subst (λ i. HeldIn vs h (f.Do place body condition) i k) place_of
           (test_last place body condition (subst (λ x. KeepAll vs h body x) (sym (after_all_is p) ∙ one.1) p))
     ]
-    at_held (lock {h = h} place mutex free) n k e =
+    at_held (lock {h = h} place name free) n k e =
         let one = at_single h k n e in
-        subst (λ x. HeldIn vs h (f.Lock place mutex) n x) one.1 (subst (λ i. HeldIn vs h (f.Lock place mutex) i h) (sym one.0) (take place mutex))
-    at_held (unlock {h = h} place mutex held) n k e =
+        subst (λ x. HeldIn vs h (f.Lock place name) n x) one.1 (subst (λ i. HeldIn vs h (f.Lock place name) i h) (sym one.0) (take place name))
+    at_held (unlock {h = h} place name held) n k e =
         let one = at_single h k n e in
-        subst (λ x. HeldIn vs h (f.Unlock place mutex) n x) one.1 (subst (λ i. HeldIn vs h (f.Unlock place mutex) i h) (sym one.0) (give place mutex))
+        subst (λ x. HeldIn vs h (f.Unlock place name) n x) one.1 (subst (λ i. HeldIn vs h (f.Unlock place name) i h) (sym one.0) (give place name))
 
     at_held_all : {h after : Held} {ss : f.Statements} → KeepAll vs h ss after → (n : ℕ) (k : Held) → slice_get (sets_in_all h ss) n ≡ Some k →
         HeldInAll vs h ss n k

@@ -8,8 +8,7 @@ use Rattle.c_tree.specs.declared.flat.Statement as s
 use Rattle.c_tree.specs.declared.flat.Thread as thread
 use Rattle.c_tree.specs.declared.flat.Flat as d
 use Rattle.c_tree.specs.declared.program.Variable as variable
-use Rattle.c_tree.specs.Views.{name_of}
-use Rattle.c_tree.specs.Programs.{Variable, variable_of}
+use Rattle.c_tree.specs.Programs.{Variable, mutex_of, variable_of}
 use Rattle.c_tree.specs.Flats as f
 use Rattle.c_tree.specs.LockDiscipline.{Held, holds, none_held, numbers_below, Fault, Walked, After, Broken, and_then}
 use Rattle.c_tree.specs.LockDiscipline.{walk_all, walk_end, walk_thread, walk_threads, lock_fault, IsDisciplined}
@@ -63,7 +62,7 @@ walk_from x i = walk_threads (variables_in x) (length x.mutexes.items) (map f.th
 
 pub whole_walk : (x : d.Flat) → lock_fault (f.flat_of x) ≡ walk_from x 0
 unfolding lock_fault
-whole_walk x = ap (λ (n : ℕ). walk_threads (variables_in x) n (map f.thread_of x.threads.items)) (length-map x.mutexes.items name_of)
+whole_walk x = ap (λ (n : ℕ). walk_threads (variables_in x) n (map f.thread_of x.threads.items)) (length-map x.mutexes.items mutex_of)
 
 module _ (x : d.Flat) (i : ℕ) (t : thread.Thread) (variables : List variable.Variable) (n : ℕ) (all : variables ≡ x.variables.items)
     (count : n ≡ length x.mutexes.items) (within : i < length x.threads.items) (is : t ≡ get_or x.threads.items i t)
@@ -132,7 +131,7 @@ pub all_rows : (x : d.Flat) (i : ℕ) (table : List (Vec Held Global)) → lengt
     rows table ≡ map (row_of x) (take i x.threads.items) → AreAllSetsOf (f.flat_of x) (rows table)
 all_rows x i table le e p =
     let whole = f.flat_of x in
-    let count : length whole.mutexes ≡ length x.mutexes.items = length-map x.mutexes.items name_of in
+    let count : length whole.mutexes ≡ length x.mutexes.items = length-map x.mutexes.items mutex_of in
     let is : map (thread_sets (length whole.mutexes)) whole.threads ≡ rows table =
     ap (λ (n : ℕ). map (thread_sets n) whole.threads) count ∙ sym (map-twice (thread_sets (length x.mutexes.items)) f.thread_of x.threads.items)
     ∙ ap (map (row_of x)) (sym (take_all i x.threads.items le)) ∙ sym p in

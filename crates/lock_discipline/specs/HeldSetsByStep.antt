@@ -11,7 +11,7 @@ use Rattle.c_tree.specs.LockDiscipline.{Held, none_held, Keeps, KeepAll, IsDisci
 
 -- an assignment of a variable has a second step, the store
 abbrev pub assign_steps : e.Lvalue → ℕ
-assign_steps (e.ToLocal local kind) = 1
+assign_steps (e.ToLocal place local kind) = 1
 assign_steps (e.ToVariable place variable kind) = 2
 assign_steps (e.ToElement place variable kind index) = 2
 
@@ -22,8 +22,8 @@ abbrev mutual
   steps (f.If place arms otherwise) = steps_of_arms arms + steps_of_all otherwise
   steps (f.While place condition body) = suc (steps_of_all body)
   steps (f.Do place body condition) = steps_of_all body + 1
-  steps (f.Lock place mutex) = 1
-  steps (f.Unlock place mutex) = 1
+  steps (f.Lock place name) = 1
+  steps (f.Unlock place name) = 1
 
   pub steps_of_all : f.Statements → ℕ
   steps_of_all f.no_statement = 0
@@ -59,8 +59,8 @@ module _ (vs : List Variable) where
           HeldIn h (f.Do place body condition) n k
       test_last : {h k : Held} (place : Place) (body : f.Statements) (condition : e.Placed) → KeepAll vs h body k →
           HeldIn h (f.Do place body condition) (steps_of_all body) k
-      take : {h : Held} (place : Place) (mutex : ℕ) → HeldIn h (f.Lock place mutex) 0 h
-      give : {h : Held} (place : Place) (mutex : ℕ) → HeldIn h (f.Unlock place mutex) 0 h
+      take : {h : Held} (place : Place) (name : e.LockName) → HeldIn h (f.Lock place name) 0 h
+      give : {h : Held} (place : Place) (name : e.LockName) → HeldIn h (f.Unlock place name) 0 h
 
     pub data HeldInAll : Held → f.Statements → (step : ℕ) → Held → Type 0 where
       in_first : {h k : Held} {n : ℕ} (x : f.Statement) (rest : f.Statements) → HeldIn h x n k → HeldInAll h (f.statement_and x rest) n k

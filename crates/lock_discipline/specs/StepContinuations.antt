@@ -11,7 +11,7 @@ use Rattle.lock_discipline.specs.HeldSetsByStep.{HeldBefore}
 
 -- what is left before an assignment's value, and before its store, if it has one
 abbrev pub assign_lefts : (place : Place) → e.Lvalue → (value : e.Placed) → (rest : List f.Statement) → List (List f.Statement)
-assign_lefts place (e.ToLocal local kind) value rest = (f.Assign place (e.ToLocal local kind) value ∷ rest) ∷ []
+assign_lefts place (e.ToLocal name local kind) value rest = (f.Assign place (e.ToLocal name local kind) value ∷ rest) ∷ []
 assign_lefts place (e.ToVariable name variable kind) value rest = (f.Assign place (e.ToVariable name variable kind) value ∷ rest) ∷ rest ∷ []
 assign_lefts place (e.ToElement name variable kind index) value rest = (f.Assign place (e.ToElement name variable kind index) value ∷ rest) ∷ rest ∷ []
 
@@ -23,8 +23,8 @@ abbrev mutual
   lefts_in (f.While place condition body) rest = (f.While place condition body ∷ rest) ∷ lefts_in_all body (f.While place condition body ∷ rest)
   lefts_in (f.Do place body condition) rest =
       lefts_in_all body (f.While place condition body ∷ rest) ++ (f.While place condition body ∷ rest) ∷ []
-  lefts_in (f.Lock place mutex) rest = (f.Lock place mutex ∷ rest) ∷ []
-  lefts_in (f.Unlock place mutex) rest = (f.Unlock place mutex ∷ rest) ∷ []
+  lefts_in (f.Lock place name) rest = (f.Lock place name ∷ rest) ∷ []
+  lefts_in (f.Unlock place name) rest = (f.Unlock place name ∷ rest) ∷ []
 
   pub lefts_in_all : f.Statements → (rest : List f.Statement) → List (List f.Statement)
   lefts_in_all f.no_statement rest = []

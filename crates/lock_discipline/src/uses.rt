@@ -1,23 +1,34 @@
 //! The variables that a step uses, each under its mutex.
 ghost use Rattle.std.specs.Prelude.{◌≡◌, [], ◌∷◌, length, map, MatchResult};
+ghost use Rattle.c_tree.specs.Programs as program;
 ghost use Rattle.c_tree.specs.Programs.{variable_of};
 ghost use Rattle.c_tree.specs.Exprs.{expr_of, lvalue_of};
-ghost use Rattle.c_tree.specs.LockDiscipline.{After, guard_of, walk_uses, expr_uses, target_uses};
+ghost use Rattle.c_tree.specs.LockDiscipline.{After, guard_number, guard_of, walk_uses, expr_uses, target_uses};
 ghost use Rattle.lock_discipline.specs.links.Refusals.{Refuses};
 ghost use Rattle.lock_discipline.specs.links.Uses.{use_of};
 
 use crate::error::LockError;
 use crate::set::MutexSet;
 use c_tree::expr::{Expr, Lvalue};
-use c_tree::program::Variable;
+use c_tree::program::{Guard, Variable};
 use ido_base::place::Place;
+
+/// The number of the mutex, of an array of them that of its first one.
+fn guard_number(guard: Guard) -> u32
+    ensures { result ≡ guard_number (program.guard_of guard) }
+{
+    match guard {
+        Guard::By { mutex } => mutex,
+        Guard::Each { first } => first,
+    }
+}
 
 /// The mutex that guards the variable; mutex 0 where there is no such variable.
 fn guard_of(variables: &[Variable], variable: u32) -> u32
     ensures { result ≡ guard_of (map variable_of variables.now) variable }
 {
     match variables.get(variable as usize) {
-        Some(found) => found.guard,
+        Some(found) => guard_number(found.guard),
         None => 0,
     }
 }

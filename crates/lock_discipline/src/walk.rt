@@ -98,25 +98,25 @@ fn walk_statement(
             join(*place, held, &[after])?;
             Ok(held)
         }
-        Statement::Lock { place, mutex } => {
-            if held.holds(*mutex) {
+        Statement::Lock { place, lock } => {
+            if held.holds(lock.mutex) {
                 return Err(LockError::Again {
                     place: *place,
-                    mutex: *mutex,
+                    mutex: lock.mutex,
                 });
             }
             sets.push(held)?;
-            Ok(held.with(*mutex))
+            Ok(held.with(lock.mutex))
         }
-        Statement::Unlock { place, mutex } => {
-            if !held.holds(*mutex) {
+        Statement::Unlock { place, lock } => {
+            if !held.holds(lock.mutex) {
                 return Err(LockError::NotHeld {
                     place: *place,
-                    mutex: *mutex,
+                    mutex: lock.mutex,
                 });
             }
             sets.push(held)?;
-            Ok(held.without(*mutex))
+            Ok(held.without(lock.mutex))
         }
     }
 }

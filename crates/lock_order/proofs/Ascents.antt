@@ -48,8 +48,8 @@ mutual
   ascends p q (f.Do place body condition) e =
       let b = holding_both p.held (walk_all p body) q e in
       ((ascend_all p b.0 body b.1).0, b.2)
-  ascends p q (f.Lock place mutex) e = unless_after (holds_from p.held mutex) (broken place mutex p) (locked place mutex p) q e
-  ascends p q (f.Unlock place mutex) e = (tt, after_is (record p { held = slice_set p.held mutex false }) q e)
+  ascends p q (f.Lock place name) e = unless_after (holds_from p.held name.mutex) (broken place name.mutex p) (locked place name.mutex p) q e
+  ascends p q (f.Unlock place name) e = (tt, after_is (record p { held = slice_set p.held name.mutex false }) q e)
 
   ascend_all : (p q : Progress) (x : f.Statements) → walk_all p x ≡ After q → AscendAll p.held x × (q.held ≡ held_after_all p.held x)
   ascend_all p q f.no_statement e = (tt, after_is p q e)

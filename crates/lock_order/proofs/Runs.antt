@@ -70,8 +70,8 @@ module _ (vs : List Variable) where
     opened_rises (l.again {h = h} place body condition p g) a =
         rise_append (opened_all body) (f.While place condition body ∷ []) h h h (opened_all_rise p a)
         (rise_one h h (f.While place condition body) (l.repeat place condition body g p) a)
-    opened_rises (l.lock {h = h} place mutex free) a = rise_one h (slice_set h mutex true) (f.Lock place mutex) (l.lock place mutex free) a
-    opened_rises (l.unlock {h = h} place mutex held) a = rise_one h (slice_set h mutex false) (f.Unlock place mutex) (l.unlock place mutex held) a
+    opened_rises (l.lock {h = h} place name free) a = rise_one h (slice_set h name.mutex true) (f.Lock place name) (l.lock place name free) a
+    opened_rises (l.unlock {h = h} place name held) a = rise_one h (slice_set h name.mutex false) (f.Unlock place name) (l.unlock place name held) a
 
     opened_all_rise : {h after : Held} {ss : f.Statements} → KeepAll vs h ss after → AscendAll h ss → Rise h (opened_all ss) after
     opened_all_rise l.no_more a = record { keeps = refl; ascends = tt }
@@ -156,20 +156,20 @@ module _ (x : f.Flat) where
           left = tested (m.is_true s thread condition) (opened_all body) (f.If place arms otherwise ∷ []) (opened_all otherwise) arms ++ rest;
         }) refl (left_tested (m.is_true s thread condition) place condition body arms otherwise rest a) is
 
-    by_lock : (place : Place) (mutex : ℕ) (rest : List f.Statement) → Left (f.Lock place mutex ∷ rest) →
-        m.statement_step s t thread (f.Lock place mutex) rest ≡ Some next → Made t next
-    by_lock place mutex rest a is = by_holder (slice_get s.holders mutex) refl
+    by_lock : (place : Place) (name : e.LockName) (rest : List f.Statement) → Left (f.Lock place name ∷ rest) →
+        m.statement_step s t thread (f.Lock place name) rest ≡ Some next → Made t next
+    by_lock place name rest a is = by_holder (slice_get s.holders name.mutex) refl
       where
         taken : Option (Option ℕ) → Option m.State
         taken o = elim o [
-          | Some None ↦ Some (m.with_thread (m.with_holder s mutex (Some t)) t (record thread { left = rest }))
+          | Some None ↦ Some (m.with_thread (m.with_holder s name.mutex (Some t)) t (record thread { left = rest }))
           | _ ↦ None
         ]
 
-        by_holder : (o : Option (Option ℕ)) → slice_get s.holders mutex ≡ o → Made t next
+        by_holder : (o : Option (Option ℕ)) → slice_get s.holders name.mutex ≡ o → Made t next
         by_holder None h = absurd (let no : None ≡ Some next = sym (ap taken h) ∙ is in cc)
         by_holder (Some None) h =
-            placed (m.with_holder s mutex (Some t)) (record thread { left = rest }) refl (left_rest (f.Lock place mutex) rest a) (sym (ap taken h) ∙ is)
+            placed (m.with_holder s name.mutex (Some t)) (record thread { left = rest }) refl (left_rest (f.Lock place name) rest a) (sym (ap taken h) ∙ is)
         by_holder (Some (Some g)) h = absurd (let no : None ≡ Some next = sym (ap taken h) ∙ is in cc)
 
     by_statement : (y : f.Statement) (rest : List f.Statement) → Left (y ∷ rest) → m.statement_step s t thread y rest ≡ Some next → Made t next
@@ -180,9 +180,9 @@ module _ (x : f.Flat) where
         placed s (record thread { left = cond (m.is_true s thread condition) (opened_all body ++ (f.While place condition body ∷ rest)) rest }) refl
         (left_again (m.is_true s thread condition) place condition body rest a) is
     by_statement (f.Do place body condition) rest a is = absurd (let no : None ≡ Some next = is in cc)
-    by_statement (f.Lock place mutex) rest a is = by_lock place mutex rest a is
-    by_statement (f.Unlock place mutex) rest a is =
-        placed (m.with_holder s mutex None) (record thread { left = rest }) refl (left_rest (f.Unlock place mutex) rest a) is
+    by_statement (f.Lock place name) rest a is = by_lock place name rest a is
+    by_statement (f.Unlock place name) rest a is =
+        placed (m.with_holder s name.mutex None) (record thread { left = rest }) refl (left_rest (f.Unlock place name) rest a) is
 
     by_end : (b : Bool) → cond b None (Some (m.with_thread s t (record thread { ended = true }))) ≡ Some next → Made t next
     by_end true is = absurd (let no : None ≡ Some next = is in cc)
@@ -257,8 +257,8 @@ pending_none (Some p) left wanted is = absurd (none_some wanted is)
 
 first_above : (h : Held) (left : List f.Statement) (wanted : ℕ) → first_lock left ≡ Some wanted → AscendList h left → holds_from h wanted ≡ false
 first_above h [] wanted is a = absurd (none_some wanted is)
-first_above h (f.Lock place mutex ∷ rest) wanted is a = subst (λ (n : ℕ). holds_from h n ≡ false) (some_is mutex wanted is) a.0
-first_above h (f.Unlock place mutex ∷ rest) wanted is a = absurd (none_some wanted is)
+first_above h (f.Lock place name ∷ rest) wanted is a = subst (λ (n : ℕ). holds_from h n ≡ false) (some_is name.mutex wanted is) a.0
+first_above h (f.Unlock place name ∷ rest) wanted is a = absurd (none_some wanted is)
 first_above h (f.Assign place target value ∷ rest) wanted is a = absurd (none_some wanted is)
 first_above h (f.If place arms otherwise ∷ rest) wanted is a = absurd (none_some wanted is)
 first_above h (f.While place condition body ∷ rest) wanted is a = absurd (none_some wanted is)

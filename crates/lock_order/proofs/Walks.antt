@@ -8,10 +8,10 @@ use Rattle.c_tree.specs.declared.flat.Statement as s
 use Rattle.c_tree.specs.declared.flat.Arm as arm
 use Rattle.c_tree.specs.declared.flat.Thread as thread
 use Rattle.c_tree.specs.declared.flat.Flat as d
-use Rattle.c_tree.specs.Views.{name_of}
 use Rattle.c_tree.specs.Flats as f
 use Rattle.c_tree.specs.LockDiscipline.{Held}
 use Rattle.c_tree.proofs.Public.{flat_rows_of_while as of_while, flat_rows_of_do as of_do, flat_rows_of_if as of_if}
+use Rattle.c_tree.specs.Programs.{mutex_of}
 use Rattle.lock_order.specs.declared.walk.Met.{Met}
 use Rattle.lock_order.specs.declared.error.OrderError.{OrderError}
 use Rattle.lock_order.specs.LockOrder.{Progress, OrderFault, Walked, After, Broken, and_then, is_in_way, last_in_way, holding}
@@ -140,7 +140,7 @@ walk_from x i = walk_threads (length x.mutexes.items) (map f.thread_of (drop i x
 
 pub whole_walk : (x : d.Flat) → order_fault (f.flat_of x) ≡ walk_from x 0
 unfolding order_fault
-whole_walk x = ap (λ (n : ℕ). walk_threads n (map f.thread_of x.threads.items)) (length-map x.mutexes.items name_of)
+whole_walk x = ap (λ (n : ℕ). walk_threads n (map f.thread_of x.threads.items)) (length-map x.mutexes.items mutex_of)
 
 module _ (x : d.Flat) (i : ℕ) (t : thread.Thread) (n : ℕ) (count : n ≡ length x.mutexes.items) (within : i < length x.threads.items)
     (is : t ≡ get_or x.threads.items i t) (before : walk_from x 0 ≡ walk_from x i) where

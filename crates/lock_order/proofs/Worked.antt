@@ -6,6 +6,7 @@ use Rattle.ido_ints.specs.declared.kinds.Kind.TheVariants as kind
 use Rattle.ido_ints.specs.TypedNumbers.{typed}
 use Rattle.c_tree.specs.Trees.{Name}
 use Rattle.c_tree.specs.Exprs as e
+use Rattle.c_tree.specs.Programs.{Mutex}
 use Rattle.c_tree.specs.Flats as f
 use Rattle.lock_order.specs.LockOrder.{OrderFault, order_fault}
 
@@ -22,18 +23,21 @@ all_of (x ∷ xs) = f.statement_and x (all_of xs)
 abbrev thread : List f.Statement → f.Thread
 thread xs = record { name = name; locals = []; body = all_of xs; closing = at 99 }
 
+abbrev mutex : Mutex
+mutex = record { name = name; length = None }
+
 -- three mutexes, and threads
 abbrev flat : List f.Thread → f.Flat
-flat ts = record { mutexes = name ∷ name ∷ name ∷ []; variables = []; threads = ts }
+flat ts = record { mutexes = mutex ∷ mutex ∷ mutex ∷ []; variables = []; threads = ts }
 
 abbrev fault : (place earlier : ℕ) → Option OrderFault
 fault place earlier = Some (record { place = at place; earlier = at earlier })
 
 abbrev lock : (place mutex : ℕ) → f.Statement
-lock place mutex = f.Lock (at place) mutex
+lock place mutex = f.Lock (at place) (record { mutex = mutex; key = None })
 
 abbrev unlock : (mutex : ℕ) → f.Statement
-unlock mutex = f.Unlock (at 98) mutex
+unlock mutex = f.Unlock (at 98) (record { mutex = mutex; key = None })
 
 abbrev nought : e.Placed
 nought = record { place = at 97; expr = e.Constant (typed kind.Int (pos 0)) }

@@ -69,8 +69,8 @@ abbrev mutual
   walk p (f.If place arms otherwise) = and_then (walk_arms p arms) (λ after. walk_all after otherwise)
   walk p (f.While place condition body) = holding p.held (walk_all p body)
   walk p (f.Do place body condition) = holding p.held (walk_all p body)
-  walk p (f.Lock place mutex) = if holds_from p.held mutex then Broken (broken place mutex p) else After (locked place mutex p)
-  walk p (f.Unlock place mutex) = After (record p { held = slice_set p.held mutex false })
+  walk p (f.Lock place name) = if holds_from p.held name.mutex then Broken (broken place name.mutex p) else After (locked place name.mutex p)
+  walk p (f.Unlock place name) = After (record p { held = slice_set p.held name.mutex false })
 
   pub walk_all : Progress → f.Statements → Walked
   walk_all p f.no_statement = After p

@@ -1,6 +1,8 @@
 //! The check, called once on a thread that keeps the order and once on one that doesn't.
 use crate::{OrderError, ordered};
+use c_tree::expr::LockName;
 use c_tree::flat::{Flat, Statement, Thread};
+use c_tree::program::Mutex;
 use c_tree::tree::Name;
 use ido_base::place::Place;
 use std::alloc::{AllocError, Global};
@@ -13,24 +15,31 @@ fn name(a: Global) -> Name {
     }
 }
 
+fn mutex(a: Global) -> Mutex {
+    Mutex {
+        name: name(a),
+        length: None,
+    }
+}
+
 fn lock(at: u32, mutex: u32) -> Statement {
     Statement::Lock {
         place: Place(at),
-        mutex,
+        lock: LockName { mutex, key: None },
     }
 }
 
 fn unlock(mutex: u32) -> Statement {
     Statement::Unlock {
         place: Place(9),
-        mutex,
+        lock: LockName { mutex, key: None },
     }
 }
 
 /// Two mutexes and a thread.
 fn flat(a: Global, body: Vec<Statement>) -> Result<Flat, AllocError> {
     Ok(Flat {
-        mutexes: vec![in a; name(a), name(a)]?,
+        mutexes: vec![in a; mutex(a), mutex(a)]?,
         variables: Vec::new(a),
         threads: vec![in a;
             Thread {

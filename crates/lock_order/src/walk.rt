@@ -112,9 +112,9 @@ fn walk_statement(
         }
         Statement::While { body, .. } => walk_apart(alloc, body, progress),
         Statement::Do { body, .. } => walk_apart(alloc, body, progress),
-        Statement::Lock { place, mutex } => walk_lock(*place, *mutex, progress),
-        Statement::Unlock { mutex, .. } => {
-            set_held(&mut progress.held, *mutex, false);
+        Statement::Lock { place, lock } => walk_lock(*place, lock.mutex, progress),
+        Statement::Unlock { lock, .. } => {
+            set_held(&mut progress.held, lock.mutex, false);
             Ok(())
         }
     }

@@ -1,7 +1,7 @@
 //! Flat forms of one thread, with one mutex and variables of kind `int`.
 use c_tree::expr::{Expr, Lvalue, Placed};
 use c_tree::flat::{Flat, Statement, Thread};
-use c_tree::program::Variable;
+use c_tree::program::{Guard, Mutex, Variable};
 use c_tree::tree::Name;
 use ido_base::place::Place;
 use ido_ints::{Binary, Kind};
@@ -68,14 +68,19 @@ pub(crate) fn flat(
     for initial in initials {
         variables.push(Variable {
             name: name(a)?,
-            guard: 0,
+            guard: Guard::By { mutex: 0 },
             kind: KIND,
             length: None,
             initial: vec![in a; *initial]?,
         })?;
     }
     Ok(Flat {
-        mutexes: vec![in a; name(a)?]?,
+        mutexes: vec![in a;
+            Mutex {
+                name: name(a)?,
+                length: None,
+            },
+        ]?,
         variables,
         threads: vec![in a; thread]?,
     })

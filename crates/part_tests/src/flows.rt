@@ -1,6 +1,6 @@
 //! A source and the graph of its flat form, stepped beside each other: what C leaves open, worked by hand.
 use crate::flats::{HERE, KIND, assign, binary, flat};
-use c_tree::expr::{Expr, Lvalue};
+use c_tree::expr::{Expr, LockName, Lvalue};
 use c_tree::flat::Statement;
 use flow_lower::lower;
 use flow_machine::FlowState;
@@ -77,7 +77,10 @@ fn in_step_with_the_source(rt: HostRuntime) -> Result<(), Fail> {
     let body = vec![in a;
         Statement::Lock {
             place: HERE,
-            mutex: 0,
+            lock: LockName {
+                mutex: 0,
+                key: None,
+            },
         },
         keep(a, 0, Binary::Add, read(0), one(KIND))?,
         keep(a, 2, Binary::Div, read(1), read(4))?,
@@ -86,7 +89,10 @@ fn in_step_with_the_source(rt: HostRuntime) -> Result<(), Fail> {
         keep(a, 5, Binary::Less, minus_one, one(Kind::UnsignedInt))?,
         Statement::Unlock {
             place: HERE,
-            mutex: 0,
+            lock: LockName {
+                mutex: 0,
+                key: None,
+            },
         },
     ]?;
     let flat = flat(a, 0, body, &INITIAL)?;

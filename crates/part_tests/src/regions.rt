@@ -16,6 +16,7 @@ const SCALAR: Location = Location {
     variable: 0,
     lo: 0,
     hi: 0,
+    key: None,
 };
 
 /// Another location.
@@ -23,6 +24,7 @@ const OTHER: Location = Location {
     variable: 1,
     lo: 0,
     hi: 0,
+    key: None,
 };
 
 /// An element of an array that isn't known.
@@ -30,6 +32,7 @@ const ELEMENT: Location = Location {
     variable: 2,
     lo: 0,
     hi: 3,
+    key: None,
 };
 
 fn value() -> Placed {
@@ -108,6 +111,7 @@ fn cuts(a: Global, [lock, last, unlock]: [bool; 3]) -> Result<Cuts, AllocError> 
 
 fn target() -> Lvalue {
     Lvalue::Local {
+        place: Place(0),
         local: 0,
         kind: KIND,
     }

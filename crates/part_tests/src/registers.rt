@@ -24,7 +24,12 @@ fn local(local: u32) -> Expr {
 
 /// The local takes the sum.
 fn keep(a: Global, local: u32, left: Expr, right: Expr) -> Result<Statement, AllocError> {
-    sum(a, Lvalue::Local { local, kind: KIND }, left, right)
+    let target = Lvalue::Local {
+        place: Place(0),
+        local,
+        kind: KIND,
+    };
+    sum(a, target, left, right)
 }
 
 /// The locals that are live before each node. Node i assigns local i; 0 and 2 are read at node 3, 1 and 3 at node 4.
@@ -86,6 +91,7 @@ fn crowd(a: Global, locals: u32) -> Result<Flat, AllocError> {
     let mut all = number();
     for i in 0..locals {
         let target = Lvalue::Local {
+            place: Place(i),
             local: i,
             kind: KIND,
         };
@@ -93,6 +99,7 @@ fn crowd(a: Global, locals: u32) -> Result<Flat, AllocError> {
         all = binary(a, Binary::Add, all, local(i))?;
     }
     let target = Lvalue::Local {
+        place: Place(locals),
         local: 0,
         kind: KIND,
     };

@@ -22,6 +22,7 @@ fn scalar(variable: u32) -> Location {
         variable,
         lo: 0,
         hi: 0,
+        key: None,
     }
 }
 
@@ -101,6 +102,7 @@ fn section<'a>(
 
 fn target() -> Lvalue {
     Lvalue::Local {
+        place: Place(0),
         local: 0,
         kind: KIND,
     }

@@ -8,6 +8,7 @@ use Rattle.ido_ints.specs.declared.operators.Binary.TheVariants as b
 use Rattle.ido_ints.specs.TypedNumbers.{typed}
 use Rattle.ido_ints.specs.Reduction as reduction
 use Rattle.c_tree.specs.Exprs as e
+use Rattle.c_tree.specs.Programs.{By}
 use Rattle.c_tree.specs.Flats as f
 use Rattle.c_tree.specs.LockDiscipline as l
 use Rattle.c_tree.specs.Source.{source_step, start}
@@ -33,13 +34,13 @@ sum = placed 55 (e.Binary b.Add (e.Variable (at 55) 0 kind.Int) (e.Constant (typ
 
 abbrev x : f.Flat
 x = record {
-  mutexes = record { text = codes "m"; place = at 6 } ∷ [];
-  variables = record { name = record { text = codes "x"; place = at 26 }; guard = 0; kind = kind.Int; length = None; initial = pos 0 ∷ [] } ∷ [];
+  mutexes = record { name = record { text = codes "m"; place = at 6 }; length = None } ∷ [];
+  variables = record { name = record { text = codes "x"; place = at 26 }; guard = By 0; kind = kind.Int; length = None; initial = pos 0 ∷ [] } ∷ [];
   threads = record {
     name = record { text = codes "t"; place = at 36 };
     locals = [];
-    body = f.statement_and (f.Lock (at 40) 0) (f.statement_and (f.Assign (at 51) (e.ToVariable (at 51) 0 kind.Int) sum)
-        (f.statement_and (f.Unlock (at 62) 0) f.no_statement));
+    body = f.statement_and (f.Lock (at 40) (record { mutex = 0; key = None })) (f.statement_and (f.Assign (at 51) (e.ToVariable (at 51) 0 kind.Int) sum)
+        (f.statement_and (f.Unlock (at 62) (record { mutex = 0; key = None })) f.no_statement));
     closing = at 73;
   } ∷ [];
 }
@@ -233,8 +234,8 @@ ahead = (refl, refl)
 
 disciplined : All (l.IsDisciplined x) x.threads
 disciplined zero d h =
-    l.then _ _ (l.lock (at 40) 0 refl) (l.then _ _ (l.assign (at 51) (e.ToVariable (at 51) 0 kind.Int) sum refl)
-    (l.then _ _ (l.unlock (at 62) 0 refl) l.no_more))
+    l.then _ _ (l.lock (at 40) (record { mutex = 0; key = None }) refl) (l.then _ _ (l.assign (at 51) (e.ToVariable (at 51) 0 kind.Int) sum refl)
+    (l.then _ _ (l.unlock (at 62) (record { mutex = 0; key = None }) refl) l.no_more))
 disciplined (suc k) d h = absurd (omega (arith, h))
 
 invariant : Invariant x ended

@@ -19,8 +19,8 @@ use Rattle.flow_graph.specs.Liveness.{NodeAt}
 use Rattle.flow_graph.specs.Actions.{GraphThread, FlowState, seen_by}
 use Rattle.flow_graph.specs.Lockstep.{threads_standings, Matches}
 use Rattle.flow_graph.specs.IdempotentCuts.{Boundaries, ReadsAt, WritesAt, AreCuts}
-use Rattle.flow_graph.specs.Paths.{Element, stored_element, Lies, LiesInOne, LiesInWritten}
-use Rattle.flow_graph.proofs.Public.{node_shaped, Good, good_after, nodes_at, reads_lie_here, writes_lie_here}
+use Rattle.flow_graph.specs.Paths.{Element, stored_element, Lies, LiesInOne, LiesInWritten, no_names}
+use Rattle.flow_graph.proofs.Public.{node_shaped, Good, good_after, nodes_at, reads_lie_here, writes_lie_here, common_overlaps, none_apart, same_element}
 use Rattle.recovery_semantics.specs.ElementHistories.{number_at}
 use Rattle.recovery_semantics.specs.Attempts as attempts
 use Rattle.recovery_semantics.specs.Attempts.{solo, Writes, store_ahead}
@@ -39,39 +39,10 @@ use Rattle.region_attempts.proofs.GraphRuns.{inner_runs, matched_run, alone}
 use Rattle.region_attempts.proofs.Nodes.{read_held, StoresHere, owing_at, owes_at, writing_stores, written_of, reads_nothing}
 use Rattle.region_attempts.proofs.Region.{listed, listed_at, number, made_there, number_is, there_at, is_number, one_node, written_before, inside_region}
 
--- ---- Locations of one element
+-- ---- The location of a node
 
-pub meets : (l r : Location) (one : Element) → Lies l one → Lies r one → overlap l r ≡ true
-meets l r one h k =
-    let v : l.variable ≡ r.variable = h.variable ∙ sym k.variable in
-    let a : l.lo ≤ r.hi = omega (arith, h.from_lo, k.to_hi) in
-    let c : r.lo ≤ l.hi = omega (arith, k.from_lo, h.to_hi) in
-    grind (arith, nat_tests)
-
-pub record IsOne (l r : Location) : Type 0 where
-  pub variable : l.variable ≡ r.variable
-  pub left : l.lo ≡ l.hi
-  pub right : r.lo ≡ r.hi
-  pub both : l.lo ≡ r.lo
-
-is_one : (l r : Location) → same l r ≡ true → IsOne l r
-is_one l r h = record {
-  variable = grind (arith, nat_tests);
-  left = grind (arith, nat_tests);
-  right = grind (arith, nat_tests);
-  both = grind
-      (arith, nat_tests);
-}
-
-the_same : (l r : Location) (one other : Element) → same l r ≡ true → Lies l one → Lies r other → one ≡ other
-the_same l r one other s h k =
-    let is = is_one l r s in
-    let v : one.variable ≡ other.variable = sym h.variable ∙ (is.variable ∙ k.variable) in
-    let n : one.element ≡ other.element = omega (arith, is.left, is.right, is.both, h.from_lo, h.to_hi, k.from_lo, k.to_hi) in
-    λ i. record { variable = v i; element = n i }
-
-pub lies_in : (ls : Option Location) (l : Location) (one : Element) → LiesInWritten ls one → ls ≡ Some l → Lies l one
-lies_in ls l one h is = let of = h.of in let same_location : h.location ≡ l = cc in subst (λ (z : Location). Lies z one) same_location h.lies
+pub lies_in : (ls : Option Location) (l : Location) (one : Element) → LiesInWritten no_names ls one → ls ≡ Some l → Lies no_names l one
+lies_in ls l one h is = let of = h.of in let same_location : h.location ≡ l = cc in subst (λ (z : Location). Lies no_names z one) same_location h.lies
 
 -- ---- What is kept
 
@@ -199,7 +170,7 @@ module _ (x : f.Flat) (w : IsWellFormed x) (old : Config) (t : ℕ) (i : Invaria
   -- a step that stores an element is made at a node that writes it
   pub record StoresThere (k : ℕ) (l : k < (attempt_of old t).longest) (one : Element) : Type 0 where
     pub stores : StoresHere (node_there k l).action
-    pub lies : LiesInWritten (node_there k l).writes one
+    pub lies : LiesInWritten no_names (node_there k l).writes one
 
   pub stores_there : (k : ℕ) (l : k < (attempt_of old t).longest) (one : Element) → attempts.WritesAt old.kept t k one.variable one.element →
       StoresThere k l one
@@ -223,7 +194,7 @@ module _ (x : f.Flat) (w : IsWellFormed x) (old : Config) (t : ℕ) (i : Invaria
   pub record Stored (k : ℕ) (location : Location) : Type 0 where
     pub one : Element
     pub at : attempts.WritesAt old.kept t k one.variable one.element
-    pub lies : Lies location one
+    pub lies : Lies no_names location one
 
   pub stored_there : (k : ℕ) (l : k < (attempt_of old t).longest) (location : Location) → (node_there k l).writes ≡ Some location → Stored k location
   stored_there k l location h =
@@ -251,7 +222,7 @@ pub record IsReadAt (x : f.Flat) (kept : FlowState) (old : Config) (t i : ℕ) (
   pub found : slice_get (flow_solo x kept t i).graph_threads t ≡ Some graph_thread
   pub node : Node
   pub at : NodeAt (lowered x) graph_thread.at node
-  pub lies : LiesInOne node.reads one
+  pub lies : LiesInOne no_names node.reads one
   pub no_store : StoresHere node.action → ⊥
   pub kept_guards : Guards x old.kept t one.variable one.element
   pub now_guards : Guards x (now old) t one.variable one.element
@@ -298,7 +269,7 @@ module _ (x : f.Flat) (b : Boundaries) (w : IsWellFormed x) (cuts : AreCuts (low
         let node_q = one_node (lowered x) (number_there q) (node_there x w old t i kept match good q low_q) wr.is (at_node q low_q) at_q in
         let stored = stored_there x w old t i kept match good q low_q written (ap (λ (z : Node). z.writes) node_q ∙ wr.writes) in
         let P : Element → Type 0 = λ z. attempts.WritesAt old.kept t q z.variable z.element in
-        subst P (the_same written r.lies.location stored.one one is stored.lies r.lies.lies) stored.at
+        subst P (same_element no_names written r.lies.location stored.one one is stored.lies r.lies.lies) stored.at
 
     reads_at : (k : ℕ) → p < k → ReadsAt (lowered x) (listed number_there (suc k)) p r.lies.location
     reads_at k later =
@@ -324,7 +295,7 @@ module _ (x : f.Flat) (b : Boundaries) (w : IsWellFormed x) (cuts : AreCuts (low
         let first = resumes_there (number_there 0) (is_number x w old t i kept match 0 (omega (arith, l))) in
         let before = written_before x b cuts (number_there 0) (listed (λ (j : ℕ). number_there (suc j)) k)
         (inside_region x w old t i kept match b stays k l) p k r.lies.location s.lies.location later (reads_at k later) (writes_at k l s)
-        (meets s.lies.location r.lies.location one s.lies.lies r.lies.lies) first in
+        (common_overlaps no_names s.lies.location r.lies.location one none_apart s.lies.lies r.lies.lies) first in
         let low_q = before.before in
         record {
           before = before.earlier;

@@ -60,7 +60,7 @@ module _ (vs : List Variable) (h : Held) (seen : Seen) (one : Element) where
       (λ d. expr_held otherwise (guarded_right vs h (expr_uses condition ++ expr_uses chosen) (expr_uses otherwise) g) d) c
 
   target_held : (target : e.Lvalue) → AreGuarded vs h (target_uses target) → Contains (target_elements target seen) one → IsHeld
-  target_held (e.ToLocal local kind) g c = absurd (contains_none one c)
+  target_held (e.ToLocal place local kind) g c = absurd (contains_none one c)
   target_held (e.ToVariable place v kind) g c = absurd (contains_none one c)
   target_held (e.ToElement place v kind index) g c = expr_held index.expr (guarded_rest vs h _ (expr_uses index.expr) g) c
 
@@ -228,7 +228,7 @@ ends_by next (Some p) h = cc
 
 -- a node that ends does nothing else
 pub ends_only : (a : Action) (seen later : Seen) (effect : Effect) → effect_of a seen ≡ Some Ends → effect_of a later ≡ Some effect → effect ≡ Ends
-ends_only (Eval (e.ToLocal local kind) value next) seen later effect h k = cc
+ends_only (Eval (e.ToLocal place local kind) value next) seen later effect h k = cc
 ends_only (Eval (e.ToVariable place variable kind) value next) seen later effect h k = cc
 ends_only (Eval (e.ToElement place variable kind index) value next) seen later effect h k = cc
 ends_only (Store variable kind next) seen later effect h k = absurd (ends_by next seen.pending h)

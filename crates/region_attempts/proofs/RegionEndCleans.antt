@@ -18,7 +18,7 @@ use Rattle.flow_graph.specs.Lockstep.{Matches}
 use Rattle.flow_graph.specs.IdempotentCuts as cutting
 use Rattle.flow_graph.specs.IdempotentCuts.{Boundaries, IsEdge, HasBefore, IsBoundary, AreCuts}
 use Rattle.flow_graph.specs.OmittedCleans.{StoresInLine, ReachesUncleaned, at_boundary, goes_on}
-use Rattle.flow_graph.specs.Paths.{Element, Lies}
+use Rattle.flow_graph.specs.Paths.{Element, Lies, no_names}
 use Rattle.flow_graph.proofs.Public.{ShapedAs, node_shaped, node_at, found_in, Good, Stepped, moved, goes_by, nodes_at, at_nodes}
 use Rattle.recovery_semantics.specs.Attempts.{solo, WritesAt, PassesMutex}
 use Rattle.recovery_semantics.specs.Configs.{Config, Invariant, attempt_of}
@@ -62,7 +62,7 @@ module _ (x : f.Flat) (shapes : List Shape) (line number : ℕ) (node : Node) (a
   decide_line = decide_line_by node.writes refl
 
 -- the line of the one element of a location
-line_there : (shapes : List Shape) (l : Location) (one : Element) → l.lo ≡ l.hi → Lies l one →
+line_there : (shapes : List Shape) (l : Location) (one : Element) → l.lo ≡ l.hi → Lies no_names l one →
     variable_at shapes l.variable l.lo / line_bytes ≡ line_of shapes one.variable one.element
 line_there shapes l one single h =
     let e : l.lo ≡ one.element = omega (arith, single, h.from_lo, h.to_hi) in
@@ -221,12 +221,12 @@ module _ (x : f.Flat) (b : Boundaries) (w : IsWellFormed x) (cuts : AreCuts (low
       Cleaned first variable element = CleansSince attempts t first n (line_of shapes variable element)
 
       -- an element that is stored there has the line
-      line_is : (line k : ℕ) (l : k < n) (s : StoresInLine g shapes line (at k)) (one : Element) → Lies s.written one →
+      line_is : (line k : ℕ) (l : k < n) (s : StoresInLine g shapes line (at k)) (one : Element) → Lies no_names s.written one →
           line_of shapes one.variable one.element ≡ line
       line_is line k l s one lies = sym (line_there shapes s.written one s.single lies) ∙ s.in_line
 
       lies_there : (line k : ℕ) (l : k < n) (s : StoresInLine g shapes line (at k)) (one : Element) → WritesAt old.kept t k one.variable one.element →
-          Lies s.written one
+          Lies no_names s.written one
       lies_there line k l s one wr =
           let stores = stores_there x w old t i kept match good k l one wr in
           lies_in (node k l).writes s.written one stores.lies (same_writes x shapes line (at k) (node k l) (at_node k l) s)

@@ -46,8 +46,8 @@ module _ (variables : List Variable) (h : Held) (ls : List ℤ) (p : Option Pend
 
   -- an action that reads by name only what is guarded has the same effect in both states
   effect_same : (a : Action) → AreGuarded variables h (action_uses a) → effect_of a (seen ws) ≡ effect_of a (seen vs)
-  effect_same (Eval (e.ToLocal local kind) x next) g =
-      let number = lockstep x.expr (guarded_left variables h (expr_uses x.expr) (target_uses (e.ToLocal local kind)) g) in
+  effect_same (Eval (e.ToLocal place local kind) x next) g =
+      let number = lockstep x.expr (guarded_left variables h (expr_uses x.expr) (target_uses (e.ToLocal place local kind)) g) in
       ap (λ (n : Typed). Some (Sets local (reduced kind n.number) next)) number
   effect_same (Eval (e.ToVariable place variable kind) x next) g =
       let number = lockstep x.expr (guarded_left variables h (expr_uses x.expr) (target_uses (e.ToVariable place variable kind)) g) in

@@ -7,6 +7,7 @@ use Rattle.ido_ints.specs.declared.operators.Binary.TheVariants as binary
 use Rattle.ido_ints.specs.TypedNumbers.{typed}
 use Rattle.ido_ints.specs.Reduction.{residue, from_least_on}
 use Rattle.c_tree.specs.Exprs as e
+use Rattle.c_tree.specs.Programs.{By}
 use Rattle.c_tree.specs.Flats as f
 use Rattle.c_tree.specs.Source.{start, after_from}
 use Rattle.flow_graph.specs.Lowering.{lowered}
@@ -27,13 +28,13 @@ sum = record { place = at 55; expr = e.Binary binary.Add (e.Variable (at 55) 0 k
 
 abbrev x : f.Flat
 x = record {
-  mutexes = record { text = codes "m"; place = at 6 } ∷ [];
-  variables = record { name = record { text = codes "x"; place = at 26 }; guard = 0; kind = kind.Int; length = None; initial = pos 0 ∷ [] } ∷ [];
+  mutexes = record { name = record { text = codes "m"; place = at 6 }; length = None } ∷ [];
+  variables = record { name = record { text = codes "x"; place = at 26 }; guard = By 0; kind = kind.Int; length = None; initial = pos 0 ∷ [] } ∷ [];
   threads = record {
     name = record { text = codes "t"; place = at 36 };
     locals = [];
-    body = f.statement_and (f.Lock (at 40) 0) (f.statement_and (f.Assign (at 51) (e.ToVariable (at 51) 0 kind.Int) sum)
-        (f.statement_and (f.Unlock (at 62) 0) f.no_statement));
+    body = f.statement_and (f.Lock (at 40) (record { mutex = 0; key = None })) (f.statement_and (f.Assign (at 51) (e.ToVariable (at 51) 0 kind.Int) sum)
+        (f.statement_and (f.Unlock (at 62) (record { mutex = 0; key = None })) f.no_statement));
     closing = at 73;
   } ∷ [];
 }

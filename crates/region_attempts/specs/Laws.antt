@@ -12,7 +12,7 @@ use Rattle.flow_graph.specs.Liveness.{NodeAt}
 use Rattle.flow_graph.specs.Actions.{GraphThread, FlowState, graph_start, seen_by}
 use Rattle.flow_graph.specs.Lockstep.{Matches}
 use Rattle.flow_graph.specs.IdempotentCuts.{Boundaries, IsEdge, IsStoreNode, IsUnlock, BeginsRegion, AreCuts}
-use Rattle.flow_graph.specs.Paths.{Element, element, reads_of, solo_path, IsWithinRegion, LiesInWritten}
+use Rattle.flow_graph.specs.Paths.{Element, element, reads_of, solo_path, IsWithinRegion, LiesInWritten, no_names}
 use Rattle.recovery_semantics.specs.ElementHistories.{Memory, AreStable, history_at, live_number, number_at}
 use Rattle.recovery_semantics.specs.Attempts.{Writes, WritesAt, solo}
 use Rattle.recovery_semantics.specs.Configs.{Config, Invariant, now, attempt_of}
@@ -143,7 +143,7 @@ pub record StoresAt (x : f.Flat) (kept : FlowState) (thread steps variable numbe
   pub stores : IsStoreNode (lowered x) node
   pub is : Node
   pub at : NodeAt (lowered x) node is
-  pub lies : LiesInWritten is.writes (element variable number)
+  pub lies : LiesInWritten no_names is.writes (element variable number)
 
 abbrev pub WritersStore : Type 0
 WritersStore = (x : f.Flat) (o : Origin x) (m : Config) (schedule : List ℕ) (thread steps variable number : ℕ) → IsWellFormed x → Invariant x m →

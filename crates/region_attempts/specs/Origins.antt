@@ -9,13 +9,13 @@ use Rattle.flow_graph.specs.Lowering.{lowered}
 use Rattle.flow_graph.specs.Liveness.{NodeAt}
 use Rattle.flow_graph.specs.Actions.{GraphThread, FlowState}
 use Rattle.flow_graph.specs.Lockstep.{Matches}
-use Rattle.flow_graph.specs.Paths.{LiesInWritten, stored_element}
+use Rattle.flow_graph.specs.Paths.{LiesInWritten, stored_element, no_names}
 
 -- the store is to an element of the location that the node writes
 pub record IsPendingAt (x : f.Flat) (at : ℕ) (store : Pending) : Type 0 where
   pub node : Node
   pub is : NodeAt (lowered x) at node
-  pub lies : LiesInWritten node.writes (stored_element store)
+  pub lies : LiesInWritten no_names node.writes (stored_element store)
 
 -- a state of the graph and the source's that it matches, whether a run reaches them or not: in it each thread keeps the lock discipline, mutexes are held by
 -- threads, every number is of its kind, and a thread whose store is pending stands at a node that makes such a store

@@ -13,7 +13,7 @@ use std::alloc::Global;
 fn equal(a: Location, b: Location) -> bool
     ensures { IsTrue result ↔ (a ≡ b) }
 {
-    a.variable == b.variable && a.lo == b.lo && a.hi == b.hi
+    a == b
 }
 
 /// Whether the location is among these.

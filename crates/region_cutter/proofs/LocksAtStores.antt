@@ -97,7 +97,7 @@ module _ (vs : List Variable) where
 
   guarded_assign : (place : Place) (target : e.Lvalue) (value : e.Placed) (h : Held) (first next : ℕ) → AreGuarded vs h (assign_uses target value) →
       AllGuarded vs (sets_in h (f.Assign place target value)) (assign_nodes place target value first next)
-  guarded_assign place (e.ToLocal local kind) value h first next g = (quiet vs h _ refl, tt)
+  guarded_assign place (e.ToLocal name local kind) value h first next g = (quiet vs h _ refl, tt)
   guarded_assign place (e.ToVariable name variable kind) value h first next g = (
     quiet vs h _ refl,
     (
@@ -140,8 +140,8 @@ module _ (vs : List Variable) where
         joined vs (sets_in_all h body) (held_after_all h body ∷ []) (statements_nodes body first (first + statements_count body))
         (test_node place condition first next ∷ [])
         (guarded_all p first (first + statements_count body)) (quiet vs (held_after_all h body) _ refl, tt)
-    guarded (lock {h = h} place mutex free) first next = (quiet vs h _ refl, tt)
-    guarded (unlock {h = h} place mutex held) first next = (quiet vs h _ refl, tt)
+    guarded (lock {h = h} place name free) first next = (quiet vs h _ refl, tt)
+    guarded (unlock {h = h} place name held) first next = (quiet vs h _ refl, tt)
 
     guarded_all : {h after : Held} {ss : f.Statements} → KeepAll vs h ss after → (first next : ℕ) →
         AllGuarded vs (sets_in_all h ss) (statements_nodes ss first next)
@@ -165,7 +165,7 @@ module _ (vs : List Variable) where
 -- ---- There are as many steps as nodes
 
 steps_assign : (target : e.Lvalue) (place : Place) (value : e.Placed) → steps (f.Assign place target value) ≡ count (f.Assign place target value)
-steps_assign (e.ToLocal local kind) place value = refl
+steps_assign (e.ToLocal name local kind) place value = refl
 steps_assign (e.ToVariable name variable kind) place value = refl
 steps_assign (e.ToElement name variable kind index) place value = refl
 
@@ -175,8 +175,8 @@ mutual
   steps_are (f.If place arms otherwise) = ap₂ ◌+◌ (steps_arms arms) (steps_all otherwise)
   steps_are (f.While place condition body) = ap suc (steps_all body)
   steps_are (f.Do place body condition) = omega (arith, steps_all body)
-  steps_are (f.Lock place mutex) = refl
-  steps_are (f.Unlock place mutex) = refl
+  steps_are (f.Lock place name) = refl
+  steps_are (f.Unlock place name) = refl
 
   steps_all : (xs : f.Statements) → steps_of_all xs ≡ statements_count xs
   steps_all f.no_statement = refl

@@ -19,7 +19,7 @@ abbrev here : Place
 here = record { 0 = 0 }
 
 abbrev elements : (lo hi : ℕ) → Location
-elements lo hi = record { variable = 0; lo = lo; hi = hi }
+elements lo hi = record { variable = 0; lo = lo; hi = hi; key = None }
 
 abbrev stores : Location → (next : ℕ) → Node
 stores written next = store_node here 0 kind.Long written next

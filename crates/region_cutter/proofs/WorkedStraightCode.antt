@@ -24,7 +24,7 @@ abbrev evaluation : Node
 evaluation = eval_node here (e.ToVariable here 0 kind.Long) value 2
 
 abbrev store : Node
-store = store_node here 0 kind.Long (record { variable = 0; lo = 0; hi = 0 }) 3
+store = store_node here 0 kind.Long (record { variable = 0; lo = 0; hi = 0; key = None }) 3
 
 abbrev section : Graph
 section = record { nodes = plain_node here (Lock 0 1) ∷ evaluation ∷ store ∷ plain_node here (Unlock 0 4) ∷ plain_node here End ∷ []; threads = [] }
@@ -84,7 +84,7 @@ is_stretch = record {
 -- the store overwrites what was read
 conflict : Conflict section 1 3
 conflict = (
-  record { variable = 0; lo = 0; hi = 0 },
+  record { variable = 0; lo = 0; hi = 0; key = None },
   record {
     read = 1;
     store = 2;
@@ -92,7 +92,7 @@ conflict = (
     later = omega arith;
     below = omega arith;
     reads = record { is = evaluation; at = refl; reads = (0, omega arith, refl) };
-    writes = record { is = store; at = refl; written = record { variable = 0; lo = 0; hi = 0 }; writes = refl; over = refl };
+    writes = record { is = store; at = refl; written = record { variable = 0; lo = 0; hi = 0; key = None }; writes = refl; over = refl };
     exposed = λ n a b. absurd (omega (arith, a, b));
   },
 )

@@ -97,7 +97,7 @@ module _ (x : f.Flat) (s : m.State) (t : ℕ) (thread : m.Thread) (there : slice
     -- what is evaluated reads what is guarded
     evaluated_same : (other : m.State) → LooksSame x s other t → (target : e.Lvalue) (placed : e.Placed) →
         AreGuarded x.variables held (assign_uses target placed) → m.evaluated other thread target placed.expr ≡ m.evaluated s thread target placed.expr
-    evaluated_same other l (e.ToLocal local kind) placed g =
+    evaluated_same other l (e.ToLocal place local kind) placed g =
         ap (λ (y : Typed). record thread { locals = slice_set thread.locals local (reduced kind y.number) })
         (value_same x.variables held thread.locals s.variables other.variables (same_at other l) placed.expr
         (guarded_left x.variables held (expr_uses placed.expr) [] g))
@@ -116,7 +116,7 @@ module _ (x : f.Flat) (s : m.State) (t : ℕ) (thread : m.Thread) (there : slice
     -- the store that is pending after an evaluation is guarded
     evaluated_guarded : (target : e.Lvalue) (placed : e.Placed) → AreGuarded x.variables held (assign_uses target placed) → (p : m.Pending) →
         (m.evaluated s thread target placed.expr).pending ≡ Some p → HoldsFor held p
-    evaluated_guarded (e.ToLocal local kind) placed g p h = at_rest held p h
+    evaluated_guarded (e.ToLocal place local kind) placed g p h = at_rest held p h
     evaluated_guarded (e.ToVariable place variable kind) placed g p h =
         subst (HoldsFor held) (some_is _ p h) (holds_each x.variables held variable 0
         (guarded_first x.variables held _ [] (guarded_right x.variables held (expr_uses placed.expr) (target_uses (e.ToVariable place variable kind)) g)))
@@ -199,59 +199,59 @@ module _ (x : f.Flat) (s : m.State) (t : ℕ) (thread : m.Thread) (there : slice
           (record { left = kept_while (m.is_true s thread condition) place condition body keep; pending = at_rest held })
 
       -- a free mutex is taken
-      lock_free : (z : m.State) (place : Place) (mutex : ℕ) → slice_get z.holders mutex ≡ Some None →
-          m.statement_step z t thread (f.Lock place mutex) rest ≡ Some (m.with_thread (m.with_holder z mutex (Some t)) t (record thread { left = rest }))
-      lock_free z place mutex e = rw (m.statement_step, e) refl
+      lock_free : (z : m.State) (place : Place) (name : e.LockName) → slice_get z.holders name.mutex ≡ Some None →
+          m.statement_step z t thread (f.Lock place name) rest ≡ Some (m.with_thread (m.with_holder z name.mutex (Some t)) t (record thread { left = rest }))
+      lock_free z place name e = rw (m.statement_step, e) refl
 
       -- no other is
-      lock_refused : (place : Place) (mutex : ℕ) (o : Option (Option ℕ)) → slice_get s.holders mutex ≡ o → o ≢ Some None →
-          m.statement_step s t thread (f.Lock place mutex) rest ≡ None
-      lock_refused place mutex None e n = rw (m.statement_step, e) refl
-      lock_refused place mutex (Some None) e n = absurd (n refl)
-      lock_refused place mutex (Some (Some u)) e n = rw (m.statement_step, e) refl
+      lock_refused : (place : Place) (name : e.LockName) (o : Option (Option ℕ)) → slice_get s.holders name.mutex ≡ o → o ≢ Some None →
+          m.statement_step s t thread (f.Lock place name) rest ≡ None
+      lock_refused place name None e n = rw (m.statement_step, e) refl
+      lock_refused place name (Some None) e n = absurd (n refl)
+      lock_refused place name (Some (Some u)) e n = rw (m.statement_step, e) refl
 
       -- a mutex is taken
-      by_lock : (place : Place) (mutex : ℕ) (next : m.State) (o : Option (Option ℕ)) → slice_get s.holders mutex ≡ o →
-          thread.left ≡ f.Lock place mutex ∷ rest → KeepList x.variables held (f.Lock place mutex ∷ rest) none →
-          m.statement_step s t thread (f.Lock place mutex) rest ≡ Some next →
-          IsDisciplinedChange x s t thread (λ z. m.statement_step z t thread (f.Lock place mutex) rest)
-      by_lock place mutex next None e first keep h = let no = lock_refused place mutex None e (λ q. cc) in cc
-      by_lock place mutex next (Some (Some u)) e first keep h = let no = lock_refused place mutex (Some (Some u)) e (λ q. cc) in cc
-      by_lock place mutex next (Some None) e first keep h =
+      by_lock : (place : Place) (name : e.LockName) (next : m.State) (o : Option (Option ℕ)) → slice_get s.holders name.mutex ≡ o →
+          thread.left ≡ f.Lock place name ∷ rest → KeepList x.variables held (f.Lock place name ∷ rest) none →
+          m.statement_step s t thread (f.Lock place name) rest ≡ Some next →
+          IsDisciplinedChange x s t thread (λ z. m.statement_step z t thread (f.Lock place name) rest)
+      by_lock place name next None e first keep h = let no = lock_refused place name None e (λ q. cc) in cc
+      by_lock place name next (Some (Some u)) e first keep h = let no = lock_refused place name (Some (Some u)) e (λ q. cc) in cc
+      by_lock place name next (Some None) e first keep h =
           let k = keeps_lock x.variables keep.1 in
-          let is : lock_ahead thread ≡ Some mutex = lock_is (f.Lock place mutex) rest first in
-          let p : Passed = record { mutex = mutex; holder = Some t } in
+          let is : lock_ahead thread ≡ Some name.mutex = lock_is (f.Lock place name) rest first in
+          let p : Passed = record { mutex = name.mutex; holder = Some t } in
           record {
             change = record { thread = record thread { left = rest }; store = None; passed = Some p };
             keeps = record {
-              left = subst (λ (z : Held). KeepList x.variables z rest none) (k ∙ sym (held_taken t s.holders mutex)) keep.2;
+              left = subst (λ (z : Held). KeepList x.variables z rest none) (k ∙ sym (held_taken t s.holders name.mutex)) keep.2;
               pending =
-                  at_rest (held_by t (slice_set s.holders mutex (Some t)));
+                  at_rest (held_by t (slice_set s.holders name.mutex (Some t)));
             };
             owned = λ q g. cc;
             passes = λ q g. subst (λ (w : Passed). ChangesMutex s t thread w) (some_is p q g) (takes is e refl);
-            ahead = λ j g. let one : mutex ≡ j = some_is mutex j (sym is ∙ g) in ap
+            ahead = λ j g. let one : name.mutex ≡ j = some_is name.mutex j (sym is ∙ g) in ap
                 (λ (i : ℕ). let w : Passed = record { mutex = i; holder = Some t } in Some w) one;
-            same = λ other l. lock_free other place mutex (l.ahead mutex (locks_found s t thread there ∙ is) ∙ e);
+            same = λ other l. lock_free other place name (l.ahead name.mutex (locks_found s t thread there ∙ is) ∙ e);
           }
 
       -- a mutex is given back
-      by_unlock : (place : Place) (mutex : ℕ) → thread.left ≡ f.Unlock place mutex ∷ rest → KeepList x.variables held (f.Unlock place mutex ∷ rest) none →
-          IsDisciplinedChange x s t thread (λ z. m.statement_step z t thread (f.Unlock place mutex) rest)
-      by_unlock place mutex first keep =
+      by_unlock : (place : Place) (name : e.LockName) → thread.left ≡ f.Unlock place name ∷ rest → KeepList x.variables held (f.Unlock place name ∷ rest) none →
+          IsDisciplinedChange x s t thread (λ z. m.statement_step z t thread (f.Unlock place name) rest)
+      by_unlock place name first keep =
           let k = keeps_unlock x.variables keep.1 in
-          let free : lock_ahead thread ≡ None = lock_is (f.Unlock place mutex) rest first in
-          let p : Passed = record { mutex = mutex; holder = None } in
+          let free : lock_ahead thread ≡ None = lock_is (f.Unlock place name) rest first in
+          let p : Passed = record { mutex = name.mutex; holder = None } in
           record {
             change = record { thread = record thread { left = rest }; store = None; passed = Some p };
             keeps = record {
-              left = subst (λ (z : Held). KeepList x.variables z rest none) (k.1 ∙ sym (held_given t s.holders mutex)) keep.2;
+              left = subst (λ (z : Held). KeepList x.variables z rest none) (k.1 ∙ sym (held_given t s.holders name.mutex)) keep.2;
               pending =
-                  at_rest (held_by t (slice_set s.holders mutex None));
+                  at_rest (held_by t (slice_set s.holders name.mutex None));
             };
             owned = λ q g. cc;
             passes = λ q g. subst (λ (w : Passed). ChangesMutex s t thread w) (some_is p q g)
-                (gives (unlock_is (f.Unlock place mutex) rest first) (held_found t s.holders mutex k.0) refl);
+                (gives (unlock_is (f.Unlock place name) rest first) (held_found t s.holders name.mutex k.0) refl);
             ahead = λ j g. let no : None ≡ Some j = sym free ∙ g in cc;
             same = λ other l. refl;
           }
@@ -264,8 +264,8 @@ module _ (x : f.Flat) (s : m.State) (t : ℕ) (thread : m.Thread) (there : slice
       by_statement (f.If place (f.arm_and condition body arms) otherwise) next first keep h = by_if place condition body arms otherwise first keep
       by_statement (f.While place condition body) next first keep h = by_while place condition body first keep
       by_statement (f.Do place body condition) next first keep h = cc
-      by_statement (f.Lock place mutex) next first keep h = by_lock place mutex next (slice_get s.holders mutex) refl first keep h
-      by_statement (f.Unlock place mutex) next first keep h = by_unlock place mutex first keep
+      by_statement (f.Lock place name) next first keep h = by_lock place name next (slice_get s.holders name.mutex) refl first keep h
+      by_statement (f.Unlock place name) next first keep h = by_unlock place name first keep
 
     -- nothing is locked at the end
     end_locks : thread.left ≡ [] → lock_ahead thread ≡ None

@@ -26,8 +26,8 @@ module _ (vs : List Variable) where
     keep_opened (l.repeat {h = h} place condition body g p) = (h, l.repeat place condition body g p, refl)
     keep_opened (l.again {h = h} place body condition p g) = keep_append (opened_all body) (f.While place condition body ∷ []) h h h (keep_opened_all p)
         (h, l.repeat place condition body g p, refl)
-    keep_opened (l.lock {h = h} place mutex free) = (slice_set h mutex true, l.lock place mutex free, refl)
-    keep_opened (l.unlock {h = h} place mutex held) = (slice_set h mutex false, l.unlock place mutex held, refl)
+    keep_opened (l.lock {h = h} place name free) = (slice_set h name.mutex true, l.lock place name free, refl)
+    keep_opened (l.unlock {h = h} place name held) = (slice_set h name.mutex false, l.unlock place name held, refl)
 
     -- statements
     pub keep_opened_all : {h after : Held} {ss : f.Statements} → KeepAll vs h ss after → KeepList vs h (opened_all ss) after
@@ -58,13 +58,13 @@ module _ (vs : List Variable) where
   keeps_while (l.repeat place condition body g p) = (g, p, refl)
 
   -- a mutex that is taken is in the set after the step
-  pub keeps_lock : {h after : Held} {place : Place} {mutex : ℕ} → Keeps vs h (f.Lock place mutex) after → after ≡ slice_set h mutex true
-  keeps_lock (l.lock place mutex free) = refl
+  pub keeps_lock : {h after : Held} {place : Place} {name : e.LockName} → Keeps vs h (f.Lock place name) after → after ≡ slice_set h name.mutex true
+  keeps_lock (l.lock place name free) = refl
 
   -- one that is given back was in the set, and isn't in the one after the step
-  pub keeps_unlock : {h after : Held} {place : Place} {mutex : ℕ} → Keeps vs h (f.Unlock place mutex) after →
-      (holds h mutex ≡ true) × (after ≡ slice_set h mutex false)
-  keeps_unlock (l.unlock place mutex held) = (held, refl)
+  pub keeps_unlock : {h after : Held} {place : Place} {name : e.LockName} → Keeps vs h (f.Unlock place name) after →
+      (holds h name.mutex ≡ true) × (after ≡ slice_set h name.mutex false)
+  keeps_unlock (l.unlock place name held) = (held, refl)
 
   -- ---- After a test
 

@@ -67,8 +67,8 @@ does_still lefts all g (node.Test condition holds fails) left d = elim d [
   | chooses place body arms otherwise rest h k is ↦ chooses place body arms otherwise rest (g holds _ h) (g fails _ k) is
   | repeats place body rest h k is ↦ repeats place body rest (g holds _ h) (g fails _ k) is
 ]
-does_still lefts all g (node.Lock mutex next) left d = record { place = d.place; rest = d.rest; follows = g next d.rest d.follows; is = d.is }
-does_still lefts all g (node.Unlock mutex next) left d = record { place = d.place; rest = d.rest; follows = g next d.rest d.follows; is = d.is }
+does_still lefts all g (node.Lock lock next) left d = record { place = d.place; rest = d.rest; follows = g next d.rest d.follows; is = d.is }
+does_still lefts all g (node.Unlock lock next) left d = record { place = d.place; rest = d.rest; follows = g next d.rest d.follows; is = d.is }
 does_still lefts all g node.Never left d = d
 
 -- ---- Code that grows

@@ -230,8 +230,8 @@ unlocks_left vs h after (f.Assign place target value ∷ rest) k keep e = cc
 unlocks_left vs h after (f.If place arms otherwise ∷ rest) k keep e = cc
 unlocks_left vs h after (f.While place condition body ∷ rest) k keep e = cc
 unlocks_left vs h after (f.Do place body condition ∷ rest) k keep e = cc
-unlocks_left vs h after (f.Lock place mutex ∷ rest) k keep e = cc
-unlocks_left vs h after (f.Unlock place mutex ∷ rest) k keep e = subst (λ (j : ℕ). holds h j ≡ true) (some_is mutex k e) (keeps_unlock vs keep.1).0
+unlocks_left vs h after (f.Lock place name ∷ rest) k keep e = cc
+unlocks_left vs h after (f.Unlock place name ∷ rest) k keep e = subst (λ (j : ℕ). holds h j ≡ true) (some_is name.mutex k e) (keeps_unlock vs keep.1).0
 
 unlocks_pending : (o : Option m.Pending) (left : List f.Statement) (k : ℕ) →
     (let r : Option ℕ = elim o [ Some p ↦ None | None ↦ first_unlock left ] in r ≡ Some k) → first_unlock left ≡ Some k

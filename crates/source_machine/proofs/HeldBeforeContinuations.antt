@@ -15,8 +15,8 @@ abbrev mutual
   before h (f.If place arms otherwise) = before_all h otherwise
   before h (f.While place condition body) = h
   before h (f.Do place body condition) = h
-  before h (f.Lock place mutex) = slice_set h mutex false
-  before h (f.Unlock place mutex) = slice_set h mutex true
+  before h (f.Lock place name) = slice_set h name.mutex false
+  before h (f.Unlock place name) = slice_set h name.mutex true
 
   before_all : Held → f.Statements → Held
   before_all h f.no_statement = h
@@ -38,8 +38,8 @@ module _ (vs : List Variable) where
     goes_back (l.choose place arms otherwise p q) = go_back q
     goes_back (l.repeat place condition body g p) = refl
     goes_back (l.again place body condition p g) = refl
-    goes_back (l.lock {h = h} place mutex free) = set_back h mutex true false free
-    goes_back (l.unlock {h = h} place mutex held) = set_back h mutex false true held
+    goes_back (l.lock {h = h} place name free) = set_back h name.mutex true false free
+    goes_back (l.unlock {h = h} place name held) = set_back h name.mutex false true held
 
     go_back : {h after : Held} {ss : f.Statements} → KeepAll vs h ss after → before_all after ss ≡ h
     go_back l.no_more = refl

@@ -15,8 +15,10 @@ mod GuardedAccesses
 mod HeldBeforeContinuations
 mod UniqueRefusals
 mod AppendedScheduleRuns
+mod AppendedLives
 mod StepSwaps
 mod ExchangedSchedules
 mod NoLockTransfer
 mod WellFormedSteps
 mod Worked
+mod WorkedLives

@@ -7,8 +7,9 @@ use Rattle.std.proofs.lemmas.Option.{slice_get-get_or}
 use Rattle.std.proofs.lemmas.Bool.Decides.{nat_tests}
 use Rattle.ido_base.specs.declared.place.Place.{Place}
 use Rattle.ido_ints.specs.Operators.{is_zero}
-use Rattle.c_tree.specs.Exprs.{placed_of, lvalue_of, expr_of}
+use Rattle.c_tree.specs.Exprs.{LockName, placed_of, lvalue_of, lock_name_of, expr_of}
 use Rattle.c_tree.specs.declared.expr.Placed as code
+use Rattle.c_tree.specs.declared.expr.LockName as code_lock
 use Rattle.c_tree.specs.declared.expr.Lvalue as code_target
 use Rattle.c_tree.specs.Flats as f
 use Rattle.c_tree.specs.Source as m
@@ -103,31 +104,40 @@ module _ (vs : List (List ℤ)) (hs : List (Option ℕ)) (threads : List m.Threa
         made_none Ended l (prefix (f.If d.place f.no_arm d.otherwise) d.rest d.is)
         (ap (λ (o : Option ℕ). let a : Stepped = elim o [ Some mutex ↦ Waits mutex | None ↦ Ended ] in a) (sym (ahead None (ap first_lock d.is))))
 
-    pub unlock_made : (mutex next : ℕ) → slice_get t.nodes.items t.at ≡ Some (node.Unlock mutex next) →
-        IsMade n now (hand (record t { at = next }) vs (slice_set hs mutex None)) Did threads left
-    unlock_made mutex next g =
-        let d = does (node.Unlock mutex next) g in
-        made_did (record t { at = next }) vs (slice_set hs mutex None) d.rest (moved next d.rest d.follows) (prefix (f.Unlock d.place mutex) d.rest d.is)
+    lock_free : (place : Place) (name : LockName) (rest : List f.Statement) → slice_get hs name.mutex ≡ Some None →
+        m.statement_step before n model (f.Lock place name) rest
+        ≡ Some (m.with_thread (m.with_holder before name.mutex (Some n)) n (record model { left = rest }))
+    lock_free place name rest e = rw (m.statement_step, e) refl
 
-    pub lock_made : (mutex next : ℕ) → slice_get t.nodes.items t.at ≡ Some (node.Lock mutex next) → slice_get hs mutex ≡ Some None →
-        IsMade n now (hand (record t { at = next }) vs (slice_set hs mutex (Some n))) Did threads left
-    lock_made mutex next g free =
-        let d = does (node.Lock mutex next) g in
-        made_did (record t { at = next }) vs (slice_set hs mutex (Some n)) d.rest (moved next d.rest d.follows)
-        (prefix (f.Lock d.place mutex) d.rest d.is ∙ rw (m.statement_step, free) refl)
+    pub unlock_made : (lock : Bor code_lock.LockName) (next : ℕ) → slice_get t.nodes.items t.at ≡ Some (node.Unlock lock next) →
+        IsMade n now (hand (record t { at = next }) vs (slice_set hs lock.now.mutex None)) Did threads left
+    unlock_made lock next g =
+        let d = does (node.Unlock lock next) g in
+        made_did (record t { at = next }) vs (slice_set hs lock.now.mutex None) d.rest (moved next d.rest d.follows)
+        (prefix (f.Unlock d.place (lock_name_of lock.now)) d.rest d.is)
 
-    lock_none : (place : Place) (mutex : ℕ) (rest : List f.Statement) (o : Option (Option ℕ)) → slice_get hs mutex ≡ o → o ≢ Some None →
-        m.statement_step before n model (f.Lock place mutex) rest ≡ None
-    lock_none place mutex rest None e h = rw (m.statement_step, e) refl
-    lock_none place mutex rest (Some None) e h = absurd (h refl)
-    lock_none place mutex rest (Some (Some u)) e h = rw (m.statement_step, e) refl
+    pub lock_made : (lock : Bor code_lock.LockName) (next : ℕ) → slice_get t.nodes.items t.at ≡ Some (node.Lock lock next) →
+        slice_get hs lock.now.mutex ≡ Some None →
+        IsMade n now (hand (record t { at = next }) vs (slice_set hs lock.now.mutex (Some n))) Did threads left
+    lock_made lock next g free =
+        let d = does (node.Lock lock next) g in
+        made_did (record t { at = next }) vs (slice_set hs lock.now.mutex (Some n)) d.rest (moved next d.rest d.follows)
+        (prefix (f.Lock d.place (lock_name_of lock.now)) d.rest d.is ∙ lock_free d.place (lock_name_of lock.now) d.rest free)
 
-    pub lock_waits : (mutex next : ℕ) → slice_get t.nodes.items t.at ≡ Some (node.Lock mutex next) → slice_get hs mutex ≢ Some None →
-        IsMade n now now (Waits mutex) threads left
-    lock_waits mutex next g held =
-        let d = does (node.Lock mutex next) g in
-        made_none (Waits mutex) l (prefix (f.Lock d.place mutex) d.rest d.is ∙ lock_none d.place mutex d.rest (slice_get hs mutex) refl held)
-        (ap (λ (o : Option ℕ). let a : Stepped = elim o [ Some x ↦ Waits x | None ↦ Ended ] in a) (sym (ahead (Some mutex) (ap first_lock d.is))))
+    lock_none : (place : Place) (name : LockName) (rest : List f.Statement) (o : Option (Option ℕ)) → slice_get hs name.mutex ≡ o → o ≢ Some None →
+        m.statement_step before n model (f.Lock place name) rest ≡ None
+    lock_none place name rest None e h = rw (m.statement_step, e) refl
+    lock_none place name rest (Some None) e h = absurd (h refl)
+    lock_none place name rest (Some (Some u)) e h = rw (m.statement_step, e) refl
+
+    pub lock_waits : (lock : Bor code_lock.LockName) (next : ℕ) → slice_get t.nodes.items t.at ≡ Some (node.Lock lock next) →
+        slice_get hs lock.now.mutex ≢ Some None →
+        IsMade n now now (Waits lock.now.mutex) threads left
+    lock_waits lock next g held =
+        let d = does (node.Lock lock next) g in
+        made_none (Waits lock.now.mutex) l
+        (prefix (f.Lock d.place (lock_name_of lock.now)) d.rest d.is ∙ lock_none d.place (lock_name_of lock.now) d.rest (slice_get hs lock.now.mutex) refl held)
+        (ap (λ (o : Option ℕ). let a : Stepped = elim o [ Some x ↦ Waits x | None ↦ Ended ] in a) (sym (ahead (Some lock.now.mutex) (ap first_lock d.is))))
 
     -- ---- Tests and assignments
 

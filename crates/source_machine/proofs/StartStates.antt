@@ -6,8 +6,7 @@ use Rattle.std.proofs.lemmas.Option.{slice_get-get_or}
 use Rattle.std.proofs.lemmas.List.{length-map, length-replicate, get_or-replicate}
 use Rattle.c_tree.specs.Flats as f
 use Rattle.c_tree.specs.Source as m
-use Rattle.c_tree.specs.Programs.{Variable, variable_of}
-use Rattle.c_tree.specs.Views.{name_of}
+use Rattle.c_tree.specs.Programs.{Variable, mutex_of, variable_of}
 use Rattle.c_tree.specs.declared.flat.Flat as flat
 use Rattle.c_tree.specs.declared.flat.Thread as source
 use Rattle.c_tree.specs.declared.program.Variable as variable
@@ -60,7 +59,7 @@ starts state x variables holders count sections started =
     let P : List ℕ → Type 0 = λ ns. AreCounted ns (λ _. 0) in
     record {
       variables = map_map (λ (v : Variable). v.initial) variable_of x.variables.items ∙ sym variables;
-      holders = ap (λ n. replicate n None) (length-map x.mutexes.items name_of) ∙ sym holders;
+      holders = ap (λ n. replicate n None) (length-map x.mutexes.items mutex_of) ∙ sym holders;
       count = length-map (map f.thread_of x.threads.items) m.thread_start ∙ (length-map x.threads.items f.thread_of ∙ sym count);
       each = λ k thread model g h.
           let a = map_found m.thread_start (map f.thread_of x.threads.items) k model h in

@@ -4,6 +4,7 @@ use Rattle.std.proofs.Common.{ap, Bool, true, false, Option, Some, None, ℤ, sl
 use Rattle.std.specs.Prelude.{slice_get, slice_index_or, if◌then◌else◌, Contains}
 use Rattle.std.proofs.lemmas.List.{length-set}
 use Rattle.ido_base.specs.declared.place.Place.{Place}
+use Rattle.c_tree.specs.Exprs as e
 use Rattle.c_tree.specs.Flats as f
 use Rattle.c_tree.specs.Source as m
 use Rattle.c_tree.specs.Source.{source_step}
@@ -44,11 +45,11 @@ module _ (s next : m.State) (t : ℕ) (thread : m.Thread) where
   lock_by mutex rest (Some None) = Some (m.with_thread (m.with_holder s mutex (Some t)) t (record thread { left = rest }))
   lock_by mutex rest (Some (Some u)) = None
 
-  lock_is : (place : Place) (mutex : ℕ) (rest : List f.Statement) (o : Option (Option ℕ)) → slice_get s.holders mutex ≡ o →
-      m.statement_step s t thread (f.Lock place mutex) rest ≡ lock_by mutex rest o
-  lock_is place mutex rest None e = rw (m.statement_step, e) refl
-  lock_is place mutex rest (Some None) e = rw (m.statement_step, e) refl
-  lock_is place mutex rest (Some (Some u)) e = rw (m.statement_step, e) refl
+  lock_is : (place : Place) (name : e.LockName) (rest : List f.Statement) (o : Option (Option ℕ)) → slice_get s.holders name.mutex ≡ o →
+      m.statement_step s t thread (f.Lock place name) rest ≡ lock_by name.mutex rest o
+  lock_is place name rest None e = rw (m.statement_step, e) refl
+  lock_is place name rest (Some None) e = rw (m.statement_step, e) refl
+  lock_is place name rest (Some (Some u)) e = rw (m.statement_step, e) refl
 
   by_lock : (mutex : ℕ) (rest : List f.Statement) (o : Option (Option ℕ)) → lock_by mutex rest o ≡ Some next → Writes s next t
   by_lock mutex rest None h = cc
@@ -61,9 +62,9 @@ module _ (s next : m.State) (t : ℕ) (thread : m.Thread) where
   by_statement (f.If place (f.arm_and condition body arms) otherwise) rest h = by_some s _ refl refl h
   by_statement (f.While place condition body) rest h = by_some s _ refl refl h
   by_statement (f.Do place body condition) rest h = cc
-  by_statement (f.Lock place mutex) rest h = by_lock mutex rest (slice_get s.holders mutex)
-      (sym (lock_is place mutex rest (slice_get s.holders mutex) refl) ∙ h)
-  by_statement (f.Unlock place mutex) rest h = by_some (m.with_holder s mutex None) (record thread { left = rest }) refl refl h
+  by_statement (f.Lock place name) rest h = by_lock name.mutex rest (slice_get s.holders name.mutex)
+      (sym (lock_is place name rest (slice_get s.holders name.mutex) refl) ∙ h)
+  by_statement (f.Unlock place name) rest h = by_some (m.with_holder s name.mutex None) (record thread { left = rest }) refl refl h
 
   by_end : (ended : Bool) → (let o : Option m.State = if ended then None else Some (m.with_thread s t (record thread { ended = true })) in o ≡ Some next) →
       Writes s next t

@@ -3,7 +3,7 @@ use Rattle.std.proofs.Common.{◌≡◌, List, [], ◌∷◌, Some, None, refl, 
 use Rattle.std.specs.Prelude.{pos}
 use Rattle.ido_ints.specs.declared.kinds.Kind.TheVariants as kind
 use Rattle.c_tree.specs.Trees.{Name}
-use Rattle.c_tree.specs.Programs.{Variable}
+use Rattle.c_tree.specs.Programs.{Mutex, Variable, By}
 use Rattle.c_tree.specs.Flats as f
 use Rattle.c_tree.specs.Source.{State}
 use Rattle.source_machine.specs.ElementLocks.{element_lock, found_number}
@@ -14,11 +14,14 @@ name = record { text = []; place = record { 0 = 0 } }
 
 -- an array of two elements, guarded by the second mutex, and a variable guarded by the first
 abbrev variables : List Variable
-variables = record { name = name; guard = 1; kind = kind.Int; length = Some 2; initial = pos 5 ∷ pos 6 ∷ [] }
-    ∷ record { name = name; guard = 0; kind = kind.Int; length = None; initial = pos 7 ∷ [] } ∷ []
+variables = record { name = name; guard = By 1; kind = kind.Int; length = Some 2; initial = pos 5 ∷ pos 6 ∷ [] }
+    ∷ record { name = name; guard = By 0; kind = kind.Int; length = None; initial = pos 7 ∷ [] } ∷ []
+
+abbrev mutex : Mutex
+mutex = record { name = name; length = None }
 
 abbrev x : f.Flat
-x = record { mutexes = name ∷ name ∷ []; variables = variables; threads = [] }
+x = record { mutexes = mutex ∷ mutex ∷ []; variables = variables; threads = [] }
 
 -- the numbers of the elements, where thread 3 has the second mutex
 abbrev state : List (List ℤ) → State

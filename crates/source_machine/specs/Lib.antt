@@ -7,6 +7,7 @@ pub mod links
 pub mod Runs
 pub mod Laws
 pub mod AppendedSchedules
+pub mod Lives
 pub mod Discipline
 pub mod StepExchanges
 pub mod StepAnswers

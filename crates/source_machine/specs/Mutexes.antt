@@ -9,21 +9,21 @@ use Rattle.c_tree.specs.LockDiscipline.{Held}
 
 -- the mutex that a statement locks
 abbrev pub lock_of : f.Statement → Option ℕ
-lock_of (f.Lock place mutex) = Some mutex
+lock_of (f.Lock place name) = Some name.mutex
 lock_of (f.Assign place target value) = None
 lock_of (f.If place arms otherwise) = None
 lock_of (f.While place condition body) = None
 lock_of (f.Do place body condition) = None
-lock_of (f.Unlock place mutex) = None
+lock_of (f.Unlock place name) = None
 
 -- the mutex that a statement unlocks
 abbrev pub unlock_of : f.Statement → Option ℕ
-unlock_of (f.Unlock place mutex) = Some mutex
+unlock_of (f.Unlock place name) = Some name.mutex
 unlock_of (f.Assign place target value) = None
 unlock_of (f.If place arms otherwise) = None
 unlock_of (f.While place condition body) = None
 unlock_of (f.Do place body condition) = None
-unlock_of (f.Lock place mutex) = None
+unlock_of (f.Lock place name) = None
 
 abbrev pub first_lock : List f.Statement → Option ℕ
 first_lock [] = None

@@ -28,7 +28,7 @@ pub fn assign(
 {
     let value = evaluate(value, locals, variables);
     match target {
-        Lvalue::Local { local, kind } => {
+        Lvalue::Local { local, kind, .. } => {
             let local = *local as usize;
             let number = value.convert(*kind).number();
             if local < locals.len() {

@@ -6,7 +6,7 @@ ghost use Rattle.c_tree.specs.Flats.{statement_of, statements_of, arms_list_of};
 ghost use Rattle.c_tree.specs.Source.{opened, opened_all};
 ghost use Rattle.source_machine.specs.links.Codes.{Emits, EmitsArm, EmitsArms, EmitsLoop, IsPushed, IsCodeOf};
 
-use c_tree::expr::{Lvalue, Placed};
+use c_tree::expr::{LockName, Lvalue, Placed};
 use c_tree::flat::{Arm, Statement};
 use ido_base::memory::OutOfMemory;
 use std::alloc::Global;
@@ -29,11 +29,11 @@ pub(crate) enum Node<'a> {
         fails: usize,
     },
     Lock {
-        mutex: u32,
+        lock: &'a LockName,
         next: usize,
     },
     Unlock {
-        mutex: u32,
+        lock: &'a LockName,
         next: usize,
     },
     /// An `if` without a condition: it has no step.
@@ -128,20 +128,8 @@ fn emit<'a>(
             condition,
             ..
         } => Ok(emit_loop(nodes, condition, body, next)?.body),
-        Statement::Lock { mutex, .. } => push(
-            nodes,
-            Node::Lock {
-                mutex: *mutex,
-                next,
-            },
-        ),
-        Statement::Unlock { mutex, .. } => push(
-            nodes,
-            Node::Unlock {
-                mutex: *mutex,
-                next,
-            },
-        ),
+        Statement::Lock { lock, .. } => push(nodes, Node::Lock { lock, next }),
+        Statement::Unlock { lock, .. } => push(nodes, Node::Unlock { lock, next }),
     }
 }
 

@@ -2,6 +2,7 @@
 ghost use Rattle.source_machine.specs.AppendedSchedules.{AfterAppended, EndedAppended, RunsAppended};
 ghost use Rattle.source_machine.specs.Discipline.{HeldIsGiven, LeavesHeld, LeavesOthers, ReachedKeeps};
 ghost use Rattle.source_machine.specs.Discipline.{ReadsGuarded, RunKeeps, StartKeeps, StepKeeps, WritesGuarded};
+ghost use Rattle.source_machine.specs.Lives.{AfterLife, BetweenIsEach, EndedLife, RunsLife};
 ghost use Rattle.source_machine.specs.StepExchanges.{Exchange, Solo, StepAdded, StepsDropped, Swap};
 ghost use Rattle.source_machine.specs.Laws.{NotWhole, OneStop, OthersStay, RestingStays, SizesStay};
 
@@ -27,6 +28,14 @@ pub fn schedules_append()
     ensures after { AfterAppended }
     ensures runs { RunsAppended }
     ensures ended { EndedAppended }
+{}
+
+/// One life more is stepped from where it begins, if all before it end; and a life ends where each thread stands between sections.
+pub fn lives_append()
+    ensures after { AfterLife }
+    ensures runs { RunsLife }
+    ensures ended { EndedLife }
+    ensures between { BetweenIsEach }
 {}
 
 /// States that keep the lock discipline: a form whose threads keep it begins with one, steps lead from one to one, and what the

@@ -92,16 +92,16 @@ impl<'a> ThreadState<'a> {
                 self.at = if condition.is_zero() { fails } else { holds };
                 Stepped::Did
             }
-            Node::Lock { mutex, next } => {
-                if locks::take(holders, mutex, number) {
+            Node::Lock { lock, next } => {
+                if locks::take(holders, lock.mutex, number) {
                     self.at = next;
                     Stepped::Did
                 } else {
-                    Stepped::Waits { mutex }
+                    Stepped::Waits { mutex: lock.mutex }
                 }
             }
-            Node::Unlock { mutex, next } => {
-                locks::release(holders, sections, mutex);
+            Node::Unlock { lock, next } => {
+                locks::release(holders, sections, lock.mutex);
                 self.at = next;
                 Stepped::Did
             }

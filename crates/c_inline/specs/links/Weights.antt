@@ -17,7 +17,7 @@ abbrev pub node_weight : Weights → (nodes : ℕ) → ℕ
 node_weight w nodes = w.node + w.expression * nodes
 
 abbrev pub assign_weight : Weights → e.Lvalue → (value : ℕ) → ℕ
-assign_weight w (e.ToLocal local kind) value = node_weight w value
+assign_weight w (e.ToLocal place local kind) value = node_weight w value
 assign_weight w (e.ToVariable place variable kind) value = node_weight w value + node_weight w 0
 assign_weight w (e.ToElement place variable kind index) value = node_weight w (nodes_of index.expr + value) + node_weight w 0
 
@@ -45,8 +45,8 @@ module _ (w : Weights) (call : ℕ) (fs : List p.Function) (weight : (function :
     statement_weight (p.If place arms otherwise) = arms_weight arms + statements_weight otherwise + w.branch
     statement_weight (p.While place condition body) = node_weight w (nodes_of condition.expr) + statements_weight body
     statement_weight (p.Do place body condition) = node_weight w (nodes_of condition.expr) + statements_weight body
-    statement_weight (p.Lock place mutex) = node_weight w 0
-    statement_weight (p.Unlock place mutex) = node_weight w 0
+    statement_weight (p.Lock place name) = node_weight w 0
+    statement_weight (p.Unlock place name) = node_weight w 0
 
     pub statements_weight : p.Statements → ℕ
     statements_weight p.no_statement = 0

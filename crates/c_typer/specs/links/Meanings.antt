@@ -33,13 +33,13 @@ element_as (n.IsGlobal (n.Variable number kind is_array)) place index_place inde
 element_as _ place index_place index = int 0
 
 abbrev pub target_as : n.Meaning → Place → e.Lvalue
-target_as (n.IsLocal l) place = e.ToLocal l.number l.kind
+target_as (n.IsLocal l) place = e.ToLocal place l.number l.kind
 target_as (n.IsGlobal (n.Variable number kind is_array)) place = e.ToVariable place number kind
-target_as _ place = e.ToLocal 0 kind.Int
+target_as _ place = e.ToLocal place 0 kind.Int
 
 abbrev pub target_element_as : n.Meaning → Place → e.Placed → e.Lvalue
 target_element_as (n.IsGlobal (n.Variable number kind is_array)) place index = e.ToElement place number kind index
-target_element_as _ place index = e.ToLocal 0 kind.Int
+target_element_as _ place index = e.ToLocal place 0 kind.Int
 
 abbrev pub function_as : n.Meaning → ℕ
 function_as (n.IsGlobal (n.Function number gives parameters)) = number

@@ -10,8 +10,8 @@ abbrev mutual
   held_after h (f.If place arms otherwise) = held_after_all h otherwise
   held_after h (f.While place condition body) = h
   held_after h (f.Do place body condition) = h
-  held_after h (f.Lock place mutex) = slice_set h mutex true
-  held_after h (f.Unlock place mutex) = slice_set h mutex false
+  held_after h (f.Lock place name) = slice_set h name.mutex true
+  held_after h (f.Unlock place name) = slice_set h name.mutex false
 
   pub held_after_all : Held → f.Statements → Held
   held_after_all h f.no_statement = h
@@ -23,8 +23,8 @@ abbrev mutual
   sets_in h (f.If place arms otherwise) = sets_in_arms h arms ++ sets_in_all h otherwise
   sets_in h (f.While place condition body) = h ∷ sets_in_all h body
   sets_in h (f.Do place body condition) = sets_in_all h body ++ held_after_all h body ∷ []
-  sets_in h (f.Lock place mutex) = h ∷ []
-  sets_in h (f.Unlock place mutex) = h ∷ []
+  sets_in h (f.Lock place name) = h ∷ []
+  sets_in h (f.Unlock place name) = h ∷ []
 
   pub sets_in_all : Held → f.Statements → List Held
   sets_in_all h f.no_statement = []

@@ -11,8 +11,8 @@ abbrev mutual
   Ascends h (f.If place arms otherwise) = AscendArms h arms × AscendAll h otherwise
   Ascends h (f.While place condition body) = AscendAll h body
   Ascends h (f.Do place body condition) = AscendAll h body
-  Ascends h (f.Lock place mutex) = holds_from h mutex ≡ false
-  Ascends h (f.Unlock place mutex) = Unit {0}
+  Ascends h (f.Lock place name) = holds_from h name.mutex ≡ false
+  Ascends h (f.Unlock place name) = Unit {0}
 
   pub AscendAll : Held → f.Statements → Type 0
   AscendAll h f.no_statement = Unit {0}

@@ -1,7 +1,7 @@
 -- Code of threads: what is left to do at each position of it, and what is emitted.
 use Rattle.std.specs.Prelude.{◌≡◌, ℕ, ◌<◌, ◌≤◌, List, [], ◌∷◌, ◌++◌, length, slice_get, Some}
 use Rattle.ido_base.specs.declared.place.Place.{Place}
-use Rattle.c_tree.specs.Exprs.{Placed, Lvalue, placed_of, lvalue_of}
+use Rattle.c_tree.specs.Exprs.{Placed, Lvalue, LockName, placed_of, lvalue_of, lock_name_of}
 use Rattle.c_tree.specs.Flats as f
 use Rattle.c_tree.specs.Flats.{statements_of}
 use Rattle.c_tree.specs.declared.flat.Arm as code_arm
@@ -31,17 +31,17 @@ pub record Assigns (lefts : Lefts) (target : Lvalue) (value : Placed) (next : �
   pub follows : At lefts next rest
   pub is : left ≡ f.Assign place target value ∷ rest
 
-pub record Locks (lefts : Lefts) (mutex next : ℕ) (left : List f.Statement) : Type 0 where
+pub record Locks (lefts : Lefts) (lock : LockName) (next : ℕ) (left : List f.Statement) : Type 0 where
   pub place : Place
   pub rest : List f.Statement
   pub follows : At lefts next rest
-  pub is : left ≡ f.Lock place mutex ∷ rest
+  pub is : left ≡ f.Lock place lock ∷ rest
 
-pub record Unlocks (lefts : Lefts) (mutex next : ℕ) (left : List f.Statement) : Type 0 where
+pub record Unlocks (lefts : Lefts) (lock : LockName) (next : ℕ) (left : List f.Statement) : Type 0 where
   pub place : Place
   pub rest : List f.Statement
   pub follows : At lefts next rest
-  pub is : left ≡ f.Unlock place mutex ∷ rest
+  pub is : left ≡ f.Unlock place lock ∷ rest
 
 pub record IsStuck (left : List f.Statement) : Type 0 where
   pub place : Place
@@ -62,8 +62,8 @@ abbrev pub DoesNode : Lefts → Node → List f.Statement → Type 0
 DoesNode lefts node.End left = left ≡ []
 DoesNode lefts (node.Assign target value next) left = Assigns lefts (lvalue_of target.now) (placed_of value.now) next left
 DoesNode lefts (node.Test condition holds fails) left = Tests lefts (placed_of condition.now) holds fails left
-DoesNode lefts (node.Lock mutex next) left = Locks lefts mutex next left
-DoesNode lefts (node.Unlock mutex next) left = Unlocks lefts mutex next left
+DoesNode lefts (node.Lock lock next) left = Locks lefts (lock_name_of lock.now) next left
+DoesNode lefts (node.Unlock lock next) left = Unlocks lefts (lock_name_of lock.now) next left
 DoesNode lefts node.Never left = IsStuck left
 
 -- at each position that is left which its node does

@@ -1,5 +1,6 @@
 use Rattle.std.proofs.Common.{◌≡◌, ◌<◌, [], map, ℕ, ◌+◌, ◌*◌, List, Option, refl, sym, ap, ◌∙◌, arith}
 use Rattle.std.proofs.lemmas.Result.{on_ok_weaker}
+use Rattle.c_tree.specs.Exprs as e
 use Rattle.c_tree.specs.Programs as p
 use Rattle.c_tree.specs.Flats as f
 use Rattle.c_tree.specs.Inlining as i
@@ -148,18 +149,21 @@ make_or_begin-returns-in_ok-push-in-Lock-clause-made t c =
     let n = c.in-Lock in
     let fs = map function_of c.args.bodies.functions.now in
     let ks = c.args.kinds.now.items in
-    one_made fs (whole fs) c.args.by ks ks c.args.made.now.items c.push-in-Lock.new.self.items n.place (flat.Lock n.place n.mutex) (f.Lock n.place n.mutex)
+    one_made fs (whole fs) c.args.by ks ks c.args.made.now.items c.push-in-Lock.new.self.items n.place (flat.Lock n.place c.in_ok-lock-in-Lock.lock)
+    (f.Lock n.place (i.shifted_lock c.args.by (e.lock_name_of n.lock)))
     (i.statement fs (whole fs) c.args.by ks (p.statement_of c.args.statement.now))
-    c.in_ok-push-in-Lock.ensures.items refl (ap (λ (x : Statement). i.statement fs (whole fs) c.args.by ks (p.statement_of x)) n.is)
+    c.in_ok-push-in-Lock.ensures.items (ap (f.Lock n.place) c.in_ok-lock-in-Lock.ensures)
+    (ap (λ (x : Statement). i.statement fs (whole fs) c.args.by ks (p.statement_of x)) n.is)
 
 pub make_or_begin-returns-in_ok-push-in-Unlock-clause-made : goal.make_or_begin-returns-in_ok-push-in-Unlock-clause-made
 make_or_begin-returns-in_ok-push-in-Unlock-clause-made t c =
     let n = c.in-Unlock in
     let fs = map function_of c.args.bodies.functions.now in
     let ks = c.args.kinds.now.items in
-    one_made fs (whole fs) c.args.by ks ks c.args.made.now.items c.push-in-Unlock.new.self.items n.place (flat.Unlock n.place n.mutex)
-    (f.Unlock n.place n.mutex) (i.statement fs (whole fs) c.args.by ks (p.statement_of c.args.statement.now))
-    c.in_ok-push-in-Unlock.ensures.items refl (ap (λ (x : Statement). i.statement fs (whole fs) c.args.by ks (p.statement_of x)) n.is)
+    one_made fs (whole fs) c.args.by ks ks c.args.made.now.items c.push-in-Unlock.new.self.items n.place (flat.Unlock n.place c.in_ok-lock-in-Unlock.lock)
+    (f.Unlock n.place (i.shifted_lock c.args.by (e.lock_name_of n.lock))) (i.statement fs (whole fs) c.args.by ks (p.statement_of c.args.statement.now))
+    c.in_ok-push-in-Unlock.ensures.items (ap (f.Unlock n.place) c.in_ok-lock-in-Unlock.ensures)
+    (ap (λ (x : Statement). i.statement fs (whole fs) c.args.by ks (p.statement_of x)) n.is)
 
 pub make_statements-loop-statement-preserved : goal.make_statements-loop-statement-preserved
 make_statements-loop-statement-preserved t c =

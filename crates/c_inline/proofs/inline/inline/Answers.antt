@@ -1,12 +1,10 @@
 use Rattle.std.proofs.Common.{◌≡◌, List, map, sym, ap, ap₂, ◌∙◌, subst}
 use Rattle.std.proofs.lemmas.Option.{MatchOption-at_none, MatchOption-at_some}
-use Rattle.c_tree.specs.Trees.{Name}
-use Rattle.c_tree.specs.Views.{name_of}
 use Rattle.c_tree.specs.Programs as p
-use Rattle.c_tree.specs.Programs.{program_of, function_of, thread_of, variable_of}
+use Rattle.c_tree.specs.Programs.{program_of, function_of, thread_of, mutex_of, variable_of}
 use Rattle.c_tree.specs.Flats as f
 use Rattle.c_tree.specs.Inlining as i
-use Rattle.c_tree.specs.declared.tree.Name as name
+use Rattle.c_tree.specs.declared.program.Mutex as mutex
 use Rattle.c_tree.specs.declared.program.Variable as variable
 use Rattle.c_tree.specs.declared.program.Function.{Function}
 use Rattle.c_tree.specs.declared.program.Thread.{Thread}
@@ -76,8 +74,8 @@ returns c =
     none_back cs fs lists (MatchOption-at_none ((x : i.Call) → LeadsBack (lists_of cs) x → ⊥) (IsFirstBack (lists_of cs)) c.in_default.is
     c.in_ok-place.ensures) in
     let P = program_of c.args.program.now in
-    let mutexes : map name_of c.in_ok-mutexes.mutexes.items ≡ P.mutexes =
-    c.in_ok-mutexes.ensures ∙ ap (λ (xs : List name.Name). map name_of xs) c.deref-11.ensures.value in
+    let mutexes : map mutex_of c.in_ok-mutexes.mutexes.items ≡ P.mutexes =
+    c.in_ok-mutexes.ensures ∙ ap (λ (xs : List mutex.Mutex). map mutex_of xs) c.deref-11.ensures.value in
     let variables : map variable_of c.in_ok-variables.variables.items ≡ P.variables =
     c.in_ok-variables.ensures ∙ ap (λ (xs : List variable.Variable). map variable_of xs) c.deref-12.ensures.value in
     let threads : map f.thread_of c.in_ok-threads.threads.items ≡ map (i.flat_thread P.functions) P.threads =
@@ -87,7 +85,7 @@ returns c =
       fault_is P ∙ ap₂ (λ (xs : List Function) (ys : List Thread). fault_among (map function_of xs) (map thread_of ys)) (sym c.as_slice-functions.ensures.value)
           (sym c.deref-7.ensures.value)
           ∙ sym c.price_fault.ensures ∙ c.in_default-price_fault.is,
-      ap₂ (λ (ms : List Name) (vs : List p.Variable). let r : f.Flat =
+      ap₂ (λ (ms : List p.Mutex) (vs : List p.Variable). let r : f.Flat =
           record { mutexes = ms; variables = vs; threads = map f.thread_of c.in_ok-threads.threads.items } in r) mutexes variables
           ∙ ap (λ (ts : List f.Thread). let r : f.Flat = record { mutexes = P.mutexes; variables = P.variables; threads = ts } in r) threads
           ∙ sym (flat_is P),

@@ -1,4 +1,4 @@
-use Rattle.std.proofs.Common.{◌≡◌, ◌≤◌, Some, true, false, List, length, get_or, subst, sym, ap, ◌∙◌, arith, refl}
+use Rattle.std.proofs.Common.{◌≡◌, ◌≤◌, None, Some, true, false, List, length, get_or, subst, sym, ap, ◌∙◌, arith, refl}
 use Rattle.std.specs.Prelude.{Contains, slice_get}
 use Rattle.std.specs.Option.{option_map}
 use Rattle.std.proofs.lemmas.Option.{slice_get-get_or, slice_get-map}
@@ -14,14 +14,14 @@ pub returns-then-exposed-clause-exposed : goal.returns-then-exposed-clause-expos
 returns-then-exposed-clause-exposed c =
     let items = c.deref-elements-items.result.now in
     let i = c.loop-place.place in
-    let item : Location = get_or items i (record { variable = 0; lo = 0; hi = 0 }) in (
+    let item : Location = get_or items i (record { variable = 0; lo = 0; hi = 0; key = None }) in (
       λ _. record {
         elements = item;
         reads = record {
           is = node_of c.args.node.now;
           at = slice_get-map node_of c.args.graph.now.nodes.items c.args.number ∙ ap (option_map node_of) c.requires.node;
           reads = subst (λ (xs : List Location). Contains xs item) c.deref-elements-items.ensures.value
-              (found_contained items item i (slice_get-get_or items i (record { variable = 0; lo = 0; hi = 0 }) c.loop-place-test.true));
+              (found_contained items item i (slice_get-get_or items i (record { variable = 0; lo = 0; hi = 0; key = None }) c.loop-place-test.true));
         };
         exposed = c.in_ok-exposed.ensures.exposed.0 c.if-exposed.true;
       },
@@ -34,8 +34,8 @@ loop-place-preserved c =
     let b = boundaries_of c.args.cuts.now in
     let i = c.loop-place.place in
     let items = c.deref-elements-items.result.now in
-    let item : Location = get_or items i (record { variable = 0; lo = 0; hi = 0 }) in
-    let at = slice_get-get_or items i (record { variable = 0; lo = 0; hi = 0 }) c.loop-place-test.true in
+    let item : Location = get_or items i (record { variable = 0; lo = 0; hi = 0; key = None }) in
+    let at = slice_get-get_or items i (record { variable = 0; lo = 0; hi = 0; key = None }) c.loop-place-test.true in
     let P : Location → Type 0 = λ e. ¬ (IsExposedOver g b c.args.writes.now c.args.number e) in
     let free : P item = λ e. let yes' : c.in_ok-exposed.exposed ≡ true = c.in_ok-exposed.ensures.exposed.1 e in let no' : c.in_ok-exposed.exposed ≡ false =
     c.if-exposed.false in cc in
@@ -61,7 +61,7 @@ pub is_exposed_over-requires-clause-read : goal.is_exposed_over-requires-clause-
 is_exposed_over-requires-clause-read c =
     let items = c.deref-elements-items.result.now in
     let i = c.loop-place.place in
-    let none : Location = record { variable = 0; lo = 0; hi = 0 } in
+    let none : Location = record { variable = 0; lo = 0; hi = 0; key = None } in
     record {
       is = node_of c.args.node.now;
       at = slice_get-map node_of c.args.graph.now.nodes.items c.args.number ∙ ap (option_map node_of) c.requires.node;

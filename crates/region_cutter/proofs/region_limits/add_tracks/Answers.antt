@@ -1,4 +1,4 @@
-use Rattle.std.proofs.Common.{◌≡◌, ℕ, ◌<◌, ◌+◌, List, Some, get_or, subst}
+use Rattle.std.proofs.Common.{◌≡◌, ℕ, ◌<◌, ◌+◌, List, None, Some, get_or, subst}
 use Rattle.std.specs.Prelude.{slice_get, Contains}
 use Rattle.ido_base.specs.declared.location.Location.{Location}
 use Rattle.region_cutter.specs.links.RegionLimits.{AddsTracks}
@@ -6,7 +6,7 @@ use Rattle.region_cutter.proofs.RegionLimits.{tracks_more, one_more_read, reads_
 use Rattle.region_cutter.proofs.region_limits.add_tracks.Goals as goal
 
 abbrev none : Location
-none = record { variable = 0; lo = 0; hi = 0 }
+none = record { variable = 0; lo = 0; hi = 0; key = None }
 
 pub loop-elements-preserved : goal.loop-elements-preserved
 loop-elements-preserved c =

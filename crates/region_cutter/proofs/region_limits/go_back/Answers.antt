@@ -1,4 +1,4 @@
-use Rattle.std.proofs.Common.{ℕ, set, length, get_or, refl, subst, arith}
+use Rattle.std.proofs.Common.{ℕ, None, set, length, get_or, refl, subst, arith}
 use Rattle.std.proofs.lemmas.Option.{slice_get_read, slice_get-get_or}
 use Rattle.flow_graph.specs.Nodes.{graph_of}
 use Rattle.region_cutter.specs.declared.region_limits.Track.{Track}
@@ -6,7 +6,7 @@ use Rattle.region_cutter.proofs.RegionLimits.{GoesBack, back_none, back_more, ba
 use Rattle.region_cutter.proofs.region_limits.go_back.Goals as goal
 
 abbrev none : Track
-none = record { elements = record { variable = 0; lo = 0; hi = 0 }; next = 0; hit = 0 }
+none = record { elements = record { variable = 0; lo = 0; hi = 0; key = None }; next = 0; hit = 0 }
 
 pub loop-k-init : goal.loop-k-init
 loop-k-init c = back_none (graph_of c.args.graph.now) c.args.number c.args.past c.args.tracks.now c.requires.tracked

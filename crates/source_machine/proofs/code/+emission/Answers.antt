@@ -1,7 +1,7 @@
 use Rattle.std.proofs.Common.{◌≡◌, ◌∙◌, ◌<◌, List, [], ◌∷◌, ap, sym, subst, refl, arith, length, length-append}
 use Rattle.std.proofs.lemmas.Bool.Decides.{nat_tests}
 use Rattle.std.specs.Prelude.{IfOk}
-use Rattle.c_tree.specs.Exprs.{placed_of, lvalue_of}
+use Rattle.c_tree.specs.Exprs.{placed_of, lvalue_of, lock_name_of}
 use Rattle.c_tree.specs.Flats as f
 use Rattle.c_tree.specs.declared.flat.Statement.{Statement}
 use Rattle.c_tree.specs.declared.flat.Arm.{Arm}
@@ -73,13 +73,13 @@ emit-returns-in_ok-emit_loop-in-Do t c =
 pub emit-returns-in-Lock : goal.emit-returns-in-Lock
 emit-returns-in-Lock t c =
     let w = c.in-Lock in
-    rw w.is (ok_node _ _ _ _ (f.Lock w.place w.mutex ∷ []) c.args.next c.push-in-Lock.ensures
+    rw w.is (ok_node _ _ _ _ (f.Lock w.place (lock_name_of w.lock) ∷ []) c.args.next c.push-in-Lock.ensures
     (λ all rest at. record { place = w.place; rest = rest; follows = at; is = refl }))
 
 pub emit-returns-in-Unlock : goal.emit-returns-in-Unlock
 emit-returns-in-Unlock t c =
     let w = c.in-Unlock in
-    rw w.is (ok_node _ _ _ _ (f.Unlock w.place w.mutex ∷ []) c.args.next c.push-in-Unlock.ensures
+    rw w.is (ok_node _ _ _ _ (f.Unlock w.place (lock_name_of w.lock) ∷ []) c.args.next c.push-in-Unlock.ensures
     (λ all rest at. record { place = w.place; rest = rest; follows = at; is = refl }))
 
 pub emit_arm-returns : goal.emit_arm-returns

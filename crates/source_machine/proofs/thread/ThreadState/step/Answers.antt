@@ -79,7 +79,7 @@ returns-then-take-clause-made c =
     λ left threads l.
     let P : List (Option ℕ) → Type 0 = λ hs. IsMade c.args.number (hand c.args.self.now c.args.variables.now c.args.holders.now)
     (hand (record c.args.self.now { at = c.in-Lock.next }) c.args.variables.now hs) Did threads left in
-    subst P (sym h.taken) (lock_made c.args.variables.now c.args.holders.now threads c.args.number c.args.self.now left c.in_default.is l c.in-Lock.mutex
+    subst P (sym h.taken) (lock_made c.args.variables.now c.args.holders.now threads c.args.number c.args.self.now left c.in_default.is l c.in-Lock.lock
     c.in-Lock.next g (h.free.0 refl))
 
 pub returns-then-take-clause-sections : goal.returns-then-take-clause-sections
@@ -87,7 +87,7 @@ returns-then-take-clause-sections c =
     let h = c.if-take.ensures in
     λ ended counted.
     let P : List (Option ℕ) → Type 0 = λ hs. (k : ℕ) → ends c.args.holders.now hs k ≡ 0 in
-    counted_same c.args.sections.now ended _ (subst P (sym h.taken) (λ k. ends_taken c.args.holders.now c.in-Lock.mutex c.args.number k
+    counted_same c.args.sections.now ended _ (subst P (sym h.taken) (λ k. ends_taken c.args.holders.now c.in-Lock.lock.now.mutex c.args.number k
     (h.free.0 refl))) counted
 
 pub returns-else-take-clause-made : goal.returns-else-take-clause-made
@@ -97,8 +97,8 @@ returns-else-take-clause-made c =
     let h = c.if-take.ensures in
     λ left threads l.
     let P : List (Option ℕ) → Type 0 = λ hs. IsMade c.args.number (hand c.args.self.now c.args.variables.now c.args.holders.now)
-    (hand c.args.self.now c.args.variables.now hs) (Waits c.in-Lock.mutex) threads left in
-    subst P (sym h.kept) (lock_waits c.args.variables.now c.args.holders.now threads c.args.number c.args.self.now left c.in_default.is l c.in-Lock.mutex
+    (hand c.args.self.now c.args.variables.now hs) (Waits c.in-Lock.lock.now.mutex) threads left in
+    subst P (sym h.kept) (lock_waits c.args.variables.now c.args.holders.now threads c.args.number c.args.self.now left c.in_default.is l c.in-Lock.lock
     c.in-Lock.next g (λ e. let f : false ≡ true = h.free.1 e in cc))
 
 pub returns-in-Unlock-clause-made : goal.returns-in-Unlock-clause-made
@@ -109,7 +109,7 @@ returns-in-Unlock-clause-made c =
     let P : List (Option ℕ) → Type 0 = λ hs. IsMade c.args.number (hand c.args.self.now c.args.variables.now c.args.holders.now)
     (hand (record c.args.self.now { at = c.in-Unlock.next }) c.args.variables.now hs) Did threads left in
     subst P (sym c.release.ensures.holders)
-    (unlock_made c.args.variables.now c.args.holders.now threads c.args.number c.args.self.now left c.in_default.is l c.in-Unlock.mutex c.in-Unlock.next g)
+    (unlock_made c.args.variables.now c.args.holders.now threads c.args.number c.args.self.now left c.in_default.is l c.in-Unlock.lock c.in-Unlock.next g)
 
 pub returns-in-Never-clause-made : goal.returns-in-Never-clause-made
 returns-in-Never-clause-made c =
