@@ -27,14 +27,14 @@ use Rattle.operator_code.proofs.Public.{equal_by, add_small, read_same, read_oth
 use Rattle.memory_layout.specs.Roles.{is_temporary}
 use Rattle.memory_layout.proofs.Public.{product_small}
 use Rattle.code_runs.specs.ComputingRuns.{Environment, LocalConfig, config, HasCodeAt}
-use Rattle.expr_code.specs.EvaluationCode.{Homes, Source, Suits, HoldsLocals, AreLoaded, IsLegal, HasCodeThere}
+use Rattle.expr_code.specs.EvaluationCode.{Homes, Source, Suits, HoldsLocals, AreLoaded, IsLegal, HasCodeThere, home_of}
 use Rattle.expr_code.specs.EvaluationCode.{IsEvaluationStart, EvaluationEnds, EvaluatesTo, place_of, IsElementAddressCode}
 use Rattle.expr_code.specs.EvaluationCode.{IsVariableAddressCode}
 use Rattle.expr_code.specs.links.OperandCode.{temporary, is_free, IsEvaluation, IsOperand}
 use Rattle.expr_code.specs.links.ForwardJumps.{LeadsBy}
 use Rattle.expr_code.specs.links.ElementLoads.{loaded_by, places_of, upper_part, HasUpper}
 use Rattle.expr_code.proofs.RunComposition.{loads, arrive, stands_right}
-use Rattle.expr_code.proofs.PreservedRegisters.{or_left, or_right, own_is_free, spare_is_free, temporary_some}
+use Rattle.expr_code.proofs.PreservedRegisters.{or_left, or_right, own_is_free, spare_is_free, temporary_some, held_there}
 use Rattle.expr_code.proofs.PreservedRegisters.{temporary_small, registers_after_write, is_member}
 use Rattle.expr_code.proofs.CodeComposition.{wider, then_ends, computed, at_left, begins_left, begins_as, room_right}
 use Rattle.expr_code.proofs.Addresses.{load_width, loaded_form, index_form, upper_is, parts_meet, IsNear, near_declared, near_some, bytes_small}
@@ -179,7 +179,7 @@ pub all_held : (h : Homes) (s : Source) (l : (address bytes : ℕ) → Option �
     IsExpr s.variables s.kinds t → AreLoaded s l t →
     AllHeld s.locals s.numbers t
 all_held h s l x (e.Constant v) locals f a = tt
-all_held h s l x (e.Local local k) locals f a = locals.held
+all_held h s l x (e.Local local k) locals f a = held_there x (home_of h.locals local) _ locals
 all_held h s l x (e.Variable place variable k) locals f a = a.held
 all_held h s l x (e.Element place variable k index_place index) locals f a = (a.0.held, all_held h s l x index locals f.1 a.1)
 all_held h s l x (e.Unary op t) locals f a = all_held h s l x t locals f a

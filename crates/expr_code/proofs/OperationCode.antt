@@ -2,7 +2,7 @@
 use Rattle.std.proofs.Common.{◌≡◌, ℕ, suc, ◌+◌, ◌-◌, ◌*◌, ◌^◌, ◌<◌, ◌≤◌, List, [], ◌∷◌, ◌++◌, length, refl, ap, sym, ◌∙◌, arith, subst, Bool, true, false}
 use Rattle.std.proofs.Common.{add-one, ◌==◌}
 use Rattle.std.proofs.lemmas.Nat.{pow-add}
-use Rattle.std.specs.Prelude.{not, ◌||◌, ℤ, pos, slice_index, slice_index_or, int_lt, int_le}
+use Rattle.std.specs.Prelude.{not, ◌||◌, ℤ, pos, slice_index_or, int_lt, int_le}
 use Rattle.std.specs.Ordering.{int_eq}
 use Rattle.ido_ints.specs.declared.kinds.Kind.{Kind}
 use Rattle.ido_ints.specs.declared.kinds.Kind.TheVariants.{Int}
@@ -32,12 +32,14 @@ use Rattle.operator_code.specs.ComputingCode.{Carries, Computes, IsCopy, IsConve
 use Rattle.operator_code.specs.ComputingCode.{is_comparison, KeepsForm, AreOperands, left_kind, right_kind, given_by, passes}
 use Rattle.expr_code.specs.declared.operand.Pair as pair
 use Rattle.code_runs.specs.ComputingRuns.{Environment, LocalConfig, config}
-use Rattle.expr_code.specs.EvaluationCode.{Homes, Source, IsLegal, IsEvaluationStart, EvaluationEnds}
+use Rattle.expr_code.specs.EvaluationCode.{Homes, Source, IsLegal, IsEvaluationStart, EvaluationEnds, home_of, HomeCarries}
 use Rattle.expr_code.specs.links.OperandCode.{temporary, is_free, IsEvaluation, IsOperand, IsPair, IsTest, IsMade, IsConstantForm, truth_of}
 use Rattle.expr_code.proofs.RunComposition.{stands_right}
 use Rattle.expr_code.proofs.PreservedRegisters.{or_right, kept_later, local_kept, own_kept, with_own}
 use Rattle.expr_code.proofs.ValueKinds.{kind_is}
 use Rattle.expr_code.proofs.CodeComposition.{wider, having, then_ends, nothing_ends, computed, begins_left, begins_right, begins_as, room_right, typed_is, made}
+use Rattle.expr_code.specs.declared.home.Home.{Home}
+use Rattle.expr_code.specs.declared.home.Home.TheVariants.{InRegister}
 
 -- ---- One operand
 
@@ -93,15 +95,16 @@ own_operand h x held a l g = record { gives = record { ends = ends }; kept = own
         (λ n q. with_own held n l q) (g.ends s r m legal b)
 
 -- a local is an operand where it stands
-pub local_operand : (h : Homes) (local : ℕ) (k : Kind) (held : ℕ) → is_local (slice_index h.registers local) ≡ true →
-    IsOperand h (e.Local local k) held (slice_index h.registers local) []
-local_operand h local k held l = record { gives = record { ends = ends }; kept = local_kept (suc held) (slice_index h.registers local) l }
+pub local_operand : (h : Homes) (local : ℕ) (k : Kind) (held register : ℕ) → home_of h.locals local ≡ InRegister register → is_local register ≡ true →
+    IsOperand h (e.Local local k) held register []
+local_operand h local k held register is l = record { gives = record { ends = ends }; kept = local_kept (suc held) register l }
   where
     ends : (s : Source) (r : Environment) (m : LocalConfig) → IsLegal h s r (e.Local local k) → IsEvaluationStart h s r (e.Local local k) [] m →
-        EvaluationEnds r [] (is_free held) (λ y. Carries y (slice_index h.registers local) (typed k (slice_index_or s.locals local (pos 0)))) m
+        EvaluationEnds r [] (is_free held) (λ y. Carries y register (typed k (slice_index_or s.locals local (pos 0)))) m
     ends s r m legal b =
-        nothing_ends r (is_free held) (λ y. Carries y (slice_index h.registers local) (typed k (slice_index_or s.locals local (pos 0)))) m
-        b.at.registers b.locals
+        let v = typed k (slice_index_or s.locals local (pos 0)) in
+        nothing_ends r (is_free held) (λ y. Carries y register v) m b.at.registers
+        (subst (λ (home : Home). HomeCarries m.registers home v) is b.locals)
 
 pub constant_value : (v : Typed) (rd : ℕ) (code : List Instr) → 0 < rd → rd < 32 → Holds v.kind v.number → IsConstant rd (register_form_of v) code →
     (h : Homes) (held : ℕ) → IsEvaluation h (e.Constant v) held rd code

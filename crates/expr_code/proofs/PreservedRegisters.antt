@@ -1,6 +1,6 @@
 -- Registers that keep what they hold.
-use Rattle.std.proofs.Common.{◌≡◌, ℕ, zero, suc, ◌<◌, List, refl, ap, ◌∙◌, arith, Bool, true, false, ◌==◌, lit<}
-use Rattle.std.specs.Prelude.{not, ◌&&◌, ◌||◌, slice_set, slice_index}
+use Rattle.std.proofs.Common.{◌≡◌, ℕ, zero, suc, ◌<◌, List, refl, ap, ◌∙◌, arith, Bool, true, false, ◌==◌, lit<, sym}
+use Rattle.std.specs.Prelude.{not, ◌&&◌, ◌||◌, slice_set}
 use Rattle.std.proofs.lemmas.Option.{slice_get_within}
 use Rattle.c_tree.specs.Exprs as e
 use Rattle.c_tree.specs.WellFormed.{IsExpr}
@@ -8,8 +8,12 @@ use Rattle.rv64_isa.specs.Rows.{read}
 use Rattle.memory_layout.specs.Roles.{is_temporary, is_local}
 use Rattle.operator_code.specs.ComputingCode.{AreRegisters}
 use Rattle.operator_code.proofs.Public.{equal_by, read_other, length-changed}
-use Rattle.expr_code.specs.EvaluationCode.{Homes, Source, Suits, HoldsLocals}
+use Rattle.expr_code.specs.EvaluationCode.{Homes, Source, Suits, HoldsLocals, home_of, is_home, HomeCarries}
 use Rattle.expr_code.specs.links.OperandCode.{temporary, is_held, is_free}
+use Rattle.expr_code.specs.declared.home.Home.{Home}
+use Rattle.expr_code.specs.declared.home.Home.TheVariants.{InRegister}
+use Rattle.ido_ints.specs.Kinds.{Holds}
+use Rattle.ido_ints.specs.TypedNumbers.{Typed}
 
 pub or_left : (a b : Bool) → (a || b) ≡ false → a ≡ false
 or_left true b h = h
@@ -96,13 +100,26 @@ is_member w rd n free h = by (n == rd) refl
 pub with_own : (held n : ℕ) → held < 4 → is_free held n ≡ false → (n == temporary held || is_free held n) ≡ false
 with_own held n l h = is_member (is_free held) (temporary held) n (own_is_free held l) h
 
--- ---- Registers of locals
+-- ---- Homes of locals
+
+pub same_register : (a b : ℕ) → InRegister a ≡ InRegister b → a ≡ b
+same_register a b same = cc
+
+-- what stands in a home stands there still where the home's register is as it was
+pub still_there : (x y : List ℕ) (home : Home) (v : Typed) → ((register : ℕ) → home ≡ InRegister register → read y register ≡ read x register) →
+    HomeCarries x home v → HomeCarries y home v
+still_there x y (InRegister register) v same l = record { held = l.held; form = same register refl ∙ l.form }
+
+-- what stands in a home is held by its kind
+pub held_there : (x : List ℕ) (home : Home) (v : Typed) → HomeCarries x home v → Holds v.kind v.number
+held_there x (InRegister register) v l = l.held
 
 pub locals_kept : (h : Homes) (s : Source) (x y : List ℕ) (t : e.Expr) → Suits h s → IsExpr s.variables s.kinds t →
     ((n : ℕ) → is_local n ≡ true → read y n ≡ read x n) → HoldsLocals h s x t → HoldsLocals h s y t
 locals_kept h s x y (e.Constant value) suits f same l = tt
 locals_kept h s x y (e.Local local k) suits f same l =
-    record { held = l.held; form = same (slice_index h.registers local) (suits.register local (slice_get_within s.kinds local k f)) ∙ l.form }
+    still_there x y (home_of h.locals local) _
+    (λ register is. same register (sym (ap is_home is) ∙ suits.local local (slice_get_within s.kinds local k f))) l
 locals_kept h s x y (e.Variable place variable k) suits f same l = tt
 locals_kept h s x y (e.Element place variable k index_place index) suits f same l = locals_kept h s x y index suits f.1 same l
 locals_kept h s x y (e.Unary op t) suits f same l = locals_kept h s x y t suits f same l

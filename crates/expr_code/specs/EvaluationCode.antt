@@ -1,4 +1,4 @@
--- Code that evaluates expressions: locals stand in registers, variables in memory, and every value in its register form.
+-- Code that evaluates expressions: locals stand in their homes, variables in memory, and every value in its register form.
 use Rattle.std.specs.Prelude.{◌≡◌, ℕ, ◌+◌, ◌*◌, ◌^◌, ◌<◌, ◌≤◌, List, length, map, slice_index, slice_index_or, Option, Some, Bool, true, false, not, ◌==◌}
 use Rattle.std.specs.Prelude.{◌||◌, ℤ, pos, sum_by}
 use Rattle.ido_base.specs.Layout.{variable_at, end_from}
@@ -20,22 +20,36 @@ use Rattle.memory_layout.specs.Roles.{is_temporary, is_local}
 use Rattle.operator_code.specs.declared.branches.Test.{Test}
 use Rattle.operator_code.specs.ComputingCode.{AreRegisters, Carries, passes}
 use Rattle.expr_code.specs.declared.frame.Frame as frame
+use Rattle.expr_code.specs.declared.home.Home.{Home}
+use Rattle.expr_code.specs.declared.home.Home.TheVariants.{InRegister}
 use Rattle.code_runs.specs.ComputingRuns.{Environment, LocalConfig, config, RunsTo, HasCodeAt}
 
 -- ---- Where things are, and what they are
 
--- the addresses of the variables, and the registers of the locals
+-- where the local of that number stands, of a list of where each does
+abbrev pub home_of : List Home → (local : ℕ) → Home
+home_of homes local = slice_index_or homes local (InRegister 0)
+
+-- locals may stand there: in one of their registers
+abbrev pub is_home : Home → Bool
+is_home (InRegister register) = is_local register
+
+-- what stands there is the value, in its register form
+abbrev pub HomeCarries : (registers : List ℕ) → Home → Typed → Type 0
+HomeCarries registers (InRegister register) v = Carries registers register v
+
+-- the addresses of the variables, and where the locals are
 pub record Homes : Type 0 where
   pub addresses : List ℕ
-  pub registers : List ℕ
+  pub locals : List Home
 
 abbrev pub homes_of : frame.Frame → Homes
-homes_of f = record { addresses = f.addresses.now; registers = f.registers.now }
+homes_of f = record { addresses = f.addresses.now; locals = f.locals.now }
 
--- every variable that the expression names has an address, and every local a register of locals
+-- every variable that the expression names has an address, and every local a home
 abbrev pub AreAtHome : Homes → e.Expr → Type 0
 AreAtHome h (e.Constant value) = Unit {0}
-AreAtHome h (e.Local local kind) = (local < length h.registers) × (is_local (slice_index h.registers local) ≡ true)
+AreAtHome h (e.Local local kind) = (local < length h.locals) × (is_home (home_of h.locals local) ≡ true)
 AreAtHome h (e.Variable place variable kind) = variable < length h.addresses
 AreAtHome h (e.Element place variable kind index_place index) = (variable < length h.addresses) × AreAtHome h index
 AreAtHome h (e.Unary operator operand) = AreAtHome h operand
@@ -60,12 +74,12 @@ pub record Suits (h : Homes) (s : Source) : Type 0 where
   pub bytes : end_from 0 (map shape_of s.variables) ≤ MOST_VARIABLE_BYTES
   pub lengths : (variable : ℕ) → elements_of s.variables variable ≤ MOST_ELEMENTS
   pub address : (variable : ℕ) → variable < length s.variables → slice_index h.addresses variable ≡ place_of s variable 0
-  pub register : (local : ℕ) → local < length s.kinds → is_local (slice_index h.registers local) ≡ true
+  pub local : (local : ℕ) → local < length s.kinds → is_home (home_of h.locals local) ≡ true
 
--- the register of each local that the expression reads holds its number, which its kind holds
+-- each local that the expression reads stands in its home with its number, which its kind holds
 abbrev pub HoldsLocals : Homes → Source → (x : List ℕ) → e.Expr → Type 0
 HoldsLocals h s x (e.Constant value) = Unit {0}
-HoldsLocals h s x (e.Local local kind) = Carries x (slice_index h.registers local) (typed kind (slice_index_or s.locals local (pos 0)))
+HoldsLocals h s x (e.Local local kind) = HomeCarries x (home_of h.locals local) (typed kind (slice_index_or s.locals local (pos 0)))
 HoldsLocals h s x (e.Variable place variable kind) = Unit {0}
 HoldsLocals h s x (e.Element place variable kind index_place index) = HoldsLocals h s x index
 HoldsLocals h s x (e.Unary operator operand) = HoldsLocals h s x operand

@@ -48,7 +48,7 @@ pub(crate) fn evaluate(
     match expr {
         Expr::Constant { value } => Ok(constant_code(alloc, *value, rd)?),
         Expr::Local { local, .. } => {
-            let local = local_operand(alloc, frame.registers[*local as usize]);
+            let local = local_operand(alloc, frame.locals[*local as usize]);
             Ok(copied(local, rd)?)
         }
         Expr::Variable { variable, kind, .. } => {
@@ -215,7 +215,7 @@ pub(crate) fn operand(
     ensures operand { IfOk result (λ x. IsOperand (homes_of frame.now) (expr_of expr.now) held x.register x.code.items) }
 {
     match expr {
-        Expr::Local { local, .. } => Ok(local_operand(alloc, frame.registers[*local as usize])),
+        Expr::Local { local, .. } => Ok(local_operand(alloc, frame.locals[*local as usize])),
         _ => {
             let code = evaluate(alloc, expr, frame, temporary(held), held)?;
             Ok(held_operand(code, held))

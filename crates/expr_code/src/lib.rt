@@ -9,12 +9,14 @@ mod conditions;
 mod elements;
 mod evaluation;
 mod frame;
+pub mod home;
 mod operand;
 mod operators;
 mod selection;
 mod temporaries;
 
 pub use frame::Frame;
+pub use home::Home;
 pub use operand::TestCode;
 pub use selection::{
     select, select_converted, select_element_address, select_test, select_variable_address,

@@ -1,5 +1,5 @@
 //! Constants, locals, conversions and operators on values that stand in registers.
-ghost use Rattle.std.specs.Prelude.{◌≡◌, ◌++◌, ◌<◌, ◌≤◌, ◌+◌, ◌^◌, ℕ, [], true, length, slice_index, IfOk, IfSome, OnOk};
+ghost use Rattle.std.specs.Prelude.{◌≡◌, ◌++◌, ◌<◌, ◌≤◌, ◌+◌, ◌^◌, ℕ, [], true, length, IfOk, IfSome, OnOk};
 ghost use Rattle.ido_base.specs.declared.limits.TheConstants.{MOST_TEMPORARIES};
 ghost use Rattle.ido_ints.specs.declared.kinds.Kind.{Kind};
 ghost use Rattle.ido_ints.specs.TypedNumbers.{register_form_of};
@@ -8,11 +8,11 @@ ghost use Rattle.c_tree.specs.Exprs.{expr_of};
 ghost use Rattle.c_tree.specs.Elaboration.{kind_of};
 ghost use Rattle.operator_code.specs.declared.operation.BinaryOperation.{BinaryOperation};
 ghost use Rattle.rv64_isa.specs.declared.instr.Instr.{Instr};
-ghost use Rattle.memory_layout.specs.Roles.{is_local};
 ghost use Rattle.operator_code.specs.ComputingCode.{is_strict, left_kind, right_kind};
-ghost use Rattle.expr_code.specs.EvaluationCode.{Homes, EvaluatesTo, impure_among};
+ghost use Rattle.expr_code.specs.EvaluationCode.{Homes, EvaluatesTo, home_of, is_home, impure_among};
 ghost use Rattle.expr_code.specs.links.OperandCode.{IsEvaluation, IsOperand, IsPair, IsMade, IsConstantForm, temporary, truth_of};
 
+use crate::home::Home;
 use crate::operand::{Operand, Pair};
 use crate::temporaries::temporary;
 use c_tree::expr::Expr;
@@ -121,14 +121,14 @@ pub(crate) fn converted(
 }
 
 /// A local where it stands.
-pub(crate) fn local_operand(alloc: Global, register: Register) -> Operand
+pub(crate) fn local_operand(alloc: Global, home: Home) -> Operand
     ensures short { result.code.items ≡ [] }
-    ensures operand { (h : Homes) (local : ℕ) (kind : Kind) (held : ℕ) → slice_index h.registers local ≡ register → is_local register ≡ true →
+    ensures operand { (h : Homes) (local : ℕ) (kind : Kind) (held : ℕ) → home_of h.locals local ≡ home → is_home home ≡ true →
         IsOperand h (e.Local local kind) held result.register result.code.items }
 {
     Operand {
         code: Vec::new(alloc),
-        register,
+        register: home.register(),
     }
 }
 

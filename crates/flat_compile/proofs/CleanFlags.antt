@@ -62,7 +62,7 @@ module _ (p : Plan) (t : Thread) (program : Program) (code : IsThreadCode p t pr
   -- what is pending is made by stores alone
   makes_store : (node : ℕ) (is : Node) (seen : Seen) (action : Action) (store : Pending) (next : ℕ) → NodeAt p.graph node is → is.action ≡ action →
       effect_of action seen ≡ Some (a.Makes store next) → old.cleans node ≡ new.cleans node
-  makes_store node is seen (Eval (e.ToLocal local kind) value to) store next at same makes = cc
+  makes_store node is seen (Eval (e.ToLocal place local kind) value to) store next at same makes = cc
   makes_store node is seen (Eval (e.ToVariable place variable kind) value to) store next at same makes = cc
   makes_store node is seen (Eval (e.ToElement place variable kind index) value to) store next at same makes = cc
   makes_store node is seen (Store variable kind to) store next at same makes = as_before node is variable kind to at same

@@ -1,5 +1,5 @@
 -- Live locals of a node, in the order of their registers.
-use Rattle.std.proofs.Common.{◌≡◌, ◌↔◌, inl, ⊎_elim, refl, ℕ, zero, suc, ◌+◌, ◌<◌, ◌≤◌, List, [], ◌∷◌, ◌++◌, length, map, ◌∙◌, ap, sym, subst, arith, Some}
+use Rattle.std.proofs.Common.{◌≡◌, ◌↔◌, inl, ⊎_elim, ℕ, zero, suc, ◌+◌, ◌<◌, ◌≤◌, List, [], ◌∷◌, ◌++◌, length, map, ◌∙◌, ap, sym, subst, arith, Some}
 use Rattle.std.specs.Prelude.{slice_get, slice_index, Contains}
 use Rattle.std.specs.List.Sorted.{IsStrictlyIncreasing}
 use Rattle.std.proofs.lemmas.Bool.{cases_lt}
@@ -8,13 +8,18 @@ use Rattle.std.proofs.lemmas.List.Elements.{Contains-append_left, Contains-appen
 use Rattle.ido_ints.specs.declared.kinds.Kind.{Kind}
 use Rattle.memory_layout.specs.declared.roles.TheConstants.{LOCALS}
 use Rattle.flow_graph.specs.Liveness.{IsLive, Spans, Touches}
-use Rattle.thread_code.specs.Plans.{Plan, IsPlan, Thread, IsThread, IsNodeOf}
+use Rattle.thread_code.specs.Plans.{Plan, IsPlan, Thread, IsThread, IsNodeOf, home_of_colour}
 use Rattle.flat_compile.specs.declared.resumes.LiveLocal.{LiveLocal}
 use Rattle.flat_compile.specs.ResumePlaces.{IsLiveLocal}
 use Rattle.flat_compile.specs.links.ResumePlacesByNode.{Ascends, IsLiveIn, AreLiveBelow}
 use Rattle.flow_graph.proofs.Public.{found_in}
 use Rattle.rv64_codegen.proofs.Public.{colours_long}
 use Rattle.flat_compile.proofs.ResumeAddresses.{head, tail}
+use Rattle.expr_code.specs.declared.home.Home.{Home}
+use Rattle.expr_code.specs.declared.home.Home.TheVariants.{InRegister}
+use Rattle.expr_code.specs.EvaluationCode.{home_of}
+use Rattle.expr_code.proofs.Public.{same_register}
+use Rattle.std.proofs.lemmas.List.{get_or-map}
 
 -- ---- Numbers that ascend
 
@@ -132,20 +137,12 @@ index_of [] k x g = cc
 index_of (y ∷ xs) zero x g = cc
 index_of (y ∷ xs) (suc k) x g = index_of xs k x g
 
-map_index : (g : ℕ → ℕ) (xs : List ℕ) (k : ℕ) → k < length xs → slice_index (map g xs) k ≡ g (slice_index xs k)
-map_index g [] k h = absurd (omega (arith, h))
-map_index g (y ∷ xs) zero h = refl
-map_index g (y ∷ xs) (suc k) h = map_index g xs k (omega (arith, h))
-
 module _ (p : Plan) (plan : IsPlan p) (t : Thread) (th : IsThread p t) (node : ℕ) (own : IsNodeOf t node) where
-  abbrev register_of : ℕ → ℕ
-  register_of colour = slice_index LOCALS colour
-
-  register_is : (local number : ℕ) → slice_get th.colours local ≡ Some number → slice_index t.registers local ≡ register_of number
-  register_is local number g =
-      ap (λ (xs : List ℕ). slice_index xs local) th.registers
-      ∙ map_index register_of th.colours local (slice_get_within th.colours local number g)
-      ∙ ap register_of (index_of th.colours local number g)
+  home_is : (local number : ℕ) → slice_get th.colours local ≡ Some number → home_of t.locals local ≡ home_of_colour number
+  home_is local number g =
+      ap (λ (hs : List Home). home_of hs local) th.locals
+      ∙ get_or-map home_of_colour th.colours local 0 (InRegister 0) (slice_get_within th.colours local number g)
+      ∙ ap home_of_colour (index_of th.colours local number g)
 
   coloured : (local : ℕ) (kind : Kind) → slice_get t.kinds local ≡ Some kind → (number : ℕ) × (slice_get th.colours local ≡ Some number)
   coloured local kind g =
@@ -185,7 +182,7 @@ module _ (p : Plan) (plan : IsPlan p) (t : Thread) (th : IsThread p t) (node : �
         record {
           kind_is = w.3;
           live = (plan.live.each node l.local).0 w.2.live;
-          register_is = w.4 ∙ sym (register_is l.local w.0 w.2.coloured);
+          home_is = home_is l.local w.0 w.2.coloured ∙ ap InRegister (sym w.4);
         },
     λ is.
         let number = coloured l.local l.kind is.kind_is in
@@ -194,7 +191,7 @@ module _ (p : Plan) (plan : IsPlan p) (t : Thread) (th : IsThread p t) (node : �
           plan.registers.exist t.number number.0 th.colours th.of_colours (contained th.colours l.local number.0 number.1),
           record { coloured = number.1; live = (plan.live.each node l.local).1 is.live },
           is.kind_is,
-          is.register_is ∙ register_is l.local number.0 number.1,
+          same_register l.register (slice_index LOCALS number.0) (sym is.home_is ∙ home_is l.local number.0 number.1),
         ),
   )
     where

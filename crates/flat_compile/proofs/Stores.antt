@@ -31,7 +31,7 @@ on eval [] ys h k = any eval ys k
 on eval (x ∷ xs) ys h k = (h.0, on (is_eval x.action) xs ys h.1 k)
 
 assigned : (target : e.Lvalue) (place : Place) (value : e.Placed) (first next : ℕ) → Follow false (assign_nodes place target value first next)
-assigned (e.ToLocal local kind) place value first next = (λ s. cc, tt)
+assigned (e.ToLocal name local kind) place value first next = (λ s. cc, tt)
 assigned (e.ToVariable name variable kind) place value first next = (λ s. cc, (λ s. refl, tt))
 assigned (e.ToElement name variable kind index) place value first next = (λ s. cc, (λ s. refl, tt))
 
@@ -44,8 +44,8 @@ mutual
   of_statement (f.While place condition body) first next = (λ s. cc, of_all body (suc first) first)
   of_statement (f.Do place body condition) first next =
       on false _ (test_node place condition first next ∷ []) (of_all body first (first + statements_count body)) (λ s. cc, tt)
-  of_statement (f.Lock place mutex) first next = (λ s. cc, tt)
-  of_statement (f.Unlock place mutex) first next = (λ s. cc, tt)
+  of_statement (f.Lock place name) first next = (λ s. cc, tt)
+  of_statement (f.Unlock place name) first next = (λ s. cc, tt)
 
   of_all : (ys : f.Statements) (first next : ℕ) → Follow false (statements_nodes ys first next)
   of_all f.no_statement first next = tt

@@ -1,7 +1,7 @@
 -- The code of a plan's threads, linked, is a system.
 use Rattle.std.proofs.Common.{◌≡◌, refl, ℕ, zero, suc, ◌+◌, ◌*◌, ◌^◌, ◌<◌, ◌≤◌, List, []}
 use Rattle.std.proofs.Common.{◌∷◌, ◌++◌, length, length-append, map, true, false, Some, ap, sym, subst, ◌∙◌, arith}
-use Rattle.std.specs.Prelude.{slice_get, slice_index, slice_index_or, All}
+use Rattle.std.specs.Prelude.{slice_get, slice_index_or, All}
 use Rattle.std.proofs.lemmas.Option.{none-some, same_Some, get_or_from_slice_get}
 use Rattle.ido_base.specs.declared.limits.TheConstants.{MOST_THREADS}
 use Rattle.c_tree.specs.Flats as f
@@ -13,7 +13,6 @@ use Rattle.rv64_isa.specs.declared.object.Marks.{Marks}
 use Rattle.rv64_isa.specs.Programs.{code_base, program_of}
 use Rattle.rv64_isa.specs.Executables.{Executable, executable_of}
 use Rattle.rv64_link.specs.LinkedCode.{AreLinked}
-use Rattle.memory_layout.specs.declared.roles.TheConstants.{LOCALS}
 use Rattle.memory_layout.specs.Variables.{AreInitial}
 use Rattle.flow_graph.specs.declared.graph.Part.{Part}
 use Rattle.flow_graph.specs.Nodes.{Graph, Node}
@@ -23,7 +22,7 @@ use Rattle.flow_graph.specs.OmittedCleans.{IsCleanedLater}
 use Rattle.flow_graph.proofs.Public.{found_in, lowered_nodes, lowered_threads, length-thread_nodes}
 use Rattle.hart_runs.specs.Laws.{program_at}
 use Rattle.code_runs.specs.CodeTraces.{Program}
-use Rattle.thread_code.specs.Plans.{Plan, IsPlan, Thread, IsThread, IsNodeOf}
+use Rattle.thread_code.specs.Plans.{Plan, IsPlan, Thread, IsThread, IsNodeOf, home_of_colour}
 use Rattle.thread_code.specs.Programs.{IsThreadCode}
 use Rattle.recovered_threads.specs.RecordDescriptions.{Codes}
 use Rattle.rv64_codegen.specs.ThreadPieces.{IsCode}
@@ -56,7 +55,7 @@ module _ (p : Plan) (plan : IsPlan p) (n : ℕ) (below : n < length p.graph.thre
     number = n;
     part = found_part.0;
     kinds = found_text.0.locals;
-    registers = map (λ (colour : ℕ). slice_index LOCALS colour) found_colours.0;
+    locals = map home_of_colour found_colours.0;
   }
 
   is_thread : IsThread p thread_at
@@ -67,7 +66,7 @@ module _ (p : Plan) (plan : IsPlan p) (n : ℕ) (below : n < length p.graph.thre
     kinds = refl;
     colours = found_colours.0;
     of_colours = found_colours.1;
-    registers = refl;
+    locals = refl;
   }
 
 -- a node of a thread is in the graph

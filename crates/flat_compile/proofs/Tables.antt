@@ -1,12 +1,11 @@
 -- A thread's resumes are those of its code.
 use Rattle.std.proofs.Common.{◌≡◌, refl, ℕ, zero, suc, ◌+◌, ◌*◌, ◌<◌, List, [], ◌∷◌, ◌++◌, length, map, take, ◌∙◌, ap, sym, subst, arith, Some, Vec}
-use Rattle.std.specs.Prelude.{slice_get, slice_index, slice_index_or, Contains}
+use Rattle.std.specs.Prelude.{slice_get, slice_index_or, Contains}
 use Rattle.std.specs.Option.{option_map}
 use Rattle.std.proofs.lemmas.List.{length-map}
 use Rattle.std.proofs.lemmas.Option.{same_Some, slice_get_within, slice_get-map}
 use Rattle.ido_ints.specs.declared.kinds.Kind.{Kind}
 use Rattle.c_tree.specs.Flats as f
-use Rattle.memory_layout.specs.declared.roles.TheConstants.{LOCALS}
 use Rattle.flow_graph.specs.declared.graph.Part.{Part}
 use Rattle.flow_graph.proofs.Public.{found_in}
 use Rattle.flow_graph.specs.Lowering.{parts, thread_count}
@@ -20,12 +19,13 @@ use Rattle.rv64_codegen.proofs.Public.{threads_are, read_get}
 use Rattle.flat_compile.specs.ResumePlaces.{AreMarksOf, resumes_at}
 use Rattle.flat_compile.specs.links.ResumePlacesByNode.{AreTabled}
 use Rattle.code_runs.specs.CodeTraces.{Program}
-use Rattle.thread_code.specs.Plans.{Plan, IsPlan, Thread, IsThread, IsNodeOf}
+use Rattle.thread_code.specs.Plans.{Plan, IsPlan, Thread, IsThread, IsNodeOf, home_of_colour}
 use Rattle.thread_code.specs.Programs.{IsThreadCode}
 use Rattle.flat_compile.specs.declared.resumes.Resume.{Resume}
 use Rattle.flat_compile.specs.ResumePlaces.{goes_on_at, address_in, IsFound, AreResumes}
 use Rattle.flat_compile.specs.links.ResumePlacesByNode.{thread_in, IsOwn, AreNodesBelow, AreFoundAt}
 use Rattle.flat_compile.proofs.ResumeAddresses.{order, goes_on_own, head, tail}
+use Rattle.expr_code.specs.declared.home.Home.{Home}
 
 contained : {X : Type 0} (xs : List X) (k : ℕ) (x : X) → slice_get xs k ≡ Some x → Contains xs x
 contained [] k x g = cc
@@ -40,9 +40,6 @@ both_at f g xs ys same k x y a b =
     ∙ slice_get-map g ys k ∙ ap (option_map g) b)
 
 -- ---- The thread of a number
-
-register_of : ℕ → ℕ
-register_of colour = slice_index LOCALS colour
 
 locals_of : f.Thread → List Kind
 locals_of t = t.locals
@@ -72,24 +69,24 @@ own_thread p plan n part g below =
         kinds = kinds_at p.flat.threads n text.0 text.1;
         colours = colours.0;
         of_colours = colours.1;
-        registers = ap (λ (cs : List ℕ). map (λ (colour : ℕ). slice_index LOCALS colour) cs) (list_at p.colours n colours.0 colours.1);
+        locals = ap (λ (cs : List ℕ). map home_of_colour cs) (list_at p.colours n colours.0 colours.1);
       };
     }
 
-abbrev made : (number : ℕ) → Part → List Kind → List ℕ → Thread
-made number part kinds registers = record { number = number; part = part; kinds = kinds; registers = registers }
+abbrev made : (number : ℕ) → Part → List Kind → List Home → Thread
+made number part kinds locals = record { number = number; part = part; kinds = kinds; locals = locals }
 
 pub same_thread : (p : Plan) (t : Thread) → IsThread p t → (part : Part) → slice_get p.graph.threads t.number ≡ Some part → thread_in p t.number part ≡ t
 same_thread p t th part g =
     let k : slice_index_or (map (λ (x : f.Thread). x.locals) p.flat.threads) t.number [] ≡ t.kinds =
     kinds_at p.flat.threads t.number th.text th.of_text ∙ sym th.kinds in
-    let r : map (λ (colour : ℕ). slice_index LOCALS colour) (slice_index_or p.colours t.number []) ≡ t.registers =
-    ap (λ (cs : List ℕ). map (λ (colour : ℕ). slice_index LOCALS colour) cs) (list_at p.colours t.number th.colours th.of_colours) ∙ sym th.registers in
+    let h : map home_of_colour (slice_index_or p.colours t.number []) ≡ t.locals =
+    ap (λ (cs : List ℕ). map home_of_colour cs) (list_at p.colours t.number th.colours th.of_colours) ∙ sym th.locals in
     let q : part ≡ t.part = same_Some part t.part (sym g ∙ th.nodes) in
     ap (λ (x : Part). made t.number x (slice_index_or (map (λ (x : f.Thread). x.locals) p.flat.threads) t.number [])
-    (map (λ (colour : ℕ). slice_index LOCALS colour) (slice_index_or p.colours t.number []))) q
-    ∙ ap (λ (x : List Kind). made t.number t.part x (map (λ (colour : ℕ). slice_index LOCALS colour) (slice_index_or p.colours t.number []))) k
-    ∙ ap (λ (x : List ℕ). made t.number t.part t.kinds x) r
+    (map home_of_colour (slice_index_or p.colours t.number []))) q
+    ∙ ap (λ (x : List Kind). made t.number t.part x (map home_of_colour (slice_index_or p.colours t.number []))) k
+    ∙ ap (λ (x : List Home). made t.number t.part t.kinds x) h
 
 -- ---- Its resumes
 

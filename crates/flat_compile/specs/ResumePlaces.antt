@@ -1,5 +1,5 @@
 -- Where recovery resumes threads, and what it finds there.
-use Rattle.std.specs.Prelude.{◌≡◌, ◌≢◌, ◌↔◌, ℕ, ◌<◌, List, [], length, map, slice_get, slice_index, slice_index_or, Contains, Some, Vec}
+use Rattle.std.specs.Prelude.{◌≡◌, ◌≢◌, ◌↔◌, ℕ, ◌<◌, List, [], length, map, slice_get, slice_index_or, Contains, Some, Vec}
 use Rattle.std.specs.Global.{Global}
 use Rattle.std.specs.List.Sorted.{IsStrictlyIncreasing}
 use Rattle.ido_base.specs.Locks.{mask_with}
@@ -13,6 +13,8 @@ use Rattle.code_runs.specs.CodeTraces.{Program}
 use Rattle.recovered_threads.specs.RecordDescriptions.{Codes}
 use Rattle.flat_compile.specs.declared.resumes.LiveLocal.{LiveLocal}
 use Rattle.flat_compile.specs.declared.resumes.Resume.{Resume}
+use Rattle.expr_code.specs.declared.home.Home.TheVariants.{InRegister}
+use Rattle.expr_code.specs.EvaluationCode.{home_of}
 
 -- ---- Where
 
@@ -45,11 +47,11 @@ module _ (p : Plan) (t : Thread) where
 
   -- ---- What is found
 
-  -- the local is live at the entry of the node, and that is its register
+  -- the local is live at the entry of the node, and that register is its home
   pub record IsLiveLocal (node : ℕ) (l : LiveLocal) : Type 0 where
     pub kind_is : slice_get t.kinds l.local ≡ Some l.kind
     pub live : IsLive p.graph l.local node
-    pub register_is : l.register ≡ slice_index t.registers l.local
+    pub home_is : home_of t.locals l.local ≡ InRegister l.register
 
   -- what recovery finds that lets the thread go on at the node: the mutexes that it holds, the registers of its live locals, and where it stores next
   pub record IsFound (r : Resume) : Type 0 where

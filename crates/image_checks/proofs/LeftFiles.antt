@@ -1,5 +1,5 @@
 -- What a crash leaves of a run has no fault.
-use Rattle.std.proofs.Common.{◌≡◌, refl, ap₂, ℕ, ◌+◌, ◌*◌, ◌≤◌, List, ◌++◌, length, map, take, drop, ap, sym, subst, ◌∙◌, arith, true, length-drop}
+use Rattle.std.proofs.Common.{◌≡◌, refl, ap₂, ℕ, ◌+◌, ◌*◌, ◌≤◌, List, [], ◌∷◌, ◌++◌, length, map, take, drop, ap, sym, subst, ◌∙◌, arith, true, length-drop}
 use Rattle.std.specs.Prelude.{Vec}
 use Rattle.std.specs.Global.{Global}
 use Rattle.std.proofs.Math.Seq.{take-append_seam, drop-append_seam}
@@ -23,7 +23,7 @@ use Rattle.crash_simulation.specs.SimulationRelation.{Simulates}
 use Rattle.crash_simulation.specs.Systems.{System, IsSystem, flat_of}
 use Rattle.compiler_correctness.specs.Images.{variable_words}
 use Rattle.compiler_correctness.specs.Laws.{MachinesRecord, translation_of}
-use Rattle.compiler_correctness.specs.Translations.{Translation, steps, world, translation_to}
+use Rattle.compiler_correctness.specs.Translations.{Translation, IsRunnable, steps, world, translation_to}
 use Rattle.flat_compile.specs.declared.resumes.Resume.{Resume}
 use Rattle.flat_compile.specs.ResumePlaces.{IsResumeTable}
 use Rattle.flat_compile.specs.TranslatedForms.{IsTranslated}
@@ -94,6 +94,11 @@ module _ (machines : MachinesResume) (records : MachinesRecord) (y : System) (s 
       subst (λ (logs : List ℕ). IsUnshared logs threads lock) (sym logs_are)
       (subst (λ (k : ℕ). IsUnshared (logs_left words) k lock) (sym (is ∙ s.count)) (are_unshared y s (world c events) stands logs lock))
 
+  -- no life came before this one
+  kept_runs : runs_from (start (flat_of y)) kept ≡ true
+  kept_runs =
+      subst (λ (earlier : List (List ℕ)). IsRunnable c (earlier ++ kept ∷ [])) (machines y s events).counted.earlier (records y s events).kept
+
   scheduled : length kept ≤ MOST_STEPS → IsSchedule (flat_of y) (runs_of kept) (schedule_of (runs_of kept))
   scheduled most = record {
     formed = record {
@@ -101,7 +106,7 @@ module _ (machines : MachinesResume) (records : MachinesRecord) (y : System) (s 
       merged = runs_merged kept;
       few = subst (λ (steps : List ℕ). length steps ≤ MOST_STEPS) (sym (each_step kept)) most;
     };
-    made = subst (λ (steps : List ℕ). runs_from (start (flat_of y)) steps ≡ true) (sym (each_step kept)) (records y s events).kept;
+    made = subst (λ (steps : List ℕ). runs_from (start (flat_of y)) steps ≡ true) (sym (each_step kept)) kept_runs;
   }
 
   whole : length kept ≤ MOST_STEPS → IsWhole (flat_of y) (length y.runs.program) (8 * n) left
@@ -139,13 +144,13 @@ module _ (flat : f.Flat) (object : Object) (marks : Marks) (cuts : Cuts) (t : Is
   first_of : t.system.plan.log ≡ V1
   first_of = t.is.log ∙ (ap (λ (x : Executable). x.log) t.runs ∙ t.log)
 
-  few_of : length (left_by made events).kept ≤ MOST_STEPS → length (left_by (translation_of t.system) events).kept ≤ MOST_STEPS
-  few_of most = subst (λ (c : Translation). length (left_by c events).kept ≤ MOST_STEPS) (sym same) most
+  few_of : length (left_by made events).kept.schedule ≤ MOST_STEPS → length (left_by (translation_of t.system) events).kept.schedule ≤ MOST_STEPS
+  few_of most = subst (λ (c : Translation). length (left_by c events).kept.schedule ≤ MOST_STEPS) (sym same) most
 
   programs : length t.system.runs.program ≡ length object.code.items
   programs = ap (λ (x : Executable). length x.program) t.runs ∙ length-map object.code.items (λ code. map slot_of code.items)
 
-  pub left_is_whole : MachinesResume → MachinesRecord → length (left_by made events).kept ≤ MOST_STEPS →
+  pub left_is_whole : MachinesResume → MachinesRecord → length (left_by made events).kept.schedule ≤ MOST_STEPS →
       IsWhole flat (length object.code.items) (length object.initial.items) (file_state made (left_by made events))
   left_is_whole machines records most =
       let size : 8 * variable_words (translation_of t.system) ≡ length object.initial.items = omega (arith, begins, t.limits.whole_words) in

@@ -1,7 +1,7 @@
 -- What a crash leaves of the logs of a compiled program: each thread can be resumed by its own, and no two hold one mutex.
 use Rattle.std.proofs.Common.{◌≡◌, ◌≢◌, inl, inr, refl, ℕ, ◌+◌, ◌-◌, ◌/◌, ◌<◌, ◌≤◌, List, [], ◌∷◌, length, map, drop, ap, sym, subst, ◌∙◌, arith}
 use Rattle.std.proofs.Common.{cond, get_or, Option, Some, None, get_or-drop}
-use Rattle.std.specs.Prelude.{slice_get, slice_index, slice_index_or, Contains, ◌==◌, pos, Vec}
+use Rattle.std.specs.Prelude.{slice_get, slice_index_or, Contains, ◌==◌, pos, Vec}
 use Rattle.std.specs.Global.{Global}
 use Rattle.std.proofs.lemmas.Bool.{cases_Bool, cases_lt, cond-true, cond-false, eqb-true, eqb-false, ne_eqb, le-ltb}
 use Rattle.std.proofs.lemmas.List.{get_or-map, get_or_past, length-map}
@@ -36,7 +36,7 @@ use Rattle.flow_graph.specs.IdempotentCuts.{stores}
 use Rattle.flow_graph.specs.Liveness.{NodeAt}
 use Rattle.flow_graph.specs.Lowering.{lowered, threads_nodes}
 use Rattle.flow_graph.specs.Nodes.{Action, Eval, Store, Test, Lock, Unlock, End, Graph, Node}
-use Rattle.flow_graph.specs.Paths.{LiesInWritten, stored_element}
+use Rattle.flow_graph.specs.Paths.{LiesInWritten, stored_element, no_names}
 use Rattle.flow_graph.proofs.Public.{ShapedAs, found_in, node_shaped, nodes_at}
 use Rattle.log_states.specs.LogInvariant.{LogInv}
 use Rattle.log_states.specs.Logs.{Record, IsRecord, IsRecorded, nothing_recorded, slots_of, value_of}
@@ -59,6 +59,10 @@ use Rattle.flat_compile.proofs.Public.{HasEntry, entry_at, node_there}
 use Rattle.image_checks.specs.Logs.{logged, point_in, slot_in, mask_by, mask_in}
 use Rattle.image_checks.specs.Checks.{HasLocal, HasLocals, HasAddress, IsRight, resume_at, IsResumableLog, idle, resumed}
 use Rattle.image_checks.specs.Checks.{AreSound, IsUnshared}
+use Rattle.expr_code.specs.declared.home.Home.{Home}
+use Rattle.expr_code.specs.EvaluationCode.{HomeCarries}
+use Rattle.operator_code.specs.ComputingCode.{Carries}
+use Rattle.ido_ints.specs.TypedNumbers.{typed}
 
 -- ---- Durable words of the logs
 
@@ -186,14 +190,11 @@ module _ (y : System) (s : IsSystem y) (w : World) (stands : Simulates y s w) (f
 
       local_right : (l : LiveLocal) → IsLiveLocal y.plan t at l → HasLocal logs n (bank_of r.point) l
       local_right l live =
-          let register = slice_index t.registers l.local in
-          let c = kept_there register ((code.is.kept at i.own register).1 (of_local l.local l.kind live.kind_is live.live)) in
-          let carried = i.enters.locals l.local l.kind live.kind_is live.live in
-          record {
-            number = slice_index_or i.graph_thread.locals l.local (pos 0);
-            held = carried.held;
-            is = ap (λ (k : ℕ). slot_in logs n (bank_of r.point) k) live.register_is ∙ register_there register i.point c ∙ carried.form;
-          }
+          let c = kept_there l.register ((code.is.kept at i.own l.register).1 (of_local l.local l.kind l.register live.kind_is live.live live.home_is)) in
+          let v = typed l.kind (slice_index_or i.graph_thread.locals l.local (pos 0)) in
+          let carried : Carries r.registers l.register v =
+          subst (λ (home : Home). HomeCarries r.registers home v) live.home_is (i.enters.locals l.local l.kind live.kind_is live.live) in
+          record { number = v.number; held = carried.held; is = register_there l.register i.point c ∙ carried.form }
 
       -- ---- Where a store is pending
 
@@ -220,8 +221,8 @@ module _ (y : System) (s : IsSystem y) (w : World) (stands : Simulates y s w) (f
             (record { variable = variable; kind = kind; next = next; is = does }) in
             let store : Pending = owed.0 in
             let owes = good.owes t.number i.graph_thread store i.there owed.1 in
-            let lies : LiesInWritten is.writes (stored_element store) =
-            subst (λ (z : Node). LiesInWritten z.writes (stored_element store)) (same_Some owes.node is (sym owes.here ∙ here)) owes.lies in
+            let lies : LiesInWritten no_names is.writes (stored_element store) =
+            subst (λ (z : Node). LiesInWritten no_names z.writes (stored_element store)) (same_Some owes.node is (sym owes.here ∙ here)) owes.lies in
             let pending : HasPending y.plan store variable kind r.registers =
             subst (λ (a : Action). IsPendingIn y.plan a (seen_by kept i.graph_thread) r.registers) does (i.enters.pending is there) store owed.1 in
             let c = kept_there pending_address ((code.is.kept at i.own pending_address).1 (of_address (stores is variable kind next there does))) in

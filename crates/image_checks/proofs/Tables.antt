@@ -7,7 +7,7 @@ use Rattle.std.proofs.lemmas.List.{get_or_default}
 use Rattle.std.proofs.lemmas.List.Elements.{Contains-get_or}
 use Rattle.std.proofs.lemmas.Option.{slice_get-get_or}
 use Rattle.memory_layout.specs.declared.roles.TheConstants.{LOCALS}
-use Rattle.thread_code.specs.Plans.{Plan, Thread, IsThread}
+use Rattle.thread_code.specs.Plans.{Plan, Thread, IsThread, home_of_colour}
 use Rattle.thread_code.specs.Programs.{IsThreadCode}
 use Rattle.code_runs.specs.CodeTraces.{Program}
 use Rattle.recovered_threads.specs.RecordDescriptions.{Codes}
@@ -16,6 +16,10 @@ use Rattle.flat_compile.specs.declared.resumes.Resume.{Resume}
 use Rattle.flat_compile.specs.ResumePlaces.{IsFound, AreResumes, IsResumeTable, resumes_at}
 use Rattle.image_checks.specs.ResumeSlots.{HaveSlots, AllHaveSlots, TablesHaveSlots}
 use Rattle.image_checks.proofs.Points.{table_at}
+use Rattle.expr_code.specs.declared.home.Home.{Home}
+use Rattle.expr_code.specs.declared.home.Home.TheVariants.{InRegister}
+use Rattle.expr_code.specs.EvaluationCode.{home_of}
+use Rattle.expr_code.proofs.Public.{same_register}
 
 all_small : AllByRecursion (λ (n : ℕ). n < 32) LOCALS
 all_small = search rules
@@ -25,18 +29,16 @@ small_in [] k h = lit< tt
 small_in (n ∷ ns) zero h = h.0
 small_in (n ∷ ns) (suc k) h = small_in ns k h.1
 
-register_small : (colours : List ℕ) (local : ℕ) → slice_index (map (λ (colour : ℕ). slice_index LOCALS colour) colours) local < 32
-register_small [] local = lit< tt
-register_small (c ∷ cs) zero = small_in LOCALS c all_small
-register_small (c ∷ cs) (suc local) = register_small cs local
+register_small : (colours : List ℕ) (local register : ℕ) → home_of (map home_of_colour colours) local ≡ InRegister register → register < 32
+register_small [] local register at = subst (λ (n : ℕ). n < 32) (same_register 0 register at) (lit< tt)
+register_small (c ∷ cs) zero register at = subst (λ (n : ℕ). n < 32) (same_register (slice_index LOCALS c) register at) (small_in LOCALS c all_small)
+register_small (c ∷ cs) (suc local) register at = register_small cs local register at
 
 live_slots : (p : Plan) (t : Thread) (r : Resume) → IsThread p t → IsFound p t r → HaveSlots r.live.items
 live_slots p t r is found k d within =
     let l : LiveLocal = get_or r.live.items k d in
     let live = (found.live l).0 (Contains-get_or r.live.items k d within) in
-    let at : l.register ≡ slice_index (map (λ (colour : ℕ). slice_index LOCALS colour) is.colours) l.local =
-    live.register_is ∙ ap (λ (rs : List ℕ). slice_index rs l.local) is.registers in
-    subst (λ (n : ℕ). n < 32) (sym at) (register_small is.colours l.local)
+    register_small is.colours l.local l.register (sym (ap (λ (hs : List Home). home_of hs l.local) is.locals) ∙ live.home_is)
 
 resumes_slots : (p : Plan) (t : Thread) (program : Program) (code : IsThreadCode p t program) (rs : List Resume) →
     IsThread p t → AreResumes p t program code rs → AllHaveSlots rs

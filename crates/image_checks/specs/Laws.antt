@@ -29,4 +29,4 @@ NoneIfSound = (flat : Flat) (table : List (Vec Resume Global)) (s : State) (erro
 abbrev pub RunsLeaveNoFault : Type 0
 RunsLeaveNoFault = (flat : Flat) (object : Object) (marks : Marks) (cuts : Cuts) (table : List (Vec Resume Global)) (events : List Event) →
     IsResumable flat object marks cuts table → let c = translation_to flat object marks cuts in
-    length (left_by c events).kept ≤ MOST_STEPS → IsWellFormedState flat table (file_state c (left_by c events))
+    length (left_by c events).kept.schedule ≤ MOST_STEPS → IsWellFormedState flat table (file_state c (left_by c events))

@@ -11,9 +11,9 @@ use Rattle.crash_images.specs.ImageEncoder.{spelling}
 abbrev pub left_by : Translation → List Event → left.Image
 left_by c events = file_of c (image_of c events)
 
--- a file of a source: the words of its variables, those of its logs, and the runs of its kept steps
+-- a file of a source: the words of its variables, those of its logs, and the runs of the kept steps of its one life
 abbrev pub file_contents : (source : List ℕ) → Translation → (file : left.Image) → Contents
-file_contents source c file = contents source (take (variable_words c) file.words) (drop (variable_words c) file.words) file.kept
+file_contents source c file = contents source (take (variable_words c) file.words) (drop (variable_words c) file.words) file.kept.schedule
 
 abbrev pub file_text : (source : List ℕ) → Translation → (file : left.Image) → List ℕ
 file_text source c file = spelling (file_contents source c file)

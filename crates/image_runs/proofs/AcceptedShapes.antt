@@ -46,6 +46,9 @@ use Rattle.image_runs.specs.Shapes as shapes
 use Rattle.image_runs.specs.Laws.{AcceptedHaveShape}
 use Rattle.image_runs.proofs.SpreadWords as spread
 use Rattle.image_runs.proofs.ResumedLocals.{local_keepable, of_mask}
+use Rattle.expr_code.specs.declared.home.Home.{Home}
+use Rattle.expr_code.specs.declared.home.Home.TheVariants.{InRegister}
+use Rattle.expr_code.specs.EvaluationCode.{home_of}
 
 -- ---- What a point says
 
@@ -153,14 +156,19 @@ module _ (y : System) (first : y.plan.log ≡ V1) (words : List Word) (logs : Li
           some_locks n w.some
           ∙ (ap locks_in (slot_there 0 ∙ (right.mask ∙ of.found.mask_is)) ∙ (of_mask y.plan s.plan t code.of r.node).read_back)
 
-      local_there : (local : ℕ) (k : Kind) → slice_get t.kinds local ≡ Some k → IsLive y.plan.graph local r.node →
-          IsForm k (read (shapes.resumed y.plan code words) (slice_index t.registers local))
-      local_there local k kind live =
-          let l : LiveLocal = record { local = local; kind = k; register = slice_index t.registers local } in
+      form_there : (local : ℕ) (k : Kind) → slice_get t.kinds local ≡ Some k → IsLive y.plan.graph local r.node → (home : Home) →
+          home_of t.locals local ≡ home → shapes.HomeHasForm (shapes.resumed y.plan code words) home k
+      form_there local k kind live (InRegister register) stands =
+          let l : LiveLocal = record { local = local; kind = k; register = register } in
           let has : HasLocal logs n bank l =
           All-contains (HasLocal logs n bank) r.live.items l right.locals
-          ((of.found.live l).1 (record { kind_is = kind; live = live; register_is = refl })) in
-          subst (λ (word : ℕ). IsForm k word) (sym (register_there (slice_index t.registers local) (local_keepable y.plan s.plan t code.of local k kind))) has
+          ((of.found.live l).1 (record { kind_is = kind; live = live; home_is = stands })) in
+          subst (λ (word : ℕ). IsForm k word)
+          (sym (register_there register (local_keepable y.plan s.plan t code.of local k register kind stands))) has
+
+      local_there : (local : ℕ) (k : Kind) → slice_get t.kinds local ≡ Some k → IsLive y.plan.graph local r.node →
+          shapes.HomeHasForm (shapes.resumed y.plan code words) (home_of t.locals local) k
+      local_there local k kind live = form_there local k kind live (home_of t.locals local) refl
 
       pending_there : (is : Node) (location : Location) → NodeAt y.plan.graph r.node is → is.writes ≡ Some location →
           IsElementOf (flat_of y).variables location (read (shapes.resumed y.plan code words) pending_address)

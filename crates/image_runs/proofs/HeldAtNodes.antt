@@ -9,6 +9,7 @@ use Rattle.std.proofs.lemmas.Option.{none-some, same_Some, slice_get_within, get
 use Rattle.ido_base.specs.declared.place.Place.{Place}
 use Rattle.ido_base.specs.Locks.{has_lock}
 use Rattle.ido_ints.specs.declared.kinds.Kind.{Kind}
+use Rattle.c_tree.specs.Exprs as e
 use Rattle.c_tree.specs.Flats as f
 use Rattle.c_tree.specs.Source as m
 use Rattle.c_tree.specs.Programs.{Variable}
@@ -71,8 +72,9 @@ module _ (x : f.Flat) where
   one_set : (h k : Held) (left : List f.Statement) → KeepsLeft x h left → KeepsLeft x k left → k ≡ h
   one_set h k left a b = (held_is_given x (alone h left) 0 _ k (alone_keeps h left a) refl).0 b ∙ held_again h
 
-lock_takes : (vs : List Variable) {h after : Held} {place : Place} {mutex : ℕ} → Keeps vs h (f.Lock place mutex) after → after ≡ slice_set h mutex true
-lock_takes vs (l.lock place mutex free) = refl
+lock_takes : (vs : List Variable) {h after : Held} {place : Place} {name : e.LockName} → Keeps vs h (f.Lock place name) after →
+    after ≡ slice_set h name.mutex true
+lock_takes vs (l.lock place name free) = refl
 
 -- ---- Two lists, one against the other
 
@@ -169,11 +171,11 @@ module _ (p : Plan) (plan : IsPlan p) (t : Thread) (of : IsThread p t) where
     pub free_after_lock : (stands node own).0 ≡ free leads.rest
     free_after_lock = same_Some _ _ (sym (stands node own).1 ∙ leads.follows)
 
-    keeps_lock : KeepsLeft p.flat (set_before p t from) (f.Lock leads.place mutex ∷ leads.rest)
+    keeps_lock : KeepsLeft p.flat (set_before p t from) (f.Lock leads.place (record { mutex = mutex; key = None }) ∷ leads.rest)
     keeps_lock = subst (λ (s : Standing). KeepsLeft p.flat (set_before p t from) s.left) leads.is (keeps from own_from)
 
     below : mutex < length p.flat.mutexes
-    below = (subst (λ (s : Standing). AllByRecursion (IsStatementLeft p.flat of.text.locals) s.left) leads.is (left_is from own_from)).0.1
+    below = (subst (λ (s : Standing). AllByRecursion (IsStatementLeft p.flat of.text.locals) s.left) leads.is (left_is from own_from)).0.1.0
 
     pub held_after_lock : holds (set_before p t node) mutex ≡ true
     held_after_lock =

@@ -1,6 +1,6 @@
 -- What a crash leaves of a run has the shape.
 use Rattle.std.proofs.Common.{◌≡◌, refl, ℕ, ◌<◌, List, [], length, map, ap, sym, ◌∙◌, subst, arith, Some, None, true}
-use Rattle.std.specs.Prelude.{slice_get, slice_index, slice_index_or, Contains, ◌==◌, pos}
+use Rattle.std.specs.Prelude.{slice_get, Contains, ◌==◌, ℤ, slice_index_or, pos}
 use Rattle.std.proofs.lemmas.Bool.{cond-false, ne_eqb}
 use Rattle.std.proofs.lemmas.List.{length-map}
 use Rattle.std.proofs.lemmas.Option.{none-some, same_Some, slice_get_within}
@@ -27,7 +27,7 @@ use Rattle.flow_graph.specs.IdempotentCuts.{stores}
 use Rattle.flow_graph.specs.Liveness.{NodeAt, IsLive}
 use Rattle.flow_graph.specs.Lowering.{lowered, threads_nodes}
 use Rattle.flow_graph.specs.Nodes.{Action, Eval, Store, Test, Lock, Unlock, End, Graph, Node}
-use Rattle.flow_graph.specs.Paths.{LiesInWritten, stored_element}
+use Rattle.flow_graph.specs.Paths.{LiesInWritten, stored_element, no_names}
 use Rattle.flow_graph.proofs.Public.{ShapedAs, found_in, node_shaped, nodes_at}
 use Rattle.log_states.specs.LogInvariant.{LogInv}
 use Rattle.log_states.specs.Logs.{Record, IsRecord, IsRecorded, HasLog, nothing_recorded}
@@ -45,10 +45,14 @@ use Rattle.crash_simulation.specs.Systems.{System, IsSystem, flat_of, thread_cou
 use Rattle.crash_simulation.proofs.Public.{kept_good, left, left_describes, log_of, orderly, owes_here}
 use Rattle.compiler_correctness.specs.Laws.{translation_of}
 use Rattle.compiler_correctness.specs.Translations.{world}
-use Rattle.image_checks.specs.Checks.{IsForm, IsElementOf}
+use Rattle.image_checks.specs.Checks.{IsElementOf}
 use Rattle.image_runs.specs.Shapes.{GoesOnAt, HasThreadShape, HasShape}
 use Rattle.image_runs.specs.Shapes as shapes
 use Rattle.image_runs.specs.Laws.{CrashesLeaveShape}
+use Rattle.expr_code.specs.declared.home.Home.{Home}
+use Rattle.expr_code.specs.declared.home.Home.TheVariants.{InRegister}
+use Rattle.expr_code.specs.EvaluationCode.{home_of, HomeCarries}
+use Rattle.ido_ints.specs.TypedNumbers.{typed}
 
 module _ (y : System) (s : IsSystem y) (w : World) (stands : Simulates y s w) where
   abbrev ws : List Word
@@ -107,16 +111,18 @@ module _ (y : System) (s : IsSystem y) (w : World) (stands : Simulates y s w) wh
       register_there register c =
           resumes_own.registers i.point register (subst (λ (live : List ℕ). Contains live register) (sym i.live) c)
 
+      form_there : (k : Kind) (home : Home) (number : ℤ) →
+          ((register : ℕ) → home ≡ InRegister register → read (shapes.resumed y.plan code ws) register ≡ read r.registers register) →
+          HomeCarries r.registers home (typed k number) → shapes.HomeHasForm (shapes.resumed y.plan code ws) home k
+      form_there k (InRegister register) number same carried =
+          record { number = number; held = carried.held; is = same register refl ∙ carried.form }
+
       local_right : (local : ℕ) (k : Kind) → slice_get t.kinds local ≡ Some k → IsLive y.plan.graph local at →
-          IsForm k (read (shapes.resumed y.plan code ws) (slice_index t.registers local))
+          shapes.HomeHasForm (shapes.resumed y.plan code ws) (home_of t.locals local) k
       local_right local k there live =
-          let carried = i.enters.locals local k there live in
-          record {
-            number = slice_index_or i.graph_thread.locals local (pos 0);
-            held = carried.held;
-            is = register_there (slice_index t.registers local)
-                ((code.is.kept at i.own (slice_index t.registers local)).1 (of_local local k there live)) ∙ carried.form;
-          }
+          form_there k (home_of t.locals local) (slice_index_or i.graph_thread.locals local (pos 0))
+          (λ register stands. register_there register ((code.is.kept at i.own register).1 (of_local local k register there live stands)))
+          (i.enters.locals local k there live)
 
       module _ (is : Node) (there : NodeAt y.plan.graph at is) (location : Location) (writes : is.writes ≡ Some location) where
         abbrev Has : Type 0
@@ -141,8 +147,8 @@ module _ (y : System) (s : IsSystem y) (w : World) (stands : Simulates y s w) wh
             (record { variable = variable; kind = kind; next = next; is = does }) in
             let store : Pending = owed.0 in
             let owes = good.owes t.number i.graph_thread store i.there owed.1 in
-            let lies : LiesInWritten is.writes (stored_element store) =
-            subst (λ (z : Node). LiesInWritten z.writes (stored_element store)) (same_Some owes.node is (sym owes.here ∙ here)) owes.lies in
+            let lies : LiesInWritten no_names is.writes (stored_element store) =
+            subst (λ (z : Node). LiesInWritten no_names z.writes (stored_element store)) (same_Some owes.node is (sym owes.here ∙ here)) owes.lies in
             let pending : HasPending y.plan store variable kind r.registers =
             subst (λ (a : Action). IsPendingIn y.plan a (seen_by kept i.graph_thread) r.registers) does (i.enters.pending is there) store owed.1 in
             let source = found_in good.source.threads t.number

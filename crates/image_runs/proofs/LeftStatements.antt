@@ -36,8 +36,8 @@ module _ (x : f.Flat) (ks : List Kind) where
     opened_left (f.While place condition body) w = ((tt, w), tt)
     opened_left (f.Do place body condition) w =
         joined (opened_all body) (f.While place condition body ∷ []) (opened_all_left body w.0) ((tt, (w.1, w.0)), tt)
-    opened_left (f.Lock place mutex) w = ((tt, w), tt)
-    opened_left (f.Unlock place mutex) w = ((tt, w), tt)
+    opened_left (f.Lock place name) w = ((tt, w), tt)
+    opened_left (f.Unlock place name) w = ((tt, w), tt)
 
     pub opened_all_left : (ys : f.Statements) → AreFlatStatements x ks ys → AreLeft (opened_all ys)
     opened_all_left f.no_statement w = tt
@@ -47,7 +47,7 @@ module _ (x : f.Flat) (ks : List Kind) where
 
   assign_left : (place : Place) (target : e.Lvalue) (value : e.Placed) (rest : List f.Statement) → IsFlatStatement x ks (f.Assign place target value) →
       AreLeft rest → AllByRecursion IsLeftAt (assign_standings place target value rest)
-  assign_left place (e.ToLocal local kind) value rest w k = (((tt, w), k), tt)
+  assign_left place (e.ToLocal name local kind) value rest w k = (((tt, w), k), tt)
   assign_left place (e.ToVariable name variable kind) value rest w k = (((tt, w), k), (k, tt))
   assign_left place (e.ToElement name variable kind index) value rest w k = (((tt, w), k), (k, tt))
 
@@ -62,8 +62,8 @@ module _ (x : f.Flat) (ks : List Kind) where
         let again : AreLeft (f.While place condition body ∷ rest) = ((tt, (w.1, w.0)), k) in
         all_joined (all_standings body (f.While place condition body ∷ rest)) (free (f.While place condition body ∷ rest) ∷ [])
         (left_in_all body (f.While place condition body ∷ rest) w.0 again) (again, tt)
-    left_in (f.Lock place mutex) rest w k = (((tt, w), k), tt)
-    left_in (f.Unlock place mutex) rest w k = (((tt, w), k), tt)
+    left_in (f.Lock place name) rest w k = (((tt, w), k), tt)
+    left_in (f.Unlock place name) rest w k = (((tt, w), k), tt)
 
     left_in_all : (ys : f.Statements) (rest : List f.Statement) → AreFlatStatements x ks ys → AreLeft rest → AllByRecursion IsLeftAt (all_standings ys rest)
     left_in_all f.no_statement rest w k = tt

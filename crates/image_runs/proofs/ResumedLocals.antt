@@ -18,8 +18,12 @@ use Rattle.flow_graph.proofs.Public.{found_in, lowered_threads}
 use Rattle.lock_discipline.proofs.Public.{held_length}
 use Rattle.log_states.specs.Logs.{AreOfMask, AreLoggable, IsKeepable}
 use Rattle.log_states.proofs.Public.{kept_are_keepable, scheme}
-use Rattle.thread_code.specs.Plans.{Plan, Thread, IsThread, IsPlan, set_before, locks_before}
+use Rattle.thread_code.specs.Plans.{Plan, Thread, IsThread, IsPlan, set_before, locks_before, home_of_colour}
 use Rattle.thread_code.proofs.Public.{held_fits, held_read_back}
+use Rattle.expr_code.specs.declared.home.Home.{Home}
+use Rattle.expr_code.specs.declared.home.Home.TheVariants.{InRegister}
+use Rattle.expr_code.specs.EvaluationCode.{home_of}
+use Rattle.expr_code.proofs.Public.{same_register}
 
 -- ---- Registers that have a slot
 
@@ -39,19 +43,20 @@ module _ (p : Plan) (plan : IsPlan p) (t : Thread) (is : IsThread p t) where
   pub part_is : slice_get (parts p.flat.threads 0) t.number ≡ Some t.part
   part_is = ap (λ (ps : List Part). slice_get ps t.number) (sym (ap (λ (g : Graph). g.threads) plan.lowered ∙ lowered_threads p.flat)) ∙ is.nodes
 
-  local_kept : (local : ℕ) → local < length t.kinds → is_kept (slice_index t.registers local) ≡ true
-  local_kept local below =
+  local_kept : (local register : ℕ) → local < length t.kinds → home_of t.locals local ≡ InRegister register → is_kept register ≡ true
+  local_kept local register below there =
       let count = plan.registers.locals t.number t.part is.colours is.nodes is.of_colours in
       let inside : local < length is.colours =
       omega (arith, below, count, locals_of p.flat.threads 0 t.number t.part is.text part_is is.of_text, ap (λ (ks : List Kind). length ks) is.kinds) in
       let colour = get_or is.colours local 0 in
       let exists : colour < 18 = plan.registers.exist t.number colour is.colours is.of_colours (Contains-get_or is.colours local 0 inside) in
-      let at : slice_index t.registers local ≡ slice_index LOCALS colour =
-      ap (λ (rs : List ℕ). slice_index rs local) is.registers ∙ get_or-map (λ (c : ℕ). slice_index LOCALS c) is.colours local 0 0 inside in
-      ap is_kept at ∙ one_kept LOCALS colour refl exists
+      let at : home_of t.locals local ≡ home_of_colour colour =
+      ap (λ (hs : List Home). home_of hs local) is.locals ∙ get_or-map home_of_colour is.colours local 0 (InRegister 0) inside in
+      ap is_kept (same_register register (slice_index LOCALS colour) (sym there ∙ at)) ∙ one_kept LOCALS colour refl exists
 
-  pub local_keepable : (local : ℕ) (k : Kind) → slice_get t.kinds local ≡ Some k → IsKeepable p.log (slice_index t.registers local)
-  local_keepable local k there = kept_are_keepable p.log (slice_index t.registers local) (local_kept local (slice_get_within t.kinds local k there))
+  pub local_keepable : (local : ℕ) (k : Kind) (register : ℕ) → slice_get t.kinds local ≡ Some k → home_of t.locals local ≡ InRegister register →
+      IsKeepable p.log register
+  local_keepable local k register there at = kept_are_keepable p.log register (local_kept local register (slice_get_within t.kinds local k there) at)
 
   -- ---- Locks before a node
 

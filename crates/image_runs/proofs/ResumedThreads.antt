@@ -1,7 +1,7 @@
 -- The thread of the source that words with the shape describe: it stands at its node, or has not begun.
 use Rattle.std.proofs.Common.{◌≡◌, ◌≢◌, refl, inl, inr, ℕ, zero, suc, ◌+◌, ◌*◌, ◌%◌, ◌<◌, List, [], ◌∷◌, length, map, replicate, ap, sym, ◌∙◌}
 use Rattle.std.proofs.Common.{subst, arith, Option, Some, None, Bool, true, false}
-use Rattle.std.specs.Prelude.{slice_get, slice_index, slice_index_or, Contains, is_some, ◌^◌, ◌==◌, ℤ, pos}
+use Rattle.std.specs.Prelude.{slice_get, slice_index_or, Contains, is_some, ◌^◌, ◌==◌, ℤ, pos}
 use Rattle.std.specs.List.{AllZip}
 use Rattle.std.specs.Option.{option_map}
 use Rattle.std.proofs.lemmas.Bool.Decides.{nat_tests}
@@ -31,7 +31,6 @@ use Rattle.memory_layout.specs.Roles.{pending_address, pending_value}
 use Rattle.rv64_isa.specs.Rows.{read}
 use Rattle.rv64_isa.specs.Machine.{bank_of, durable_point, recorded, record_of, resumed_registers}
 use Rattle.boundary_code.specs.Boundaries.{is_empty, kept_locks}
-use Rattle.operator_code.specs.ComputingCode.{Carries}
 use Rattle.variable_words.proofs.Public.{addresses_reach, well_formed_placed}
 use Rattle.flow_graph.specs.Actions.{FlowState, GraphThread, Seen, graph_thread_start, seen_by}
 use Rattle.flow_graph.specs.Liveness.{NodeAt, IsLive}
@@ -50,12 +49,15 @@ use Rattle.thread_code.specs.Plans.{Plan, Thread, IsPlan, IsKept, of_local, of_a
 use Rattle.thread_code.specs.RegistersAtNodes.{HasPending, IsPendingIn, Enters}
 use Rattle.recovered_threads.specs.RecordDescriptions.{Code, Describes, between, inside}
 use Rattle.image_checks.specs.Checks.{IsElementOf}
-use Rattle.image_runs.specs.Shapes.{GoesOnAt, HasThreadShape, idle, resumes}
+use Rattle.image_runs.specs.Shapes.{GoesOnAt, HasThreadShape, idle, resumes, HomeHasForm}
 use Rattle.image_runs.proofs.HeldAtNodes.{all, node_is, lowered_is, stands, keeps, long, left_is, sets, resumed_hold, resumed_store_locked}
 use Rattle.image_runs.proofs.LeftStatements.{opened_all_left}
 use Rattle.image_runs.proofs.RecordedWords.{durable_word, nothing_is_recorded, point_small, recorded_small, register_small, record_none}
 use Rattle.image_runs.proofs.ResumedLocals.{local_keepable, loggable}
 use Rattle.image_runs.proofs.StoredElements.{StoresAs, StoresElements, stores_elements}
+use Rattle.expr_code.specs.declared.home.Home.{Home}
+use Rattle.expr_code.specs.declared.home.Home.TheVariants.{InRegister}
+use Rattle.expr_code.specs.EvaluationCode.{home_of, HomeCarries}
 
 -- ---- Numbers in words
 
@@ -188,14 +190,17 @@ module _ (locked : ChosenAreLocked) (p : Plan) (plan : IsPlan p) (code : Code p)
     abbrev set : Held
     set = set_before p t node
 
-    -- ---- Locals: the number to which the word of a local's register is reduced
+    -- ---- Locals: the number to which the word of a local's home is reduced
 
-    abbrev number_of : Kind → (register : ℕ) → ℤ
-    number_of k register = reduced k (pos (read registers register))
+    abbrev number_of : Kind → Home → ℤ
+    number_of k (InRegister register) = reduced k (pos (read registers register))
+
+    number_held : (k : Kind) (home : Home) → Holds k (number_of k home)
+    number_held k (InRegister register) = Holds-reduced k _
 
     decoded : List Kind → (at : ℕ) → List ℤ
     decoded [] at = []
-    decoded (k ∷ ks) at = number_of k (slice_index t.registers at) ∷ decoded ks (at + 1)
+    decoded (k ∷ ks) at = number_of k (home_of t.locals at) ∷ decoded ks (at + 1)
 
     decoded_long : (ks : List Kind) (at : ℕ) → length (decoded ks at) ≡ length ks
     unfolding decoded
@@ -205,33 +210,35 @@ module _ (locked : ChosenAreLocked) (p : Plan) (plan : IsPlan p) (code : Code p)
     decoded_hold : (ks : List Kind) (at : ℕ) → AllZip Holds ks (decoded ks at)
     unfolding decoded
     decoded_hold [] at = tt
-    decoded_hold (k ∷ ks) at = (Holds-reduced k _, decoded_hold ks (at + 1))
+    decoded_hold (k ∷ ks) at = (number_held k (home_of t.locals at), decoded_hold ks (at + 1))
 
     decoded_at : (ks : List Kind) (at i : ℕ) (k : Kind) → slice_get ks i ≡ Some k →
-        slice_index_or (decoded ks at) i (pos 0) ≡ number_of k (slice_index t.registers (at + i))
+        slice_index_or (decoded ks at) i (pos 0) ≡ number_of k (home_of t.locals (at + i))
     unfolding decoded
     decoded_at [] at i k e = absurd (none-some k e)
     decoded_at (j ∷ ks) at zero k e =
         let same : at ≡ at + 0 = omega arith in
-        ap (λ (z : Kind). number_of z (slice_index t.registers at)) (same_Some j k e) ∙ ap (λ (r : ℕ). number_of k (slice_index t.registers r)) same
+        ap (λ (z : Kind). number_of z (home_of t.locals at)) (same_Some j k e) ∙ ap (λ (l : ℕ). number_of k (home_of t.locals l)) same
     decoded_at (j ∷ ks) at (suc i) k e =
         let same : at + 1 + i ≡ at + suc i = omega arith in
-        decoded_at ks (at + 1) i k e ∙ ap (λ (r : ℕ). number_of k (slice_index t.registers r)) same
+        decoded_at ks (at + 1) i k e ∙ ap (λ (l : ℕ). number_of k (home_of t.locals l)) same
 
     abbrev locals : List ℤ
     locals = decoded t.kinds 0
 
-    carried : (local : ℕ) (k : Kind) → slice_get t.kinds local ≡ Some k → IsLive p.graph local node →
-        Carries registers (slice_index t.registers local) (typed k (slice_index_or locals local (pos 0)))
-    carried local k there live =
-        let form = g.locals local k there live in
-        let r : ℕ = slice_index t.registers local in
-        let back : number_of k r ≡ form.number =
+    carried_in : (k : Kind) (home : Home) → HomeHasForm registers home k → HomeCarries registers home (typed k (number_of k home))
+    carried_in k (InRegister r) form =
+        let back : reduced k (pos (read registers r)) ≡ form.number =
         ap (λ (w : ℕ). reduced k (pos w)) form.is ∙ reduced-register k form.number form.held in
+        record { held = Holds-reduced k (pos (read registers r)); form = form.is ∙ ap (register_of k) (sym back) }
+
+    carried : (local : ℕ) (k : Kind) → slice_get t.kinds local ≡ Some k → IsLive p.graph local node →
+        HomeCarries registers (home_of t.locals local) (typed k (slice_index_or locals local (pos 0)))
+    carried local k there live =
         let same : 0 + local ≡ local = omega arith in
-        subst (λ (z : ℤ). Carries registers r (typed k z))
-        (sym (decoded_at t.kinds 0 local k there ∙ ap (λ (i : ℕ). number_of k (slice_index t.registers i)) same))
-        (record { held = Holds-reduced k (pos (read registers r)); form = form.is ∙ ap (register_of k) (sym back) })
+        subst (λ (z : ℤ). HomeCarries registers (home_of t.locals local) (typed k z))
+        (sym (decoded_at t.kinds 0 local k there ∙ ap (λ (i : ℕ). number_of k (home_of t.locals i)) same))
+        (carried_in k (home_of t.locals local) (g.locals local k there live))
 
     -- ---- The pending store
 
@@ -259,7 +266,7 @@ module _ (locked : ChosenAreLocked) (p : Plan) (plan : IsPlan p) (code : Code p)
       at_element = g.pending is stores.location here stores.writes
 
       abbrev store : Pending
-      store = record { variable = variable; element = at_element.element; number = number_of kind pending_value }
+      store = record { variable = variable; element = at_element.element; number = number_of kind (InRegister pending_value) }
 
       exists : store.element < elements_in stores.it.length
       exists = let to = at_element.to in let w = stores.within in omega (arith, to, w)
@@ -301,7 +308,12 @@ module _ (locked : ChosenAreLocked) (p : Plan) (plan : IsPlan p) (code : Code p)
           lies = record {
             location = stores.location;
             of = stores.writes;
-            lies = record { variable = stores.variable_is; from_lo = at_element.from; to_hi = at_element.to };
+            lies = record {
+              variable = stores.variable_is;
+              from_lo = at_element.from;
+              to_hi = at_element.to;
+              by_key = λ key keyed. absurd (none-some key (sym stores.no_key ∙ keyed));
+            };
           };
         });
         enters = λ seen e. subst (λ (a : Action). IsPendingIn p a seen registers) (sym does)
@@ -357,7 +369,7 @@ module _ (locked : ChosenAreLocked) (p : Plan) (plan : IsPlan p) (code : Code p)
     entry = record { point = durable_point p.log ws n; locks = locks_before p t node; live = code.is.places.live node; registers = registers }
 
     kept_keepable : (slot : ℕ) → IsKept p t node slot → IsKeepable p.log slot
-    kept_keepable slot (of_local local k there live) = local_keepable p plan t code.of local k there
+    kept_keepable slot (of_local local k own there live at) = local_keepable p plan t code.of local k own there at
     kept_keepable slot (of_address own) = kept_are_keepable p.log pending_address refl
     kept_keepable slot (of_value own) = kept_are_keepable p.log pending_value refl
 

@@ -43,6 +43,7 @@ module _ (x : f.Flat) (variables : AllByRecursion (IsVariable (length x.mutexes)
     pub found : slice_get x.variables variable ≡ Some it
     pub kind_is : it.kind ≡ kind
     pub within : location.hi < elements_in it.length
+    pub no_key : location.key ≡ None
 
   abbrev pub StoresAs : Node → Action → Type 0
   StoresAs n (Eval target value next) = Unit {0}
@@ -73,7 +74,7 @@ module _ (x : f.Flat) (variables : AllByRecursion (IsVariable (length x.mutexes)
   module _ (ks : List Kind) where
     stores_assign : (target : e.Lvalue) (place : Place) (value : e.Placed) (first next : ℕ) → IsFlatTarget x ks target →
         AllStore (assign_nodes place target value first next)
-    stores_assign (e.ToLocal local kind) place value first next t = (tt, tt)
+    stores_assign (e.ToLocal name local kind) place value first next t = (tt, tt)
     stores_assign (e.ToVariable name variable kind) place value first next t = (
       tt,
       (
@@ -85,6 +86,7 @@ module _ (x : f.Flat) (variables : AllByRecursion (IsVariable (length x.mutexes)
           found = t.0.found;
           kind_is = t.0.kind;
           within = one_element t.0.it.length t.0.array;
+          no_key = refl;
         },
         tt,
       ),
@@ -100,6 +102,7 @@ module _ (x : f.Flat) (variables : AllByRecursion (IsVariable (length x.mutexes)
           found = t.0.0.found;
           kind_is = t.0.0.kind;
           within = element_within variable kind index.place index.expr t.0.0 t.1.0;
+          no_key = refl;
         },
         tt,
       ),
@@ -116,8 +119,8 @@ module _ (x : f.Flat) (variables : AllByRecursion (IsVariable (length x.mutexes)
       stored (f.Do place body condition) first next w =
           joined (statements_nodes body first (first + statements_count body)) (test_node place condition first next ∷ [])
           (stored_all body first (first + statements_count body) w.0) (tt, tt)
-      stored (f.Lock place mutex) first next w = (tt, tt)
-      stored (f.Unlock place mutex) first next w = (tt, tt)
+      stored (f.Lock place name) first next w = (tt, tt)
+      stored (f.Unlock place name) first next w = (tt, tt)
 
       stored_all : (ys : f.Statements) (first next : ℕ) → AreFlatStatements x ks ys → AllStore (statements_nodes ys first next)
       stored_all f.no_statement first next w = tt

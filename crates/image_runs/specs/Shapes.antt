@@ -1,5 +1,5 @@
 -- What durable words must have so that threads can be resumed by them, whoever left them: points, recorded locks and kinds of numbers, and no history.
-use Rattle.std.specs.Prelude.{◌≡◌, ◌≢◌, ℕ, ◌<◌, List, length, map, slice_get, slice_index, Some, true}
+use Rattle.std.specs.Prelude.{◌≡◌, ◌≢◌, ℕ, ◌<◌, List, length, map, slice_get, Some, true}
 use Rattle.ido_base.specs.declared.location.Location.{Location}
 use Rattle.ido_base.specs.Words.{Word, word_of}
 use Rattle.ido_base.specs.Layout.{word_count}
@@ -14,6 +14,13 @@ use Rattle.log_states.specs.Logs.{HasLog}
 use Rattle.thread_code.specs.Plans.{Plan, IsNodeOf, locks_before}
 use Rattle.recovered_threads.specs.RecordDescriptions.{Code, Codes, ResumesAt}
 use Rattle.image_checks.specs.Checks.{IsForm, IsElementOf}
+use Rattle.expr_code.specs.declared.home.Home.{Home}
+use Rattle.expr_code.specs.declared.home.Home.TheVariants.{InRegister}
+use Rattle.expr_code.specs.EvaluationCode.{home_of}
+
+-- a number of the kind, in its register form, stands in the home
+abbrev pub HomeHasForm : (registers : List ℕ) → Home → Kind → Type 0
+HomeHasForm registers (InRegister register) k = IsForm k (read registers register)
 
 module _ (p : Plan) (code : Code p) (words : List Word) where
   -- the registers with which recovery resumes the thread
@@ -28,7 +35,7 @@ module _ (p : Plan) (code : Code p) (words : List Word) where
     pub locks : record_of p.log words code.thread.number ≡ locks_before p code.thread node
     -- each live local has a number of its kind
     pub locals : (local : ℕ) (k : Kind) → slice_get code.thread.kinds local ≡ Some k → IsLive p.graph local node →
-        IsForm k (read resumed (slice_index code.thread.registers local))
+        HomeHasForm resumed (home_of code.thread.locals local) k
     -- a pending store has the address of an element that the node may write; of its number nothing is asked
     pub pending : (is : Node) (location : Location) → NodeAt p.graph node is → is.writes ≡ Some location →
         IsElementOf p.flat.variables location (read resumed pending_address)

@@ -18,7 +18,7 @@ use Rattle.rv64_codegen.specs.links.Threads.{IsOwn, HasAction, IsKeptFor, GoesTo
 use Rattle.rv64_codegen.proofs.NodePieces.{two_appended, one_appended, boundary_is, few_live}
 
 pub nodes_lockstep : (t : e.Lvalue) → target_nodes t ≡ programs.target_nodes t
-nodes_lockstep (e.ToLocal local kind) = refl
+nodes_lockstep (e.ToLocal place local kind) = refl
 nodes_lockstep (e.ToVariable place variable kind) = refl
 nodes_lockstep (e.ToElement place variable kind index) = refl
 

@@ -1,6 +1,5 @@
 -- Code of evaluations.
-use Rattle.std.proofs.Common.{◌≡◌, ℕ, ◌+◌, ◌*◌, List, ◌++◌, length, refl, ap, sym, ◌∙◌, Bool, true, false, ◌==◌, ◌||◌}
-use Rattle.std.specs.Prelude.{slice_index}
+use Rattle.std.proofs.Common.{◌≡◌, ℕ, ◌+◌, ◌*◌, List, ◌++◌, length, refl, ap, sym, ◌∙◌, Bool, true, false, ◌==◌, ◌||◌, subst}
 use Rattle.ido_base.specs.declared.place.Place.{Place}
 use Rattle.ido_ints.specs.declared.kinds.Kind.{Kind}
 use Rattle.ido_ints.specs.TypedNumbers.{converted}
@@ -12,11 +11,13 @@ use Rattle.memory_layout.specs.Roles.{is_temporary, is_local}
 use Rattle.operator_code.specs.ComputingCode.{Carries}
 use Rattle.operator_code.proofs.Public.{equal_by}
 use Rattle.code_runs.specs.ComputingRuns.{Environment, LocalConfig, config}
-use Rattle.expr_code.specs.EvaluationCode.{Homes, Source, HasCodeThere, EvaluationEnds, IsEvaluationStart}
+use Rattle.expr_code.specs.EvaluationCode.{Homes, Source, HasCodeThere, EvaluationEnds, IsEvaluationStart, home_of, HomeCarries}
 use Rattle.expr_code.specs.EvaluationCode.{IsConvertedCode, IsVariableAddressCode, IsElementAddressCode, place_of}
 use Rattle.expr_code.proofs.Public.{stands_right, wider, then_ends, at_left, room_right, or_left, or_right, local_kept, locals_kept, free_first}
-use Rattle.rv64_codegen.specs.Evaluations.{MayEvaluate}
+use Rattle.rv64_codegen.specs.Evaluations.{MayEvaluate, is_in}
 use Rattle.rv64_codegen.specs.links.Targets.{IsTargetCode}
+use Rattle.expr_code.specs.declared.home.Home.{Home}
+use Rattle.expr_code.specs.declared.home.Home.TheVariants.{InRegister}
 
 -- ---- Registers that are kept
 
@@ -49,9 +50,14 @@ spare_second n h =
 
 -- ---- Codes
 
-pub local_target : (h : Homes) (local : ℕ) (k : Kind) (t : e.Expr) (code : List Instr) → IsConvertedCode h t k (slice_index h.registers local) code →
-    IsTargetCode h (e.ToLocal local k) t code
-local_target h local k t code c = record { ends = λ s r m at reach may. c.ends s r m may.legal (record { at = at; locals = may.locals }) }
+pub local_target : (h : Homes) (place : Place) (local register : ℕ) (k : Kind) (t : e.Expr) (code : List Instr) → home_of h.locals local ≡ InRegister register →
+    IsConvertedCode h t k register code → IsTargetCode h (e.ToLocal place local k) t code
+local_target h place local register k t code is c = record {
+  ends = λ s r m at reach may.
+      let v = converted (value s.locals s.numbers t) k in
+      subst (λ (home : Home). EvaluationEnds r code (λ n. is_in home n || is_temporary n) (λ y. HomeCarries y home v) m) (sym is)
+      (c.ends s r m may.legal (record { at = at; locals = may.locals }));
+}
 
 -- the value's code after that of the address
 module _ (h : Homes) (t : e.Expr) (k : Kind) (a b : List Instr) (c : IsConvertedCode h t k 29 b) where

@@ -15,10 +15,12 @@ use Rattle.memory_layout.specs.declared.roles.TheConstants.{LOCALS}
 use Rattle.memory_layout.specs.Roles.{is_local}
 use Rattle.flow_graph.specs.declared.graph.Part.{Part}
 use Rattle.memory_layout.specs.Variables.{AreAddresses}
-use Rattle.thread_code.specs.Plans.{Plan, Thread, IsPlan, IsThread, homes}
+use Rattle.thread_code.specs.Plans.{Plan, Thread, IsPlan, IsThread, homes, home_of_colour}
 use Rattle.rv64_codegen.specs.Locals.{HasHomes}
 use Rattle.rv64_codegen.specs.links.Threads.{thread_at, kinds_in}
 use Rattle.rv64_codegen.proofs.PlannedNodes.{locals_are}
+use Rattle.expr_code.specs.declared.home.Home.{Home}
+use Rattle.expr_code.specs.EvaluationCode.{home_of, is_home}
 
 -- ---- Lists
 
@@ -85,13 +87,13 @@ addresses_are vs addresses are =
     same_lists addresses (map g (numbers_below (length vs))) (count ∙ sym long)
     (λ k l. are.each k (omega (arith, l, are.count)) ∙ sym (map_numbers g (length vs) k (omega (arith, l, count))))
 
--- ---- Registers of locals
+-- ---- Homes of locals
 
 pub local_number : (colour : ℕ) → colour < 18 → is_local (slice_index LOCALS colour) ≡ true
 local_number colour h = all_index is_local LOCALS colour refl h
 
 locals_local : (colours : List ℕ) (local : ℕ) → ((colour : ℕ) → Contains colours colour → colour < 18) → local < length colours →
-    is_local (slice_index (map (λ (colour : ℕ). slice_index LOCALS colour) colours) local) ≡ true
+    is_home (home_of (map home_of_colour colours) local) ≡ true
 locals_local [] local each h = absurd (omega (arith, h))
 locals_local (c ∷ cs) zero each h = local_number c (each c (0, omega arith, refl))
 locals_local (c ∷ cs) (suc local) each h =
@@ -101,15 +103,15 @@ module _ (p : Plan) (plan : IsPlan p) (t : Thread) (th : IsThread p t) where
   pub colours_long : length th.colours ≡ length th.text.locals
   colours_long = plan.registers.locals t.number t.part th.colours th.nodes th.of_colours ∙ locals_are p plan t th
 
-  pub registers_long : length t.registers ≡ length th.text.locals
-  registers_long = ap (λ (xs : List ℕ). length xs) th.registers ∙ length-map th.colours (λ (colour : ℕ). slice_index LOCALS colour) ∙ colours_long
+  pub homes_long : length t.locals ≡ length th.text.locals
+  homes_long = ap (λ (hs : List Home). length hs) th.locals ∙ length-map th.colours home_of_colour ∙ colours_long
 
   pub has_homes : HasHomes p.flat.variables th.text.locals (homes p t)
   has_homes = record {
     variables = length-map (numbers_below (length p.flat.variables)) (λ (v : ℕ). variable_at (map shape_of p.flat.variables) v 0)
         ∙ length-numbers (length p.flat.variables);
-    locals = registers_long;
-    registers = λ local h. ap (λ (xs : List ℕ). is_local (slice_index xs local)) th.registers
+    locals = homes_long;
+    home = λ local h. ap (λ (hs : List Home). is_home (home_of hs local)) th.locals
         ∙ locals_local th.colours local (λ colour among. plan.registers.exist t.number colour th.colours th.of_colours among)
         (omega (arith, h, colours_long));
   }
@@ -125,20 +127,19 @@ kinds_there [] k text g = cc
 kinds_there (u ∷ us) zero text g = let same : u ≡ text = cc in ap (λ (t : f.Thread). t.locals) same
 kinds_there (u ∷ us) (suc k) text g = kinds_there us k text g
 
-abbrev made : ℕ → Part → List Kind → List ℕ → Thread
-made number part kinds registers = record { number = number; part = part; kinds = kinds; registers = registers }
+abbrev made : ℕ → Part → List Kind → List Home → Thread
+made number part kinds locals = record { number = number; part = part; kinds = kinds; locals = locals }
 
--- a thread is as its number, its part and its registers say
-pub thread_is : (p : Plan) (t : Thread) → IsThread p t → t ≡ thread_at p t.number t.part t.registers
+-- a thread is as its number, its part and the homes of its locals say
+pub thread_is : (p : Plan) (t : Thread) → IsThread p t → t ≡ thread_at p t.number t.part t.locals
 thread_is p t th =
     let kinds : t.kinds ≡ kinds_in p t.number = th.kinds ∙ sym (kinds_there p.flat.threads t.number th.text th.of_text) in
-    ap (λ (ks : List Kind). made t.number t.part ks t.registers) kinds
+    ap (λ (ks : List Kind). made t.number t.part ks t.locals) kinds
 
 pub one_thread : (p : Plan) (t u : Thread) → IsThread p t → IsThread p u → t.number ≡ u.number → t ≡ u
 one_thread p t u th uh e =
     let parts : t.part ≡ u.part = same_some _ _ _ th.nodes (ap (slice_get p.graph.threads) e ∙ uh.nodes) in
     let colours : th.colours ≡ uh.colours = same_some _ _ _ th.of_colours (ap (slice_get p.colours) e ∙ uh.of_colours) in
-    let registers : t.registers ≡ u.registers =
-    th.registers ∙ ap (λ (cs : List ℕ). map (λ (colour : ℕ). slice_index LOCALS colour) cs) colours ∙ sym uh.registers in
-    thread_is p t th ∙ ap (λ (n : ℕ). thread_at p n t.part t.registers) e ∙ ap (λ (q : Part). thread_at p u.number q t.registers) parts
-    ∙ ap (λ (rs : List ℕ). thread_at p u.number u.part rs) registers ∙ sym (thread_is p u uh)
+    let locals : t.locals ≡ u.locals = th.locals ∙ ap (λ (cs : List ℕ). map home_of_colour cs) colours ∙ sym uh.locals in
+    thread_is p t th ∙ ap (λ (n : ℕ). thread_at p n t.part t.locals) e ∙ ap (λ (q : Part). thread_at p u.number q t.locals) parts
+    ∙ ap (λ (hs : List Home). thread_at p u.number u.part hs) locals ∙ sym (thread_is p u uh)

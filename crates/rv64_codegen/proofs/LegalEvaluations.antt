@@ -11,7 +11,7 @@ use Rattle.ido_ints.specs.declared.kinds.Kind.{Kind}
 use Rattle.ido_ints.specs.Kinds.{bytes_of}
 use Rattle.c_tree.specs.Exprs as e
 use Rattle.c_tree.specs.Programs as v
-use Rattle.c_tree.specs.LockDiscipline.{numbers_below}
+use Rattle.c_tree.specs.LockDiscipline.{numbers_below, expr_locals}
 use Rattle.c_tree.specs.Ranges.{elements_of}
 use Rattle.c_tree.specs.Values.{value, element_at}
 use Rattle.c_tree.specs.WellFormed.{shape_of, elements_in, IsDeclared, IndexFits, IsFlatPlaced, IsFlatTarget}
@@ -24,14 +24,14 @@ use Rattle.operator_code.specs.ComputingCode.{AreRegisters}
 use Rattle.expr_code.specs.EvaluationCode.{Suits, AreLoaded}
 use Rattle.expr_code.proofs.Public.{IsNear, near_declared, bytes_small, all_held}
 use Rattle.flow_graph.specs.Actions.{Seen}
-use Rattle.flow_graph.specs.Lowering.{expr_locals, target_locals}
+use Rattle.flow_graph.specs.Lowering.{target_locals}
 use Rattle.flow_graph.proofs.Public.{bounded}
 use Rattle.thread_code.specs.Plans.{Plan, Thread, IsThread, IsPlan, homes}
 use Rattle.thread_code.specs.RegistersAtNodes.{source_of, IsAnsweredIn}
 use Rattle.rv64_codegen.specs.Evaluations.{MayEvaluate, MayReach}
 use Rattle.rv64_codegen.specs.Locals.{HoldsEach}
 use Rattle.rv64_codegen.proofs.ReadLocals.{reads_are_held}
-use Rattle.rv64_codegen.proofs.LocalRegisters.{register_local}
+use Rattle.rv64_codegen.proofs.LocalRegisters.{home_local}
 
 -- ---- Numbers
 
@@ -90,7 +90,7 @@ module _ (p : Plan) (t : Thread) (plan : IsPlan p) (of : IsThread p t) where
         omega (arith, h, below) in
         get_or-map (λ (k : ℕ). variable_at (map shape_of vs) k 0) (numbers_below (length vs)) variable 0 0 inside ∙
         ap (λ (k : ℕ). variable_at (map shape_of vs) k 0) (number_at (length vs) variable below);
-    register = register_local p t plan of;
+    local = home_local p t plan of;
   }
 
   -- addresses of variables and of elements are small
@@ -127,7 +127,7 @@ module _ (p : Plan) (t : Thread) (plan : IsPlan p) (of : IsThread p t) where
 
     pub may_reach : (target : e.Lvalue) → IsFlatTarget p.flat t.kinds target → HoldsEach (homes p t) (source_of p t seen) x (target_locals target) →
         IsAnsweredIn (source_of p t seen) around.loads target → MayReach (homes p t) (source_of p t seen) around x target
-    may_reach (e.ToLocal local kind) formed held loaded = tt
+    may_reach (e.ToLocal place local kind) formed held loaded = tt
     may_reach (e.ToVariable place variable kind) formed held loaded = slice_get_within vs variable formed.0.it formed.0.found
     may_reach (e.ToElement place variable kind index) formed held loaded =
         (formed.0.0, formed.1.0, may_evaluate index (formed.0.1, formed.1.1) held loaded)

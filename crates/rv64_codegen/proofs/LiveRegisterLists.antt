@@ -1,15 +1,15 @@
 -- Registers that are live at nodes.
 use Rattle.std.proofs.Common.{◌≡◌, ◌⊎◌, inl, inr, ⊎_elim, refl, ℕ, zero, suc, ◌+◌, ◌<◌, ◌≤◌, List, [], ◌∷◌, ◌++◌, length, ◌∙◌, ap, ap₂, sym, subst, arith}
 use Rattle.std.proofs.Common.{Some, Bool, true, false, ◌&&◌, ◌||◌, ◌==◌}
-use Rattle.std.specs.Prelude.{slice_get, slice_index, map, Contains, Vec, IfOk, Ok, Err}
+use Rattle.std.specs.Prelude.{slice_get, slice_index, Contains, Vec, IfOk, Ok, Err}
 use Rattle.std.specs.declared.result.Result.{Result}
 use Rattle.std.specs.Global.{Global}
 use Rattle.std.specs.List.{list_all}
 use Rattle.std.proofs.lemmas.Bool.{cases_lt}
-use Rattle.std.proofs.lemmas.List.{length-append}
+use Rattle.std.proofs.lemmas.List.{length-append, get_or-map}
 use Rattle.std.proofs.lemmas.List.Folds.{list_all-append}
 use Rattle.std.proofs.lemmas.List.Elements.{Contains-append_left, Contains-append_right, Contains-append_cases}
-use Rattle.std.proofs.lemmas.Option.{slice_get_within}
+use Rattle.std.proofs.lemmas.Option.{slice_get_within, slice_get-get_or}
 use Rattle.ido_ints.specs.declared.kinds.Kind.{Kind}
 use Rattle.memory_layout.specs.declared.roles.TheConstants.{LOCALS}
 use Rattle.memory_layout.specs.Roles.{is_kept, is_local, pending_address, pending_value}
@@ -18,9 +18,13 @@ use Rattle.flow_graph.specs.IdempotentCuts.{IsStoreNode, stores}
 use Rattle.flow_graph.specs.Liveness.{NodeAt}
 use Rattle.flow_graph.specs.LocalSets.{HasAt}
 use Rattle.flow_graph.proofs.Public.{found_in}
-use Rattle.thread_code.specs.Plans.{Plan, Thread, IsPlan, IsThread, IsKept, of_local, of_address, of_value, AreKept}
+use Rattle.thread_code.specs.Plans.{Plan, Thread, IsPlan, IsThread, IsKept, of_local, of_address, of_value, AreKept, home_of_colour}
 use Rattle.rv64_codegen.specs.links.LiveRegisters.{HasLive, IsLiveAmong, AreLiveLocals, is_store, AreWithPending, AreLiveRegisters, IsLiveRegister, AreLists}
-use Rattle.rv64_codegen.proofs.Homes.{registers_long, colours_long}
+use Rattle.rv64_codegen.proofs.Homes.{homes_long, colours_long}
+use Rattle.expr_code.specs.declared.home.Home.{Home}
+use Rattle.expr_code.specs.declared.home.Home.TheVariants.{InRegister}
+use Rattle.expr_code.specs.EvaluationCode.{home_of}
+use Rattle.expr_code.proofs.Public.{same_register}
 
 pub ok_weaker : {X E : Type 0} (r : Result X E) (P Q : X → Type 0) → ((x : X) → P x → Q x) → IfOk r P → IfOk r Q
 ok_weaker (Ok x) P Q f h = f x h
@@ -33,10 +37,10 @@ only_contained x y (suc k, h, is) = absurd (omega (arith, h))
 contained_only : (x : ℕ) → Contains (x ∷ []) x
 contained_only x = (0, omega arith, refl)
 
--- ---- Whether a live local has the register
+-- ---- Whether a live local has the home
 
-abbrev pub NoneBefore : (registers : List ℕ) → (sets : List (List ℕ)) → (node register count : ℕ) → Type 0
-NoneBefore registers sets node register count = (local : ℕ) → local < count → slice_get registers local ≡ Some register → HasAt sets node local → ⊥
+abbrev pub NoneBefore : (homes : List Home) → (sets : List (List ℕ)) → (node : ℕ) → (home : Home) → (count : ℕ) → Type 0
+NoneBefore homes sets node home count = (local : ℕ) → local < count → slice_get homes local ≡ Some home → HasAt sets node local → ⊥
 
 -- ---- All of them
 
@@ -46,20 +50,20 @@ kept_local register h = ap (λ (b : Bool). b || register == 28 || register == 29
 all_more : (xs : List ℕ) (x : ℕ) → list_all is_kept xs ≡ true → is_kept x ≡ true → list_all is_kept (xs ++ x ∷ []) ≡ true
 all_more xs x h k = list_all-append is_kept xs (x ∷ []) ∙ ap₂ ◌&&◌ h (ap (λ (b : Bool). b && true) k)
 
-module _ (registers : List ℕ) (sets : List (List ℕ)) (node : ℕ) where
-  wider : (count register : ℕ) → IsLiveAmong registers sets node count register → IsLiveAmong registers sets node (count + 1) register
+module _ (homes : List Home) (sets : List (List ℕ)) (node : ℕ) where
+  wider : (count register : ℕ) → IsLiveAmong homes sets node count register → IsLiveAmong homes sets node (count + 1) register
   wider count register w = record { number = w.number; below = omega (arith, w.below); is = w.is; live = w.live }
 
   pub live_more : (count : ℕ) (found : List ℕ) (register : ℕ) → register ≡ slice_index LOCALS count → is_local register ≡ true →
-      HasLive registers sets node register → AreLiveLocals registers sets node count found →
-      AreLiveLocals registers sets node (count + 1) (found ++ register ∷ [])
+      HasLive homes sets node (InRegister register) → AreLiveLocals homes sets node count found →
+      AreLiveLocals homes sets node (count + 1) (found ++ register ∷ [])
   live_more count found register is local has are = record {
     few = omega (arith, are.few, length-append found (register ∷ []));
     kept = all_more found register are.kept (kept_local register local);
     each = λ other. (
       λ c. ⊎_elim (λ l. wider count other ((are.each other).0 l))
           (λ r. let same : register ≡ other = only_contained other register r in
-          subst (IsLiveAmong registers sets node (count + 1)) same
+          subst (IsLiveAmong homes sets node (count + 1)) same
           (record { number = count; below = omega arith; is = sym is; live = has }))
           (Contains-append_cases found (register ∷ []) other c),
       λ w. ⊎_elim
@@ -73,8 +77,8 @@ module _ (registers : List ℕ) (sets : List (List ℕ)) (node : ℕ) where
     );
   }
 
-  pub live_same : (count : ℕ) (found : List ℕ) (register : ℕ) → register ≡ slice_index LOCALS count → (HasLive registers sets node register → ⊥) →
-      AreLiveLocals registers sets node count found → AreLiveLocals registers sets node (count + 1) found
+  pub live_same : (count : ℕ) (found : List ℕ) (register : ℕ) → register ≡ slice_index LOCALS count → (HasLive homes sets node (InRegister register) → ⊥) →
+      AreLiveLocals homes sets node count found → AreLiveLocals homes sets node (count + 1) found
   live_same count found register is none are = record {
     few = omega (arith, are.few);
     kept = are.kept;
@@ -85,15 +89,15 @@ module _ (registers : List ℕ) (sets : List (List ℕ)) (node : ℕ) where
           (λ l.
           let e : w.number ≡ count = omega (arith, l, w.below) in
           let same : other ≡ register = sym w.is ∙ ap (slice_index LOCALS) e ∙ sym is in
-          absurd (none (subst (HasLive registers sets node) same w.live)))
+          absurd (none (subst (λ (r : ℕ). HasLive homes sets node (InRegister r)) same w.live)))
           (cases_lt w.number count),
     );
   }
 
 -- ---- With those of a store
 
-module _ (g : Graph) (registers : List ℕ) (sets : List (List ℕ)) (node : ℕ) (is : Node) (at : NodeAt g node is) (found : List ℕ)
-    (are : AreLiveLocals registers sets node 18 found) where
+module _ (g : Graph) (homes : List Home) (sets : List (List ℕ)) (node : ℕ) (is : Node) (at : NodeAt g node is) (found : List ℕ)
+    (are : AreLiveLocals homes sets node 18 found) where
   abbrev two : List ℕ
   two = pending_address ∷ pending_value ∷ []
 
@@ -115,7 +119,7 @@ module _ (g : Graph) (registers : List ℕ) (sets : List (List ℕ)) (node : ℕ
         absurd (let z : true ≡ false = stored ∙ plain in cc)
   ]
 
-  unpending : (IsStoreNode g node → ⊥) → AreLiveRegisters g registers sets node found
+  unpending : (IsStoreNode g node → ⊥) → AreLiveRegisters g homes sets node found
   unpending none = record {
     few = omega (arith, are.few);
     kept = are.kept;
@@ -125,7 +129,7 @@ module _ (g : Graph) (registers : List ℕ) (sets : List (List ℕ)) (node : ℕ
     );
   }
 
-  pending : IsStoreNode g node → AreLiveRegisters g registers sets node (found ++ two)
+  pending : IsStoreNode g node → AreLiveRegisters g homes sets node (found ++ two)
   pending store = record {
     few = omega (arith, are.few, length-append found two);
     kept = list_all-append is_kept found two ∙ ap (λ (b : Bool). b && true) are.kept;
@@ -135,14 +139,14 @@ module _ (g : Graph) (registers : List ℕ) (sets : List (List ℕ)) (node : ℕ
     );
   }
 
-  pub with_pending_live : (all : List ℕ) (a : Action) → is.action ≡ a → AreWithPending found (is_store a) all → AreLiveRegisters g registers sets node all
-  with_pending_live all (Eval target value next) e w = subst (AreLiveRegisters g registers sets node) (sym w) (unpending (not_store _ e refl))
+  pub with_pending_live : (all : List ℕ) (a : Action) → is.action ≡ a → AreWithPending found (is_store a) all → AreLiveRegisters g homes sets node all
+  with_pending_live all (Eval target value next) e w = subst (AreLiveRegisters g homes sets node) (sym w) (unpending (not_store _ e refl))
   with_pending_live all (Store variable kind next) e w =
-      subst (AreLiveRegisters g registers sets node) (sym w) (pending (stores is variable kind next at e))
-  with_pending_live all (Test condition holds fails) e w = subst (AreLiveRegisters g registers sets node) (sym w) (unpending (not_store _ e refl))
-  with_pending_live all (Lock mutex next) e w = subst (AreLiveRegisters g registers sets node) (sym w) (unpending (not_store _ e refl))
-  with_pending_live all (Unlock mutex next) e w = subst (AreLiveRegisters g registers sets node) (sym w) (unpending (not_store _ e refl))
-  with_pending_live all End e w = subst (AreLiveRegisters g registers sets node) (sym w) (unpending (not_store _ e refl))
+      subst (AreLiveRegisters g homes sets node) (sym w) (pending (stores is variable kind next at e))
+  with_pending_live all (Test condition holds fails) e w = subst (AreLiveRegisters g homes sets node) (sym w) (unpending (not_store _ e refl))
+  with_pending_live all (Lock mutex next) e w = subst (AreLiveRegisters g homes sets node) (sym w) (unpending (not_store _ e refl))
+  with_pending_live all (Unlock mutex next) e w = subst (AreLiveRegisters g homes sets node) (sym w) (unpending (not_store _ e refl))
+  with_pending_live all End e w = subst (AreLiveRegisters g homes sets node) (sym w) (unpending (not_store _ e refl))
 
 -- ---- Lists
 
@@ -153,68 +157,63 @@ get_cases [] y (suc i) z g = cc
 get_cases (x ∷ xs) y zero z g = inl g
 get_cases (x ∷ xs) y (suc i) z g = ⊎_elim (λ l. inl l) (λ r. inr (ap suc r.0, r.1)) (get_cases xs y i z g)
 
-pub lists_more : (g : Graph) (registers : List ℕ) (sets : List (List ℕ)) (first node : ℕ) (lists : List (Vec ℕ Global)) (list : Vec ℕ Global) →
-    first ≤ node → AreLists g registers sets first node lists → AreLiveRegisters g registers sets node list.items →
-    AreLists g registers sets first (node + 1) (lists ++ list ∷ [])
-lists_more g registers sets first node lists list from are live = record {
+pub lists_more : (g : Graph) (homes : List Home) (sets : List (List ℕ)) (first node : ℕ) (lists : List (Vec ℕ Global)) (list : Vec ℕ Global) →
+    first ≤ node → AreLists g homes sets first node lists → AreLiveRegisters g homes sets node list.items →
+    AreLists g homes sets first (node + 1) (lists ++ list ∷ [])
+lists_more g homes sets first node lists list from are live = record {
   count = omega (arith, length-append lists (list ∷ []), are.count, from);
   each = λ i other h. ⊎_elim (λ l. are.each i other l)
       (λ r.
       let e : node ≡ first + i = omega (arith, r.0, are.count, from) in
-      let there : AreLiveRegisters g registers sets (first + i) list.items = subst (λ (n : ℕ). AreLiveRegisters g registers sets n list.items) e live in
-      subst (λ (v : Vec ℕ Global). AreLiveRegisters g registers sets (first + i) v.items) r.1 there)
+      let there : AreLiveRegisters g homes sets (first + i) list.items = subst (λ (n : ℕ). AreLiveRegisters g homes sets n list.items) e live in
+      subst (λ (v : Vec ℕ Global). AreLiveRegisters g homes sets (first + i) v.items) r.1 there)
       (get_cases lists list i other h);
 }
 
 -- ---- The registers found are those that a boundary keeps
 
-index_of : (xs : List ℕ) (k x : ℕ) → slice_get xs k ≡ Some x → slice_index xs k ≡ x
-index_of [] k x g = cc
-index_of (y ∷ xs) zero x g = cc
-index_of (y ∷ xs) (suc k) x g = index_of xs k x g
-
-get_index : (xs : List ℕ) (k : ℕ) → k < length xs → slice_get xs k ≡ Some (slice_index xs k)
-get_index [] k h = absurd (omega (arith, h))
-get_index (y ∷ xs) zero h = refl
-get_index (y ∷ xs) (suc k) h = get_index xs k (omega (arith, h))
+home_there : (hs : List Home) (k : ℕ) (h : Home) → slice_get hs k ≡ Some h → home_of hs k ≡ h
+home_there [] k h g = cc
+home_there (y ∷ hs) zero h g = cc
+home_there (y ∷ hs) (suc k) h g = home_there hs k h g
 
 contained_index : (xs : List ℕ) (k : ℕ) → k < length xs → Contains xs (slice_index xs k)
 contained_index [] k h = absurd (omega (arith, h))
 contained_index (y ∷ xs) zero h = (0, omega arith, refl)
 contained_index (y ∷ xs) (suc k) h = let c = contained_index xs k (omega (arith, h)) in (suc c.0, omega (arith, c.1), c.2)
 
-map_index : (g : ℕ → ℕ) (xs : List ℕ) (k : ℕ) → k < length xs → slice_index (map g xs) k ≡ g (slice_index xs k)
-map_index g [] k h = absurd (omega (arith, h))
-map_index g (y ∷ xs) zero h = refl
-map_index g (y ∷ xs) (suc k) h = map_index g xs k (omega (arith, h))
-
 module _ (p : Plan) (plan : IsPlan p) (t : Thread) (th : IsThread p t) (node : ℕ) (found : List ℕ)
-    (are : AreLiveRegisters p.graph t.registers p.live node found) where
-  kept_among : (r : ℕ) → HasLive t.registers p.live node r → IsKept p t node r
+    (are : AreLiveRegisters p.graph t.locals p.live node found) where
+  kept_among : (r : ℕ) → HasLive t.locals p.live node (InRegister r) → IsKept p t node r
   kept_among r h =
       let below : h.local < length t.kinds =
-      omega (arith, slice_get_within t.registers h.local r h.has, registers_long p plan t th, ap (λ (ks : List Kind). length ks) th.kinds) in
+      omega (arith, slice_get_within t.locals h.local (InRegister r) h.has, homes_long p plan t th, ap (λ (ks : List Kind). length ks) th.kinds) in
       let kind = found_in t.kinds h.local below in
-      subst (IsKept p t node) (index_of t.registers h.local r h.has) (of_local h.local kind.0 kind.1 ((plan.live.each node h.local).0 h.live))
+      of_local h.local kind.0 r kind.1 ((plan.live.each node h.local).0 h.live) (home_there t.locals h.local (InRegister r) h.has)
 
-  kept_live : (r : ℕ) → IsLiveRegister p.graph t.registers p.live node r → IsKept p t node r
+  kept_live : (r : ℕ) → IsLiveRegister p.graph t.locals p.live node r → IsKept p t node r
   kept_live r w = ⊎_elim (λ l. kept_among r l.live)
       (λ s. ⊎_elim (λ e. subst (IsKept p t node) (sym e) (of_address s.0)) (λ e. subst (IsKept p t node) (sym e) (of_value s.0)) s.1) w
 
-  live_local : (local : ℕ) (k : Kind) → slice_get t.kinds local ≡ Some k → HasAt p.live node local →
-      IsLiveRegister p.graph t.registers p.live node (slice_index t.registers local)
-  live_local local k g h =
+  live_local : (local : ℕ) (k : Kind) (register : ℕ) → slice_get t.kinds local ≡ Some k → HasAt p.live node local →
+      home_of t.locals local ≡ InRegister register → IsLiveRegister p.graph t.locals p.live node register
+  live_local local k register g h there =
       let below : local < length th.text.locals = omega (arith, slice_get_within t.kinds local k g, ap (λ (ks : List Kind). length ks) th.kinds) in
       let short : local < length th.colours = omega (arith, below, colours_long p plan t th) in
       inl (record {
         number = slice_index th.colours local;
         below = plan.registers.exist t.number (slice_index th.colours local) th.colours th.of_colours (contained_index th.colours local short);
-        is = sym (ap (λ (xs : List ℕ). slice_index xs local) th.registers ∙ map_index (λ (colour : ℕ). slice_index LOCALS colour) th.colours local short);
-        live = record { local = local; has = get_index t.registers local (omega (arith, below, registers_long p plan t th)); live = h };
+        is = same_register _ _
+            (sym (ap (λ (hs : List Home). home_of hs local) th.locals ∙ get_or-map home_of_colour th.colours local 0 (InRegister 0) short) ∙ there);
+        live = record {
+          local = local;
+          has = slice_get-get_or t.locals local (InRegister 0) (omega (arith, below, homes_long p plan t th)) ∙ ap Some there;
+          live = h;
+        };
       })
 
-  live_kept : (r : ℕ) → IsKept p t node r → IsLiveRegister p.graph t.registers p.live node r
-  live_kept r (of_local local k g live) = live_local local k g ((plan.live.each node local).1 live)
+  live_kept : (r : ℕ) → IsKept p t node r → IsLiveRegister p.graph t.locals p.live node r
+  live_kept r (of_local local k register g live there) = live_local local k register g ((plan.live.each node local).1 live) there
   live_kept r (of_address s) = inr (s, inl refl)
   live_kept r (of_value s) = inr (s, inr refl)
 

@@ -1,4 +1,4 @@
--- Each local of a thread has a register of locals, and two that are live at once have different ones.
+-- Each local of a thread has a home, and two that are live at once have different ones.
 use Rattle.std.proofs.Common.{◌≡◌, ◌≢◌, ◌⊎◌, inl, inr, ℕ, zero, suc, ◌<◌, ◌≤◌, List, [], ◌∷◌, length, get_or, refl, ap, arith, sym, ◌∙◌, Bool, true, Some}
 use Rattle.std.proofs.Common.{◌==◌, eqb-true}
 use Rattle.std.specs.Prelude.{slice_get, slice_index, ◌&&◌, if◌then◌else◌}
@@ -10,8 +10,12 @@ use Rattle.std.proofs.lemmas.Option.{slice_get-get_or}
 use Rattle.memory_layout.specs.declared.roles.TheConstants.{LOCALS}
 use Rattle.memory_layout.specs.Roles.{is_local}
 use Rattle.flow_graph.specs.Liveness.{Spans}
-use Rattle.thread_code.specs.Plans.{Plan, Thread, IsThread, IsPlan}
+use Rattle.thread_code.specs.Plans.{Plan, Thread, IsThread, IsPlan, home_of_colour}
 use Rattle.thread_code.proofs.Public.{locals_are}
+use Rattle.expr_code.specs.declared.home.Home.{Home}
+use Rattle.expr_code.specs.declared.home.Home.TheVariants.{InRegister}
+use Rattle.expr_code.specs.EvaluationCode.{home_of, is_home}
+use Rattle.expr_code.proofs.Public.{same_register}
 
 one_local : (xs : List ℕ) (at : ℕ) → list_all is_local xs ≡ true → at < length xs → is_local (slice_index xs at) ≡ true
 one_local [] at h below = absurd (let z : ⊥ = omega (arith, below) in z)
@@ -49,7 +53,7 @@ same_place i j l m same =
     λ k below. eqb-true (place_in (slice_index LOCALS k) LOCALS) k (one_below 18 (λ n. place_in (slice_index LOCALS n) LOCALS == n) k stands_back below) in
     sym (back i l) ∙ ap (λ (r : ℕ). place_in r LOCALS) same ∙ back j m
 
--- ---- Registers of a thread's locals
+-- ---- Homes of a thread's locals
 
 module _ (p : Plan) (t : Thread) (plan : IsPlan p) (of : IsThread p t) where
   abbrev colour : ℕ → ℕ
@@ -64,23 +68,22 @@ module _ (p : Plan) (t : Thread) (plan : IsPlan p) (of : IsThread p t) where
   colour_exists local below =
       plan.registers.exist t.number (colour local) of.colours of.of_colours (Contains-get_or of.colours local 0 (has_colour local below))
 
-  register_is : (local : ℕ) → local < length t.kinds → slice_index t.registers local ≡ slice_index LOCALS (colour local)
-  register_is local below =
-      ap (λ (rs : List ℕ). slice_index rs local) of.registers ∙
-      get_or-map (λ (c : ℕ). slice_index LOCALS c) of.colours local 0 0 (has_colour local below)
+  home_is : (local : ℕ) → local < length t.kinds → home_of t.locals local ≡ home_of_colour (colour local)
+  home_is local below =
+      ap (λ (hs : List Home). home_of hs local) of.locals ∙ get_or-map home_of_colour of.colours local 0 (InRegister 0) (has_colour local below)
 
-  pub register_local : (local : ℕ) → local < length t.kinds → is_local (slice_index t.registers local) ≡ true
-  register_local local below = ap is_local (register_is local below) ∙ one_local LOCALS (colour local) refl (colour_exists local below)
+  pub home_local : (local : ℕ) → local < length t.kinds → is_home (home_of t.locals local) ≡ true
+  home_local local below = ap is_home (home_is local below) ∙ one_local LOCALS (colour local) refl (colour_exists local below)
 
   coloured : (local : ℕ) → local < length t.kinds → slice_get of.colours local ≡ Some (colour local)
   coloured local below = slice_get-get_or of.colours local 0 (has_colour local below)
 
-  pub registers_differ : (a b node : ℕ) → a < length t.kinds → b < length t.kinds → a ≢ b → Spans p.graph t.part a node → Spans p.graph t.part b node →
-      slice_index t.registers a ≢ slice_index t.registers b
-  registers_differ a b node below_a below_b other spans_a spans_b same =
+  pub homes_differ : (a b node : ℕ) → a < length t.kinds → b < length t.kinds → a ≢ b → Spans p.graph t.part a node → Spans p.graph t.part b node →
+      home_of t.locals a ≢ home_of t.locals b
+  homes_differ a b node below_a below_b other spans_a spans_b same =
       let colours : colour a ≡ colour b =
       same_place (colour a) (colour b) (colour_exists a below_a) (colour_exists b below_b)
-      (sym (register_is a below_a) ∙ same ∙ register_is b below_b) in
+      (same_register _ _ (sym (home_is a below_a) ∙ same ∙ home_is b below_b)) in
       by colours (less_or_more a b)
     where
       less_or_more : (m n : ℕ) → (m < n) ⊎ (n ≤ m)

@@ -44,7 +44,7 @@ prices_one n = omega arith
 
 price_assign : (target : e.Lvalue) (place : Place) (value : e.Placed) (first next : ℕ) →
     prices (assign_nodes place target value first next) ≡ assign_price target (nodes_of value.expr)
-price_assign (e.ToLocal local kind) place value first next = omega arith
+price_assign (e.ToLocal name local kind) place value first next = omega arith
 price_assign (e.ToVariable name variable kind) place value first next = omega arith
 price_assign (e.ToElement name variable kind index) place value first next = omega arith
 
@@ -65,8 +65,8 @@ mutual
         price_statements body first (first + statements_count body),
         prices_one (test_node place condition first next),
       )
-  price_statement (f.Lock place mutex) first next = refl
-  price_statement (f.Unlock place mutex) first next = refl
+  price_statement (f.Lock place name) first next = refl
+  price_statement (f.Unlock place name) first next = refl
 
   price_statements : (ys : f.Statements) (first next : ℕ) → prices (statements_nodes ys first next) ≡ statements_price ys
   price_statements f.no_statement first next = refl
@@ -187,7 +187,7 @@ module _ (x : f.Flat) (ks : List Kind) (lo hi : ℕ) (variables : AllByRecursion
 
   sound_assign : (target : e.Lvalue) (place : Place) (value : e.Placed) (first next : ℕ) → IsFlatTarget x ks target → IsFlatPlaced x ks value → lo ≤ first →
       first + assign_count target ≤ hi → Within next → AllSound (assign_nodes place target value first next)
-  sound_assign (e.ToLocal local kind) place value first next t v a b w =
+  sound_assign (e.ToLocal name local kind) place value first next t v a b w =
       (record { formed = (t, (v, w)); writes = none_written _ _ refl }, tt)
   sound_assign (e.ToVariable name variable kind) place value first next t v a b w = (
     record { formed = (t, (v, (omega (arith, a), omega (arith, b)))); writes = none_written _ _ refl },
@@ -237,8 +237,8 @@ module _ (x : f.Flat) (ks : List Kind) (lo hi : ℕ) (variables : AllByRecursion
         let there : Within test = (omega (arith, a), omega (arith, b)) in
         let here : Within first = (a, omega (arith, b)) in
         joined _ _ (sound_all body first test g.0 a (omega (arith, b)) there) (sound_test place condition first next g.1 here w, tt)
-    sound (f.Lock place mutex) first next g a b w = (record { formed = (g, w); writes = none_written _ _ refl }, tt)
-    sound (f.Unlock place mutex) first next g a b w = (record { formed = (g, w); writes = none_written _ _ refl }, tt)
+    sound (f.Lock place name) first next g a b w = (record { formed = (g.0, w); writes = none_written _ _ refl }, tt)
+    sound (f.Unlock place name) first next g a b w = (record { formed = (g.0, w); writes = none_written _ _ refl }, tt)
 
     sound_all : (ys : f.Statements) (first next : ℕ) → AreFlatStatements x ks ys → lo ≤ first → first + statements_count ys ≤ hi → Within next →
         AllSound (statements_nodes ys first next)

@@ -67,7 +67,7 @@ joined (n ∷ ns) ms h k = (h.0, joined ns ms h.1 k)
 
 quiet_assign : (target : e.Lvalue) (place : Place) (value : e.Placed) (first next : ℕ) → Quiet (assign_exprs target value) →
     AllQuiet (assign_nodes place target value first next)
-quiet_assign (e.ToLocal local kind) place value first next h = (h, tt)
+quiet_assign (e.ToLocal name local kind) place value first next h = (h, tt)
 quiet_assign (e.ToVariable name variable kind) place value first next h = (h, (refl, tt))
 quiet_assign (e.ToElement name variable kind index) place value first next h = (h, (refl, tt))
 
@@ -86,8 +86,8 @@ mutual
       let both = quiet_both (statements_exprs body) (condition ∷ []) h in
       joined (statements_nodes body first (first + statements_count body)) (test_node place condition first next ∷ [])
       (quiet_statements body first (first + statements_count body) both.0) (both.1, tt)
-  quiet_statement (f.Lock place mutex) first next h = (refl, tt)
-  quiet_statement (f.Unlock place mutex) first next h = (refl, tt)
+  quiet_statement (f.Lock place name) first next h = (refl, tt)
+  quiet_statement (f.Unlock place name) first next h = (refl, tt)
 
   quiet_statements : (xs : f.Statements) (first next : ℕ) → Quiet (statements_exprs xs) → AllQuiet (statements_nodes xs first next)
   quiet_statements f.no_statement first next h = tt

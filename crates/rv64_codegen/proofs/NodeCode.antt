@@ -8,6 +8,7 @@ use Rattle.ido_ints.specs.declared.kinds.Kind.{Kind}
 use Rattle.ido_ints.specs.Operators.{is_zero}
 use Rattle.ido_ints.specs.Reduction.{reduced}
 use Rattle.c_tree.specs.Exprs as e
+use Rattle.c_tree.specs.LockDiscipline.{expr_locals}
 use Rattle.c_tree.specs.Prices.{node_price}
 use Rattle.c_tree.specs.Source.{Pending}
 use Rattle.c_tree.specs.WellFormed.{shape_of}
@@ -23,7 +24,6 @@ use Rattle.flow_graph.specs.Actions as a
 use Rattle.flow_graph.specs.Actions.{Seen, effect_of, number_in, element_in}
 use Rattle.flow_graph.specs.OmittedCleans.{IsCleanedLater}
 use Rattle.flow_graph.specs.IdempotentCuts.{IsChosen}
-use Rattle.flow_graph.specs.Lowering.{expr_locals}
 use Rattle.flow_graph.specs.Liveness.{NodeAt}
 use Rattle.node_code.specs.Sites.{Site}
 use Rattle.node_code.specs.Pieces.{IsBoundaryPiece, LeavesRegisters, boundary_observations, Locks, words_in}
@@ -197,10 +197,10 @@ module _ (p : Plan) (t : Thread) (c : Choices) (plan : IsPlan p) (of : IsThread 
     does_it : (b : Action) → is.action ≡ b → Known p.flat t.kinds t.part.first t.part.end p.graph.nodes is b → (d : IsDoing p t c node b does goes) →
         places.call node ≡ call_of p t c program items n places.entry node is at before does goes guarded doing sited b d →
         IsAnswered (source_of p t seen) s.around.loads b → (effect : a.Effect) → effect_of b seen ≡ Some effect → By effect
-    does_it (Eval (e.ToLocal local kind) val next) same known d call answered effect eq =
+    does_it (Eval (e.ToLocal place local kind) val next) same known d call answered effect eq =
         subst By (same_Some (a.Sets local (reduced kind (number_in seen val.expr)) next) effect eq)
         (performs.sets p t c plan of choices places program items n node is own at before does goes guarded doing sited agrees.words agrees.of_program
-        agrees.live agrees.cleans agrees.core s meets seen side x enters local kind val next same known d.0 d.1 answered)
+        agrees.live agrees.cleans agrees.core s meets seen side x enters place local kind val next same known d.0 d.1 answered)
     does_it (Eval (e.ToVariable place variable kind) val next) same known d call answered effect eq =
         let store : Pending = record { variable = variable; element = 0; number = reduced kind (number_in seen val.expr) } in
         subst By (same_Some (a.Owes store next) effect eq)

@@ -1,17 +1,19 @@
 -- What the code of a node does is what the node does.
 use Rattle.std.proofs.Common.{◌≡◌, ◌≢◌, ℕ, ◌+◌, ◌*◌, ◌^◌, ◌<◌, List, [], ◌∷◌, ◌++◌, map, refl, ap, arith, sym, ◌∙◌, subst, Bool}
 use Rattle.std.proofs.Common.{true, false, Some, None, ◌==◌, ◌||◌, if◌then◌else◌}
-use Rattle.std.specs.Prelude.{slice_get, slice_index, Contains, pos, not}
+use Rattle.std.specs.Prelude.{slice_get, Contains, pos, not}
 use Rattle.std.specs.Option.{option_map}
 use Rattle.std.proofs.lemmas.Bool.{true≢false}
 use Rattle.std.proofs.lemmas.Option.{same_Some, slice_get-map, slice_get_within}
 use Rattle.ido_base.specs.declared.log.Log.{Log}
+use Rattle.ido_base.specs.declared.place.Place.{Place}
 use Rattle.ido_base.specs.Layout.{variable_at}
 use Rattle.ido_ints.specs.declared.kinds.Kind.{Kind}
 use Rattle.ido_ints.specs.Kinds.{bytes_of}
 use Rattle.ido_ints.specs.Operators.{is_zero}
 use Rattle.ido_ints.specs.Reduction.{reduced}
 use Rattle.c_tree.specs.Exprs as e
+use Rattle.c_tree.specs.LockDiscipline.{expr_locals}
 use Rattle.c_tree.specs.Programs as v
 use Rattle.c_tree.specs.Source.{Pending}
 use Rattle.c_tree.specs.Values.{value}
@@ -25,12 +27,12 @@ use Rattle.boundary_code.specs.Boundaries.{Boundary, IsOnSide, side_after}
 use Rattle.operator_code.specs.ComputingCode.{AreRegisters}
 use Rattle.operator_code.proofs.Public.{equal_by}
 use Rattle.code_runs.specs.CodeTraces.{Program, MarkedEnvironment, Meets, Observation, Mark, GoesThrough}
-use Rattle.expr_code.specs.EvaluationCode.{Homes, Source}
+use Rattle.expr_code.specs.EvaluationCode.{Homes, Source, home_of, is_home}
 use Rattle.expr_code.proofs.Public.{or_right}
 use Rattle.flow_graph.specs.Nodes.{Action, Eval, Store, Test, Lock, Unlock, Node, Graph, successors}
 use Rattle.flow_graph.specs.Actions as a
 use Rattle.flow_graph.specs.Actions.{Seen, effect_of, number_in, element_in}
-use Rattle.flow_graph.specs.Lowering.{expr_locals, target_locals}
+use Rattle.flow_graph.specs.Lowering.{target_locals}
 use Rattle.flow_graph.specs.Liveness.{NodeAt}
 use Rattle.node_code.specs.Pieces.{store_observations, boundary_observations, LeavesRegisters}
 use Rattle.node_code.specs.Pieces.{Asks, Makes, Locks, Unlocks, IsEndPiece, takes, gives, ends}
@@ -40,7 +42,7 @@ use Rattle.thread_code.specs.Plans.{Plan, Thread, IsThread, IsPlan, IsNodeOf, Is
 use Rattle.thread_code.specs.RegistersAtNodes.{HasLowBytes, HasPending, IsPendingIn, Enters, source_of, IsAnswered}
 use Rattle.thread_code.specs.NodeCodeEffects.{Places, Entrance, kind_at, keeping, Asking, Storing, Performs}
 use Rattle.thread_code.proofs.Public.{enters_again}
-use Rattle.rv64_codegen.specs.Evaluations.{IsEvaluation, IsAssigned, may_write, IsTest, IsTested, is_taken}
+use Rattle.rv64_codegen.specs.Evaluations.{IsEvaluation, IsAssigned, may_write, IsTest, IsTested, is_taken, is_in}
 use Rattle.rv64_codegen.specs.Locals.{HoldsEach}
 use Rattle.rv64_codegen.specs.ThreadPieces.{Choices, AreChoices, IsGuarded, GoesTo, IsChoosing, turned, straight, IsDoing, boundary_before, label_of_node}
 use Rattle.rv64_codegen.proofs.EvaluationCode.{spare, local_spare}
@@ -48,10 +50,12 @@ use Rattle.rv64_codegen.proofs.ReadLocals.{live_is_enough, left_held, right_held
 use Rattle.rv64_codegen.proofs.Nodes.{Known, EvalKnown, StoreKnown, TestKnown, PlainKnown, StoresThere, node_known}
 use Rattle.rv64_codegen.proofs.StoresAfterEvaluations.{owes}
 use Rattle.rv64_codegen.proofs.PieceSites.{IsLinkedIn, spot_site, IsSited}
-use Rattle.rv64_codegen.proofs.LocalRegisters.{register_local}
+use Rattle.rv64_codegen.proofs.LocalRegisters.{home_local}
 use Rattle.rv64_codegen.proofs.RegistersAfterNodes.{enters_on, enters_owing, enters_set}
 use Rattle.rv64_codegen.proofs.LegalEvaluations.{registers_at, may_evaluate, may_reach}
 use Rattle.rv64_codegen.proofs.PieceParts as parts
+use Rattle.expr_code.specs.declared.home.Home.{Home}
+use Rattle.expr_code.specs.declared.home.Home.TheVariants.{InRegister}
 
 -- ---- Registers that are kept
 
@@ -71,16 +75,19 @@ differs r k other = by (r == k) refl
 at_side_on : (log : Log) (side : ℕ) (x y : List ℕ) → IsOnSide log side x → AreRegisters y → read y 3 ≡ read x 3 → IsOnSide log side y
 at_side_on log side x y a are same = record { count = are.count; zero_is = are.zero_is; offset = same ∙ a.offset; exists = a.exists }
 
--- an assignment of a local writes its register and temporaries
-set_kept : (h : Homes) (local : ℕ) (kind : Kind) (r : ℕ) → is_temporary r ≡ false → r ≢ slice_index h.registers local →
-    may_write h (e.ToLocal local kind) r ≡ false
-set_kept h local kind r plain other = ap (λ (b : Bool). b || is_temporary r) (differs r (slice_index h.registers local) other) ∙ plain
+elsewhere : (r : ℕ) (home : Home) → InRegister r ≢ home → is_in home r ≡ false
+elsewhere r (InRegister own) other = differs r own (λ same. other (ap InRegister same))
+
+-- an assignment of a local writes its home and temporaries
+set_kept : (h : Homes) (name : Place) (local : ℕ) (kind : Kind) (r : ℕ) → is_temporary r ≡ false → InRegister r ≢ home_of h.locals local →
+    may_write h (e.ToLocal name local kind) r ≡ false
+set_kept h name local kind r plain other = ap (λ (b : Bool). b || is_temporary r) (elsewhere r (home_of h.locals local) other) ∙ plain
 
 module _ (p : Plan) (t : Thread) (plan : IsPlan p) (of : IsThread p t) where
   kept_plain : (node register : ℕ) → IsKept p t node register → (is_temporary register ≡ false) × (register ≢ 3)
-  kept_plain node register (of_local local k there live) =
-      let is : is_local (slice_index t.registers local) ≡ true = register_local p t plan of local (slice_get_within t.kinds local k there) in
-      (local_plain (slice_index t.registers local) is, local_other (slice_index t.registers local) 3 refl is)
+  kept_plain node register (of_local local k own there live at) =
+      let is : is_local own ≡ true = sym (ap is_home at) ∙ home_local p t plan of local (slice_get_within t.kinds local k there) in
+      (local_plain own is, local_other own 3 refl is)
   kept_plain node register (of_address store) = (refl, λ same. let z : ⊥ = omega (arith, same) in z)
   kept_plain node register (of_value store) = (refl, λ same. let z : ⊥ = omega (arith, same) in z)
 
@@ -191,21 +198,20 @@ module _ (p : Plan) (t : Thread) (c : Choices) (plan : IsPlan p) (of : IsThread 
           eval_goes P f = then_next next of_next goes_to x (Mark ∷ []) P
               (weaker s (fragment x (to does_at) (to goes_at) does_words) (Mark ∷ []) (IsAssigned h src target val.expr x) P f eval_leg)
 
-      pub sets : (local : ℕ) (kind : Kind) (val : e.Placed) (next : ℕ) → is.action ≡ Eval (e.ToLocal local kind) val next →
-          EvalKnown p.flat t.kinds t.part.first t.part.end p.graph.nodes (e.ToLocal local kind) val next is →
-          IsEvaluation h (e.ToLocal local kind) val.expr does → GoesTo p t c node next goes →
-          IsAnswered src s.around.loads (Eval (e.ToLocal local kind) val next) →
+      pub sets : (name : Place) (local : ℕ) (kind : Kind) (val : e.Placed) (next : ℕ) → is.action ≡ Eval (e.ToLocal name local kind) val next →
+          EvalKnown p.flat t.kinds t.part.first t.part.end p.graph.nodes (e.ToLocal name local kind) val next is →
+          IsEvaluation h (e.ToLocal name local kind) val.expr does → GoesTo p t c node next goes →
+          IsAnswered src s.around.loads (Eval (e.ToLocal name local kind) val next) →
           Performs p t places m (a.Sets local (reduced kind (number_in seen val.expr)) next)
-      sets local kind val next same known evaluation goes_to answered =
-          eval_goes (e.ToLocal local kind) val next same known evaluation goes_to answered _ (λ y got.
-          let register : is_local (slice_index t.registers local) ≡ true =
-          register_local p t plan of local (slice_get_within t.kinds local kind known.target_is.0) in
-          enters_set p t plan of node next is at (follows (e.ToLocal local kind) val next same known evaluation goes_to answered) seen side x enters own
+      sets name local kind val next same known evaluation goes_to answered =
+          eval_goes (e.ToLocal name local kind) val next same known evaluation goes_to answered _ (λ y got.
+          let stands : is_home (home_of t.locals local) ≡ true = home_local p t plan of local (slice_get_within t.kinds local kind known.target_is.0) in
+          enters_set p t plan of node next is at (follows (e.ToLocal name local kind) val next same known evaluation goes_to answered) seen side x enters own
           local kind
           (reduced kind (number_in seen val.expr)) y known.target_is.0 known.assigns
-          (λ r is_one other. got.unchanged r (set_kept h local kind r (local_plain r is_one) other)) got.has (ap owes same)
+          (λ r is_one other. got.unchanged r (set_kept h name local kind r (local_plain r is_one) other)) got.has (ap owes same)
           (at_side_on p.log side x y enters.at_side got.are
-          (got.unchanged 3 (set_kept h local kind 3 refl (λ e3. local_other (slice_index t.registers local) 3 refl register (sym e3))))))
+          (got.unchanged 3 (set_kept h name local kind 3 refl (λ e3. true≢false (sym stands ∙ sym (ap is_home e3)))))))
 
       -- a store is pending after it
       module _ (target : e.Lvalue) (val : e.Placed) (next : ℕ) (same : is.action ≡ Eval target val next)

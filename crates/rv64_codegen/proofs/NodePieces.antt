@@ -62,14 +62,14 @@ module _ (x : opened.ThreadPlan) (o : IsOpen x) where
   abbrev c : Choices
   c = choices_of x
 
-  pub live_at : (node : ℕ) → IsNodeOf t node → AreLiveRegisters p.graph t.registers p.live node (c.live node)
+  pub live_at : (node : ℕ) → IsNodeOf t node → AreLiveRegisters p.graph t.locals p.live node (c.live node)
   live_at node own =
       let i = node - t.part.first in
       let there = found_in x.live.now i (omega (arith, o.lists.count, own.from_first, own.below_end)) in
       let e : t.part.first + i ≡ node = omega (arith, own.from_first) in
-      let at : AreLiveRegisters p.graph t.registers p.live node there.0.items =
-      subst (λ (n : ℕ). AreLiveRegisters p.graph t.registers p.live n there.0.items) e (o.lists.each i there.0 there.1) in
-      subst (AreLiveRegisters p.graph t.registers p.live node) (sym (list_there x.live.now i there.0 there.1)) at
+      let at : AreLiveRegisters p.graph t.locals p.live node there.0.items =
+      subst (λ (n : ℕ). AreLiveRegisters p.graph t.locals p.live n there.0.items) e (o.lists.each i there.0 there.1) in
+      subst (AreLiveRegisters p.graph t.locals p.live node) (sym (list_there x.live.now i there.0 there.1)) at
 
   pub are_choices : AreChoices p t c
   are_choices = record {

@@ -6,11 +6,12 @@ use Rattle.std.proofs.lemmas.Option.{none-some, same_Some}
 use Rattle.ido_base.specs.declared.place.Place.{Place}
 use Rattle.ido_ints.specs.declared.kinds.Kind.{Kind}
 use Rattle.c_tree.specs.Exprs as e
+use Rattle.c_tree.specs.LockDiscipline.{expr_locals}
 use Rattle.c_tree.specs.Flats as f
 use Rattle.c_tree.specs.WellFormed.{IsFlatPlaced, IsFlatTarget, IsFlatStatement, AreFlatStatements, AreFlatArms, IsDeclared, IsWellFormed}
 use Rattle.flow_graph.specs.declared.graph.Part.{Part}
 use Rattle.flow_graph.specs.Nodes.{Action, Eval, Store, Test, Lock, Unlock, End, Node}
-use Rattle.flow_graph.specs.Lowering.{expr_locals, target_locals, target_local, test_node, plain_node, assign_nodes, assign_count, count, statements_count}
+use Rattle.flow_graph.specs.Lowering.{target_locals, target_local, test_node, plain_node, assign_nodes, assign_count, count, statements_count}
 use Rattle.flow_graph.specs.Lowering.{arms_count, thread_count, entry, statement_nodes, statements_nodes, arms_nodes, thread_nodes}
 use Rattle.flow_graph.specs.Lowering.{threads_nodes, part, parts, lowered}
 use Rattle.flow_graph.specs.Liveness.{NodeAt}
@@ -67,7 +68,7 @@ pub record StoresThere (all : List Node) (next variable : ℕ) (k : Kind) : Type
 module _ (x : f.Flat) (ks : List Kind) (lo hi : ℕ) (all : List Node) where
   -- an evaluation for a variable has its store after it
   abbrev pub IsOwed : e.Lvalue → (next : ℕ) → Type 0
-  IsOwed (e.ToLocal local kind) next = Unit {0}
+  IsOwed (e.ToLocal place local kind) next = Unit {0}
   IsOwed (e.ToVariable place variable kind) next = StoresThere all next variable kind
   IsOwed (e.ToElement place variable kind index) next = StoresThere all next variable kind
 
@@ -129,7 +130,7 @@ module _ (x : f.Flat) (ks : List Kind) (lo hi : ℕ) (all : List Node) where
   assign_known : (target : e.Lvalue) (place : Place) (value : e.Placed) (first next : ℕ) → IsFlatTarget x ks target → IsFlatPlaced x ks value →
       Has all first (assign_nodes place target value first next) → lo ≤ first → first + assign_count target ≤ hi → lo ≤ next → next < hi →
       AllKnown (assign_nodes place target value first next)
-  assign_known (e.ToLocal local kind) place value first next w v h a b c d =
+  assign_known (e.ToLocal name local kind) place value first next w v h a b c d =
       (record { target_is = w; value_is = v; uses = refl; assigns = refl; inside = (c, d); owed = tt }, tt)
   assign_known (e.ToVariable name variable kind) place value first next w v h a b c d = (
     record {
@@ -186,8 +187,8 @@ module _ (x : f.Flat) (ks : List Kind) (lo hi : ℕ) (all : List Node) where
         (statements_known body first (first + statements_count body) w.0 (has_prefix all first prefix (test_node place condition first next ∷ []) h) a
         (omega (arith, whole)) (omega arith) (omega (arith, whole)))
         (record { condition_is = w.1; uses = refl; assigns = refl; holds_inside = (a, omega (arith, whole)); fails_inside = (c, d) }, tt)
-    statement_known (f.Lock place mutex) first next w h a b c d = (record { assigns = refl; inside = (c, d) }, tt)
-    statement_known (f.Unlock place mutex) first next w h a b c d = (record { assigns = refl; inside = (c, d) }, tt)
+    statement_known (f.Lock place name) first next w h a b c d = (record { assigns = refl; inside = (c, d) }, tt)
+    statement_known (f.Unlock place name) first next w h a b c d = (record { assigns = refl; inside = (c, d) }, tt)
 
     statements_known : (ys : f.Statements) (first next : ℕ) → AreFlatStatements x ks ys → Has all first (statements_nodes ys first next) → lo ≤ first →
         first + statements_count ys ≤ hi → lo ≤ next → next < hi → AllKnown (statements_nodes ys first next)

@@ -28,7 +28,7 @@ use Rattle.rv64_codegen.proofs.LoweredNodes.{price_of, prices, price_thread, IsL
 -- ---- As many steps as nodes
 
 assign_lockstep : (target : e.Lvalue) → assign_steps target ≡ assign_count target
-assign_lockstep (e.ToLocal local kind) = refl
+assign_lockstep (e.ToLocal place local kind) = refl
 assign_lockstep (e.ToVariable place variable kind) = refl
 assign_lockstep (e.ToElement place variable kind index) = refl
 
@@ -38,8 +38,8 @@ mutual
   steps_lockstep (f.If place arms otherwise) = ap₂ ◌+◌ (arms_lockstep arms) (all_lockstep otherwise)
   steps_lockstep (f.While place condition body) = ap suc (all_lockstep body)
   steps_lockstep (f.Do place body condition) = omega (arith, all_lockstep body)
-  steps_lockstep (f.Lock place mutex) = refl
-  steps_lockstep (f.Unlock place mutex) = refl
+  steps_lockstep (f.Lock place name) = refl
+  steps_lockstep (f.Unlock place name) = refl
 
   all_lockstep : (ys : f.Statements) → steps_of_all ys ≡ statements_count ys
   all_lockstep f.no_statement = refl

@@ -1,6 +1,6 @@
 -- What a plan says of all its threads and variables.
 use Rattle.std.proofs.Common.{◌≡◌, refl, ℕ, suc, ◌+◌, ◌<◌, ◌≤◌, List, [], ◌∷◌, length, ◌∙◌, ap, sym, subst, arith, Some, get_or}
-use Rattle.std.specs.Prelude.{slice_get, slice_index, map, Vec}
+use Rattle.std.specs.Prelude.{slice_get, map, Vec}
 use Rattle.std.specs.Global.{Global}
 use Rattle.std.specs.List.{AllByRecursion}
 use Rattle.std.specs.Option.{option_map}
@@ -9,7 +9,6 @@ use Rattle.ido_base.specs.declared.limits.TheConstants.{MOST_THREADS}
 use Rattle.c_tree.specs.Flats as f
 use Rattle.c_tree.specs.Programs as p
 use Rattle.c_tree.specs.WellFormed.{shape_of, IsVariable, initial_numbers}
-use Rattle.memory_layout.specs.declared.roles.TheConstants.{LOCALS}
 use Rattle.expr_code.specs.EvaluationCode.{Homes}
 use Rattle.flow_graph.specs.declared.graph.Part.{Part}
 use Rattle.flow_graph.specs.Nodes.{Node}
@@ -17,14 +16,15 @@ use Rattle.flow_graph.specs.Lowering.{thread_count, threads_nodes, parts}
 use Rattle.flow_graph.proofs.Public.{found_in}
 use Rattle.region_cutter.specs.Places.{WriteElements}
 use Rattle.memory_layout.specs.Variables.{AreAddresses, AreCounted, HaveRoom}
-use Rattle.thread_code.specs.Plans.{Plan, Thread, IsPlan, IsThread}
+use Rattle.thread_code.specs.Plans.{Plan, Thread, IsPlan, IsThread, home_of_colour}
 use Rattle.rv64_codegen.specs.declared.thread.ThreadPlan as opened
-use Rattle.rv64_codegen.specs.links.Emission.{AreRegistersOf, AreListsOf}
+use Rattle.rv64_codegen.specs.links.Emission.{AreHomesOf, AreListsOf}
 use Rattle.rv64_codegen.specs.links.Threads.{AllNeedFew, AreCleaned, IsOpen, plan_in, kinds_in}
 use Rattle.rv64_codegen.proofs.ChosenBoundaries.{read_get}
 use Rattle.rv64_codegen.proofs.Homes.{addresses_are, kinds_there}
 use Rattle.rv64_codegen.proofs.PlannedNodes.{nodes_are, threads_are, sound_node, first_below, end_within}
 use Rattle.rv64_codegen.proofs.LoweredNodes.{thread_of_node}
+use Rattle.expr_code.specs.declared.home.Home.{Home}
 
 -- ---- Variables
 
@@ -51,13 +51,13 @@ module _ (q : Plan) (plan : IsPlan q) where
   pub few_threads : length q.graph.threads ≤ MOST_THREADS
   few_threads = omega (arith, as_many, plan.formed.shared.threads)
 
-  abbrev made : ℕ → Part → List ℕ → Thread
-  made number here registers = record { number = number; part = here; kinds = kinds_in q number; registers = registers }
+  abbrev made : ℕ → Part → List Home → Thread
+  made number here locals = record { number = number; part = here; kinds = kinds_in q number; locals = locals }
 
   -- the thread of a number
-  pub is_thread : (number : ℕ) (here : Part) (registers : List ℕ) → slice_get q.graph.threads number ≡ Some here → AreRegistersOf q number registers →
-      IsThread q (made number here registers)
-  is_thread number here registers at are =
+  pub is_thread : (number : ℕ) (here : Part) (locals : List Home) → slice_get q.graph.threads number ≡ Some here → AreHomesOf q number locals →
+      IsThread q (made number here locals)
+  is_thread number here locals at are =
       let below = slice_get_within q.graph.threads number here at in
       let text = found_in q.flat.threads number (omega (arith, below, as_many)) in
       let colours = found_in q.colours number (omega (arith, below, plan.registers.threads)) in
@@ -68,17 +68,17 @@ module _ (q : Plan) (plan : IsPlan q) where
         kinds = kinds_there q.flat.threads number text.0 text.1;
         colours = colours.0;
         of_colours = colours.1;
-        registers = are colours.0 colours.1;
+        locals = are colours.0 colours.1;
       }
 
   of_number : (number : ℕ) (here : Part) → slice_get q.graph.threads number ≡ Some here → (t : Thread) × IsThread q t × (t.part ≡ here)
   of_number number here at =
       let colours = found_in q.colours number (omega (arith, slice_get_within q.graph.threads number here at, plan.registers.threads)) in
-      let registers : List ℕ = map (λ (colour : ℕ). slice_index LOCALS colour) colours.0 in (
-        made number here registers,
-        is_thread number here registers at (λ others g.
+      let locals : List Home = map home_of_colour colours.0 in (
+        made number here locals,
+        is_thread number here locals at (λ others g.
             let same : colours.0 ≡ others = (let both : Some colours.0 ≡ Some others = sym colours.1 ∙ g in cc) in
-            ap (λ (cs : List ℕ). map (λ (colour : ℕ). slice_index LOCALS colour) cs) same),
+            ap (λ (cs : List ℕ). map home_of_colour cs) same),
         refl,
       )
 
@@ -110,19 +110,19 @@ module _ (q : Plan) (plan : IsPlan q) where
 
 -- ---- A thread whose code is made
 
-abbrev homes_made : List ℕ → List ℕ → Homes
-homes_made addresses registers = record { addresses = addresses; registers = registers }
+abbrev homes_made : List ℕ → List Home → Homes
+homes_made addresses locals = record { addresses = addresses; locals = locals }
 
 pub is_open : (x : opened.ThreadPlan) → IsPlan (plan_in x) → AllNeedFew (plan_in x).graph →
     AreAddresses (map shape_of (plan_in x).flat.variables) x.frame.addresses.now →
     AreCleaned (plan_in x) x.later.now →
-    slice_get (plan_in x).graph.threads x.number ≡ Some x.part → AreRegistersOf (plan_in x) x.number x.frame.registers.now →
-    AreListsOf (plan_in x) x.number x.frame.registers.now x.live.now → IsOpen x
-is_open x plan few addresses later at registers lists = record {
+    slice_get (plan_in x).graph.threads x.number ≡ Some x.part → AreHomesOf (plan_in x) x.number x.frame.locals.now →
+    AreListsOf (plan_in x) x.number x.frame.locals.now x.live.now → IsOpen x
+is_open x plan few addresses later at locals lists = record {
   plan = plan;
   few = few;
-  thread = is_thread (plan_in x) plan x.number x.part x.frame.registers.now at registers;
-  homes = ap (λ (places : List ℕ). homes_made places x.frame.registers.now) (addresses_are (plan_in x).flat.variables x.frame.addresses.now addresses);
+  thread = is_thread (plan_in x) plan x.number x.part x.frame.locals.now at locals;
+  homes = ap (λ (places : List ℕ). homes_made places x.frame.locals.now) (addresses_are (plan_in x).flat.variables x.frame.addresses.now addresses);
   lists = lists x.part at;
   later = later;
 }

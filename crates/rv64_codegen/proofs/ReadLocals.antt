@@ -5,11 +5,11 @@ use Rattle.std.proofs.lemmas.Option.{slice_get_within}
 use Rattle.std.proofs.lemmas.List.Elements.{Contains-append_left, Contains-append_right}
 use Rattle.ido_ints.specs.declared.kinds.Kind.{Kind}
 use Rattle.c_tree.specs.Exprs as e
+use Rattle.c_tree.specs.LockDiscipline.{expr_locals}
 use Rattle.c_tree.specs.Programs as p
 use Rattle.c_tree.specs.WellFormed.{IsExpr, IsTarget}
 use Rattle.flow_graph.specs.Nodes.{Node, Graph}
 use Rattle.flow_graph.specs.Liveness.{NodeAt, is_read}
-use Rattle.flow_graph.specs.Lowering.{expr_locals}
 use Rattle.expr_code.specs.EvaluationCode.{Homes, Source, AreAtHome, HoldsLocals}
 use Rattle.rv64_codegen.specs.Evaluations.{IsAtHome}
 use Rattle.rv64_codegen.specs.Locals.{HoldsEach, HoldsLive, HasHomes}
@@ -56,15 +56,15 @@ variable_at_home vs ks h variable it homes f =
     omega arith
 
 local_in_range : (vs : List p.Variable) (ks : List Kind) (h : Homes) (local : ℕ) (k : Kind) → HasHomes vs ks h → slice_get ks local ≡ Some k →
-    local < length h.registers
+    local < length h.locals
 local_in_range vs ks h local k homes f =
     let here : local < length ks = slice_get_within ks local k f in
-    let count : length h.registers ≡ length ks = homes.locals in
+    let count : length h.locals ≡ length ks = homes.locals in
     omega arith
 
 pub formed_is_at_home : (vs : List p.Variable) (ks : List Kind) (h : Homes) (t : e.Expr) → HasHomes vs ks h → IsExpr vs ks t → AreAtHome h t
 formed_is_at_home vs ks h (e.Constant value) homes f = tt
-formed_is_at_home vs ks h (e.Local local k) homes f = (local_in_range vs ks h local k homes f, homes.registers local (slice_get_within ks local k f))
+formed_is_at_home vs ks h (e.Local local k) homes f = (local_in_range vs ks h local k homes f, homes.home local (slice_get_within ks local k f))
 formed_is_at_home vs ks h (e.Variable place variable k) homes f = variable_at_home vs ks h variable f.it homes f.found
 formed_is_at_home vs ks h (e.Element place variable k index_place index) homes f =
     (variable_at_home vs ks h variable f.0.it homes f.0.found, formed_is_at_home vs ks h index homes f.1)
@@ -76,7 +76,7 @@ formed_is_at_home vs ks h (e.Conditional k t u v) homes f =
     (formed_is_at_home vs ks h t homes f.0, formed_is_at_home vs ks h u homes f.1, formed_is_at_home vs ks h v homes f.2)
 
 pub target_is_at_home : (vs : List p.Variable) (ks : List Kind) (h : Homes) (t : e.Lvalue) → HasHomes vs ks h → IsTarget vs ks t → IsAtHome h t
-target_is_at_home vs ks h (e.ToLocal local k) homes f = (local_in_range vs ks h local k homes f, homes.registers local (slice_get_within ks local k f))
+target_is_at_home vs ks h (e.ToLocal place local k) homes f = (local_in_range vs ks h local k homes f, homes.home local (slice_get_within ks local k f))
 target_is_at_home vs ks h (e.ToVariable place variable k) homes f = variable_at_home vs ks h variable f.it homes f.found
 target_is_at_home vs ks h (e.ToElement place variable k index) homes f =
     (variable_at_home vs ks h variable f.0.it homes f.0.found, formed_is_at_home vs ks h index.expr homes f.1)

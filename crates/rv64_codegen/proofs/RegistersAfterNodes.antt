@@ -1,12 +1,12 @@
 -- What registers hold after a node represents what the thread sees at the next one.
 use Rattle.std.proofs.Common.{◌≡◌, ◌≢◌, ◌⊎◌, inl, inr, ℕ, ◌<◌, List, length, ap, arith, sym, ◌∙◌, subst, true, false, Some, None}
-use Rattle.std.specs.Prelude.{slice_get, slice_set, slice_index, slice_index_or, Contains, ℤ, pos, ◌*◌, ◌%◌, ◌^◌}
+use Rattle.std.specs.Prelude.{slice_get, slice_set, slice_index_or, Contains, ℤ, pos, ◌*◌, ◌%◌, ◌^◌}
 use Rattle.std.proofs.lemmas.Bool.{true≢false}
 use Rattle.std.proofs.lemmas.List.{length-set, get_or-set_same, get_or-set_other}
 use Rattle.std.proofs.lemmas.Option.{none-some, same_Some, slice_get_within}
 use Rattle.ido_ints.specs.declared.kinds.Kind.{Kind}
 use Rattle.ido_ints.specs.Kinds.{bytes_of}
-use Rattle.ido_ints.specs.TypedNumbers.{Typed, typed}
+use Rattle.ido_ints.specs.TypedNumbers.{typed}
 use Rattle.ido_ints.proofs.Public.{register_below}
 use Rattle.c_tree.specs.Source.{Pending}
 use Rattle.rv64_isa.specs.Rows.{read}
@@ -21,10 +21,10 @@ use Rattle.thread_code.specs.Plans.{Plan, Thread, IsThread, IsPlan, IsNodeOf}
 use Rattle.thread_code.specs.RegistersAtNodes.{HasLowBytes, HasPending, IsPendingIn, Enters}
 use Rattle.rv64_codegen.proofs.Nodes.{StoresThere}
 use Rattle.rv64_codegen.proofs.StoresAfterEvaluations.{owes, is_store, no_store_after}
-use Rattle.rv64_codegen.proofs.LocalRegisters.{register_local, registers_differ}
-
-carries_on : (x y : List ℕ) (r : ℕ) (v : Typed) → read y r ≡ read x r → Carries x r v → Carries y r v
-carries_on x y r v same c = record { held = c.held; form = same ∙ c.form }
+use Rattle.rv64_codegen.proofs.LocalRegisters.{home_local, homes_differ}
+use Rattle.expr_code.specs.declared.home.Home.TheVariants.{InRegister}
+use Rattle.expr_code.specs.EvaluationCode.{home_of, is_home, HomeCarries}
+use Rattle.expr_code.proofs.Public.{still_there}
 
 -- a value has its bytes in a register where it has its form there
 pub low_bytes : (x : List ℕ) (r : ℕ) (k : Kind) (number : ℤ) → Carries x r (typed k number) → HasLowBytes x r k number
@@ -62,11 +62,11 @@ module _ (p : Plan) (t : Thread) (plan : IsPlan p) (of : IsThread p t) (node nex
   module _ (seen : Seen) (side : ℕ) (x : List ℕ) (enters : Enters p t node seen side x) where
     held_on : is.assigns ≡ None → (ls : List ℤ) → ls ≡ seen.locals → (y : List ℕ) → ((r : ℕ) → is_local r ≡ true → read y r ≡ read x r) →
         (local : ℕ) (k : Kind) → slice_get t.kinds local ≡ Some k → IsLive p.graph local next →
-        Carries y (slice_index t.registers local) (typed k (slice_index_or ls local (pos 0)))
+        HomeCarries y (home_of t.locals local) (typed k (slice_index_or ls local (pos 0)))
     held_on none ls same y kept local k g live =
-        subst (λ (zs : List ℤ). Carries y (slice_index t.registers local) (typed k (slice_index_or zs local (pos 0)))) (sym same)
-        (carries_on x y (slice_index t.registers local) (typed k (slice_index_or seen.locals local (pos 0)))
-        (kept (slice_index t.registers local) (register_local p t plan of local (slice_get_within t.kinds local k g)))
+        subst (λ (zs : List ℤ). HomeCarries y (home_of t.locals local) (typed k (slice_index_or zs local (pos 0)))) (sym same)
+        (still_there x y (home_of t.locals local) (typed k (slice_index_or seen.locals local (pos 0)))
+        (λ r there. kept r (sym (ap is_home there) ∙ home_local p t plan of local (slice_get_within t.kinds local k g)))
         (enters.locals local k g (live_before local (none_assigned local none) live)))
 
     -- where nothing is assigned, and no store is pending after the node
@@ -96,8 +96,8 @@ module _ (p : Plan) (t : Thread) (plan : IsPlan p) (of : IsThread p t) (node nex
 
     -- where a local is assigned
     module _ (own : IsNodeOf t node) (local : ℕ) (kind : Kind) (number : ℤ) (y : List ℕ) (there : slice_get t.kinds local ≡ Some kind)
-        (assigns : is.assigns ≡ Some local) (kept : (r : ℕ) → is_local r ≡ true → r ≢ slice_index t.registers local → read y r ≡ read x r)
-        (has : Carries y (slice_index t.registers local) (typed kind number)) where
+        (assigns : is.assigns ≡ Some local) (kept : (r : ℕ) → is_local r ≡ true → InRegister r ≢ home_of t.locals local → read y r ≡ read x r)
+        (has : HomeCarries y (home_of t.locals local) (typed kind number)) where
       abbrev later : List ℤ
       later = slice_set seen.locals local number
 
@@ -125,25 +125,26 @@ module _ (p : Plan) (t : Thread) (plan : IsPlan p) (of : IsThread p t) (node nex
       }
 
       each : (l : ℕ) (k : Kind) → slice_get t.kinds l ≡ Some k → IsLive p.graph l next →
-          Carries y (slice_index t.registers l) (typed k (slice_index_or later l (pos 0)))
+          HomeCarries y (home_of t.locals l) (typed k (slice_index_or later l (pos 0)))
       each l k g live = by (same_or_other l local)
         where
-          by : (l ≡ local) ⊎ (l ≢ local) → Carries y (slice_index t.registers l) (typed k (slice_index_or later l (pos 0)))
+          by : (l ≡ local) ⊎ (l ≢ local) → HomeCarries y (home_of t.locals l) (typed k (slice_index_or later l (pos 0)))
           by (inl same) =
               let kinds : kind ≡ k = same_Some kind k (sym there ∙ subst (λ (m : ℕ). slice_get t.kinds m ≡ Some k) same g) in
               let value : slice_index_or later local (pos 0) ≡ number = get_or-set_same seen.locals local number (pos 0) below in
-              subst (λ (m : ℕ). Carries y (slice_index t.registers m) (typed k (slice_index_or later m (pos 0)))) (sym same)
-              (subst (λ (z : ℤ). Carries y (slice_index t.registers local) (typed k z)) (sym value)
-              (subst (λ (j : Kind). Carries y (slice_index t.registers local) (typed j number)) kinds has))
+              subst (λ (m : ℕ). HomeCarries y (home_of t.locals m) (typed k (slice_index_or later m (pos 0)))) (sym same)
+              (subst (λ (z : ℤ). HomeCarries y (home_of t.locals local) (typed k z)) (sym value)
+              (subst (λ (j : Kind). HomeCarries y (home_of t.locals local) (typed j number)) kinds has))
           by (inr other) =
               let before : IsLive p.graph l node = live_before l (λ e. other (sym (same_Some local l (sym assigns ∙ e)))) live in
-              let differ : slice_index t.registers l ≢ slice_index t.registers local =
-              registers_differ p t plan of l local node (slice_get_within t.kinds l k g) (slice_get_within t.kinds local kind there) other (alive l before)
+              let differ : home_of t.locals l ≢ home_of t.locals local =
+              homes_differ p t plan of l local node (slice_get_within t.kinds l k g) (slice_get_within t.kinds local kind there) other (alive l before)
               assigned in
               let value : slice_index_or later l (pos 0) ≡ slice_index_or seen.locals l (pos 0) = get_or-set_other seen.locals local l number (pos 0) other in
-              subst (λ (z : ℤ). Carries y (slice_index t.registers l) (typed k z)) (sym value)
-              (carries_on x y (slice_index t.registers l) (typed k (slice_index_or seen.locals l (pos 0)))
-              (kept (slice_index t.registers l) (register_local p t plan of l (slice_get_within t.kinds l k g)) differ) (enters.locals l k g before))
+              subst (λ (z : ℤ). HomeCarries y (home_of t.locals l) (typed k z)) (sym value)
+              (still_there x y (home_of t.locals l) (typed k (slice_index_or seen.locals l (pos 0)))
+              (λ r there. kept r (sym (ap is_home there) ∙ home_local p t plan of l (slice_get_within t.kinds l k g)) (λ same. differ (there ∙ same)))
+              (enters.locals l k g before))
 
       pub enters_set : owes is.action ≡ false → IsOnSide p.log side y → Enters p t next (record seen { locals = later }) side y
       enters_set free on_side = record {

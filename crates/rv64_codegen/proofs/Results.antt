@@ -1,21 +1,21 @@
 -- Results of the code of evaluations.
 use Rattle.std.proofs.Common.{◌≡◌, ℕ, ◌+◌, ◌*◌, ◌≤◌, List, ◌++◌, length, sym, arith, subst}
-use Rattle.std.specs.Prelude.{slice_index}
 use Rattle.std.proofs.lemmas.List.{length-append}
 use Rattle.ido_base.specs.declared.place.Place.{Place}
 use Rattle.ido_ints.specs.declared.kinds.Kind.{Kind}
 use Rattle.c_tree.specs.Exprs as e
 use Rattle.c_tree.specs.Prices.{nodes_of}
 use Rattle.rv64_isa.specs.declared.instr.Instr.{Instr}
-use Rattle.expr_code.specs.EvaluationCode.{Homes, IsConvertedCode, IsVariableAddressCode, IsElementAddressCode, impure_among}
+use Rattle.expr_code.specs.EvaluationCode.{Homes, IsConvertedCode, IsVariableAddressCode, IsElementAddressCode, impure_among, home_of}
 use Rattle.expr_code.proofs.Public.{among_append}
 use Rattle.rv64_codegen.specs.links.Targets.{IsSelected}
 use Rattle.rv64_codegen.proofs.EvaluationCode.{local_target, variable_target, element_target}
+use Rattle.expr_code.specs.declared.home.Home.TheVariants.{InRegister}
 
-pub local_selected : (h : Homes) (local rd : ℕ) (k : Kind) (t : e.Expr) (code : List Instr) → rd ≡ slice_index h.registers local →
-    length code ≤ 16 * nodes_of t + 8 → impure_among code ≡ 0 → IsConvertedCode h t k rd code → IsSelected h (e.ToLocal local k) t code
-local_selected h local rd k t code same short none c = record {
-  does = local_target h local k t code (subst (λ (n : ℕ). IsConvertedCode h t k n code) same c);
+pub local_selected : (h : Homes) (place : Place) (local rd : ℕ) (k : Kind) (t : e.Expr) (code : List Instr) → home_of h.locals local ≡ InRegister rd →
+    length code ≤ 16 * nodes_of t + 8 → impure_among code ≡ 0 → IsConvertedCode h t k rd code → IsSelected h (e.ToLocal place local k) t code
+local_selected h place local rd k t code same short none c = record {
+  does = local_target h place local rd k t code same c;
   short = omega (arith, short);
   pure = none;
 }

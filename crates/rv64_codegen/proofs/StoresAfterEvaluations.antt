@@ -13,7 +13,7 @@ use Rattle.flow_graph.proofs.Public.{lowered_nodes, At, ActionLeads, Tests, choo
 
 -- after it a store is pending
 abbrev pub owes : Action → Bool
-owes (Eval (e.ToLocal local kind) value next) = false
+owes (Eval (e.ToLocal place local kind) value next) = false
 owes (Eval (e.ToVariable place variable kind) value next) = true
 owes (Eval (e.ToElement place variable kind index) value next) = true
 owes (Store variable kind next) = false
@@ -75,7 +75,7 @@ module _ (all : List Standing) where
       by (inr same) = subst (λ (z : ℕ). IsFree z) same b
 
   free_after : (a : Action) (s : Standing) (next : ℕ) → ActionLeads all a s → owes a ≡ false → Contains (successors a) next → IsFree next
-  free_after (Eval (e.ToLocal local kind) value n) s next d none c = one_free n next d.rest d.follows c
+  free_after (Eval (e.ToLocal place local kind) value n) s next d none c = one_free n next d.rest d.follows c
   free_after (Eval (e.ToVariable place variable kind) value n) s next d none c = absurd (let z : ⊥ = cc none in z)
   free_after (Eval (e.ToElement place variable kind index) value n) s next d none c = absurd (let z : ⊥ = cc none in z)
   free_after (Store variable kind n) s next d none c = one_free n next d.rest d.follows c

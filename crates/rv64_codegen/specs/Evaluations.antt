@@ -1,5 +1,5 @@
 -- What the code of nodes that evaluate and test does, wherever it stands in a thread's linked code.
-use Rattle.std.specs.Prelude.{◌≡◌, ℕ, ◌+◌, ◌*◌, ◌<◌, ◌≤◌, List, [], ◌∷◌, length, slice_index, sum_by, Bool, true, false, not}
+use Rattle.std.specs.Prelude.{◌≡◌, ℕ, ◌+◌, ◌*◌, ◌<◌, ◌≤◌, List, [], ◌∷◌, length, sum_by, Bool, true, false, not}
 use Rattle.std.specs.Prelude.{◌==◌, ◌||◌}
 use Rattle.std.specs.Prelude.{if◌then◌else◌}
 use Rattle.std.specs.List.{AllByRecursion}
@@ -14,7 +14,7 @@ use Rattle.rv64_isa.specs.declared.object.CodeItem.{CodeItem}
 use Rattle.rv64_isa.specs.Rows.{read}
 use Rattle.rv64_link.specs.LabelledCode.{most_words_of, fences_in}
 use Rattle.memory_layout.specs.Roles as roles
-use Rattle.memory_layout.specs.Roles.{is_temporary, is_local}
+use Rattle.memory_layout.specs.Roles.{is_temporary}
 use Rattle.operator_code.specs.ComputingCode.{AreRegisters, Carries}
 use Rattle.code_runs.specs.ComputingRuns.{Environment}
 use Rattle.code_runs.specs.CodeTraces.{Mark}
@@ -23,6 +23,8 @@ use Rattle.expr_code.specs.EvaluationCode.{Homes, Source}
 use Rattle.node_code.specs.Cleans.{cleans_in}
 use Rattle.node_code.specs.Sites.{Site, begin_of, end_of, label_of}
 use Rattle.node_code.specs.Pieces.{IsClosed, PieceLeads, marks_in, resumes_in}
+use Rattle.expr_code.specs.declared.home.Home.{Home}
+use Rattle.expr_code.specs.declared.home.Home.TheVariants.{InRegister}
 
 -- the expressions need few enough temporaries
 abbrev pub NeedFew : List e.Placed → Type 0
@@ -31,13 +33,13 @@ NeedFew xs = AllByRecursion (λ (y : e.Placed). need_of y.expr ≤ MOST_TEMPORAR
 -- ---- What a node evaluates
 
 abbrev pub target_nodes : e.Lvalue → ℕ
-target_nodes (e.ToLocal local kind) = 0
+target_nodes (e.ToLocal place local kind) = 0
 target_nodes (e.ToVariable place variable kind) = 0
 target_nodes (e.ToElement place variable kind index) = nodes_of index.expr
 
--- what is assigned has a register, or an address
+-- what is assigned has a home, or an address
 abbrev pub IsAtHome : Homes → e.Lvalue → Type 0
-IsAtHome h (e.ToLocal local kind) = (local < length h.registers) × (is_local (slice_index h.registers local) ≡ true)
+IsAtHome h (e.ToLocal place local kind) = (local < length h.locals) × (x.is_home (x.home_of h.locals local) ≡ true)
 IsAtHome h (e.ToVariable place variable kind) = variable < length h.addresses
 IsAtHome h (e.ToElement place variable kind index) = (variable < length h.addresses) × x.AreAtHome h index.expr
 
@@ -49,20 +51,24 @@ module _ (h : Homes) (s : Source) (around : Environment) (registers : List ℕ) 
 
   -- the index of a target may be evaluated from these registers
   abbrev pub MayReach : e.Lvalue → Type 0
-  MayReach (e.ToLocal local kind) = Unit {0}
+  MayReach (e.ToLocal place local kind) = Unit {0}
   MayReach (e.ToVariable place variable kind) = variable < length s.variables
   MayReach (e.ToElement place variable kind index) =
       IsDeclared s.variables variable kind true × IndexFits s.variables variable index.place index.expr × MayEvaluate index.expr
 
+-- the register is the home
+abbrev pub is_in : Home → (register : ℕ) → Bool
+is_in (InRegister own) register = register == own
+
 -- the registers that an evaluation may change
 abbrev pub may_write : Homes → e.Lvalue → (register : ℕ) → Bool
-may_write h (e.ToLocal local kind) n = n == slice_index h.registers local || is_temporary n
+may_write h (e.ToLocal place local kind) n = is_in (x.home_of h.locals local) n || is_temporary n
 may_write h (e.ToVariable place variable kind) n = n == roles.pending_value || (n == roles.pending_address || is_temporary n)
 may_write h (e.ToElement place variable kind index) n = n == roles.pending_value || (n == roles.pending_address || is_temporary n)
 
--- a local's register has the value, converted to its kind; or x28 has the address of an element, and x29 its value
+-- a local's home has the value, converted to its kind; or x28 has the address of an element, and x29 its value
 abbrev pub Has : Homes → Source → (registers : List ℕ) → e.Lvalue → Typed → Type 0
-Has h s y (e.ToLocal local kind) v = Carries y (slice_index h.registers local) (converted v kind)
+Has h s y (e.ToLocal place local kind) v = x.HomeCarries y (x.home_of h.locals local) (converted v kind)
 Has h s y (e.ToVariable place variable kind) v = (read y roles.pending_address ≡ x.place_of s variable 0) × Carries y roles.pending_value (converted v kind)
 Has h s y (e.ToElement place variable kind index) v =
     (read y roles.pending_address ≡ x.place_of s variable (element_at (value s.locals s.numbers index.expr))) × Carries y roles.pending_value (converted v kind)

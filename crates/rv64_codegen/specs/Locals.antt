@@ -1,25 +1,23 @@
--- What a caller knows of an expression of a thread: it is formed, and the locals that it reads stand in their registers.
-use Rattle.std.specs.Prelude.{◌≡◌, ℕ, ◌<◌, List, length, slice_get, slice_index, slice_index_or, Contains, Some, true, pos}
+-- What a caller knows of an expression of a thread: it is formed, and the locals that it reads stand in their homes.
+use Rattle.std.specs.Prelude.{◌≡◌, ℕ, ◌<◌, List, length, slice_get, slice_index_or, Contains, Some, true, pos}
 use Rattle.ido_ints.specs.declared.kinds.Kind.{Kind}
 use Rattle.ido_ints.specs.TypedNumbers.{typed}
 use Rattle.c_tree.specs.Exprs as e
+use Rattle.c_tree.specs.LockDiscipline.{expr_locals}
 use Rattle.c_tree.specs.Programs as p
 use Rattle.c_tree.specs.WellFormed.{IsExpr, IsTarget}
-use Rattle.memory_layout.specs.Roles.{is_local}
-use Rattle.operator_code.specs.ComputingCode.{Carries}
 use Rattle.flow_graph.specs.Nodes.{Node, Graph}
 use Rattle.flow_graph.specs.Liveness.{NodeAt, IsLive}
-use Rattle.flow_graph.specs.Lowering.{expr_locals}
-use Rattle.expr_code.specs.EvaluationCode.{Homes, Source, AreAtHome, HoldsLocals}
+use Rattle.expr_code.specs.EvaluationCode.{Homes, Source, AreAtHome, HoldsLocals, home_of, is_home, HomeCarries}
 use Rattle.rv64_codegen.specs.Evaluations.{IsAtHome}
 
 -- ---- Locals that are read
 
--- the local's register has its number
+-- the local's home has its number
 abbrev pub IsHeld : Homes → Source → (registers : List ℕ) → (local : ℕ) → Kind → Type 0
-IsHeld h s x local k = Carries x (slice_index h.registers local) (typed k (slice_index_or s.locals local (pos 0)))
+IsHeld h s x local k = HomeCarries x (home_of h.locals local) (typed k (slice_index_or s.locals local (pos 0)))
 
--- each of these locals is in its register
+-- each of these locals is in its home
 abbrev pub HoldsEach : Homes → Source → (registers : List ℕ) → List ℕ → Type 0
 HoldsEach h s x locals = (local : ℕ) (k : Kind) → Contains locals local → slice_get s.kinds local ≡ Some k → IsHeld h s x local k
 
@@ -37,13 +35,13 @@ ReadsAreHeld = (h : Homes) (s : Source) (x : List ℕ) (t : e.Expr) → IsExpr s
 abbrev pub LiveIsEnough : Type 0
 LiveIsEnough = (g : Graph) (node : ℕ) (is : Node) (h : Homes) (s : Source) (x : List ℕ) → NodeAt g node is → HoldsLive g node h s x → HoldsEach h s x is.uses
 
--- every variable has an address, and every local a register of locals
+-- every variable has an address, and every local a home
 pub record HasHomes (vs : List p.Variable) (ks : List Kind) (h : Homes) : Type 0 where
   pub variables : length h.addresses ≡ length vs
-  pub locals : length h.registers ≡ length ks
-  pub registers : (local : ℕ) → local < length ks → is_local (slice_index h.registers local) ≡ true
+  pub locals : length h.locals ≡ length ks
+  pub home : (local : ℕ) → local < length ks → is_home (home_of h.locals local) ≡ true
 
--- where every variable has an address and every local a register, all that a formed expression names has a home
+-- where every variable has an address and every local a home, all that a formed expression names has a home
 abbrev pub FormedIsAtHome : Type 0
 FormedIsAtHome = (vs : List p.Variable) (ks : List Kind) (h : Homes) (t : e.Expr) → HasHomes vs ks h → IsExpr vs ks t → AreAtHome h t
 

@@ -13,16 +13,16 @@ ghost use Rattle.rv64_codegen.specs.Plans.{plan_of};
 ghost use Rattle.rv64_codegen.specs.StoreCleans.{AllCleanAtOnce};
 ghost use Rattle.rv64_codegen.specs.ThreadPieces.{IsCode};
 ghost use Rattle.rv64_codegen.specs.links.Threads.{IsOpen, IsOwn, AreCleaned, AllNeedFew, IsPiece};
-ghost use Rattle.rv64_codegen.specs.links.Emission.{IsEmittedThread, IsEmittedOf, AreRegistersOf, AreListsOf, AreEmittedTo};
+ghost use Rattle.rv64_codegen.specs.links.Emission.{IsEmittedThread, IsEmittedOf, AreHomesOf, AreListsOf, AreEmittedTo};
 
 use crate::actions::push_action;
 use crate::guards::push_guard;
 use crate::initial::initial_bytes;
 use crate::plan::Plan;
-use crate::registers::{live_lists, registers};
+use crate::registers::{homes, live_lists};
 use crate::thread::ThreadPlan;
 use c_tree::shapes::shapes;
-use expr_code::Frame;
+use expr_code::{Frame, Home};
 use ido_base::memory::OutOfMemory;
 use memory_layout::variables::addresses;
 use region_cutter::cleaned_later;
@@ -69,13 +69,13 @@ fn thread_items(alloc: Global, thread: &ThreadPlan) -> Result<Vec<CodeItem>, Out
     Ok(items)
 }
 
-/// The code of the thread of this number, whose locals have these registers.
+/// The code of the thread of this number, whose locals stand here.
 fn emit_from<'a>(
     alloc: Global,
     plan: &'a Plan,
     addresses: &'a [u32],
     later: &'a [bool],
-    registers: &'a [Register],
+    homes: &'a [Home],
     live: &'a [Vec<Register>],
     number: usize,
 ) -> Result<Vec<CodeItem>, OutOfMemory>
@@ -84,8 +84,8 @@ fn emit_from<'a>(
     requires addresses { AreAddresses (map shape_of (plan_of plan.now).flat.variables) addresses.now }
     requires later { AreCleaned (plan_of plan.now) later.now }
     requires number { number < length plan.now.graph.now.threads.items }
-    requires registers { AreRegistersOf (plan_of plan.now) number registers.now }
-    requires live { AreListsOf (plan_of plan.now) number registers.now live.now }
+    requires homes { AreHomesOf (plan_of plan.now) number homes.now }
+    requires live { AreListsOf (plan_of plan.now) number homes.now live.now }
     ensures { IfOk result (λ r. IsEmittedOf (plan_of plan.now) number r.items) }
 {
     let thread = ThreadPlan {
@@ -94,7 +94,7 @@ fn emit_from<'a>(
         part: plan.graph.threads[number],
         frame: Frame {
             addresses,
-            registers,
+            locals: homes,
         },
         live,
         later,
@@ -118,18 +118,10 @@ fn emit_thread(
     requires number { number < length plan.now.graph.now.threads.items }
     ensures { IfOk result (λ r. IsEmittedOf (plan_of plan.now) number r.items) }
 {
-    let registers = registers(alloc, &plan.colours.threads[number])?;
+    let homes = homes(alloc, &plan.colours.threads[number])?;
     let part = plan.graph.threads[number];
-    let live = live_lists(alloc, plan, &registers, part)?;
-    emit_from(
-        alloc,
-        &*plan,
-        &*addresses,
-        &*later,
-        &registers,
-        &live,
-        number,
-    )
+    let live = live_lists(alloc, plan, &homes, part)?;
+    emit_from(alloc, &*plan, &*addresses, &*later, &homes, &live, number)
 }
 
 /// The code of all threads.

@@ -32,7 +32,9 @@ fn target_code(
     ensures { IfOk result (λ code. IsSelected (homes_of frame.now) (lvalue_of target.now) (expr_of value.now.expr) code.items) }
 {
     match target {
-        Lvalue::Local { local, kind } => local_code(alloc, frame, *local, *kind, value),
+        Lvalue::Local { place, local, kind } => local_code(
+            alloc, frame, *place, *local, *kind, value,
+        ),
         Lvalue::Variable {
             place,
             variable,

@@ -1,11 +1,13 @@
-//! Registers of locals, and those that are live at nodes.
+//! Homes of locals, and the registers that are live at nodes.
 ghost use Rattle.std.specs.Prelude.{◌≡◌, ◌↔◌, ◌<◌, ◌≤◌, ◌+◌, ℕ, length, map, slice_get, slice_index, Contains, IfOk, IsTrue, Some, true};
 ghost use Rattle.memory_layout.specs.declared.roles.TheConstants.{LOCALS as local_numbers};
 ghost use Rattle.memory_layout.specs.Roles.{is_local};
 ghost use Rattle.flow_graph.specs.Nodes.{graph_of, node_of};
+ghost use Rattle.thread_code.specs.Plans.{home_of_colour};
 ghost use Rattle.rv64_codegen.specs.links.LiveRegisters.{HasLive, AreLiveLocals, AreLiveRegisters, AreLists, AreWithPending, is_store};
 
 use crate::plan::Plan;
+use expr_code::Home;
 use flow_graph::graph::{Action, Node, Part};
 use flow_graph::live_sets::LiveSets;
 use ido_base::limits::LOCAL_REGISTERS;
@@ -23,48 +25,52 @@ fn local_register(number: usize) -> Register
     Register::new(LOCALS[number]).unwrap()
 }
 
-/// The registers of a thread's locals, of which these are the numbers among the registers of locals.
-pub(crate) fn registers(alloc: Global, colours: &[u8]) -> Result<Vec<Register>, OutOfMemory>
-    requires { (colour : ℕ) → Contains colours.now colour → colour < LOCAL_REGISTERS }
-    ensures { IfOk result (λ r. r.items ≡ map (λ (colour : ℕ). slice_index local_numbers colour) colours.now) }
+/// The home of the locals that have this colour.
+fn home_of_colour(colour: usize) -> Home
+    requires { colour < LOCAL_REGISTERS }
+    ensures { result ≡ home_of_colour colour }
 {
-    let mut registers = Vec::new(alloc);
-    for colour in colours {
-        registers.push(local_register(*colour as usize))?;
-    }
-    Ok(registers)
+    let register = local_register(colour);
+    Home::InRegister { register }
 }
 
-/// Whether a local that is live at the node's entry has the register.
-fn is_live_register(
-    registers: &[Register],
-    live: &LiveSets,
-    node: usize,
-    register: Register,
-) -> bool
-    ensures { IsTrue result ↔ HasLive registers.now live.now node register }
+/// Where a thread's locals stand, which have these colours.
+pub(crate) fn homes(alloc: Global, colours: &[u8]) -> Result<Vec<Home>, OutOfMemory>
+    requires { (colour : ℕ) → Contains colours.now colour → colour < LOCAL_REGISTERS }
+    ensures { IfOk result (λ r. r.items ≡ map home_of_colour colours.now) }
 {
-    for (local, other) in registers.iter().enumerate() {
-        if *other == register && live.is_live(node, local) {
+    let mut homes = Vec::new(alloc);
+    for colour in colours {
+        homes.push(home_of_colour(*colour as usize))?;
+    }
+    Ok(homes)
+}
+
+/// Whether a local that is live at the node's entry stands there.
+fn is_live_home(homes: &[Home], live: &LiveSets, node: usize, home: Home) -> bool
+    ensures { IsTrue result ↔ HasLive homes.now live.now node home }
+{
+    for (local, other) in homes.iter().enumerate() {
+        if *other == home && live.is_live(node, local) {
             return true;
         }
     }
     false
 }
 
-/// The registers of the locals that are live at the node's entry, each once.
+/// The registers in which locals stand that are live at the node's entry, each once.
 fn live_locals(
     alloc: Global,
-    registers: &[Register],
+    homes: &[Home],
     live: &LiveSets,
     node: usize,
 ) -> Result<Vec<Register>, OutOfMemory>
-    ensures { IfOk result (λ r. AreLiveLocals registers.now live.now node LOCAL_REGISTERS r.items) }
+    ensures { IfOk result (λ r. AreLiveLocals homes.now live.now node LOCAL_REGISTERS r.items) }
 {
     let mut found = Vec::new(alloc);
     for number in 0..LOCAL_REGISTERS {
         let register = local_register(number);
-        if is_live_register(registers, live, node, register) {
+        if is_live_home(homes, live, node, Home::InRegister { register }) {
             found.push(register)?;
         }
     }
@@ -96,13 +102,13 @@ fn with_pending(mut found: Vec<Register>, is_store: bool) -> Result<Vec<Register
 fn live_registers(
     alloc: Global,
     plan: &Plan,
-    registers: &[Register],
+    homes: &[Home],
     node: usize,
 ) -> Result<Vec<Register>, OutOfMemory>
     requires { node < length plan.now.graph.now.nodes.items }
-    ensures { IfOk result (λ r. AreLiveRegisters (graph_of plan.now.graph.now) registers.now plan.now.live.now node r.items) }
+    ensures { IfOk result (λ r. AreLiveRegisters (graph_of plan.now.graph.now) homes.now plan.now.live.now node r.items) }
 {
-    let found = live_locals(alloc, registers, plan.live, node)?;
+    let found = live_locals(alloc, homes, plan.live, node)?;
     with_pending(found, is_store(&plan.graph.nodes[node]))
 }
 
@@ -110,16 +116,16 @@ fn live_registers(
 pub(crate) fn live_lists(
     alloc: Global,
     plan: &Plan,
-    registers: &[Register],
+    homes: &[Home],
     part: Part,
 ) -> Result<Vec<Vec<Register>>, OutOfMemory>
     requires order { part.first ≤ part.end }
     requires end { part.end ≤ length plan.now.graph.now.nodes.items }
-    ensures { IfOk result (λ r. AreLists (graph_of plan.now.graph.now) registers.now plan.now.live.now part.first part.end r.items) }
+    ensures { IfOk result (λ r. AreLists (graph_of plan.now.graph.now) homes.now plan.now.live.now part.first part.end r.items) }
 {
     let mut lists = Vec::new(alloc);
     for node in part.first..part.end {
-        lists.push(live_registers(alloc, plan, registers, node)?)?;
+        lists.push(live_registers(alloc, plan, homes, node)?)?;
     }
     Ok(lists)
 }

@@ -1,10 +1,9 @@
 //! Code that evaluates what is assigned.
-ghost use Rattle.std.specs.Prelude.{◌≡◌, ◌<◌, ◌≤◌, ◌+◌, ◌++◌, length, slice_index, IfOk, true};
+ghost use Rattle.std.specs.Prelude.{◌≡◌, ◌<◌, ◌≤◌, ◌+◌, ◌++◌, length, IfOk, true};
 ghost use Rattle.ido_base.specs.declared.limits.TheConstants.{MOST_PRICE, MOST_TEMPORARIES};
-ghost use Rattle.memory_layout.specs.Roles.{is_local};
 ghost use Rattle.c_tree.specs.Exprs.{expr_of, placed_of, ToLocal, ToVariable, ToElement};
 ghost use Rattle.c_tree.specs.Prices.{need_of, nodes_of, node_price};
-ghost use Rattle.expr_code.specs.EvaluationCode.{AreAtHome, homes_of};
+ghost use Rattle.expr_code.specs.EvaluationCode.{AreAtHome, home_of, homes_of, is_home};
 ghost use Rattle.rv64_codegen.specs.links.Targets.{IsSelected};
 
 use c_tree::expr::Placed;
@@ -42,18 +41,19 @@ fn joined(mut first: Vec<Instr>, second: &[Instr]) -> Result<Vec<Instr>, OutOfMe
 pub(crate) fn local_code(
     alloc: Global,
     frame: &Frame,
+    place: Place,
     local: u32,
     kind: Kind,
     value: &Placed,
 ) -> Result<Vec<Instr>, OutOfMemory>
-    requires local { local < length frame.now.registers.now }
-    requires register { is_local (slice_index frame.now.registers.now local) ≡ true }
+    requires local { local < length frame.now.locals.now }
+    requires standing { is_home (home_of frame.now.locals.now local) ≡ true }
     requires home { AreAtHome (homes_of frame.now) (expr_of value.now.expr) }
     requires need { need_of (expr_of value.now.expr) ≤ MOST_TEMPORARIES }
     requires price { node_price (nodes_of (expr_of value.now.expr)) ≤ MOST_PRICE }
-    ensures { IfOk result (λ code. IsSelected (homes_of frame.now) (ToLocal local kind) (expr_of value.now.expr) code.items) }
+    ensures { IfOk result (λ code. IsSelected (homes_of frame.now) (ToLocal place local kind) (expr_of value.now.expr) code.items) }
 {
-    let register = frame.registers[local as usize];
+    let register = frame.locals[local as usize].register();
     let code = select_converted(alloc, &value.expr, kind, frame, register)?;
     Ok(code)
 }

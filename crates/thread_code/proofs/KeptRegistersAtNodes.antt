@@ -1,12 +1,10 @@
 -- Registers at a node, and others that hold what a boundary keeps.
 use Rattle.std.proofs.Common.{◌≡◌, refl, ap, sym, subst, ◌∙◌, ℕ, ◌%◌, ◌<◌, List}
-use Rattle.std.specs.Prelude.{slice_index, Contains, ℤ, ◌*◌, ◌^◌}
+use Rattle.std.specs.Prelude.{Contains, ℤ, ◌*◌, ◌^◌}
 use Rattle.ido_ints.specs.declared.kinds.Kind.{Kind}
 use Rattle.ido_ints.specs.Kinds.{bytes_of}
-use Rattle.ido_ints.specs.TypedNumbers.{Typed}
 use Rattle.rv64_isa.specs.Rows.{read}
 use Rattle.memory_layout.specs.Roles.{pending_address, pending_value}
-use Rattle.operator_code.specs.ComputingCode.{Carries}
 use Rattle.flow_graph.specs.Nodes.{Action, Eval, Store, Test, Lock, Unlock, End, Node}
 use Rattle.flow_graph.specs.Actions.{Seen}
 use Rattle.flow_graph.specs.IdempotentCuts.{IsStoreNode, stores}
@@ -14,9 +12,8 @@ use Rattle.flow_graph.specs.Liveness.{NodeAt}
 use Rattle.thread_code.specs.Plans.{Plan, Thread, IsKept, of_local, of_address, of_value, AreKept}
 use Rattle.thread_code.specs.RegistersAtNodes.{HasLowBytes, HasPending, IsPendingIn}
 use Rattle.thread_code.specs.Laws.{EntersAgain}
-
-carries_on : (x y : List ℕ) (r : ℕ) (v : Typed) → read y r ≡ read x r → Carries x r v → Carries y r v
-carries_on x y r v same c = record { held = c.held; form = same ∙ c.form }
+use Rattle.expr_code.specs.EvaluationCode.{home_of}
+use Rattle.expr_code.proofs.Public.{still_there}
 
 low_bytes_on : (x y : List ℕ) (r : ℕ) (k : Kind) (number : ℤ) → read y r ≡ read x r → HasLowBytes x r k number → HasLowBytes y r k number
 low_bytes_on x y r k number same h = record {
@@ -50,7 +47,7 @@ pub enters_again : EntersAgain
 enters_again p t node seen side other x y live kept h at same = record {
   at_side = at;
   count = h.count;
-  locals = λ local k g l. carries_on x y (slice_index t.registers local) _ (same_kept p t node seen x y live kept same (slice_index t.registers local)
-      (of_local local k g l)) (h.locals local k g l);
+  locals = λ local k g l. still_there x y (home_of t.locals local) _
+      (λ register is. same_kept p t node seen x y live kept same register (of_local local k register g l is)) (h.locals local k g l);
   pending = λ is a. pending_again p t node seen x y live kept same is a is.action refl (h.pending is a);
 }

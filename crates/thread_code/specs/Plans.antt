@@ -17,7 +17,9 @@ use Rattle.flow_graph.specs.IdempotentCuts.{Boundaries, IsStoreNode, AreCuts, Ar
 use Rattle.flow_graph.specs.LocalSets.{AreLive}
 use Rattle.flow_graph.specs.Lowering.{lowered}
 use Rattle.flow_graph.specs.Liveness.{Colouring, IsLive, AreRegisters, HasNoClash}
-use Rattle.expr_code.specs.EvaluationCode.{Homes}
+use Rattle.expr_code.specs.EvaluationCode.{Homes, home_of}
+use Rattle.expr_code.specs.declared.home.Home.{Home}
+use Rattle.expr_code.specs.declared.home.Home.TheVariants.{InRegister}
 
 -- a flat form and its graph, where it can be resumed, and where locals stand
 pub record Plan : Type 0 where
@@ -31,13 +33,17 @@ pub record Plan : Type 0 where
   -- how its threads log
   pub log : Log
 
+-- the home of the locals that have this colour: the register of locals of that number
+abbrev pub home_of_colour : (colour : ℕ) → Home
+home_of_colour colour = InRegister (slice_index LOCALS colour)
+
 -- a thread of a plan
 pub record Thread : Type 0 where
   pub number : ℕ
   pub part : Part
   pub kinds : List Kind
-  -- of each local
-  pub registers : List ℕ
+  -- where each local stands
+  pub locals : List Home
 
 -- the thread of that number
 pub record IsThread (p : Plan) (t : Thread) : Type 0 where
@@ -47,7 +53,7 @@ pub record IsThread (p : Plan) (t : Thread) : Type 0 where
   pub kinds : t.kinds ≡ text.locals
   pub colours : List ℕ
   pub of_colours : slice_get p.colours t.number ≡ Some colours
-  pub registers : t.registers ≡ map (λ (colour : ℕ). slice_index LOCALS colour) colours
+  pub locals : t.locals ≡ map home_of_colour colours
 
 -- the node is one of the thread's
 pub record IsNodeOf (t : Thread) (node : ℕ) : Type 0 where
@@ -58,7 +64,7 @@ pub record IsNodeOf (t : Thread) (node : ℕ) : Type 0 where
 abbrev pub homes : Plan → Thread → Homes
 homes p t = record {
   addresses = map (λ (v : ℕ). variable_at (map shape_of p.flat.variables) v 0) (numbers_below (length p.flat.variables));
-  registers = t.registers;
+  locals = t.locals;
 }
 
 -- ---- Held locks
@@ -81,9 +87,10 @@ locks_before p t node = locks_held (set_before p t node)
 
 -- ---- Registers to keep
 
--- a register that is live at the node's entry: a live local's, or before a store those of what it stores
+-- a register that is live at the node's entry: the home of a live local, or before a store those of what it stores
 pub data IsKept (p : Plan) (t : Thread) (node : ℕ) : (register : ℕ) → Type 0 where
-  of_local : (local : ℕ) (k : Kind) → slice_get t.kinds local ≡ Some k → IsLive p.graph local node → IsKept p t node (slice_index t.registers local)
+  of_local : (local : ℕ) (k : Kind) (register : ℕ) → slice_get t.kinds local ≡ Some k → IsLive p.graph local node →
+      home_of t.locals local ≡ InRegister register → IsKept p t node register
   of_address : IsStoreNode p.graph node → IsKept p t node pending_address
   of_value : IsStoreNode p.graph node → IsKept p t node pending_value
 

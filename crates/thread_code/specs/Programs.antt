@@ -20,7 +20,7 @@ use Rattle.thread_code.specs.NodeCodeEffects.{Places, Entrance, EntersAt, Perfor
 
 -- expression nodes of a node, a target's index included
 abbrev pub target_nodes : e.Lvalue → ℕ
-target_nodes (e.ToLocal local kind) = 0
+target_nodes (e.ToLocal place local kind) = 0
 target_nodes (e.ToVariable place variable kind) = 0
 target_nodes (e.ToElement place variable kind index) = nodes_of index.expr
 

@@ -1,5 +1,5 @@
 -- What a thread's registers hold where the code of a node begins.
-use Rattle.std.specs.Prelude.{◌≡◌, ℕ, ℤ, pos, ◌*◌, ◌%◌, ◌^◌, ◌<◌, List, map, length, slice_get, slice_index, slice_index_or, Option, Some}
+use Rattle.std.specs.Prelude.{◌≡◌, ℕ, ℤ, pos, ◌*◌, ◌%◌, ◌^◌, ◌<◌, List, map, length, slice_get, slice_index_or, Option, Some}
 use Rattle.ido_base.specs.Layout.{variable_at}
 use Rattle.ido_ints.specs.declared.kinds.Kind.{Kind}
 use Rattle.ido_ints.specs.Kinds.{Holds, bytes_of}
@@ -10,7 +10,6 @@ use Rattle.c_tree.specs.WellFormed.{shape_of}
 use Rattle.rv64_isa.specs.Rows.{read}
 use Rattle.memory_layout.specs.Roles.{pending_address, pending_value}
 use Rattle.boundary_code.specs.Boundaries.{IsOnSide}
-use Rattle.operator_code.specs.ComputingCode.{Carries}
 use Rattle.expr_code.specs.EvaluationCode as x
 use Rattle.flow_graph.specs.Nodes.{Action, Eval, Store, Test, Lock, Unlock, End, Node}
 use Rattle.flow_graph.specs.Actions.{Seen}
@@ -40,12 +39,12 @@ IsPendingIn p (Unlock mutex next) seen registers = Unit {0}
 IsPendingIn p End seen registers = Unit {0}
 
 -- a thread whose locals and pending store are these may enter a node's code with these registers, where its log's side in use is this one: it has
--- a number for each of its locals, and each that is live there is in its register
+-- a number for each of its locals, and each that is live there is in its home
 pub record Enters (p : Plan) (t : Thread) (node : ℕ) (seen : Seen) (side : ℕ) (registers : List ℕ) : Type 0 where
   pub at_side : IsOnSide p.log side registers
   pub count : length seen.locals ≡ length t.kinds
   pub locals : (local : ℕ) (k : Kind) → slice_get t.kinds local ≡ Some k → IsLive p.graph local node →
-      Carries registers (slice_index t.registers local) (typed k (slice_index_or seen.locals local (pos 0)))
+      x.HomeCarries registers (x.home_of t.locals local) (typed k (slice_index_or seen.locals local (pos 0)))
   pub pending : (is : Node) → NodeAt p.graph node is → IsPendingIn p is.action seen registers
 
 -- what an expression of the thread sees
@@ -54,7 +53,7 @@ source_of p t seen = record { variables = p.flat.variables; kinds = t.kinds; loc
 
 -- loads of the elements that the target's index reads are answered
 abbrev pub IsAnsweredIn : x.Source → (loads : (address bytes : ℕ) → Option ℕ) → e.Lvalue → Type 0
-IsAnsweredIn s loads (e.ToLocal local kind) = Unit {0}
+IsAnsweredIn s loads (e.ToLocal place local kind) = Unit {0}
 IsAnsweredIn s loads (e.ToVariable place variable kind) = Unit {0}
 IsAnsweredIn s loads (e.ToElement place variable kind index) = x.AreLoaded s loads index.expr
 

@@ -43,7 +43,7 @@ contains_second x y = (suc zero, omega arith, refl)
 
 pub next_follows : (action : Action) (seen : Seen) (e : a.Effect) (next : ℕ) → effect_of action seen ≡ Some e → next_by e ≡ Some next →
     Contains (successors action) next
-next_follows (Eval (ToLocal local kind) x n) seen e next eq by = one_next n next (same_next n next _ refl e eq by)
+next_follows (Eval (ToLocal place local kind) x n) seen e next eq by = one_next n next (same_next n next _ refl e eq by)
 next_follows (Eval (ToVariable place variable kind) x n) seen e next eq by = one_next n next (same_next n next _ refl e eq by)
 next_follows (Eval (ToElement place variable kind index) x n) seen e next eq by = one_next n next (same_next n next _ refl e eq by)
 next_follows (Store variable kind n) seen e next eq by = pending seen.pending eq
@@ -97,7 +97,7 @@ call_of End = ends
 
 -- an action calls as its effect does
 calls_lockstep : (action : Action) (seen : Seen) → call_in (effect_of action seen) ≡ call_of action
-calls_lockstep (Eval (ToLocal local kind) x n) seen = refl
+calls_lockstep (Eval (ToLocal place local kind) x n) seen = refl
 calls_lockstep (Eval (ToVariable place variable kind) x n) seen = refl
 calls_lockstep (Eval (ToElement place variable kind index) x n) seen = refl
 calls_lockstep (Store variable kind n) seen = pending seen.pending

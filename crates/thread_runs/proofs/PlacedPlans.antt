@@ -1,5 +1,5 @@
 -- A plan's thread is placed.
-use Rattle.std.proofs.Common.{◌≡◌, ℕ, zero, suc, ◌<◌, ◌≤◌, List, [], ◌∷◌, map, refl, arith, sym, subst, true, Some}
+use Rattle.std.proofs.Common.{◌≡◌, ℕ, zero, suc, ◌<◌, ◌≤◌, List, [], ◌∷◌, map, refl, arith, sym, subst, true, Some, ap, ◌∙◌}
 use Rattle.std.specs.Prelude.{slice_get, slice_index, Contains, nat_lt}
 use Rattle.std.specs.List.{list_all}
 use Rattle.std.proofs.lemmas.Bool.{and_parts, ltb-true}
@@ -7,9 +7,13 @@ use Rattle.memory_layout.specs.declared.roles.TheConstants.{LOCALS}
 use Rattle.flow_graph.specs.Nodes.{Graph, Node, successors}
 use Rattle.flow_graph.specs.Liveness.{NodeAt}
 use Rattle.flow_graph.specs.Lowering.{lowered}
-use Rattle.thread_code.specs.Plans.{Plan, Thread, IsThread, IsNodeOf, IsKept, of_local, of_address, of_value, IsPlan}
+use Rattle.thread_code.specs.Plans.{Plan, Thread, IsThread, IsNodeOf, IsKept, of_local, of_address, of_value, IsPlan, home_of_colour}
 use Rattle.thread_runs.specs.Laws.{PlansArePlaced}
 use Rattle.thread_runs.proofs.SuccessorsInThread.{contained, closed_from}
+use Rattle.expr_code.specs.declared.home.Home.{Home}
+use Rattle.expr_code.specs.declared.home.Home.TheVariants.{InRegister}
+use Rattle.expr_code.specs.EvaluationCode.{home_of}
+use Rattle.expr_code.proofs.Public.{same_register}
 
 -- ---- Registers
 
@@ -21,14 +25,15 @@ small_at (x ∷ xs) (suc i) h = small_at xs i (and_parts (nat_lt x 32) _ h).1
 locals_small : list_all (λ r. nat_lt r 32) LOCALS ≡ true
 locals_small = refl
 
-coloured_small : (colours : List ℕ) (i : ℕ) → slice_index (map (λ (colour : ℕ). slice_index LOCALS colour) colours) i < 32
-coloured_small [] i = omega arith
-coloured_small (colour ∷ colours) zero = small_at LOCALS colour locals_small
-coloured_small (colour ∷ colours) (suc i) = coloured_small colours i
+coloured_small : (colours : List ℕ) (i register : ℕ) → home_of (map home_of_colour colours) i ≡ InRegister register → register < 32
+coloured_small [] i register at = let none : 0 ≡ register = same_register 0 register at in omega arith
+coloured_small (colour ∷ colours) zero register at =
+    subst (λ (r : ℕ). r < 32) (same_register (slice_index LOCALS colour) register at) (small_at LOCALS colour locals_small)
+coloured_small (colour ∷ colours) (suc i) register at = coloured_small colours i register at
 
 kept_small : (p : Plan) (t : Thread) → IsThread p t → (node register : ℕ) → IsKept p t node register → register < 32
-kept_small p t is node register (of_local local k found live) =
-    subst (λ (rs : List ℕ). slice_index rs local < 32) (sym is.registers) (coloured_small is.colours local)
+kept_small p t is node register (of_local local k own found live at) =
+    coloured_small is.colours local own (sym (ap (λ (hs : List Home). home_of hs local) is.locals) ∙ at)
 kept_small p t is node register (of_address at_store) = omega arith
 kept_small p t is node register (of_value at_store) = omega arith
 

@@ -73,7 +73,7 @@ module _ (lo hi : ℕ) where
   assign_lies : (target : e.Lvalue) (place : Place) (value : e.Placed) (first next : ℕ) → lo ≤ first → first + assign_count target ≤ hi → lo ≤ next →
       next < hi →
       Lies (assign_nodes place target value first next) (assign_count target)
-  assign_lies (e.ToLocal local kind) place value first next a b c d = record { many = refl; all = ((c, d, tt), tt) }
+  assign_lies (e.ToLocal name local kind) place value first next a b c d = record { many = refl; all = ((c, d, tt), tt) }
   assign_lies (e.ToVariable name variable kind) place value first next a b c d =
       record { many = refl; all = ((omega arith, omega arith, tt), ((c, d, tt), tt)) }
   assign_lies (e.ToElement name variable kind index) place value first next a b c d =
@@ -104,8 +104,8 @@ module _ (lo hi : ℕ) where
         (both (statements_nodes body first (first + statements_count body)) (test_node place condition first next ∷ []) (statements_count body) 1
         (statements_lie body first (first + statements_count body) a (omega (arith, whole)) (omega arith) (omega (arith, whole)))
         (one (test_node place condition first next) (test_in place condition first next (a, omega (arith, whole)) (c, d))))
-    statement_lies (f.Lock place mutex) first next a b c d = one (plain_node place (Lock mutex next)) (c, d, tt)
-    statement_lies (f.Unlock place mutex) first next a b c d = one (plain_node place (Unlock mutex next)) (c, d, tt)
+    statement_lies (f.Lock place name) first next a b c d = one (plain_node place (Lock name.mutex next)) (c, d, tt)
+    statement_lies (f.Unlock place name) first next a b c d = one (plain_node place (Unlock name.mutex next)) (c, d, tt)
 
     statements_lie : (xs : f.Statements) (first next : ℕ) → lo ≤ first → first + statements_count xs ≤ hi → lo ≤ next → next < hi →
         Lies (statements_nodes xs first next) (statements_count xs)

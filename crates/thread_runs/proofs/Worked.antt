@@ -50,7 +50,7 @@ abbrev seen : a.Seen
 seen = record { locals = []; pending = None; variables = [] }
 
 abbrev t : Thread
-t = record { number = 0; part = record { first = 0; end = 1; locals = 0 }; kinds = []; registers = [] }
+t = record { number = 0; part = record { first = 0; end = 1; locals = 0 }; kinds = []; locals = [] }
 
 abbrev c : Places
 c = record {

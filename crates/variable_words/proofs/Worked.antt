@@ -7,14 +7,14 @@ use Rattle.ido_base.specs.Words as w
 use Rattle.ido_base.specs.Words.{Word, word_of}
 use Rattle.ido_ints.specs.declared.kinds.Kind.TheVariants as kind
 use Rattle.ido_ints.specs.Reduction as reduction
-use Rattle.c_tree.specs.Programs.{Variable}
+use Rattle.c_tree.specs.Programs.{Variable, By}
 use Rattle.recovery_semantics.specs.ElementHistories.{history_of}
 use Rattle.recovery_semantics.specs.VariableSpots.{memory_in}
 use Rattle.variable_words.specs.VariablesInWords.{spots_of}
 use Rattle.variable_words.specs.Logs.{Point, Slot, log_address}
 
 abbrev short : Variable
-short = record { name = record { text = []; place = record { 0 = 0 } }; guard = 0; kind = kind.Short; length = None; initial = negsuc 1 ∷ [] }
+short = record { name = record { text = []; place = record { 0 = 0 } }; guard = By 0; kind = kind.Short; length = None; initial = negsuc 1 ∷ [] }
 
 abbrev char : Variable
 char = record short { kind = kind.Char; initial = pos 7 ∷ [] }

@@ -7,7 +7,7 @@ use Rattle.c_tree.specs.Flats as f
 use Rattle.memory_layout.specs.declared.roles.TheConstants.{LOCALS}
 use Rattle.flow_graph.specs.declared.graph.Part.{Part}
 use Rattle.flow_graph.specs.LocalSets.{HasAt}
-use Rattle.thread_code.specs.Plans.{Plan, Thread, IsPlan, IsThread, IsNodeOf}
+use Rattle.thread_code.specs.Plans.{Plan, Thread, IsPlan, IsThread, IsNodeOf, home_of_colour}
 use Rattle.flat_compile.specs.declared.resumes.LiveLocal.{LiveLocal}
 use Rattle.flat_compile.specs.declared.resumes.Resume.{Resume}
 use Rattle.recovered_threads.specs.RecordDescriptions.{Codes}
@@ -20,7 +20,7 @@ thread_in p number part = record {
   number = number;
   part = part;
   kinds = slice_index_or (map (λ (t : f.Thread). t.locals) p.flat.threads) number [];
-  registers = map (λ (colour : ℕ). slice_index LOCALS colour) (slice_index_or p.colours number []);
+  locals = map home_of_colour (slice_index_or p.colours number []);
 }
 
 pub record IsOwn (p : Plan) (number : ℕ) (part : Part) : Type 0 where

@@ -1,16 +1,16 @@
 -- The code of some threads.
-use Rattle.std.specs.Prelude.{◌≡◌, ℕ, ◌≤◌, List, length, map, slice_get, slice_index, sum_by, Some, Vec}
+use Rattle.std.specs.Prelude.{◌≡◌, ℕ, ◌≤◌, List, length, map, slice_get, sum_by, Some, Vec}
 use Rattle.std.specs.Global.{Global}
 use Rattle.ido_base.specs.declared.limits.TheConstants.{MOST_CODE_WORDS}
 use Rattle.rv64_isa.specs.declared.object.CodeItem.{CodeItem}
 use Rattle.rv64_link.specs.LabelledCode.{most_words_of}
-use Rattle.memory_layout.specs.declared.roles.TheConstants.{LOCALS}
 use Rattle.flow_graph.specs.declared.graph.Part.{Part}
-use Rattle.thread_code.specs.Plans.{Plan, Thread, IsThread}
+use Rattle.thread_code.specs.Plans.{Plan, Thread, IsThread, home_of_colour}
 use Rattle.rv64_codegen.specs.declared.thread.ThreadPlan as opened
 use Rattle.rv64_codegen.specs.ThreadPieces.{IsEmitted}
 use Rattle.rv64_codegen.specs.links.LiveRegisters.{AreLists}
 use Rattle.rv64_codegen.specs.links.Threads.{plan_in, thread_of}
+use Rattle.expr_code.specs.declared.home.Home.{Home}
 
 -- ---- A thread
 
@@ -23,14 +23,13 @@ pub record IsEmittedOf (p : Plan) (number : ℕ) (items : List CodeItem) : Type 
   pub each : (t : Thread) → IsThread p t → t.number ≡ number → IsEmitted p t items
   pub words : sum_by most_words_of items ≤ MOST_CODE_WORDS
 
--- the thread's locals have these registers, and these are live at its nodes
-abbrev pub AreRegistersOf : Plan → (number : ℕ) → List ℕ → Type 0
-AreRegistersOf p number registers = (colours : List ℕ) → slice_get p.colours number ≡ Some colours →
-    registers ≡ map (λ (colour : ℕ). slice_index LOCALS colour) colours
+-- the thread's locals stand there, and these registers are live at its nodes
+abbrev pub AreHomesOf : Plan → (number : ℕ) → List Home → Type 0
+AreHomesOf p number homes = (colours : List ℕ) → slice_get p.colours number ≡ Some colours → homes ≡ map home_of_colour colours
 
-abbrev pub AreListsOf : Plan → (number : ℕ) → List ℕ → List (Vec ℕ Global) → Type 0
-AreListsOf p number registers lists = (part : Part) → slice_get p.graph.threads number ≡ Some part →
-    AreLists p.graph registers p.live part.first part.end lists
+abbrev pub AreListsOf : Plan → (number : ℕ) → List Home → List (Vec ℕ Global) → Type 0
+AreListsOf p number homes lists = (part : Part) → slice_get p.graph.threads number ≡ Some part →
+    AreLists p.graph homes p.live part.first part.end lists
 
 -- the first `count` threads are emitted
 pub record AreEmittedTo (p : Plan) (count : ℕ) (threads : List (Vec CodeItem Global)) : Type 0 where

@@ -9,25 +9,27 @@ use Rattle.memory_layout.specs.Roles.{is_kept, pending_address, pending_value}
 use Rattle.flow_graph.specs.Nodes.{Action, Eval, Store, Test, Lock, Unlock, End, Graph}
 use Rattle.flow_graph.specs.LocalSets.{HasAt}
 use Rattle.flow_graph.specs.IdempotentCuts.{IsStoreNode}
+use Rattle.expr_code.specs.declared.home.Home.{Home}
+use Rattle.expr_code.specs.declared.home.Home.TheVariants.{InRegister}
 
--- a local that is live there has the register
-pub record HasLive (registers : List ℕ) (sets : List (List ℕ)) (node register : ℕ) : Type 0 where
+-- a local that is live there has the home
+pub record HasLive (homes : List Home) (sets : List (List ℕ)) (node : ℕ) (home : Home) : Type 0 where
   pub local : ℕ
-  pub has : slice_get registers local ≡ Some register
+  pub has : slice_get homes local ≡ Some home
   pub live : HasAt sets node local
 
--- the register is one of the first registers of locals, and a live local has it
-pub record IsLiveAmong (registers : List ℕ) (sets : List (List ℕ)) (node count register : ℕ) : Type 0 where
+-- the register is one of the first registers of locals, and a live local stands in it
+pub record IsLiveAmong (homes : List Home) (sets : List (List ℕ)) (node count register : ℕ) : Type 0 where
   pub number : ℕ
   pub below : number < count
   pub is : slice_index LOCALS number ≡ register
-  pub live : HasLive registers sets node register
+  pub live : HasLive homes sets node (InRegister register)
 
 -- the registers found are those of live locals, among the first registers of locals
-pub record AreLiveLocals (registers : List ℕ) (sets : List (List ℕ)) (node count : ℕ) (found : List ℕ) : Type 0 where
+pub record AreLiveLocals (homes : List Home) (sets : List (List ℕ)) (node count : ℕ) (found : List ℕ) : Type 0 where
   pub few : length found ≤ count
   pub kept : IsTrue (list_all is_kept found)
-  pub each : (register : ℕ) → Contains found register ↔ IsLiveAmong registers sets node count register
+  pub each : (register : ℕ) → Contains found register ↔ IsLiveAmong homes sets node count register
 
 abbrev pub is_store : Action → Bool
 is_store (Eval target value next) = false
@@ -42,16 +44,16 @@ abbrev pub AreWithPending : (found : List ℕ) → (is_store : Bool) → (all : 
 AreWithPending found is_store all = all ≡ (if is_store then found ++ (pending_address ∷ pending_value ∷ []) else found)
 
 -- a live local's register, or one of what is stored
-abbrev pub IsLiveRegister : Graph → (registers : List ℕ) → (sets : List (List ℕ)) → (node register : ℕ) → Type 0
-IsLiveRegister g registers sets node register =
-    IsLiveAmong registers sets node LOCAL_REGISTERS register ⊎ (IsStoreNode g node × ((register ≡ pending_address) ⊎ (register ≡ pending_value)))
+abbrev pub IsLiveRegister : Graph → (homes : List Home) → (sets : List (List ℕ)) → (node register : ℕ) → Type 0
+IsLiveRegister g homes sets node register =
+    IsLiveAmong homes sets node LOCAL_REGISTERS register ⊎ (IsStoreNode g node × ((register ≡ pending_address) ⊎ (register ≡ pending_value)))
 
-pub record AreLiveRegisters (g : Graph) (registers : List ℕ) (sets : List (List ℕ)) (node : ℕ) (found : List ℕ) : Type 0 where
+pub record AreLiveRegisters (g : Graph) (homes : List Home) (sets : List (List ℕ)) (node : ℕ) (found : List ℕ) : Type 0 where
   pub few : length found ≤ 20
   pub kept : IsTrue (list_all is_kept found)
-  pub each : (register : ℕ) → Contains found register ↔ IsLiveRegister g registers sets node register
+  pub each : (register : ℕ) → Contains found register ↔ IsLiveRegister g homes sets node register
 
 -- the live registers of each node, from the first on
-pub record AreLists (g : Graph) (registers : List ℕ) (sets : List (List ℕ)) (first to : ℕ) (lists : List (Vec ℕ Global)) : Type 0 where
+pub record AreLists (g : Graph) (homes : List Home) (sets : List (List ℕ)) (first to : ℕ) (lists : List (Vec ℕ Global)) : Type 0 where
   pub count : length lists ≡ to - first
-  pub each : (i : ℕ) (list : Vec ℕ Global) → slice_get lists i ≡ Some list → AreLiveRegisters g registers sets (first + i) list.items
+  pub each : (i : ℕ) (list : Vec ℕ Global) → slice_get lists i ≡ Some list → AreLiveRegisters g homes sets (first + i) list.items

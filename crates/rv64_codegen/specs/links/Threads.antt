@@ -26,6 +26,7 @@ use Rattle.rv64_codegen.specs.Evaluations.{NeedFew}
 use Rattle.rv64_codegen.specs.ThreadPieces.{Choices, IsDoing, IsNodePiece, GoesTo, boundary_before}
 use Rattle.rv64_codegen.specs.Plans.{plan_of}
 use Rattle.rv64_codegen.specs.links.LiveRegisters.{AreLists}
+use Rattle.expr_code.specs.declared.home.Home.{Home}
 
 -- ---- A thread
 
@@ -33,14 +34,14 @@ use Rattle.rv64_codegen.specs.links.LiveRegisters.{AreLists}
 abbrev pub kinds_in : Plan → (number : ℕ) → List Kind
 kinds_in p number = slice_index_or (map (λ (t : f.Thread). t.locals) p.flat.threads) number []
 
-abbrev pub thread_at : Plan → (number : ℕ) → Part → (registers : List ℕ) → Thread
-thread_at p number part registers = record { number = number; part = part; kinds = kinds_in p number; registers = registers }
+abbrev pub thread_at : Plan → (number : ℕ) → Part → (locals : List Home) → Thread
+thread_at p number part locals = record { number = number; part = part; kinds = kinds_in p number; locals = locals }
 
 abbrev pub plan_in : opened.ThreadPlan → Plan
 plan_in x = plan_of x.plan.now
 
 abbrev pub thread_of : opened.ThreadPlan → Thread
-thread_of x = thread_at (plan_in x) x.number x.part x.frame.registers.now
+thread_of x = thread_at (plan_in x) x.number x.part x.frame.locals.now
 
 -- the list of that number, or none
 abbrev pub list_at : List (Vec ℕ Global) → ℕ → List ℕ
@@ -73,7 +74,7 @@ pub record IsOpen (x : opened.ThreadPlan) : Type 0 where
   pub few : AllNeedFew (plan_in x).graph
   pub thread : IsThread (plan_in x) (thread_of x)
   pub homes : homes_of x.frame ≡ homes (plan_in x) (thread_of x)
-  pub lists : AreLists (plan_in x).graph x.frame.registers.now (plan_in x).live x.part.first x.part.end x.live.now
+  pub lists : AreLists (plan_in x).graph x.frame.locals.now (plan_in x).live x.part.first x.part.end x.live.now
   pub later : AreCleaned (plan_in x) x.later.now
 
 -- the node is one of its nodes

@@ -1,6 +1,6 @@
 -- What the recursion owes besides the contracts of the functions that it calls.
 use Rattle.std.proofs.Common.{rules, ◌≡◌, ◌+◌, ◌*◌, ◌<◌, ◌≤◌, ◌∙◌, ap, sym, subst, arith, ℕ, List, length, get_or}
-use Rattle.std.specs.Prelude.{slice_index, true}
+use Rattle.std.specs.Prelude.{true}
 use Rattle.std.proofs.lemmas.Option.{slice_get-get_or, same_Some}
 use Rattle.rv64_isa.specs.declared.instr.Instr.{Instr}
 use Rattle.ido_ints.specs.declared.kinds.Kind.{Kind}
@@ -8,12 +8,13 @@ use Rattle.ido_ints.specs.Kinds.{bits_of, rank_of}
 use Rattle.c_tree.specs.declared.expr.Expr.{Expr}
 use Rattle.c_tree.specs.Exprs as e
 use Rattle.c_tree.specs.Exprs.{expr_of}
-use Rattle.memory_layout.specs.Roles.{is_local}
 use Rattle.c_tree.specs.Prices.{nodes_of}
 use Rattle.c_tree.specs.Elaboration.{kind_of}
 use Rattle.operator_code.specs.declared.operation.BinaryOperation.{BinaryOperation}
 use Rattle.operator_code.specs.ComputingCode.{is_comparison, left_kind}
-use Rattle.expr_code.specs.EvaluationCode.{Homes, homes_of, AreAtHome}
+use Rattle.expr_code.specs.declared.home.Home.{Home}
+use Rattle.expr_code.specs.declared.home.Home.TheVariants.{InRegister}
+use Rattle.expr_code.specs.EvaluationCode.{Homes, homes_of, AreAtHome, home_of, is_home}
 use Rattle.expr_code.specs.links.OperandCode.{IsEvaluation, IsOperand, IsMade, IsConstantForm, truth_of, conversion_words}
 use Rattle.expr_code.proofs.TemporaryNeeds.{need_some}
 use Rattle.expr_code.proofs.OperationCode.{comparison_made, skipped_code, kept_value}
@@ -51,18 +52,18 @@ evaluate_truth-returns-in_ok-code-in-Binary-clause-code t c =
 
 -- ---- Locals
 
--- the register of a local that has one
-record IsHome (h : Homes) (local r : ℕ) : Type 0 where
-  is : slice_index h.registers local ≡ r
-  home : is_local r ≡ true
+-- the home of a local that has one
+record IsHome (h : Homes) (local : ℕ) (it : Home) : Type 0 where
+  is : home_of h.locals local ≡ it
+  home : is_home it ≡ true
 
-is_home : (h : Homes) (local d : ℕ) → (local < length h.registers) × (is_local (slice_index h.registers local) ≡ true) →
-    IsHome h local (get_or h.registers local d)
-is_home h local d home =
-    let at : slice_index h.registers local ≡ get_or h.registers local d =
-    same_Some (get_or h.registers local 0) (get_or h.registers local d)
-    (sym (slice_get-get_or h.registers local 0 home.0) ∙ slice_get-get_or h.registers local d home.0) in
-    record { is = at; home = ap is_local (sym at) ∙ home.1 }
+has_home : (h : Homes) (local : ℕ) (d : Home) → (local < length h.locals) × (is_home (home_of h.locals local) ≡ true) →
+    IsHome h local (get_or h.locals local d)
+has_home h local d home =
+    let at : home_of h.locals local ≡ get_or h.locals local d =
+    same_Some (home_of h.locals local) (get_or h.locals local d)
+    (sym (slice_get-get_or h.locals local (InRegister 0) home.0) ∙ slice_get-get_or h.locals local d home.0) in
+    record { is = at; home = ap is_home (sym at) ∙ home.1 }
 
 pub evaluate-returns-in_ok-copied-in-Local-clause-code : goal.evaluate-returns-in_ok-copied-in-Local-clause-code
 evaluate-returns-in_ok-copied-in-Local-clause-code t c =
@@ -71,7 +72,7 @@ evaluate-returns-in_ok-copied-in-Local-clause-code t c =
     let code : List Instr = c.in_ok-copied-in-Local.field-0.items in
     let seen : expr_of c.args.expr.now ≡ e.Local w.local w.kind = ap expr_of w.is in
     let home : AreAtHome h (e.Local w.local w.kind) = subst (λ (z : e.Expr). AreAtHome h z) seen c.requires.home in
-    let it = is_home h w.local c.index-frame-local.result home in
+    let it = has_home h w.local c.index-frame-local.result home in
     subst (λ (z : e.Expr). IsEvaluation h z c.args.held c.args.rd code) (sym seen)
     (c.in_ok-copied-in-Local.ensures.code h (e.Local w.local w.kind) c.args.held
     (c.local_operand-local.ensures.operand h w.local w.kind c.args.held it.is it.home))
@@ -82,7 +83,7 @@ operand-returns-in-Local-clause-operand t c =
     let h = homes_of c.args.frame.now in
     let seen : expr_of c.args.expr.now ≡ e.Local w.local w.kind = ap expr_of w.is in
     let home : AreAtHome h (e.Local w.local w.kind) = subst (λ (z : e.Expr). AreAtHome h z) seen c.requires.home in
-    let it = is_home h w.local c.index-frame-local.result home in
+    let it = has_home h w.local c.index-frame-local.result home in
     subst (λ (z : e.Expr). IsOperand h z c.args.held c.local_operand.result.register c.local_operand.result.code.items) (sym seen)
     (c.local_operand.ensures.operand h w.local w.kind c.args.held it.is it.home)
 

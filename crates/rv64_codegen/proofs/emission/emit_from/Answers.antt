@@ -16,7 +16,7 @@ thread c = record {
   plan = c.args.plan;
   number = c.args.number;
   part = c.index.result.now;
-  frame = record { addresses = c.args.addresses; registers = c.args.registers };
+  frame = record { addresses = c.args.addresses; locals = c.args.homes };
   live = c.args.live;
   later = c.args.later;
 }
@@ -24,7 +24,7 @@ thread c = record {
 opens : (c : After-index) → IsOpen (thread c)
 opens c =
     is_open (thread c) c.requires.plan c.requires.few c.requires.addresses c.requires.later
-    (read_get c.args.plan.now.graph.now.threads.items c.args.number c.index.result.now c.requires.number c.index.ensures) c.requires.registers
+    (read_get c.args.plan.now.graph.now.threads.items c.args.number c.index.result.now c.requires.number c.index.ensures) c.requires.homes
     c.requires.live
 
 pub thread_items-requires : goal.thread_items-requires

@@ -1,8 +1,7 @@
 use Rattle.std.proofs.Common.{◌≡◌, ◌∙◌, ℕ, List, Vec, Some, ap, sym, subst, length, map, arith}
 use Rattle.std.specs.Global.{Global}
-use Rattle.std.specs.Prelude.{slice_get, slice_index}
+use Rattle.std.specs.Prelude.{slice_get}
 use Rattle.std.proofs.lemmas.List.{length-map}
-use Rattle.memory_layout.specs.declared.roles.TheConstants.{LOCALS}
 use Rattle.flow_graph.specs.declared.graph.Part.{Part}
 use Rattle.flow_graph.specs.Colours.{colouring_of}
 use Rattle.flow_graph.specs.Nodes.{node_of}
@@ -13,6 +12,8 @@ use Rattle.rv64_codegen.proofs.Homes.{same_some}
 use Rattle.rv64_codegen.proofs.PlannedThreads.{colours_at, part_order, part_end}
 use Rattle.rv64_codegen.proofs.emission.emit_thread.Goals as goal
 use Rattle.rv64_codegen.proofs.emission.emit_thread.Goals.{After-deref, After-index-part}
+use Rattle.expr_code.specs.declared.home.Home.{Home}
+use Rattle.thread_code.specs.Plans.{home_of_colour}
 
 coloured : (c : After-deref) → slice_get (colouring_of c.args.plan.now.colours.now) c.args.number ≡ Some c.deref.result.now
 coloured c =
@@ -24,9 +25,9 @@ coloured c =
 part_there : (c : After-index-part) → slice_get c.args.plan.now.graph.now.threads.items c.args.number ≡ Some c.index-part.result.now
 part_there c = read_get c.args.plan.now.graph.now.threads.items c.args.number c.index-part.result.now c.requires.number c.index-part.ensures
 
-pub registers-requires : goal.registers-requires
-registers-requires c =
-    λ colour among. c.requires.plan.registers.exist c.args.number colour c.deref.result.now (coloured (goal.at.registers-requires c).After-deref) among
+pub homes-requires : goal.homes-requires
+homes-requires c =
+    λ colour among. c.requires.plan.registers.exist c.args.number colour c.deref.result.now (coloured (goal.at.homes-requires c).After-deref) among
 
 pub live_lists-requires-clause-order : goal.live_lists-requires-clause-order
 live_lists-requires-clause-order c =
@@ -42,11 +43,11 @@ live_lists-requires-clause-end c =
       length-map c.args.plan.now.graph.now.nodes.items node_of,
     )
 
-pub emit_from-requires-clause-registers : goal.emit_from-requires-clause-registers
-emit_from-requires-clause-registers c =
-    λ colours at. c.deref-3.ensures.value ∙ c.in_ok-registers.ensures
-    ∙ ap (λ (cs : List ℕ). map (λ (colour : ℕ). slice_index LOCALS colour) cs)
-    (same_some _ _ _ (coloured (goal.at.emit_from-requires-clause-registers c).After-deref) at)
+pub emit_from-requires-clause-homes : goal.emit_from-requires-clause-homes
+emit_from-requires-clause-homes c =
+    λ colours at. c.deref-3.ensures.value ∙ c.in_ok-homes.ensures
+    ∙ ap (λ (cs : List ℕ). map home_of_colour cs)
+    (same_some _ _ _ (coloured (goal.at.emit_from-requires-clause-homes c).After-deref) at)
 
 pub emit_from-requires-clause-live : goal.emit_from-requires-clause-live
 emit_from-requires-clause-live c =
@@ -55,9 +56,9 @@ emit_from-requires-clause-live c =
     let sets = c.args.plan.now.live.now in
     let same : c.index-part.result.now ≡ part =
     same_some _ _ _ (part_there (goal.at.emit_from-requires-clause-live c).After-index-part) at in
-    let registers : c.deref-2.result.now ≡ c.deref-3.result.now = c.deref-2.ensures.value ∙ sym c.deref-3.ensures.value in
+    let homes : c.deref-2.result.now ≡ c.deref-3.result.now = c.deref-2.ensures.value ∙ sym c.deref-3.ensures.value in
     let P : Part → Type 0 = λ z. AreLists g c.deref-3.result.now sets z.first z.end c.deref-4.result.now in
-    let Q : List ℕ → Type 0 = λ rs. AreLists g rs sets c.index-part.result.now.first c.index-part.result.now.end c.deref-4.result.now in
+    let Q : List Home → Type 0 = λ hs. AreLists g hs sets c.index-part.result.now.first c.index-part.result.now.end c.deref-4.result.now in
     let R : List (Vec ℕ Global) → Type 0 = λ ls.
     AreLists g c.deref-2.result.now sets c.index-part.result.now.first c.index-part.result.now.end ls in
-    subst P same (subst Q registers (subst R (sym c.deref-4.ensures.value) c.in_ok-live.ensures))
+    subst P same (subst Q homes (subst R (sym c.deref-4.ensures.value) c.in_ok-live.ensures))

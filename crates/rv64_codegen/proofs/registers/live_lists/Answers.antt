@@ -9,7 +9,7 @@ pub loop-node-preserved : goal.loop-node-preserved
 loop-node-preserved c =
     let q = c.args.plan.now in
     let g = graph_of q.graph.now in
-    let Is : List (Vec ℕ Global) → Type 0 = λ xs. AreLists g c.args.registers.now q.live.now c.args.part.first (c.loop-node.node + 1) xs in
+    let Is : List (Vec ℕ Global) → Type 0 = λ xs. AreLists g c.args.homes.now q.live.now c.args.part.first (c.loop-node.node + 1) xs in
     subst Is (sym c.in_ok-push.ensures.items)
-    (lists_more g c.args.registers.now q.live.now c.args.part.first c.loop-node.node c.loop-node.lists.items c.in_ok-live_registers.field-0
+    (lists_more g c.args.homes.now q.live.now c.args.part.first c.loop-node.node c.loop-node.lists.items c.in_ok-live_registers.field-0
     c.loop-node.auto.node c.loop-node.invariant c.in_ok-live_registers.ensures)

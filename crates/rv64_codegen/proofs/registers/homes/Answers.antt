@@ -1,8 +1,8 @@
 use Rattle.std.proofs.Common.{get_or}
 use Rattle.std.proofs.lemmas.Grind.{get_or_default_zero}
-use Rattle.rv64_codegen.proofs.registers.registers.Goals as goal
+use Rattle.rv64_codegen.proofs.registers.homes.Goals as goal
 
-pub local_register-requires : goal.local_register-requires
-local_register-requires c =
+pub home_of_colour-requires : goal.home_of_colour-requires
+home_of_colour-requires c =
     c.requires (get_or c.args.colours.now c.loop-colour.colour-index 0)
     (c.loop-colour.colour-index, c.loop-colour-test.true, get_or_default_zero c.args.colours.now c.loop-colour.colour-index _ c.loop-colour-test.true)
