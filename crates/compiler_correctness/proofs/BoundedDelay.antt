@@ -1,18 +1,18 @@
 -- Each hart of a compiled program soon begins the next step of its thread: what the simulation says is ahead of it falls with each of its active steps.
-use Rattle.std.proofs.Common.{◌≡◌, ◌≢◌, ◌⊎◌, inl, inr, refl, ℕ, ◌<◌, ◌≤◌, List, [], ◌∷◌, ◌++◌, length, ap, arith, sym, ◌∙◌, subst, Option}
-use Rattle.std.proofs.Common.{Some, None, Bool, true, false}
+use Rattle.std.proofs.Common.{◌≡◌, ◌≢◌, ◌⊎◌, inl, inr, refl, ℕ, ◌<◌, ◌≤◌, List, [], ◌++◌, length, ap, arith, sym, ◌∙◌, subst, Option, Some, None, Bool, true}
+use Rattle.std.proofs.Common.{false}
 use Rattle.std.specs.Prelude.{slice_get, ◌==◌, ◌&&◌, ◌-◌, not}
-use Rattle.std.proofs.lemmas.Bool.{cases_eq, cases_Bool, cases_lt, ne_eqb, true≢false}
-use Rattle.std.proofs.lemmas.Option.{none-some, same_Some, slice_get_within}
+use Rattle.std.proofs.lemmas.Bool.{cases_eq, cases_Bool, cases_lt, ne_eqb}
+use Rattle.std.proofs.lemmas.Option.{none-some, slice_get_within}
 use Rattle.ido_base.specs.declared.event.Event.{Event}
 use Rattle.ido_base.specs.declared.event.Event.TheVariants.{Step, Evict, Crash}
 use Rattle.ido_base.specs.declared.event.Reply.TheVariants.{Waits}
 use Rattle.rv64_isa.specs.declared.object.Slot.{Slot}
 use Rattle.rv64_isa.specs.declared.phase.Phase.{Phase}
-use Rattle.rv64_isa.specs.declared.phase.Phase.TheVariants.{Take, Wait, Resume, Run, Done, Ended}
+use Rattle.rv64_isa.specs.declared.phase.Phase.TheVariants.{Run, Done, Ended}
 use Rattle.rv64_isa.specs.Executables.{first_world}
 use Rattle.rv64_isa.specs.Machine.{Hart, World, Outcome, after_event, after_events, reply_to, happens}
-use Rattle.rv64_isa.specs.Schedule.{Steps, steps_along, steps_after, passes_mark, is_running, first_steps}
+use Rattle.rv64_isa.specs.Schedule.{Steps, only_life, steps_along, passes_mark, is_running, first_steps}
 use Rattle.flow_graph.proofs.Public.{get_cases, no_more}
 use Rattle.hart_runs.specs.Calls.{IsInPhase}
 use Rattle.thread_runs.specs.Laws.{FragmentsGoOn}
@@ -22,35 +22,15 @@ use Rattle.crash_simulation.specs.ThreadGhosts.{IsRunningThread, InPhase, on_fra
 use Rattle.crash_simulation.specs.SimulationRelation.{Simulates}
 use Rattle.crash_simulation.specs.Laws.{EventsStand}
 use Rattle.crash_simulation.specs.InstructionSteps.{FragmentsStep, CoresStep, Nears, begins_step, waits, is_nearer, halts}
-use Rattle.crash_simulation.proofs.Public.{calls_step, runs_ready, start_simulates, phase_of, GoesOn, event_goes_on}
+use Rattle.crash_simulation.proofs.Public.{start_simulates, phase_of, GoesOn, event_goes_on, steps_join, worlds_join, and_none, step_of, not_running}
 use Rattle.compiler_correctness.specs.Translations.{HaveNoCrash}
 use Rattle.compiler_correctness.specs.Compilation.{has_stopped}
 use Rattle.compiler_correctness.specs.Delays.{is_active_step, active_steps, has_waited, begun_by, IsStopped, delay}
 use Rattle.compiler_correctness.specs.Laws.{DelaysAreBounded, translation_of}
-use Rattle.compiler_correctness.proofs.OwnStores.{is_run, stands_along}
+use Rattle.compiler_correctness.proofs.ImageWords.{is_run, stands_along}
 use Rattle.compiler_correctness.proofs.MarksReached as nearing
 
--- ---- Along two lists of events
-
-worlds_join : (program : List (List Slot)) (events more : List Event) (w : World) →
-    after_events program w (events ++ more) ≡ after_events program (after_events program w events) more
-worlds_join program [] more w = refl
-worlds_join program (event ∷ events) more w = worlds_join program events more (after_event program w event)
-
-steps_join : (marks : List (List ℕ)) (program : List (List Slot)) (events more : List Event) (w : World) (s : Steps) →
-    steps_along marks program w (events ++ more) s ≡ steps_along marks program (after_events program w events) more (steps_along marks program w events s)
-steps_join marks program [] more w s = refl
-steps_join marks program (event ∷ events) more w s =
-    steps_join marks program events more (after_event program w event) (steps_after marks program w event s)
-
 -- ---- Steps that aren't active
-
-step_of : (g h : ℕ) → Step g ≡ Step h → g ≡ h
-step_of g h e = cc
-
-not_running : (w : World) (h : ℕ) (hart : Hart) → slice_get w.harts h ≡ Some hart → is_running hart.phase ≡ false → IsInPhase w h Run → ⊥
-not_running w h hart here off i =
-    true≢false (sym (ap is_running (ap (λ (x : Hart). x.phase) (same_Some hart i.hart (sym here ∙ i.here)) ∙ i.phase_is)) ∙ off)
 
 module _ (program : List (List Slot)) (w : World) (h : ℕ) where
   abbrev active : Option Hart → Bool
@@ -59,12 +39,8 @@ module _ (program : List (List Slot)) (w : World) (h : ℕ) where
     | Some x ↦ is_running x.phase && not (has_waited (reply_to program w (Step h)))
   ]
 
-  never : (b : Bool) → (b && false) ≡ false
-  never true = refl
-  never false = refl
-
   none_active : (g : ℕ) → active (slice_get w.harts h) ≡ false → is_active_step program w (Step g) h ≡ false
-  none_active g e = ap (λ (b : Bool). (g == h) && b) e ∙ never (g == h)
+  none_active g e = ap (λ (b : Bool). (g == h) && b) e ∙ and_none (g == h)
 
   other_active : (g : ℕ) → (g == h) ≡ false → is_active_step program w (Step g) h ≡ false
   other_active g e = ap (λ (b : Bool). b && active (slice_get w.harts h)) e
@@ -97,12 +73,10 @@ module _ (fragments_step : FragmentsStep) (cores_step : CoresStep) (law : Fragme
       running (at_core o) = let most = o.soon.1 in let same = number in omega (arith, most, same)
 
       by : (p : Phase) → hart.phase ≡ p → IsStopped w h ⊎ (ahead w stands ≤ most_ahead y h)
-      by Take e = inr (rested (of Take e).whole)
-      by Wait e = inr (rested (of Wait e).whole)
-      by Resume e = inr (rested (of Resume e).whole)
       by Run e = inr (running (of Run e))
       by Done e = inl (stopped_by y.runs.program w h hart here Done e refl)
       by Ended e = inl (stopped_by y.runs.program w h hart here Ended e refl)
+      by p e = inr (rested (of p e).whole)
 
   -- ---- What is ahead falls
 
@@ -116,7 +90,7 @@ module _ (fragments_step : FragmentsStep) (cores_step : CoresStep) (law : Fragme
 
   module _ (w : World) (left : ℕ) (near : IsNear w left) where
     abbrev then_near : (event : Event) → GoesOn y s w event near.stands
-    then_near event = event_goes_on runs_ready fragments_step cores_step calls_step law y s w event near.stands
+    then_near event = event_goes_on fragments_step cores_step law y s w event near.stands
 
     -- where as much is ahead as before
     stays : (event : Event) → event ≢ Crash → (event ≡ Step h → IsInPhase w h Run → ⊥) → is_active_step y.runs.program w event h ≡ false → Nearer w event left
@@ -232,4 +206,5 @@ module _ (fragments_step : FragmentsStep) (cores_step : CoresStep) (law : Fragme
 
 pub delays_are_bounded : EventsStand → FragmentsStep → CoresStep → FragmentsGoOn → DelaysAreBounded
 delays_are_bounded stand fragments_step cores_step law y s events more h none many =
-    delays fragments_step cores_step law y s h stand (first_world y.runs) (first_steps (length y.runs.program) []) (start_simulates y s) events more none many
+    delays fragments_step cores_step law y s h stand (first_world y.runs) (first_steps (length y.runs.program) (only_life []))
+    (start_simulates y s) events more none many

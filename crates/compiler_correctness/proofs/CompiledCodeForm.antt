@@ -1,12 +1,11 @@
 -- Compiled code has its form.
-use Rattle.std.proofs.Common.{◌≡◌, ◌≢◌, ◌↔◌, refl, ℕ, ℤ, suc, ◌+◌, ◌-◌, ◌*◌, ◌^◌, ◌<◌, ◌≤◌, List}
-use Rattle.std.proofs.Common.{[], ◌∷◌, length, map, sym, ◌∙◌, ap, subst, arith, zero, pos, ◌++◌}
-use Rattle.std.proofs.Common.{true, false, Option, Some, None}
+use Rattle.std.proofs.Common.{◌≡◌, ◌≢◌, ◌↔◌, refl, ℕ, ℤ, suc, ◌+◌, ◌-◌, ◌*◌, ◌^◌, ◌<◌, ◌≤◌, List, [], ◌∷◌, length, map, sym, ◌∙◌, ap, subst, arith, zero, pos}
+use Rattle.std.proofs.Common.{◌++◌, true, false, Option, Some, None}
 use Rattle.std.specs.Prelude.{slice_get, slice_index, slice_index_or, Contains}
 use Rattle.std.specs.List.Sorted.{IsStrictlyIncreasing}
-use Rattle.std.proofs.lemmas.Option.{none-some, slice_get_within, get_or_from_slice_get}
-use Rattle.thread_code.specs.Plans.{locks_held}
-use Rattle.code_runs.specs.CodeTraces.{Trace}
+use Rattle.std.proofs.lemmas.Option.{slice_get_within, get_or_from_slice_get}
+use Rattle.thread_code.specs.Plans.{locks_held, home_of_colour, Plan, Thread, IsThread, IsNodeOf, IsKept, locks_held_from}
+use Rattle.code_runs.specs.CodeTraces.{Trace, Program, MarkedEnvironment, Meets, Mark, Observation}
 use Rattle.node_code.specs.Pieces.{boundary_observations}
 use Rattle.code_runs.specs.ComputingRuns.{LocalConfig, config}
 use Rattle.boundary_code.specs.Boundaries.{Boundary, IsOnSide}
@@ -16,25 +15,22 @@ use Rattle.std.proofs.lemmas.List.Sums.{sum_by-cons}
 use Rattle.c_tree.specs.Flats as f
 use Rattle.c_tree.specs.LockDiscipline.{Held, holds}
 use Rattle.c_tree.specs.Prices.{thread_price}
-use Rattle.memory_layout.specs.declared.roles.TheConstants.{LOCALS}
 use Rattle.lock_discipline.specs.HeldSetsByStep.{AreSetsOf}
 use Rattle.flow_graph.specs.declared.graph.Part.{Part}
 use Rattle.flow_graph.specs.Actions.{Seen, Gives, effect_of}
-use Rattle.flow_graph.specs.Nodes.{Action, Eval, Store, Test, Lock, Unlock, End, Node, Graph, successors}
+use Rattle.flow_graph.specs.Nodes.{Action, Store, Lock, Unlock, Node, Graph, successors}
 use Rattle.flow_graph.specs.Liveness.{NodeAt, IsLive, AreRegisters, HasNoClash}
 use Rattle.flow_graph.specs.Lowering.{lowered, thread_count, thread_nodes, parts}
 use Rattle.flow_graph.specs.IdempotentCuts.{IsLock, locks, IsUnlock, unlocks, IsStoreNode, IsChosen, AreCuts, AreAtWrites}
 use Rattle.flow_graph.proofs.Public.{length-thread_nodes, found_in}
 use Rattle.region_cutter.specs.LocksAtBoundaries.{ChosenAreLocked}
-use Rattle.code_runs.specs.CodeTraces.{Program, MarkedEnvironment, Meets, Mark, Observation}
 use Rattle.rv64_link.specs.LinkedCode.{AreInstructions, IsInstructionAt}
 use Rattle.rv64_isa.specs.declared.instr.Instr.TheVariants.{Ecall}
 use Rattle.rv64_isa.specs.Programs.{code_of, code_start}
 use Rattle.hart_runs.specs.Laws.{program_at}
 use Rattle.thread_code.specs.Plans as plans
-use Rattle.thread_code.specs.Plans.{Plan, Thread, IsThread, IsNodeOf, IsKept, locks_held_from}
 use Rattle.thread_code.specs.NodeCodeEffects.{Entrance}
-use Rattle.thread_code.specs.RegistersAtNodes.{Enters, IsAnswered, IsPendingIn, source_of}
+use Rattle.thread_code.specs.RegistersAtNodes.{Enters, IsAnswered, source_of}
 use Rattle.thread_code.specs.Programs as c
 use Rattle.thread_code.specs.Programs.{IsOn, IsThreadCode, IsCallWithin, IsCalling, boundary_count, mark_of}
 use Rattle.rv64_codegen.proofs.Public.{price_of, prices, price_thread, IsStoring, threads_are, chosen_stores, end_is, node_in, node_exists, held_there}
@@ -42,10 +38,12 @@ use Rattle.rv64_codegen.proofs.Public.{held_sets}
 use Rattle.log_states.proofs.Public.{contains_first}
 use Rattle.thread_runs.proofs.Public.{plans_are_placed as placed}
 use Rattle.crash_simulation.specs.Systems.{System, IsSystem, flat_of, thread_count as threads_of}
+use Rattle.crash_simulation.proofs.Public.{pending_free}
 use Rattle.compiler_correctness.specs.Translations.{marks_of}
 use Rattle.compiler_correctness.specs.Forms.{Sites, IsAmong, CallsAt, HasNodeForm, holds_some, IsResume, at_chosen, past_lock, past_unlock, HasThreadForm}
-use Rattle.compiler_correctness.specs.Forms.{HasBoundaries, HoldLocals, IsLiveRegister, of_local, of_address, of_value, registers_of, StandsBoundary}
+use Rattle.compiler_correctness.specs.Forms.{HasBoundaries, HoldLocals, IsLiveRegister, of_local, of_address, of_value, homes_by, StandsBoundary}
 use Rattle.compiler_correctness.specs.Laws.{translation_of, CompiledCodeHasForm}
+use Rattle.expr_code.specs.declared.home.Home.{Home}
 
 -- ---- Sets and their locks
 
@@ -73,10 +71,6 @@ through a b d x y = let p = x.is in let q = y.is in record { words = x.words + y
 none_between : (a : ℕ) → IsOn a a
 none_between a = record { words = 0; is = omega arith }
 
--- the next word
-over : (a d : ℕ) → IsOn (a + 4) d → IsOn a d
-over a d x = let p = x.is in record { words = x.words + 1; is = omega (arith, p) }
-
 -- ---- Prices
 
 -- nodes from the one on that are each within their price are together
@@ -100,8 +94,7 @@ program_in y number = program_at y.runs.program number (slice_index_or y.runs.ma
 module _ (locked : ChosenAreLocked) (y : System) (s : IsSystem y) (t : Thread) (of : IsThread y.plan t)
     (code : IsThreadCode y.plan t (program_in y t.number))
     (room : (program_in y t.number).start + 4 * length (program_in y t.number).code < 2 ^ 64) where
-  abbrev p : Plan
-  p = y.plan
+  open y use {plan as p}
 
   graph_is : p.graph ≡ lowered p.flat
   graph_is = s.plan.lowered
@@ -130,12 +123,8 @@ module _ (locked : ChosenAreLocked) (y : System) (s : IsSystem y) (t : Thread) (
 
   mark_on : (a : Action) (node : ℕ) → c.IsWithin code.places a node →
       IsOn (code.places.entry node) (mark_of code.places a node) × IsOn (mark_of code.places a node + 4) (code.places.entry (node + 1))
-  mark_on (Eval target value next) node w = (w.core, w.after_core)
-  mark_on (Store variable kind next) node w = (w.core, w.after_core)
-  mark_on (Test condition holds fails) node w = (w.core, w.after_core)
   mark_on (Lock mutex next) node w = (through _ _ _ w.core w.call.0, through _ _ _ w.call.1 w.call.2)
-  mark_on (Unlock mutex next) node w = (w.core, w.after_core)
-  mark_on End node w = (w.core, w.after_core)
+  mark_on a node w = (w.core, w.after_core)
 
   -- ---- Marks
 
@@ -223,12 +212,8 @@ module _ (locked : ChosenAreLocked) (y : System) (s : IsSystem y) (t : Thread) (
   held = slice_index_or p.held t.number []
 
   core_of : (a : Action) (node : ℕ) → IsStoring p s.plan a → mark_of code.places a node ≡ code.places.core node
-  core_of (Eval target value next) node is = absurd is
   core_of (Store variable kind next) node is = refl
-  core_of (Test condition holds fails) node is = absurd is
-  core_of (Lock mutex next) node is = absurd is
-  core_of (Unlock mutex next) node is = absurd is
-  core_of End node is = absurd is
+  core_of a node is = absurd is
 
   chosen_mark : (node : ℕ) → IsNodeOf t node → IsChosen p.graph p.boundaries node → sites.mark node ≡ code.places.core node
   chosen_mark node own chosen =
@@ -262,7 +247,7 @@ module _ (locked : ChosenAreLocked) (y : System) (s : IsSystem y) (t : Thread) (
   -- ---- Boundaries
 
   abbrev Live : (node register : ℕ) → Type 0
-  Live = IsLiveRegister (translation_of y) t.number of.text t.part held t.registers
+  Live = IsLiveRegister (translation_of y) t.number of.text t.part held t.locals
 
   kind_is : (local : ℕ) → slice_get of.text.locals local ≡ slice_get t.kinds local
   kind_is local = ap (λ (ks : List Kind). slice_get ks local) (sym of.kinds)
@@ -271,13 +256,14 @@ module _ (locked : ChosenAreLocked) (y : System) (s : IsSystem y) (t : Thread) (
   live_there local node live = subst (λ (g : Graph). IsLive g local node) (sym graph_is) live
 
   live_kept : (node register : ℕ) → IsKept p t node register → Live node register
-  live_kept node register (plans.of_local local k there live) =
-      of_local local k (kind_is local ∙ there) (subst (λ (g : Graph). IsLive g local node) graph_is live)
+  live_kept node register (plans.of_local local k own there live at) =
+      of_local local k own (kind_is local ∙ there) (subst (λ (g : Graph). IsLive g local node) graph_is live) at
   live_kept node register (plans.of_address stores) = of_address (subst (λ (g : Graph). IsStoreNode g node) graph_is stores)
   live_kept node register (plans.of_value stores) = of_value (subst (λ (g : Graph). IsStoreNode g node) graph_is stores)
 
   kept_live : (node register : ℕ) → Live node register → IsKept p t node register
-  kept_live node register (of_local local k there live) = plans.of_local local k (sym (kind_is local) ∙ there) (live_there local node live)
+  kept_live node register (of_local local k own there live at) =
+      plans.of_local local k own (sym (kind_is local) ∙ there) (live_there local node live) at
   kept_live node register (of_address stores) = plans.of_address (subst (λ (g : Graph). IsStoreNode g node) (sym graph_is) stores)
   kept_live node register (of_value stores) = plans.of_value (subst (λ (g : Graph). IsStoreNode g node) (sym graph_is) stores)
 
@@ -285,25 +271,17 @@ module _ (locked : ChosenAreLocked) (y : System) (s : IsSystem y) (t : Thread) (
   are_live node own register =
       (λ has. live_kept node register ((code.kept node own register).0 has), λ live. (code.kept node own register).1 (kept_live node register live))
 
-  nothing_owed : (action : Action) (seen : Seen) (x : List ℕ) → seen.pending ≡ None → IsPendingIn p action seen x
-  nothing_owed (Eval target value next) seen x none = tt
-  nothing_owed (Store variable kind next) seen x none = λ store h. absurd (none-some store (sym none ∙ h))
-  nothing_owed (Test condition holds fails) seen x none = tt
-  nothing_owed (Lock mutex next) seen x none = tt
-  nothing_owed (Unlock mutex next) seen x none = tt
-  nothing_owed End seen x none = tt
-
   abbrev seeing : List ℤ → Seen
   seeing locals = record { locals = locals; pending = None; variables = [] }
 
   enters : (node side : ℕ) (locals : List ℤ) (x : List ℕ) →
-      HoldLocals (translation_of y) t.number of.text t.part held t.registers node side locals x → Enters p t node (seeing locals) side x
+      HoldLocals (translation_of y) t.number of.text t.part held t.locals node side locals x → Enters p t node (seeing locals) side x
   enters node side locals x has = record {
     at_side = subst (λ (l : Log). IsOnSide l side x) (sym s.log) has.at_side;
     count = has.count ∙ ap (λ (ks : List Kind). length ks) (sym of.kinds);
     locals = λ local k there live.
         has.live local k (kind_is local ∙ there) (subst (λ (g : Graph). IsLive g local node) graph_is live);
-    pending = λ is at. nothing_owed is.action (seeing locals) x refl;
+    pending = λ is at. pending_free p is.action (seeing locals) x refl;
   }
 
   abbrev entrance : MarkedEnvironment → (node side : ℕ) (locals : List ℤ) (x : List ℕ) → Entrance
@@ -318,7 +296,7 @@ module _ (locked : ChosenAreLocked) (y : System) (s : IsSystem y) (t : Thread) (
       (placed p t code.places p.log (t.number + 1) s.plan of code.kept refl (omega arith) within).closed node next x own at goes
 
   abbrev Stands : (entered node from to resume : ℕ) → List Observation → Type 0
-  Stands = StandsBoundary (translation_of y) t.number of.text t.part held t.registers
+  Stands = StandsBoundary (translation_of y) t.number of.text t.part held t.locals
 
   -- the boundary before a node, of a log
   abbrev boundary_by : Log → (node : ℕ) → Boundary
@@ -388,15 +366,11 @@ module _ (locked : ChosenAreLocked) (y : System) (s : IsSystem y) (t : Thread) (
 
   mark_at_core : (a : Action) (node : ℕ) (x : Node) → NodeAt p.graph node x → x.action ≡ a → ¬ (IsLock (lowered p.flat) node) →
       mark_of code.places a node ≡ code.places.core node
-  mark_at_core (Eval target value next) node x at is other = refl
-  mark_at_core (Store variable kind next) node x at is other = refl
-  mark_at_core (Test condition holds fails) node x at is other = refl
   mark_at_core (Lock mutex next) node x at is other =
       absurd (other (locks x mutex next (subst (λ (g : Graph). NodeAt g node x) graph_is at) is))
-  mark_at_core (Unlock mutex next) node x at is other = refl
-  mark_at_core End node x at is other = refl
+  mark_at_core a node x at is other = refl
 
-  boundaries_at : (node : ℕ) → IsNodeOf t node → HasBoundaries (translation_of y) t.number of.text t.part held t.registers sites node
+  boundaries_at : (node : ℕ) → IsNodeOf t node → HasBoundaries (translation_of y) t.number of.text t.part held t.locals sites node
   boundaries_at node own =
       let there = node_exists p s.plan t of node own in
       let it = code.code node there.0 own there.1 in
@@ -492,10 +466,10 @@ module _ (locked : ChosenAreLocked) (y : System) (s : IsSystem y) (t : Thread) (
       }) in
       ap holds_some (get_or_from_slice_get held step before.0 [] before.1) ∙ one_held before.0 _ here.locked
 
-  registers_are : t.registers ≡ registers_of p.colours t.number
-  registers_are =
-      of.registers
-      ∙ ap (λ (cs : List ℕ). map (λ (colour : ℕ). slice_index LOCALS colour) cs) (sym (get_or_from_slice_get p.colours t.number of.colours [] of.of_colours))
+  homes_are : t.locals ≡ homes_by p.colours t.number
+  homes_are =
+      of.locals
+      ∙ ap (λ (cs : List ℕ). map home_of_colour cs) (sym (get_or_from_slice_get p.colours t.number of.colours [] of.of_colours))
 
   pub formed : HasThreadForm (translation_of y) y.plan.colours t.number of.text
   formed = record {
@@ -510,7 +484,7 @@ module _ (locked : ChosenAreLocked) (y : System) (s : IsSystem y) (t : Thread) (
     ends = code.ends;
     each = λ node among. has_form node (own_of node among);
     boundaries = λ node among.
-        subst (λ (rs : List ℕ). HasBoundaries (translation_of y) t.number of.text t.part held rs sites node) registers_are
+        subst (λ (hs : List Home). HasBoundaries (translation_of y) t.number of.text t.part held hs sites node) homes_are
         (boundaries_at node (own_of node among));
     marks_count = code.marks_count;
     marks_ascend = marks_ascend;

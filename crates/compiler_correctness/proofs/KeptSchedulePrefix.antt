@@ -8,10 +8,12 @@ use Rattle.ido_base.specs.Words.{Word}
 use Rattle.rv64_isa.specs.declared.object.Slot.{Slot}
 use Rattle.rv64_isa.specs.Executables.{first_world}
 use Rattle.rv64_isa.specs.Machine.{World, after_event}
-use Rattle.rv64_isa.specs.Schedule.{Steps, steps_along, steps_after, with_all_kept, with_step, passes_mark, stores_point, first_steps}
+use Rattle.rv64_isa.specs.Schedule.{Steps, only_life, schedules, steps_along, steps_after, with_all_kept, with_step, passes_mark, stores_point, first_steps}
 use Rattle.crash_simulation.proofs.Public.{kept_same}
-use Rattle.compiler_correctness.specs.Compilation.{BeginsWith}
+use Rattle.compiler_correctness.specs.Translations.{steps}
+use Rattle.compiler_correctness.specs.Compilation.{BeginsWith, BeginLives}
 use Rattle.compiler_correctness.specs.Laws.{KeptStepsGrow}
+use Rattle.compiler_correctness.proofs.FirstLife.{no_earlier}
 
 -- ---- Schedules that begin with others
 
@@ -55,5 +57,16 @@ grows : (marks : List (List ℕ)) (program : List (List Slot)) (events more : Li
 grows marks program [] more w s = along_grows marks program more w s
 grows marks program (event ∷ events) more w s = grows marks program events more (after_event program w event) (steps_after marks program w event s)
 
+-- lives before stay, and the last one's schedule grows
+lives_grow : (earlier : List (List ℕ)) (whole prefix : List ℕ) → BeginsWith whole prefix → BeginLives (earlier ++ whole ∷ []) (earlier ++ prefix ∷ [])
+lives_grow [] whole prefix begins = (begins, tt)
+lives_grow (one ∷ rest) whole prefix begins = (itself one, lives_grow rest whole prefix begins)
+
 pub kept_steps_grow : KeptStepsGrow
-kept_steps_grow c events more = grows c.runs.marks c.runs.program events more (first_world c.runs) (first_steps (length c.runs.program) [])
+kept_steps_grow c events more =
+    let first : Steps = first_steps (length c.runs.program) (only_life []) in
+    let later : Steps = steps c (events ++ more) in
+    let same : later.earlier ≡ (steps c events).earlier = no_earlier c (events ++ more) ∙ sym (no_earlier c events) in
+    subst (λ (earlier : List (List ℕ)). BeginLives (earlier ++ later.kept ∷ []) (schedules (steps c events))) (sym same)
+    (lives_grow (steps c events).earlier later.kept (steps c events).kept
+    (grows c.runs.marks c.runs.program events more (first_world c.runs) first))

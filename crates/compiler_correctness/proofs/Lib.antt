@@ -1,16 +1,12 @@
-mod SettledMachines
+mod FirstLife
 mod KeptSchedulePrefix
 mod Sections
 mod AbstractRunAccount
-mod Points
 mod LockCalls
 mod Records
-mod NoPointBetweenSections
 mod MachineLockstep
 mod CompiledCodeForm
 mod ImagesAsCrashes
-mod OwnStores
-mod PaddingUnwritten
 mod ImageWords
 mod MarksReached
 mod BoundedDelay

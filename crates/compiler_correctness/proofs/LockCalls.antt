@@ -1,5 +1,5 @@
 -- At a call that takes a lock, the thread stands at that lock.
-use Rattle.std.proofs.Common.{◌≡◌, ◌⊎◌, inl, inr, refl, ℕ, ◌<◌, List, ap, arith, sym, ◌∙◌, subst, Some, false}
+use Rattle.std.proofs.Common.{◌≡◌, ◌⊎◌, inl, inr, refl, ℕ, List, ap, arith, sym, ◌∙◌, subst, Some, false}
 use Rattle.std.specs.Prelude.{slice_get}
 use Rattle.std.proofs.lemmas.Option.{none-some, same_Some}
 use Rattle.source_machine.specs.Mutexes.{locks}
@@ -15,16 +15,14 @@ use Rattle.hart_runs.specs.Calls.{IsAtCall, IsInPhase, lock_asked}
 use Rattle.recovery_semantics.specs.Configs.{now}
 use Rattle.thread_runs.specs.Laws.{MarksPass}
 use Rattle.thread_runs.specs.CodeFragments.{ExitPoint, Asks, Gives, Ends}
-use Rattle.recovered_threads.specs.RecordDescriptions.{Code}
 use Rattle.recovered_threads.proofs.Public.{same_there}
-use Rattle.crash_simulation.specs.Systems.{System, IsSystem, thread_count}
+use Rattle.crash_simulation.specs.Systems.{System, IsSystem}
 use Rattle.crash_simulation.specs.AbstractRuns.{AbstractRun, now_of}
-use Rattle.crash_simulation.specs.ThreadGhosts.{ThreadGhost, GoesClean, ExitInv, ThreadInv}
+use Rattle.crash_simulation.specs.ThreadGhosts.{GoesClean, ExitInv}
 use Rattle.crash_simulation.specs.SimulationRelation.{AreHeld, IsGiving, Simulates}
 use Rattle.crash_simulation.specs.InstructionSteps as moving
 use Rattle.crash_simulation.specs.InstructionSteps.{OnFragmentNow, thread_of}
-use Rattle.crash_simulation.proofs.Public.{fragment, lock, locks_it, runs_held, runs_ready}
-use Rattle.crash_simulation.proofs.Public.{RunsOn, IsWhere, on_run, at_call, is_where}
+use Rattle.crash_simulation.proofs.Public.{Site, view, same_number, fragment, lock, locks_it, runs_held, runs_ready, RunsOn, IsWhere, on_run, at_call, is_where}
 
 -- no instruction on a run is a call
 pub no_pass : (around : _) (m to : LocalConfig) (instr : Instr) → instr ≡ Ecall → passed around m (row instr m.registers m.pc) ≡ Some to → ⊥
@@ -49,22 +47,9 @@ pub record TakesAs (y : System) (w : World) (b : AbstractRun y) (h : ℕ) (a : I
 abbrev Takes : (y : System) → World → AbstractRun y → (h : ℕ) → Type 0
 Takes y w b h = (a : IsAtCall y.runs.program w h 1) → TakesAs y w b h a
 
-module _ (y : System) (s : IsSystem y) (w : World) (h : ℕ) (stands : Simulates y s w) (below : h < thread_count y)
-    (held : AreHeld w stands.ghosts (now_of y stands.abstract)) where
-  abbrev b : AbstractRun y
-  b = stands.abstract
-
-  abbrev code : Code y.plan
-  code = s.codes.each h below
-
-  abbrev ghost : ThreadGhost
-  ghost = stands.ghosts h
-
-  abbrev thread : ThreadInv y w b code ghost
-  thread = thread_of y s w h stands below
-
-  abbrev n : ℕ
-  n = code.thread.number
+module _ {y : System} {s : IsSystem y} {w : World} {h : ℕ} (site : Site y s w h) (held : AreHeld w site.stands.ghosts (now_of y site.stands.abstract)) where
+  open site use {stands, below}
+  open view site use {b, code, c as ghost, t as thread, n}
 
   -- ---- At the end of a fragment
 
@@ -119,6 +104,6 @@ takes_as marks y s w h stands a =
     let r = runs_ready y s w h stands i in
     let held = (runs_held y s w r.stands.abstract r.stands.ghosts h r.stands.machine.log r.stands.machine.sound i
     r.stands.locks).1 in
-    let takes = subst (λ (k : ℕ). Takes y w r.stands.abstract k) (s.codes.number h r.below)
-    (where_takes y s w h r.stands r.below held (is_where y s w h r.stands r.below marks r.ready)) in
+    let site : Site y s w h = record { stands = r.stands; below = r.below } in
+    let takes = subst (λ (k : ℕ). Takes y w r.stands.abstract k) (same_number site) (where_takes site held (is_where y s w h r.stands r.below marks r.ready)) in
     subst (λ (b : AbstractRun y). TakesAs y w b h a) r.similar.abstract (takes a)

@@ -1,6 +1,5 @@
 -- As long as power stays on, all steps that have begun lead the source to where the machine is.
-use Rattle.std.proofs.Common.{◌≡◌, refl, ℕ, suc, List, [], ◌∷◌, ◌++◌, length, map, ap, arith, sym, ◌∙◌, subst, Bool, true, false, ℤ}
-use Rattle.std.proofs.Common.{◌≢◌, inl, inr, Some}
+use Rattle.std.proofs.Common.{◌≡◌, refl, ℕ, suc, List, [], ◌∷◌, ◌++◌, length, map, ap, arith, sym, ◌∙◌, subst, Bool, true, false, ℤ, ◌≢◌, inl, inr, Some}
 use Rattle.std.proofs.lemmas.Option.{none-some}
 use Rattle.std.proofs.lemmas.List.{append-nil}
 use Rattle.std.specs.Prelude.{slice_index_or, pos}
@@ -13,7 +12,7 @@ use Rattle.source_machine.specs.Mutexes.{unlocks}
 use Rattle.source_machine.proofs.Public.{sizes_stay, goes_on}
 use Rattle.rv64_isa.specs.Executables.{first_world}
 use Rattle.rv64_isa.specs.Machine.{World, after_event, after_events}
-use Rattle.rv64_isa.specs.Schedule.{Steps, passes_mark, stores_point, first_steps, with_step, steps_after, steps_along}
+use Rattle.rv64_isa.specs.Schedule.{Steps, only_life, passes_mark, stores_point, first_steps, with_step, steps_after, steps_along}
 use Rattle.recovery_semantics.specs.ElementHistories.{History, Memory, history_of, live_number}
 use Rattle.recovery_semantics.specs.Attempts.{Attempt}
 use Rattle.recovery_semantics.specs.Configs.{Config, Invariant, now}
@@ -29,9 +28,12 @@ use Rattle.crash_simulation.specs.SimulationRelation.{SimulatesBut, Simulates}
 use Rattle.crash_simulation.specs.InstructionSteps.{IsUnlocked, was_unlocked, begins_unlock, FragmentsStep, CoresStep}
 use Rattle.crash_simulation.specs.AccountRelation.{SimulatesCounted, first_beginning}
 use Rattle.crash_simulation.proofs.Public.{resumed, AreFurthest, counted_by, begun_by, begun_in, Continues, event_goes_on, event_carried, released_by}
-use Rattle.crash_simulation.proofs.Public.{start_counted, runs_ready, calls_step}
-use Rattle.compiler_correctness.specs.Translations.{HaveNoCrash}
-use Rattle.compiler_correctness.specs.Laws.{MachinesKeepStep}
+use Rattle.crash_simulation.proofs.Public.{start_counted}
+use Rattle.variable_words.specs.Variables.{live_variables}
+use Rattle.compiler_correctness.specs.Translations.{Translation, HaveNoCrash, world, steps, source, IsRunnable}
+use Rattle.compiler_correctness.specs.Compilation.{HoldsAsThread}
+use Rattle.compiler_correctness.proofs.FirstLife.{after_none}
+use Rattle.compiler_correctness.specs.Laws.{translation_of, MachinesKeepStep}
 use Rattle.compiler_correctness.proofs.Records.{agree}
 use Rattle.compiler_correctness.proofs.MarksReached.{kept_begun}
 
@@ -138,11 +140,11 @@ module _ (fragments_step : FragmentsStep) (cores_step : CoresStep) (law : Fragme
     event_going : (event : Event) → event ≢ Crash →
         Going y s (after_event y.runs.program w event) (steps_after y.runs.marks y.runs.program w event steps) (released_by y.runs.program w event releases)
     event_going event no_crash =
-        let on = (event_goes_on runs_ready fragments_step cores_step calls_step law y s w event old).on no_crash in
+        let on = (event_goes_on fragments_step cores_step law y s w event old).on no_crash in
         let begun = begun_after y w event no_crash steps in
         let more = goes_on (beginning y) steps.begun (begun_in y w event) going.runs in
         record {
-          carried = event_carried runs_ready fragments_step cores_step calls_step law y s w event steps releases going.carried;
+          carried = event_carried fragments_step cores_step law y s w event steps releases going.carried;
           runs = ap (m.runs_from (beginning y)) begun ∙ (more.runs ∙ (ap (λ (x : m.State). m.runs_from x (begun_in y w event)) going.leads ∙ on.runs));
           leads = ap (m.after_from (beginning y)) begun
               ∙ (more.after ∙ (ap (λ (x : m.State). m.after_from x (begun_in y w event)) going.leads ∙ sym on.source));
@@ -164,7 +166,7 @@ module _ (fragments_step : FragmentsStep) (cores_step : CoresStep) (law : Fragme
       all_going events none _ _ _ (event_going w steps releases going (Evict line mask) (λ e. cc))
   all_going (Crash ∷ events) none w steps releases going = absurd none
 
-start_going : (y : System) (s : IsSystem y) → Going y s (first_world y.runs) (first_steps (length y.runs.program) []) (λ n. 0)
+start_going : (y : System) (s : IsSystem y) → Going y s (first_world y.runs) (first_steps (length y.runs.program) (only_life [])) (λ n. 0)
 start_going y s = record {
   carried = start_counted y s;
   runs = refl;
@@ -181,12 +183,18 @@ pub machines_keep_step : MarksPass → FragmentsStep → CoresStep → Fragments
 machines_keep_step marks fragments_step cores_step law y s events none =
     let going = (all_going fragments_step cores_step law y s events none _ _ _ (start_going y s)).1 in
     let is = going.carried in
+    let c : Translation = translation_of y in
+    let begun : List ℕ = (steps c events).begun in
     record {
-      runs = going.runs;
+      runs = after_none c events (λ (earlier : List (List ℕ)). IsRunnable c (earlier ++ begun ∷ [])) going.runs;
       variables =
-          live_are_memory (flat_of y).variables _ (well_formed_placed (flat_of y) s.plan.formed).room
+          after_none c events (λ (earlier : List (List ℕ)). live_variables (world c events).words c.flat.variables
+          ≡ (source c (earlier ++ begun ∷ [])).variables)
+          (live_are_memory (flat_of y).variables _ (well_formed_placed (flat_of y) s.plan.formed).room
           ∙ (ap (λ (memory : Memory). map (map live_number) memory) is.stands.memory
           ∙ (live_is_now (flat_of y) is.stands.abstract.config (resumed y s is.stands.abstract).resumed.invariant going.furthest
-          ∙ ap (λ (z : m.State). z.variables) (sym going.leads)));
-      locks_agree = λ h hart there. agree y s _ _ is h hart there _ going.leads marks (going.unlocked h);
+          ∙ ap (λ (z : m.State). z.variables) (sym going.leads))));
+      locks_agree = λ h hart there on.
+          after_none c events (λ (earlier : List (List ℕ)). HoldsAsThread c (world c events) (record { earlier = earlier; schedule = begun }) h)
+          (agree y s _ _ is h hart there _ going.leads marks (going.unlocked h) on);
     }

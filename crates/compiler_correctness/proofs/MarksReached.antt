@@ -1,7 +1,7 @@
 -- A hart that nears its next mark passes it, or stops.
-use Rattle.std.proofs.Common.{◌≡◌, ◌≢◌, ◌⊎◌, inl, inr, refl, ℕ, zero, suc, ◌+◌, ◌<◌, ◌≤◌, List, [], ◌∷◌, length, sym, ◌∙◌, ap, arith, subst, Bool}
-use Rattle.std.proofs.Common.{true, false, Option}
-use Rattle.std.specs.Prelude.{◌==◌, filter, if◌then◌else◌}
+use Rattle.std.proofs.Common.{◌≡◌, ◌≢◌, ◌⊎◌, inl, inr, refl, ℕ, zero, suc, ◌+◌, ◌<◌, ◌≤◌, List, [], ◌∷◌, length, sym, ◌∙◌, ap, arith, subst, Bool, true, false}
+use Rattle.std.proofs.Common.{Option}
+use Rattle.std.specs.Prelude.{◌==◌, filter}
 use Rattle.std.proofs.lemmas.Bool.{cases_eq, true≢false}
 use Rattle.std.proofs.lemmas.List.Elements.{filter-append}
 use Rattle.std.proofs.Math.ListN.{length-append}
@@ -12,14 +12,16 @@ use Rattle.ido_base.specs.Words.{Word, last_position, word_at}
 use Rattle.ido_base.specs.Layout.{word_number, point_at}
 use Rattle.rv64_isa.specs.declared.object.Slot.{Slot}
 use Rattle.rv64_isa.specs.declared.phase.Phase.{Phase}
-use Rattle.rv64_isa.specs.declared.phase.Phase.TheVariants.{Take, Wait, Resume, Run, Done, Ended}
+use Rattle.rv64_isa.specs.declared.phase.Phase.TheVariants.{Done, Ended}
 use Rattle.rv64_isa.specs.Machine.{Hart, World, after_event, after_events, happens, phase_step, stepped}
 use Rattle.rv64_isa.specs.Frames.{IsWellFormedWorld}
-use Rattle.rv64_isa.specs.Schedule.{Steps, with_begun, with_bound, with_step, with_all_kept, steps_after, steps_along, passes_mark, stores_point}
+use Rattle.rv64_isa.specs.Schedule.{Steps, with_begun, with_step, with_all_kept, steps_after, steps_along, passes_mark, stores_point}
 use Rattle.rv64_isa.proofs.Public.{queues_stand, steps_touch}
 use Rattle.compiler_correctness.specs.Translations.{HaveNoCrash}
 use Rattle.compiler_correctness.specs.Compilation.{has_stopped}
 use Rattle.compiler_correctness.specs.Delays.{is_active_step, active_steps, IsStopped, begun_by}
+use Rattle.crash_simulation.specs.ReleasedSections.{one_if}
+use Rattle.crash_simulation.proofs.Public.{counted_by, at_most_one}
 
 -- the account of begun steps grows by the events, or the hart has stopped in the end
 abbrev pub GetsOn : (marks : List (List ℕ)) (program : List (List Slot)) (h : ℕ) → World → Steps → List Event → Type 0
@@ -30,10 +32,6 @@ GetsOn marks program h w s more = (begun_by s h < begun_by (steps_along marks pr
 pub kept_begun : (log : Log) (words : List Word) (count : ℕ) (s : Steps) → (with_all_kept log words count s).begun ≡ s.begun
 kept_begun log words zero s = refl
 kept_begun log words (suc h) s = kept_begun log words h s
-
-abbrev counted_by : (begun points : Bool) → (g position : ℕ) → Steps → Steps
-counted_by begun points g position s =
-    let started = if begun then with_begun g s else s in if points then with_bound g position started else started
 
 begun_more : (h g : ℕ) (s : Steps) → begun_by (with_begun g s) h ≡ begun_by s h + length (filter (λ x. x == h) (g ∷ []))
 begun_more h g s =
@@ -93,10 +91,7 @@ module _ (marks : List (List ℕ)) (program : List (List Slot)) (h : ℕ) where
   still_by : (w : World) (hart : Hart) (phase : Phase) → has_stopped phase ≡ true → (phase_step program w h hart phase).0 ≡ w
   still_by w hart Done e = refl
   still_by w hart Ended e = refl
-  still_by w hart Run e = absurd (true≢false (sym e))
-  still_by w hart Take e = absurd (true≢false (sym e))
-  still_by w hart Wait e = absurd (true≢false (sym e))
-  still_by w hart Resume e = absurd (true≢false (sym e))
+  still_by w hart phase e = absurd (true≢false (sym e))
 
   still : (w : World) (s : IsStopped w h) → after_event program w (Step h) ≡ w
   unfolding happens
@@ -142,16 +137,6 @@ module _ (marks : List (List ℕ)) (program : List (List Slot)) (h : ℕ) where
   later w event events s (inl more) = let first = after_more w event s in inl (omega (arith, more, first))
   later w event events s (inr stopped) = inr stopped
 
-  abbrev one_if : Bool → ℕ
-  one_if b = if b then 1 else 0
-
-  none_if : (b : Bool) → b ≡ false → one_if b ≡ 0
-  none_if b e = ap one_if e
-
-  at_most_one : (b : Bool) → one_if b ≤ 1
-  at_most_one true = omega arith
-  at_most_one false = omega arith
-
   module _ (Near : World → ℕ → Type 0)
       (falls : (w : World) (event : Event) (left : ℕ) → event ≢ Crash → Near w left → GetsNearer Near w event left) where
     pub gets_on : (more : List Event) (w : World) (s : Steps) (left : ℕ) → length program ≡ length w.harts → IsWellFormedWorld w →
@@ -164,7 +149,7 @@ module _ (marks : List (List ℕ)) (program : List (List Slot)) (h : ℕ) where
         let then_count = count ∙ sym next.1 in
         elim (falls w event left both.0 near) [
           | idles idle then_near ↦
-              let zero_here = none_if (is_active_step program w event h) idle in
+              let zero_here = ap one_if idle in
               later w event events s (gets_on events (after_event program w event) (steps_after marks program w event s) left then_count next.0 both.1 then_near
               (omega (arith, many, zero_here)))
           | nears less is then_near ↦

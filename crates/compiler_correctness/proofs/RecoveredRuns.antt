@@ -10,8 +10,8 @@ use Rattle.crash_simulation.proofs.Public.{resumed}
 use Rattle.compiler_correctness.specs.Images.{first_from}
 use Rattle.compiler_correctness.specs.Laws.{RecoveredWordsRunOn, RecoveredWordsSettle, translation_of}
 use Rattle.compiler_correctness.proofs.BoundedDelay.{delays}
-use Rattle.compiler_correctness.proofs.OwnStores.{stands_along}
-use Rattle.compiler_correctness.proofs.SettledMachines.{kept_between, settled_variables}
+use Rattle.compiler_correctness.proofs.ImageWords.{stands_along}
+use Rattle.compiler_correctness.proofs.AbstractRunAccount.{kept_between, settled_variables}
 
 pub recovered_words_run_on : NoneIsStuck → TakesMove → EventsStand → FragmentsStep → CoresStep → FragmentsGoOn → RecoveredWordsSimulate → RecoveredWordsRunOn
 recovered_words_run_on stuck takes stand fragments_step cores_step law simulate y s o image is =
@@ -31,7 +31,7 @@ recovered_words_settle counted y s o image is events =
     let begins = resumes.counted.begins in
     record {
       schedule = b.schedule;
-      kept = resumes.counted.kept;
+      kept = λ i. record { earlier = resumes.counted.earlier i; schedule = resumes.counted.kept i };
       runs = ap (λ (from : State). runs_from from b.schedule) (sym begins) ∙ kept.runs;
       between = λ settled thread.
           ap (λ (from : State). is_between (after_from from b.schedule) thread) (sym begins)

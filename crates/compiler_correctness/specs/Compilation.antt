@@ -14,20 +14,21 @@ use Rattle.rv64_isa.specs.declared.phase.Phase.{Phase}
 use Rattle.rv64_isa.specs.declared.phase.Phase.TheVariants.{Take, Wait, Resume, Run, Done, Ended}
 use Rattle.rv64_isa.specs.Executables.{first_world}
 use Rattle.rv64_isa.specs.Machine.{World, Hart, after_event, reply_to, live_at, durable_point, resume_of, record_of}
-use Rattle.rv64_isa.specs.Schedule.{is_settled, released_count}
+use Rattle.rv64_isa.specs.Schedule.{LifeSchedules, all_lives, schedules, is_settled, released_count}
 use Rattle.hart_runs.specs.Calls.{IsAtCall, lock_asked}
 use Rattle.recovery_semantics.specs.Laws.{LastUnlocks}
 use Rattle.variable_words.specs.Variables.{live_variables, durable_variables}
-use Rattle.compiler_correctness.specs.Translations.{Translation, world, steps, now, source, IsRunnable, resumes_of}
+use Rattle.compiler_correctness.specs.Translations.{Translation, world, steps, begun, now, source, source_at, IsRunnable, resumes_of}
 
 -- ---- Settled machines
 
--- the source can be stepped by all kept steps; and where all harts stand between sections, so do all threads after these, and the durable variables are theirs
+-- the source can be stepped by all kept schedules; and where all harts stand between sections, so do all threads after these, and the durable variables are
+-- theirs
 pub record IsSettledAsKept (c : Translation) (events : List Event) : Type 0 where
-  pub runs : IsRunnable c (steps c events).kept
-  pub between : is_settled (world c events) ≡ true → (thread : ℕ) → is_between (source c (steps c events).kept) thread ≡ true
+  pub runs : IsRunnable c (schedules (steps c events))
+  pub between : is_settled (world c events) ≡ true → (thread : ℕ) → is_between (source c (schedules (steps c events))) thread ≡ true
   pub variables : is_settled (world c events) ≡ true →
-      durable_variables (world c events).words c.flat.variables ≡ (source c (steps c events).kept).variables
+      durable_variables (world c events).words c.flat.variables ≡ (source c (schedules (steps c events))).variables
 
 -- ---- Kept steps
 
@@ -36,15 +37,21 @@ pub record BeginsWith (whole prefix : List ℕ) : Type 0 where
   pub rest : List ℕ
   pub is : whole ≡ prefix ++ rest
 
--- no kept step is lost, whatever happens next
+-- each schedule of the one begins with the same life's of the other, and more lives may come after these
+abbrev pub BeginLives : (whole prefix : List (List ℕ)) → Type 0
+BeginLives whole [] = Unit {0}
+BeginLives [] (prefix ∷ rest) = ⊥
+BeginLives (whole ∷ more) (prefix ∷ rest) = BeginsWith whole prefix × BeginLives more rest
+
+-- no kept step of any life is lost, whatever happens next
 abbrev pub KeptScheduleGrows : Translation → List Event → Type 0
-KeptScheduleGrows c events = (more : List Event) → BeginsWith (steps c (events ++ more)).kept (steps c events).kept
+KeptScheduleGrows c events = (more : List Event) → BeginLives (schedules (steps c (events ++ more))) (schedules (steps c events))
 
 -- ---- Kept sections
 
--- sections of the thread that have ended by the kept schedule, and releases that have left its hart holding nothing
+-- sections of the thread that have ended in this life by its kept schedule, and releases that have left its hart holding nothing
 abbrev pub sections_kept : Translation → List Event → (thread : ℕ) → ℕ
-sections_kept c events thread = m.ended_from (m.start c.flat) (steps c events).kept thread
+sections_kept c events thread = m.ended_from (source_at c (steps c events).earlier) (steps c events).kept thread
 
 abbrev pub sections_released : Translation → List Event → (hart : ℕ) → ℕ
 sections_released c events hart = released_count c.runs.program (first_world c.runs) events hart
@@ -71,19 +78,19 @@ ThreadHolds s thread mutex = slice_get s.holders mutex ≡ Some (Some thread)
 abbrev pub HartHolds : World → (hart lock : ℕ) → Type 0
 HartHolds w hart lock = slice_get w.holders lock ≡ Some (Some hart)
 
--- the thread's last step of the schedule has unlocked the mutex, which is free then
-pub record HasJustUnlocked (c : Translation) (schedule : List ℕ) (thread mutex : ℕ) : Type 0 where
-  pub last : LastUnlocks (m.start c.flat) schedule thread mutex
-  pub free : slice_get (source c schedule).holders mutex ≡ Some None
+-- the thread's last step of the last life has unlocked the mutex, which is free then
+pub record HasJustUnlocked (c : Translation) (lives : LifeSchedules) (thread mutex : ℕ) : Type 0 where
+  pub last : LastUnlocks (source_at c lives.earlier) lives.schedule thread mutex
+  pub free : slice_get (source c (all_lives lives)).holders mutex ≡ Some None
 
--- hart h holds what its thread holds after the schedule, and beside that at most the mutex of an unlock that is the thread's last step, whose release is
--- under way
-pub record HoldsAsThread (c : Translation) (w : World) (schedule : List ℕ) (h : ℕ) : Type 0 where
-  pub held : (lock : ℕ) → ThreadHolds (source c schedule) h lock → HartHolds w h lock
-  pub holds : (lock : ℕ) → HartHolds w h lock → ThreadHolds (source c schedule) h lock ⊎ HasJustUnlocked c schedule h lock
+-- hart h holds what its thread holds after the lives, and beside that at most the mutex of an unlock that is the thread's last step, whose release is under
+-- way
+pub record HoldsAsThread (c : Translation) (w : World) (lives : LifeSchedules) (h : ℕ) : Type 0 where
+  pub held : (lock : ℕ) → ThreadHolds (source c (all_lives lives)) h lock → HartHolds w h lock
+  pub holds : (lock : ℕ) → HartHolds w h lock → ThreadHolds (source c (all_lives lives)) h lock ⊎ HasJustUnlocked c lives h lock
   -- at a call that takes a lock or waits for it, its thread stands at that lock, and it holds nothing else than its thread does
-  pub taking : (a : IsAtCall c.runs.program w h 1) → locks (source c schedule) h ≡ Some (lock_asked a.hart)
-  pub holds_only : IsAtCall c.runs.program w h 1 → (lock : ℕ) → HartHolds w h lock → ThreadHolds (source c schedule) h lock
+  pub taking : (a : IsAtCall c.runs.program w h 1) → locks (source c (all_lives lives)) h ≡ Some (lock_asked a.hart)
+  pub holds_only : IsAtCall c.runs.program w h 1 → (lock : ℕ) → HartHolds w h lock → ThreadHolds (source c (all_lives lives)) h lock
 
 -- the hart executes instructions, or has ended
 abbrev pub IsOn : Hart → Type 0
@@ -93,10 +100,9 @@ IsOn hart = (hart.phase ≡ Run) ⊎ (hart.phase ≡ Ended)
 
 -- the source can be stepped by all steps that have begun: memory has the variables that it has then, and harts hold what their threads do
 pub record IsInStep (c : Translation) (events : List Event) : Type 0 where
-  pub runs : IsRunnable c (steps c events).begun
-  pub variables : live_variables (world c events).words c.flat.variables ≡ (source c (steps c events).begun).variables
-  pub locks_agree : (h : ℕ) (hart : Hart) → slice_get (world c events).harts h ≡ Some hart → IsOn hart →
-      HoldsAsThread c (world c events) (steps c events).begun h
+  pub runs : IsRunnable c (all_lives (begun c events))
+  pub variables : live_variables (world c events).words c.flat.variables ≡ (source c (all_lives (begun c events))).variables
+  pub locks_agree : (h : ℕ) (hart : Hart) → slice_get (world c events).harts h ≡ Some hart → IsOn hart → HoldsAsThread c (world c events) (begun c events) h
 
 -- ---- Records, and where recovery resumes
 
@@ -108,9 +114,9 @@ NamesResume c h point = point ≢ 0 → Contains (resumes_of c h) (resume_of poi
 pub record IsRecorded (c : Translation) (events : List Event) (h : ℕ) (hart : Hart) : Type 0 where
   -- what it holds that executes instructions, in recovery too, or has ended
   pub locks_agree : IsOn hart → HoldsAsThread c (world c events) (now c events) h
-  -- the hart's record is the set that its thread holds by the kept schedule
+  -- the hart's record is the set that its thread holds by the kept schedules
   pub record_is : (lock : ℕ) → (has_lock (record_of (world c events).log (world c events).words h) lock ≡ true)
-      ↔ ThreadHolds (source c (steps c events).kept) h lock
+      ↔ ThreadHolds (source c (schedules (steps c events))) h lock
   -- the hart's record shares no lock with another's
   pub apart : (g lock : ℕ) → g < length c.runs.program → g ≢ h → has_lock (record_of (world c events).log (world c events).words h) lock ≡ true →
       has_lock (record_of (world c events).log (world c events).words g) lock ≡ false
@@ -122,8 +128,8 @@ pub record IsRecorded (c : Translation) (events : List Event) (h : ℕ) (hart : 
 
 pub record AreRecords (c : Translation) (events : List Event) : Type 0 where
   -- the source can be stepped by all kept steps, and after them by those begun since
-  pub kept : IsRunnable c (steps c events).kept
-  pub now_runs : IsRunnable c (now c events)
+  pub kept : IsRunnable c (schedules (steps c events))
+  pub now_runs : IsRunnable c (all_lives (now c events))
   pub each : (h : ℕ) (hart : Hart) → slice_get (world c events).harts h ≡ Some hart → IsRecorded c events h hart
 
 -- ---- No hart is ever stuck
@@ -153,7 +159,7 @@ pub record HasEnded (s : m.State) (thread : ℕ) : Type 0 where
 
 -- between sections a thread has no point
 pub record IsWhole (c : Translation) (events : List Event) (h : ℕ) (hart : Hart) : Type 0 where
-  pub ended : hart.phase ≡ Ended → HasEnded (source c (now c events)) h
+  pub ended : hart.phase ≡ Ended → HasEnded (source c (all_lives (now c events))) h
   pub no_live_point : IsOutside (world c events) h hart → live_at (world c events).words (point_at (world c events).log h) ≡ 0
   pub no_durable_point : IsOutside (world c events) h hart → durable_point (world c events).log (world c events).words h ≡ 0
   -- a hart whose record has no lock has no durable point

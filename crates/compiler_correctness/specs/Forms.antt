@@ -1,5 +1,5 @@
 -- The form of compiled code: the code of each thread is that of its nodes, one after another, and boundaries stand where the graph is cut.
-use Rattle.std.specs.Prelude.{◌≡◌, ◌↔◌, ℕ, ℤ, pos, ◌+◌, ◌-◌, ◌*◌, ◌<◌, ◌≤◌, List, [], ◌∷◌, ◌++◌, length, slice_get, slice_index, slice_index_or, Contains}
+use Rattle.std.specs.Prelude.{◌≡◌, ◌↔◌, ℕ, ℤ, pos, ◌+◌, ◌-◌, ◌*◌, ◌<◌, ◌≤◌, List, [], ◌∷◌, ◌++◌, length, slice_get, slice_index_or, Contains}
 use Rattle.std.specs.Prelude.{Some, Bool, true, map}
 use Rattle.std.specs.List.{list_any}
 use Rattle.std.specs.List.Sorted.{IsStrictlyIncreasing}
@@ -12,10 +12,8 @@ use Rattle.rv64_isa.specs.declared.instr.Instr.TheVariants.{Ecall}
 use Rattle.rv64_isa.specs.Programs.{code_of, code_start}
 use Rattle.rv64_link.specs.LinkedCode.{IsInstructionAt, AreInstructions}
 use Rattle.c_tree.specs.WellFormed.{shape_of, initial_numbers}
-use Rattle.memory_layout.specs.declared.roles.TheConstants.{LOCALS}
 use Rattle.memory_layout.specs.Roles.{pending_address, pending_value}
 use Rattle.memory_layout.specs.Variables.{AreInitial}
-use Rattle.operator_code.specs.ComputingCode.{Carries}
 use Rattle.boundary_code.specs.Boundaries.{IsOnSide}
 use Rattle.node_code.specs.Pieces.{boundary_observations}
 use Rattle.code_runs.specs.ComputingRuns.{config}
@@ -30,7 +28,10 @@ use Rattle.flow_graph.specs.IdempotentCuts.{IsLock, IsUnlock, IsStoreNode, IsCho
 use Rattle.hart_runs.specs.Laws.{program_at}
 use Rattle.thread_code.specs.Programs.{boundary_count, IsOn}
 use Rattle.compiler_correctness.specs.Translations.{Translation, marks_of, resumes_of}
-use Rattle.thread_code.specs.Plans.{locks_held}
+use Rattle.thread_code.specs.Plans.{locks_held, home_of_colour}
+use Rattle.expr_code.specs.declared.home.Home.{Home}
+use Rattle.expr_code.specs.declared.home.Home.TheVariants.{InRegister}
+use Rattle.expr_code.specs.EvaluationCode.{home_of, HomeCarries}
 
 -- ---- The code of a thread's nodes
 
@@ -72,11 +73,11 @@ module _ (c : Translation) (thread : ℕ) (part : Part) (s : Sites) where
 
 -- ---- What boundaries store
 
-module _ (c : Translation) (thread : ℕ) (text : f.Thread) (part : Part) (held : List Held) (registers : List ℕ) where
-  -- a register that is live at the entry of a node: a live local's, or before a store one of the two that have its address and its number
+module _ (c : Translation) (thread : ℕ) (text : f.Thread) (part : Part) (held : List Held) (homes : List Home) where
+  -- a register that is live at the entry of a node: the home of a live local, or before a store one of the two that have its address and its number
   pub data IsLiveRegister (node : ℕ) : (register : ℕ) → Type 0 where
-    of_local : (local : ℕ) (k : Kind) → slice_get text.locals local ≡ Some k → IsLive (lowered c.flat) local node →
-        IsLiveRegister node (slice_index registers local)
+    of_local : (local : ℕ) (k : Kind) (register : ℕ) → slice_get text.locals local ≡ Some k → IsLive (lowered c.flat) local node →
+        home_of homes local ≡ InRegister register → IsLiveRegister node register
     of_address : IsStoreNode (lowered c.flat) node → IsLiveRegister node pending_address
     of_value : IsStoreNode (lowered c.flat) node → IsLiveRegister node pending_value
 
@@ -85,7 +86,7 @@ module _ (c : Translation) (thread : ℕ) (text : f.Thread) (part : Part) (held 
     pub at_side : IsOnSide c.runs.log side values
     pub count : length locals ≡ length text.locals
     pub live : (local : ℕ) (k : Kind) → slice_get text.locals local ≡ Some k → IsLive (lowered c.flat) local node →
-        Carries values (slice_index registers local) (typed k (slice_index_or locals local (pos 0)))
+        HomeCarries values (home_of homes local) (typed k (slice_index_or locals local (pos 0)))
 
   -- From the one address to the other stands the boundary after which the thread is at a node, where it may be resumed at an address. Whatever its locals are,
   -- the code leads from the one to the other, and what is seen of that is the boundary: the side that the point doesn't name gets the mutexes held before the
@@ -128,9 +129,9 @@ pub data IsResume (c : Translation) (part : Part) (held : List Held) (s : Sites)
 
 -- ---- Threads
 
--- of each local of a thread its register, by its number among those of locals
-abbrev pub registers_of : Colouring → (thread : ℕ) → List ℕ
-registers_of colours thread = map (λ (colour : ℕ). slice_index LOCALS colour) (slice_index_or colours thread [])
+-- where each local of a thread stands, by its colour
+abbrev pub homes_by : Colouring → (thread : ℕ) → List Home
+homes_by colours thread = map home_of_colour (slice_index_or colours thread [])
 
 pub record HasThreadForm (c : Translation) (colours : Colouring) (thread : ℕ) (text : f.Thread) : Type 0 where
   -- the thread's nodes, and the mutexes that are held before each
@@ -146,7 +147,7 @@ pub record HasThreadForm (c : Translation) (colours : Colouring) (thread : ℕ) 
   pub ends : sites.start part.end ≡ code_start c.runs.program thread + 4 * length (code_of c.runs.program thread)
   pub each : (node : ℕ) → IsAmong part node → HasNodeForm c thread part sites node
   -- where boundaries stand, and what they store
-  pub boundaries : (node : ℕ) → IsAmong part node → HasBoundaries c thread text part held (registers_of colours thread) sites node
+  pub boundaries : (node : ℕ) → IsAmong part node → HasBoundaries c thread text part held (homes_by colours thread) sites node
   -- each node has one mark, and so they ascend
   pub marks_count : length (marks_of c thread) ≡ part.end - part.first
   pub marks_ascend : IsStrictlyIncreasing (marks_of c thread)

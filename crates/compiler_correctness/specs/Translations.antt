@@ -8,7 +8,8 @@ use Rattle.rv64_isa.specs.declared.object.Object.{Object}
 use Rattle.rv64_isa.specs.declared.object.Marks.{Marks}
 use Rattle.rv64_isa.specs.Executables.{Executable, executable_of, first_world}
 use Rattle.rv64_isa.specs.Machine.{World, after_events}
-use Rattle.rv64_isa.specs.Schedule.{Steps, steps_along, first_steps}
+use Rattle.rv64_isa.specs.Schedule.{Steps, LifeSchedules, only_life, steps_along, first_steps}
+use Rattle.source_machine.specs.Lives.{after_lives, runs_lives, begun_after}
 use Rattle.flow_graph.specs.declared.cuts.Cuts.{Cuts}
 use Rattle.flow_graph.specs.IdempotentCuts.{Boundaries, boundaries_of}
 
@@ -43,16 +44,24 @@ module _ (c : Translation) where
 
   -- the steps of the source that are begun and kept then
   abbrev pub steps : List Event → Steps
-  steps events = steps_along c.runs.marks c.runs.program (first_world c.runs) events (first_steps (length c.runs.program) [])
+  steps events = steps_along c.runs.marks c.runs.program (first_world c.runs) events (first_steps (length c.runs.program) (only_life []))
 
-  -- the steps that are kept, and after them those begun since the start or the last crash and not kept
-  abbrev pub now : List Event → List ℕ
-  now events = (steps events).kept ++ (steps events).pending
+  -- the kept schedules of the lives before, and all steps that are begun in this one
+  abbrev pub begun : List Event → LifeSchedules
+  begun events = record { earlier = (steps events).earlier; schedule = (steps events).begun }
 
-  -- the source after a schedule
-  abbrev pub source : (schedule : List ℕ) → m.State
-  source schedule = m.after_from (m.start c.flat) schedule
+  -- the kept schedules, the last one followed by the steps begun since this life's start or the last crash and not kept
+  abbrev pub now : List Event → LifeSchedules
+  now events = record { earlier = (steps events).earlier; schedule = (steps events).kept ++ (steps events).pending }
 
-  -- the source can be stepped by the whole schedule
-  abbrev pub IsRunnable : (schedule : List ℕ) → Type 0
-  IsRunnable schedule = m.runs_from (m.start c.flat) schedule ≡ true
+  -- the source, run by the schedules one after another, its threads begun anew at each
+  abbrev pub source : (schedules : List (List ℕ)) → m.State
+  source schedules = after_lives c.flat (m.start c.flat) schedules
+
+  -- the source can be stepped by the whole of each schedule, and each but the last leaves every thread between sections
+  abbrev pub IsRunnable : (schedules : List (List ℕ)) → Type 0
+  IsRunnable schedules = runs_lives c.flat (m.start c.flat) schedules ≡ true
+
+  -- the source where the life after those begins
+  abbrev pub source_at : (earlier : List (List ℕ)) → m.State
+  source_at earlier = begun_after c.flat (m.start c.flat) earlier

@@ -7,7 +7,7 @@ use Rattle.ido_base.specs.declared.event.Cause.{Cause}
 use Rattle.c_tree.specs.Source.{State, after_from, is_between, runs_from}
 use Rattle.rv64_isa.specs.declared.phase.Phase.TheVariants.{Take}
 use Rattle.rv64_isa.specs.Machine.{reply_to}
-use Rattle.rv64_isa.specs.Schedule.{is_settled}
+use Rattle.rv64_isa.specs.Schedule.{kept_lives, is_settled}
 use Rattle.hart_runs.specs.Calls.{IsInPhase}
 use Rattle.variable_words.specs.Variables.{durable_variables}
 use Rattle.compiler_correctness.specs.Translations.{Translation, HaveNoCrash}
@@ -32,7 +32,7 @@ module _ (c : Translation) (image : Image) where
   -- these, and the durable variables are theirs
   pub record SettlesFrom (from : State) (events : List Event) : Type 0 where
     pub schedule : List ℕ
-    pub kept : (steps_from c image events).kept ≡ image.kept ++ schedule
+    pub kept : kept_lives (steps_from c image events) ≡ record { earlier = image.kept.earlier; schedule = image.kept.schedule ++ schedule }
     pub runs : runs_from from schedule ≡ true
     pub between : is_settled (world_from c image events) ≡ true → (thread : ℕ) → is_between (after_from from schedule) thread ≡ true
     pub variables : is_settled (world_from c image events) ≡ true →

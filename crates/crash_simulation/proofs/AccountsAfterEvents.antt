@@ -1,7 +1,7 @@
 -- The machine simulates an abstract run after all events, and its account is that run's.
-use Rattle.std.proofs.Common.{◌≡◌, ◌≢◌, ◌⊎◌, inl, inr, refl, ℕ, zero, suc, ◌+◌, ◌<◌, ◌≤◌, Bool, arith, List, [], ◌∷◌, ◌++◌, length, sym, ◌∙◌}
-use Rattle.std.proofs.Common.{ap, ap₂, subst, true, false, Option, Some, None}
-use Rattle.std.specs.Prelude.{slice_get}
+use Rattle.std.proofs.Common.{◌≡◌, ◌≢◌, inl, inr, refl, ℕ, suc, ◌+◌, ◌<◌, ◌≤◌, Bool, arith, List, [], ◌∷◌, ◌++◌, length, sym, ◌∙◌, ap, ap₂, subst, true, false}
+use Rattle.std.proofs.Common.{Option, Some, None}
+use Rattle.std.specs.Prelude.{slice_get, not, ◌&&◌, ◌==◌}
 use Rattle.std.proofs.lemmas.Bool.{true≢false}
 use Rattle.rv64_isa.proofs.Public.{log_stays}
 use Rattle.ido_base.specs.declared.event.Event.{Event}
@@ -9,66 +9,59 @@ use Rattle.ido_base.specs.declared.event.Event.TheVariants.{Step, Evict, Crash}
 use Rattle.ido_base.specs.Words.{last_position}
 use Rattle.rv64_isa.specs.declared.phase.Phase.{Phase}
 use Rattle.rv64_isa.specs.declared.phase.Phase.TheVariants.{Take, Wait, Resume, Run, Done, Ended}
-use Rattle.rv64_isa.specs.Executables.{first_world}
-use Rattle.rv64_isa.specs.Machine.{Hart, World, stepped, happens, after_event, after_events}
-use Rattle.rv64_isa.specs.Schedule.{Steps, is_running, completing, passes_mark, stores_point, with_step, with_all_kept, steps_after, steps_along}
-use Rattle.rv64_isa.specs.Schedule.{releases_last, released_count}
+use Rattle.rv64_isa.specs.Machine.{Hart, World, stepped, happens, after_event, after_events, durable_point}
+use Rattle.rv64_isa.specs.Schedule.{Steps, is_running, completing, passes_mark, stores_point, with_step, with_all_kept, steps_after, steps_along, releases_last}
+use Rattle.rv64_isa.specs.Schedule.{released_count}
 use Rattle.recovery_semantics.specs.Configs.{now}
 use Rattle.log_states.specs.Logs.{point_in}
 use Rattle.code_runs.specs.CodeTraces.{Program}
 use Rattle.hart_runs.specs.Calls.{IsInPhase}
-use Rattle.thread_runs.specs.CodeFragments.{ExitPoint, Stage, IsOnFragment, on_machine}
+use Rattle.thread_runs.specs.CodeFragments.{ExitPoint, IsOnFragment, on_machine}
 use Rattle.thread_runs.specs.Laws.{AreMarksOf, FragmentsGoOn}
-use Rattle.flow_graph.specs.Actions.{seen_by}
-use Rattle.recovered_threads.specs.RecordDescriptions.{Code}
-use Rattle.crash_simulation.specs.Systems.{System, IsSystem, thread_count}
-use Rattle.crash_simulation.specs.AbstractRuns.{AbstractRun, now_of}
-use Rattle.crash_simulation.specs.ThreadGhosts.{ThreadGhost, ExitInv, ThreadInv}
+use Rattle.crash_simulation.specs.Systems.{System, IsSystem, thread_count, flat_of}
+use Rattle.crash_simulation.specs.AbstractRuns.{AbstractRun, kept_of}
+use Rattle.crash_simulation.specs.ThreadGhosts.{ThreadGhost, ExitInv}
 use Rattle.crash_simulation.specs.SimulationRelation.{SimulatesBut, Simulates, anybody}
 use Rattle.crash_simulation.specs.InstructionSteps.{is_bound, is_leaving, begins, IsUnlocked, was_unlocked, OnFragmentNow, IsCalling, asks, gives, ends}
-use Rattle.crash_simulation.specs.InstructionSteps.{IsReadyToStep, on_fragment, calls, at_core, OwnStep}
-use Rattle.crash_simulation.specs.InstructionSteps.{RunsReady, FragmentsStep, CoresStep, CallsStep, Nears, begins_step, waits, is_nearer, halts}
-use Rattle.crash_simulation.specs.AccountRelation.{AreCounted, SimulatesCounted, MachinesResume, Beginning}
+use Rattle.crash_simulation.specs.InstructionSteps.{IsReadyToStep, on_fragment, calls, at_core, OwnStep, FragmentsStep, CoresStep, Nears}
+use Rattle.crash_simulation.specs.InstructionSteps.{begins_step, waits, is_nearer, halts}
+use Rattle.crash_simulation.specs.AccountRelation.{AreCounted, SimulatesCounted, MachinesResume, Beginning, first_beginning}
 use Rattle.crash_simulation.specs.RecoveredWords.{RecoveredAreCounted}
 use Rattle.crash_simulation.specs.ReleasedSections.{one_if, sections_kept, IsReleasedOf, in_step, cut_off, ended_in_machine, SectionsAreKept}
-use Rattle.crash_simulation.proofs.SectionsAfterEvents.{none_more, released_by, none_released, stays_done, phase_releases, kept_crashed}
-use Rattle.crash_simulation.proofs.LastReleases.{holders_stay_none}
-use Rattle.recovered_threads.proofs.Public.{same_or_other}
+use Rattle.crash_simulation.proofs.AccountsBeforeCommit.{none_more, released_by, none_released, stays_done, phase_releases, kept_crashed, none_bound}
+use Rattle.crash_simulation.proofs.AccountsBeforeCommit.{recovered_counted, start_counted, crash_counted, evicted_counted, own_step_counted, GoesOnBy, led_now}
+use Rattle.crash_simulation.proofs.LastReleases.{holders_stay_none, describes_test, at_most_one}
+use Rattle.flow_graph.proofs.Public.{below_or_past}
 use Rattle.c_tree.specs.Source.{State, after_from, runs_from, ended_from}
 use Rattle.rv64_isa.specs.declared.object.Slot.{Slot}
 use Rattle.crash_simulation.specs.Laws.{EventsStand, RunsSimulate}
 use Rattle.crash_simulation.proofs.LoadFreeEnvironment.{none_ahead}
-use Rattle.crash_simulation.proofs.ReadyHarts.{right_empty}
-use Rattle.crash_simulation.proofs.RecordsAfterCrash.{caught_is_over}
-use Rattle.crash_simulation.proofs.SimulationInRecovery.{SimulatesStill, still_simulates, takes_still, waits_still, stopped_still}
-use Rattle.crash_simulation.proofs.SimulationAfterResume.{resumes_still}
-use Rattle.crash_simulation.proofs.SimulationAfterCrash as crashing
+use Rattle.crash_simulation.proofs.ReadyHarts.{right_empty, runs_ready}
+use Rattle.crash_simulation.proofs.CallSteps.{calls_step}
+use Rattle.crash_simulation.proofs.RecordsAfterCrash.{caught_is_over, left, left_describes, left_point}
+use Rattle.crash_simulation.proofs.SimulationInRecovery.{SimulatesStill, still_simulates, takes_still, waits_still, stopped_still, resumes_still}
 use Rattle.crash_simulation.proofs.StepSimulation.{simulates_after, evicted_simulates}
 use Rattle.crash_simulation.proofs.LongestAttempts.{AreFurthest, led_of}
-use Rattle.crash_simulation.proofs.CommitSimulation.{all_caught_up}
-use Rattle.crash_simulation.proofs.EndedSections.{AreSameSections, EndAsLeft, led_sections, same_end, same_then_end}
+use Rattle.crash_simulation.proofs.CommitSimulation.{all_caught_up, none_waits}
+use Rattle.crash_simulation.proofs.Sections.{AreSameSections, EndAsLeft, led_sections, same_end, same_then_end, kept_between}
 use Rattle.crash_simulation.proofs.AccountUpdates.{begun_by, count_same, account_stays}
 use Rattle.crash_simulation.proofs.LocksAfterStep.{own_ghost, other_ghost}
+use Rattle.crash_simulation.proofs.OwnHartSteps.{Site, view, same_number}
 use Rattle.crash_simulation.proofs.PointPositions as positions
 use Rattle.crash_simulation.proofs.PointPositions.{no_mark, nothing_counted}
-use Rattle.crash_simulation.proofs.AccountsBeforeCommit.{none_bound, recovered_counted, start_counted, crash_counted}
-use Rattle.crash_simulation.proofs.AccountsBeforeCommit.{evicted_counted, own_step_counted, GoesOnBy, led_now}
 use Rattle.std.proofs.lemmas.Option.{none-some, same_Some}
+use Rattle.ido_base.specs.Locks.{holds_none}
+use Rattle.c_tree.specs.Source as m
+use Rattle.rv64_isa.specs.Executables.{first_world}
+use Rattle.crash_simulation.specs.PointSections.{SectionsEndAtPoints, loses_point}
+use Rattle.crash_simulation.proofs.StatesMatchSource.{kept_matches}
+use Rattle.crash_simulation.proofs.SimulationAtStart as starting
 
 -- ---- Where steps are bound, no step is begun
 
-module _ (law : FragmentsGoOn) (y : System) (s : IsSystem y) (w : World) (h : ℕ) (stands : Simulates y s w) (below : h < thread_count y) where
-  abbrev b : AbstractRun y
-  b = stands.abstract
-
-  abbrev code : Code y.plan
-  code = s.codes.each h below
-
-  abbrev c : ThreadGhost
-  c = stands.ghosts h
-
-  abbrev t : ThreadInv y w b code c
-  t = stands.each h below
+module _ (law : FragmentsGoOn) {y : System} {s : IsSystem y} {w : World} {h : ℕ} (site : Site y s w h) where
+  open site use {stands, below}
+  open view site use {code, c, t, n, places, graph_thread, seen}
 
   abbrev PassesNone : Type 0
   PassesNone = is_bound c ≡ true → passes_mark y.runs.marks y.runs.program w h ≡ false
@@ -76,40 +69,30 @@ module _ (law : FragmentsGoOn) (y : System) (s : IsSystem y) (w : World) (h : �
   never_bound : c.committed ≡ true → PassesNone
   never_bound committed bound = absurd (true≢false (sym bound ∙ none_bound c committed))
 
-  fragment_passes_none : (o : OnFragmentNow y s w h stands below) (steps : ℕ) → o.steps ≡ suc steps → PassesNone
-  fragment_passes_none o steps is bound =
-      let number : code.thread.number ≡ h = s.codes.number h below in
-      let stage : Stage = record { exit = o.exit; node = t.graph_thread.at; seen = seen_by (now_of y b) t.graph_thread; side = o.side } in
-      let fragment =
-      subst (λ (n : ℕ). IsOnFragment y.plan code.thread code.is.places (on_machine y.runs.program w code.thread.number o.environment) stage n
-      (c.cleans ++ c.rest))
-      is o.fragment in
-      let marks : AreMarksOf y.runs.marks code.thread.number o.environment =
-      sym (o.fragment.meets.marks ∙ ap (λ (p : Program). p.nodes) (code.is.of_program ∙ (s.own h below).program)) in
-      subst (λ (n : ℕ). passes_mark y.runs.marks y.runs.program w n ≡ false) number
-      ((law y.plan code.thread code.is.places y.runs.program w code.thread.number o.environment stage steps (c.cleans ++ c.rest) stands.machine.sound
-      fragment).1 y.runs.marks
-      marks)
-
-  call_passes_none : (exit : ExitPoint) → IsCalling y s w h stands below exit → ExitInv y b code c t.graph_thread exit → c.rest ≡ [] → PassesNone
+  call_passes_none : (exit : ExitPoint) → IsCalling y s w h stands below exit → ExitInv y stands.abstract code c graph_thread exit → c.rest ≡ [] → PassesNone
   call_passes_none _ (asks mutex next) fits over = never_bound fits.goes.committed
-  call_passes_none _ (gives from mutex) fits over = never_bound (caught_is_over y w b code c t over (stands.caught_up h below (λ e. e)))
+  call_passes_none _ (gives from mutex) fits over = never_bound (caught_is_over y w stands.abstract code c t over (stands.caught_up h below (λ e. e)))
   call_passes_none _ ends fits over = never_bound fits.goes.committed
 
+  abbrev FragmentOf : OnFragmentNow y s w h stands below → (steps : ℕ) → Type 0
+  FragmentOf o steps = IsOnFragment y.plan code.thread places (on_machine y.runs.program w n o.environment)
+      (record { exit = o.exit; node = graph_thread.at; seen = seen; side = o.side }) steps (c.cleans ++ c.rest)
+
   passes_none : IsReadyToStep y s w h stands below → PassesNone
-  passes_none (on_fragment o steps is) = fragment_passes_none o steps is
-  passes_none (calls o none is) =
-      let stage : Stage = record { exit = o.exit; node = t.graph_thread.at; seen = seen_by (now_of y b) t.graph_thread; side = o.side } in
-      let fragment =
-      subst (λ (n : ℕ). IsOnFragment y.plan code.thread code.is.places (on_machine y.runs.program w code.thread.number o.environment) stage n
-      (c.cleans ++ c.rest))
-      none o.fragment in
-      call_passes_none o.exit is o.fits (right_empty c.cleans c.rest (none_ahead y s w h below o.environment _ (c.cleans ++ c.rest) fragment))
-  passes_none (at_core o free) = never_bound o.goes.goes.committed
+  passes_none (on_fragment o steps is) bound =
+      let marks : AreMarksOf y.runs.marks n o.environment =
+      sym (o.fragment.meets.marks ∙ ap (λ (p : Program). p.nodes) (code.is.of_program ∙ (s.own h below).program)) in
+      let fragment = subst (FragmentOf o) is o.fragment in
+      subst (λ (k : ℕ). passes_mark y.runs.marks y.runs.program w k ≡ false) (same_number site)
+      ((law y.plan code.thread places y.runs.program w n o.environment _ steps _ stands.machine.sound fragment).1 y.runs.marks marks)
+  passes_none (calls o none is) bound =
+      let fragment = subst (FragmentOf o) none o.fragment in
+      call_passes_none o.exit is o.fits (right_empty c.cleans c.rest (none_ahead y s w h below o.environment _ _ fragment)) bound
+  passes_none (at_core o free) bound = never_bound o.goes.goes.committed bound
 
 -- ---- Harts and their marks
 
-step_of : (h n : ℕ) → Step h ≡ Step n → h ≡ n
+pub step_of : (h n : ℕ) → Step h ≡ Step n → h ≡ n
 step_of h n e = cc
 
 -- of the same counts
@@ -120,10 +103,9 @@ nears_by y w h marks before after (waits mutex holder does same) = waits mutex h
 nears_by y w h marks before after (is_nearer e) = is_nearer (sym before ∙ (e ∙ ap suc (sym after)))
 nears_by y w h marks before after (halts hart here stopped) = halts hart here stopped
 
-not_running : (w : World) (h : ℕ) (hart : Hart) → slice_get w.harts h ≡ Some hart → (phase : Phase) → hart.phase ≡ phase → is_running phase ≡ false →
-    ¬ (IsInPhase w h Run)
-not_running w h hart here phase is off i =
-    true≢false (sym (ap is_running (ap (λ (x : Hart). x.phase) (same_Some hart i.hart (sym here ∙ i.here)) ∙ i.phase_is)) ∙ (ap is_running is ∙ off))
+pub not_running : (w : World) (h : ℕ) (hart : Hart) → slice_get w.harts h ≡ Some hart → is_running hart.phase ≡ false → IsInPhase w h Run → ⊥
+not_running w h hart here off i =
+    true≢false (sym (ap is_running (ap (λ (x : Hart). x.phase) (same_Some hart i.hart (sym here ∙ i.here)) ∙ i.phase_is)) ∙ off)
 
 -- ---- What an event does
 
@@ -175,7 +157,7 @@ commits_move y s w event old account moves is =
     let c = all_caught_up y s after moves.next in
     let logs = log_stays y.runs.program w event old.machine.sound in
     record {
-      next = c.stands;
+      next = none_waits y s after moves.next c;
       counted = λ g steps r counted.
           let made = moves.counted g steps r counted in
           subst (λ (z : Steps). AreCounted y g after c.stands.abstract c.stands.ghosts z (released_by y.runs.program w event r))
@@ -196,11 +178,11 @@ commits_move y s w event old account moves is =
 
 -- ---- Whatever happens
 
-not_there : (y : System) (w : World) (h : ℕ) → slice_get w.harts h ≡ None → w ≡ after_event y.runs.program w (Step h)
+pub not_there : (y : System) (w : World) (h : ℕ) → slice_get w.harts h ≡ None → w ≡ after_event y.runs.program w (Step h)
 unfolding happens
 not_there y w h none = sym (ap (λ (o : Option Hart). (stepped y.runs.program w h o).0) none)
 
-module _ (ready : RunsReady) (fragments_step : FragmentsStep) (cores_step : CoresStep) (calls_step : CallsStep) where
+module _ (fragments_step : FragmentsStep) (cores_step : CoresStep) where
   pub own_by : (y : System) (s : IsSystem y) (w : World) (h : ℕ) (stands : Simulates y s w) (below : h < thread_count y) → IsInPhase w h Run →
       IsReadyToStep y s w h stands below → OwnStep y s w h stands
   own_by y s w h stands below i (on_fragment o steps is) = fragments_step y s w h stands below i o steps is
@@ -209,7 +191,7 @@ module _ (ready : RunsReady) (fragments_step : FragmentsStep) (cores_step : Core
 
   pub runs_simulate : RunsSimulate
   runs_simulate y s w h stands i =
-      let r = ready y s w h stands i in
+      let r = runs_ready y s w h stands i in
       simulates_after y s w h r.stands i (own_by y s w h r.stands r.below i r.ready)
 
   module _ (law : FragmentsGoOn) where
@@ -255,8 +237,9 @@ module _ (ready : RunsReady) (fragments_step : FragmentsStep) (cores_step : Core
 
       runs_move : IsInPhase w h Run → StepMoves
       runs_move i =
-          let r = ready y s w h old i in
+          let r = runs_ready y s w h old i in
           let o = own_by y s w h r.stands r.below i r.ready in
+          let site : Site y s w h = record { stands = r.stands; below = r.below } in
           let ghosts = r.stands.ghosts in
           let later : SimulatesBut y s after anybody = simulates_after y s w h r.stands i o in
           let marks : begins o.led ≡ marked = sym o.counted.marks in
@@ -270,7 +253,7 @@ module _ (ready : RunsReady) (fragments_step : FragmentsStep) (cores_step : Core
                   source = ap (λ (b : AbstractRun y). b.origin.source) r.similar.abstract;
                   schedule = ap (λ (b : AbstractRun y). b.schedule) r.similar.abstract;
                   uncommitted = ap (λ (b : AbstractRun y). b.config.uncommitted) r.similar.abstract;
-                }) r.similar.same (λ n d. d) (λ n. refl) (λ n. refl) counted) (passes_none law y s w h r.stands r.below r.ready);
+                }) r.similar.same (λ n d. d) (λ n. refl) (λ n. refl) counted) (passes_none law site r.ready);
             sections = λ n.
                 subst (λ (b : AbstractRun y). AreSameSections y b o.next n) r.similar.abstract
                 (led_sections y r.stands.abstract h o.next o.led n);
@@ -300,15 +283,15 @@ module _ (ready : RunsReady) (fragments_step : FragmentsStep) (cores_step : Core
       idle_moves : (phase : Phase) → is_running phase ≡ false → IsInPhase w h phase → SimulatesStill y s w after old → StepMoves
       idle_moves phase off i still =
           still_moves still (positions.not_running y.runs.program w h i.hart phase i.here i.phase_is off) (phase_releases y.runs.program w h phase off i)
-          (not_running w h i.hart i.here phase i.phase_is off)
+          (not_running w h i.hart i.here (ap is_running i.phase_is ∙ off))
 
       in_phase_moves : (phase : Phase) → IsInPhase w h phase → StepMoves
       in_phase_moves Take i = idle_moves Take refl i (takes_still y s w h old i)
       in_phase_moves Wait i = idle_moves Wait refl i (waits_still y s w h old i)
       in_phase_moves Resume i = idle_moves Resume refl i (resumes_still y s w h old i)
       in_phase_moves Run i = runs_move i
-      in_phase_moves Done i = idle_moves Done refl i (stopped_still y s w h Done old (inl refl) i)
-      in_phase_moves Ended i = idle_moves Ended refl i (stopped_still y s w h Ended old (inr refl) i)
+      in_phase_moves Done i = idle_moves Done refl i (stopped_still y s w h old Done (inl refl) i)
+      in_phase_moves Ended i = idle_moves Ended refl i (stopped_still y s w h old Ended (inr refl) i)
 
       step_moves : (o : Option Hart) → slice_get w.harts h ≡ o → StepMoves
       step_moves None none =
@@ -358,10 +341,10 @@ module _ (ready : RunsReady) (fragments_step : FragmentsStep) (cores_step : Core
     event_goes_on y s w (Evict line mask) old =
         commits_move y s w (Evict line mask) old (λ steps. steps) (eviction_moves y s w line mask old) (evict_counts y w line mask)
     event_goes_on y s w Crash old = record {
-      next = crashing.stands_after y s w old;
+      next = starting.stands_after y s w old;
       counted = λ g steps r counted. crash_counted y s w old steps r counted;
       ends = λ n.
-          same_end y old.abstract (crashing.stands_after y s w old).abstract n
+          same_end y old.abstract (starting.stands_after y s w old).abstract n
           (record { sections = kept_crashed y s w old n; between = refl });
       on = λ none. absurd (none refl);
     }
@@ -393,17 +376,14 @@ module _ (ready : RunsReady) (fragments_step : FragmentsStep) (cores_step : Core
         (released_by y.runs.program w event r)
         (event_carried y s w event steps r is))
 
-    -- from a world at which nothing was released yet
-    none_first : (n : ℕ) → 0 + n ≡ n
-    none_first n = omega arith
-
     pub all_counted : (y : System) (s : IsSystem y) {g : Beginning} (events : List Event) (w : World) (steps : Steps) →
         SimulatesCounted y s g w steps (λ n. 0) →
         SimulatesCounted y s g (after_events y.runs.program w events) (steps_along y.runs.marks y.runs.program w events steps)
         (released_count y.runs.program w events)
     all_counted y s {g} events w steps is =
         subst (SimulatesCounted y s g (after_events y.runs.program w events) (steps_along y.runs.marks y.runs.program w events steps))
-        (λ i n. none_first (released_count y.runs.program w events n) i) (events_carried y s events w steps (λ n. 0) is)
+        (λ i n. (let e : 0 + released_count y.runs.program w events n ≡ released_count y.runs.program w events n = omega arith in e) i)
+        (events_carried y s events w steps (λ n. 0) is)
 
     pub machines_resume : MachinesResume
     machines_resume y s events = all_counted y s events _ _ (start_counted y s)
@@ -413,43 +393,81 @@ module _ (ready : RunsReady) (fragments_step : FragmentsStep) (cores_step : Core
 
     -- ---- Its sections are kept
 
-    below_or_not : (n count : ℕ) → (n < count) ⊎ (count ≤ n)
-    below_or_not n zero = inr (omega arith)
-    below_or_not n (suc count) = elim (below_or_not n count) [
-      | inl less ↦ inl (omega (arith, less))
-      | inr more ↦ elim (same_or_other n count) [
-        | inl same ↦ inl (omega (arith, same))
-        | inr other ↦ inr (omega (arith, more, other))
-      ]
-    ]
-
-    at_most_one : (b : Bool) → one_if b ≤ 1
-    at_most_one true = omega arith
-    at_most_one false = omega arith
-
     -- as many sections are kept as are released, or one more
-    IsNear : (released kept : ℕ) → Type 0
+    abbrev IsNear : (released kept : ℕ) → Type 0
     IsNear released kept = (released ≤ kept) × (kept ≤ released + 1)
 
     near_of : (y : System) (w : World) (b : AbstractRun y) (n : ℕ) (c : ThreadGhost) (released : ℕ) → IsReleasedOf y w b n c released →
         IsNear released (sections_kept y b n)
-    unfolding IsNear
     near_of y w b n c released (in_step e) = let one = at_most_one (is_leaving c) in (omega (arith, e, one), omega (arith, e, one))
     near_of y w b n c released (cut_off i e) = (omega (arith, e), omega (arith, e))
 
-    near_beyond : (released kept : ℕ) → kept ≡ released → IsNear released kept
-    unfolding IsNear
-    near_beyond released kept e = (omega (arith, e), omega (arith, e))
-
     pub sections_are_kept : SectionsAreKept
-    unfolding IsNear
     sections_are_kept y s events h =
         let z = machines_resume y s events in
         let t = z.stands in
-        let w : World = after_events y.runs.program (first_world y.runs) events in
-        let near : IsNear (ended_in_machine y events h) (sections_kept y t.abstract h) = elim (below_or_not h (thread_count y)) [
-          | inl below ↦ near_of y w t.abstract h (t.ghosts h) (ended_in_machine y events h) (z.counted.each h below).released
-          | inr outside ↦ near_beyond (ended_in_machine y events h) (sections_kept y t.abstract h) (z.counted.beyond h outside)
+        let near : IsNear (ended_in_machine y events h) (sections_kept y t.abstract h) = elim (below_or_past h (thread_count y)) [
+          | inl below ↦ near_of y _ t.abstract h (t.ghosts h) (ended_in_machine y events h) (z.counted.each h below).released
+          | inr outside ↦ let same = z.counted.beyond h outside in (omega (arith, same), omega (arith, same))
         ] in
         subst (IsNear (ended_in_machine y events h))
         (ap₂ (λ (from : State) (us : List ℕ). ended_from from us h) z.counted.begins (sym z.counted.kept)) near
+
+-- ---- By each event a section ends in the kept schedule exactly where the durable point of its hart becomes 0
+
+-- ---- Along two lists of events
+
+pub worlds_join : (program : List (List Slot)) (events more : List Event) (w : World) →
+    after_events program w (events ++ more) ≡ after_events program (after_events program w events) more
+worlds_join program [] more w = refl
+worlds_join program (event ∷ events) more w = worlds_join program events more (after_event program w event)
+
+pub steps_join : (marks : List (List ℕ)) (program : List (List Slot)) (events more : List Event) (w : World) (s : Steps) →
+    steps_along marks program w (events ++ more) s ≡ steps_along marks program (after_events program w events) more (steps_along marks program w events s)
+steps_join marks program [] more w s = refl
+steps_join marks program (event ∷ events) more w s =
+    steps_join marks program events more (after_event program w event) (steps_after marks program w event s)
+
+-- ---- The durable point is 0 exactly where the thread stands between sections in what is kept
+
+module _ (y : System) (s : IsSystem y) (w : World) (stands : Simulates y s w) (n : ℕ) (below : n < thread_count y) where
+  open stands use {abstract as b}
+
+  point_says : kept_between y b n ≡ (durable_point w.log w.words n == 0)
+  point_says =
+      ap (λ (hs : List (Option ℕ)). holds_none hs n) (sym (kept_matches y s b).holders)
+      ∙ (ap (λ (k : ℕ). holds_none (kept_of y b).holders k) (sym (s.codes.number n below))
+      ∙ (sym (describes_test y (s.codes.each n below) (kept_of y b) (left y s w stands n) (left_describes y s w stands n below))
+      ∙ ap (λ (k : ℕ). k == 0) (sym (left_point y s w stands n below))))
+
+-- ---- An event
+
+module _ (fragments_step : FragmentsStep) (cores_step : CoresStep) (law : FragmentsGoOn) where
+  module _ (y : System) (s : IsSystem y) (w : World) (steps : Steps) (r : ℕ → ℕ)
+      (was : SimulatesCounted y s (first_beginning y) w steps r) where
+    -- the sections that are kept, by the account's steps
+    kept_is : (v : World) (later : Steps) {releases : ℕ → ℕ} (is : SimulatesCounted y s (first_beginning y) v later releases) (n : ℕ) →
+        sections_kept y is.stands.abstract n ≡ m.ended_from (m.start (flat_of y)) later.kept n
+    kept_is v later is n = ap₂ (λ (from : m.State) (us : List ℕ). m.ended_from from us n) is.counted.begins (sym is.counted.kept)
+
+    ends_at_point : (event : Event) (n : ℕ) → n < thread_count y →
+        m.ended_from (m.start (flat_of y)) (steps_after y.runs.marks y.runs.program w event steps).kept n
+        ≡ m.ended_from (m.start (flat_of y)) steps.kept n + one_if (loses_point w (after_event y.runs.program w event) n)
+    ends_at_point event n below =
+        let e = event_goes_on fragments_step cores_step law y s w event was.stands in
+        let later = steps_after y.runs.marks y.runs.program w event steps in
+        let next : SimulatesCounted y s (first_beginning y) (after_event y.runs.program w event) later (released_by y.runs.program w event r) =
+        record { stands = e.next; counted = e.counted (first_beginning y) steps r was.counted } in
+        let before = kept_is w steps was n in
+        let was_held = point_says y s w was.stands n below in
+        let is_held = point_says y s (after_event y.runs.program w event) e.next n below in
+        sym (kept_is (after_event y.runs.program w event) later next n)
+        ∙ (e.ends n ∙ (λ i. before i + one_if (not (was_held i) && is_held i)))
+
+  -- ---- Whatever has happened
+
+  pub sections_end_at_points : SectionsEndAtPoints
+  sections_end_at_points y s events event h below =
+      let z = machines_resume fragments_step cores_step law y s events in
+      ap (λ (later : Steps). m.ended_from (m.start (flat_of y)) later.kept h)
+      (steps_join y.runs.marks y.runs.program events (event ∷ []) (first_world y.runs) _) ∙ ends_at_point y s _ _ _ z event h below

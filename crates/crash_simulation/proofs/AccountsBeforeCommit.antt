@@ -1,60 +1,213 @@
--- The machine's account after an event, where commits are still to be taken.
-use Rattle.std.proofs.Common.{◌≡◌, ◌≢◌, refl, ℕ, zero, suc, ◌+◌, ◌<◌, List, [], ◌∷◌, ◌++◌, length, replicate, sym, ◌∙◌, ap, ap₂, subst}
-use Rattle.std.proofs.Common.{arith, Bool, true, false, None}
-use Rattle.std.specs.Prelude.{not, ◌&&◌}
-use Rattle.std.specs.List.{list_any}
-use Rattle.std.proofs.lemmas.Bool.{true≢false}
+-- The machine's account and its releases after an event, where commits are still to be taken.
+use Rattle.std.proofs.Common.{◌≡◌, ◌≢◌, inl, inr, refl, ℕ, suc, ◌+◌, ◌<◌, List, ap, sym, ◌∙◌, subst, arith, Some, None, Bool, true, false, [], ◌∷◌, ◌++◌}
+use Rattle.std.proofs.Common.{length, ap₂}
+use Rattle.std.specs.Prelude.{slice_get, is_some, ◌&&◌, ◌==◌, if◌then◌else◌, not}
+use Rattle.std.proofs.lemmas.Bool.{true≢false, cases_Bool, and_parts, eqb-true}
 use Rattle.std.proofs.lemmas.List.{append-nil, length-replicate}
-use Rattle.rv64_isa.proofs.Public.{log_stays}
-use Rattle.ido_base.specs.declared.log.Log.{Log}
+use Rattle.ido_base.specs.declared.event.Event.{Event}
 use Rattle.ido_base.specs.declared.event.Event.TheVariants.{Step, Evict, Crash}
+use Rattle.c_tree.specs.Source.{ended_from}
+use Rattle.rv64_isa.specs.declared.object.Slot.{Slot}
+use Rattle.rv64_isa.specs.declared.phase.Phase.{Phase}
+use Rattle.rv64_isa.specs.declared.phase.Phase.TheVariants.{Take, Wait, Resume, Run, Done, Ended}
+use Rattle.rv64_isa.specs.Machine.{Hart, World, Outcome, happens, after_event, after_crash_of}
+use Rattle.rv64_isa.specs.Schedule.{is_running, releases_last, HartSteps, LifeSchedules, Steps, only_life, no_steps, hart_steps, first_steps, passes_mark}
+use Rattle.rv64_isa.specs.Schedule.{stores_point, with_step, steps_after}
+use Rattle.rv64_isa.specs.Frames.{IsWellFormedWorld}
+use Rattle.rv64_isa.proofs.Public.{steps_touch, evictions_touch, get-set_same, log_stays, step_earlier}
+use Rattle.hart_runs.specs.Calls.{IsInPhase, has_all, takes_one, is_kept_from, all_have, one_takes}
+use Rattle.hart_runs.proofs.Public.{takes_step, waits_step, resumes_step, stopped_stay}
+use Rattle.recovered_threads.specs.RecoveryStates.{Gathers}
+use Rattle.recovered_threads.proofs.Public.{same_there, same_or_other, holds_none_is}
+use Rattle.crash_simulation.specs.Systems.{System, IsSystem, thread_count, flat_of}
+use Rattle.crash_simulation.specs.SimulationRelation.{Simulates}
+use Rattle.crash_simulation.specs.InstructionSteps.{is_leaving, Releases, nothing_released, last_released, OwnStep, StepsOrStutters, begins, is_bound}
+use Rattle.crash_simulation.specs.InstructionSteps.{with_ghost}
+use Rattle.crash_simulation.specs.ReleasedSections.{one_if, sections_kept, IsReleasedOf, in_step, cut_off}
+use Rattle.crash_simulation.proofs.LastReleases.{no_release, holders_stay_none, other_release, none_leaving}
+use Rattle.log_states.specs.Logs.{Record, point_in}
+use Rattle.crash_simulation.proofs.RecordsAfterCrash.{left, left_kept}
+use Rattle.crash_simulation.proofs.ThreadsOfMachines.{phase_of, each_placed}
+use Rattle.crash_simulation.proofs.Sections.{led_sections}
+use Rattle.std.specs.List.{list_any}
+use Rattle.ido_base.specs.declared.log.Log.{Log}
 use Rattle.ido_base.specs.Words.{last_position}
-use Rattle.rv64_isa.specs.declared.phase.Phase.TheVariants.{Run}
 use Rattle.rv64_isa.specs.Executables.{first_world}
-use Rattle.rv64_isa.specs.Machine.{World, after_event, after_crash_of}
-use Rattle.rv64_isa.specs.Schedule.{HartSteps, Steps, no_steps, hart_steps, first_steps, passes_mark, stores_point, with_step, steps_after}
-use Rattle.hart_runs.specs.Calls.{IsInPhase}
 use Rattle.c_tree.specs.Source as m
 use Rattle.source_machine.proofs.Public.{goes_on}
 use Rattle.recovery_semantics.specs.Configs.{Config, now}
 use Rattle.recovery_semantics.specs.Events.{steps_begun}
 use Rattle.recovery_semantics.proofs.Public.{counted_own, counted_other}
-use Rattle.log_states.specs.Logs.{point_in}
 use Rattle.log_states.specs.Stages.{is_store}
-use Rattle.crash_simulation.specs.Systems.{System, IsSystem, flat_of, thread_count}
 use Rattle.crash_simulation.specs.AbstractRuns.{AbstractRun}
 use Rattle.crash_simulation.specs.ThreadGhosts.{ThreadGhost}
-use Rattle.crash_simulation.specs.SimulationRelation.{Simulates}
-use Rattle.crash_simulation.specs.InstructionSteps.{StepsOrStutters, begins, is_bound, with_ghost, OwnStep}
 use Rattle.region_attempts.specs.Origins.{Origin}
 use Rattle.crash_simulation.specs.RecoveredWords.{IsRecoveredFrom}
 use Rattle.crash_simulation.specs.AccountRelation.{IsCountedOf, IsAccountedOf, AreCounted, SimulatesCounted, Beginning, first_beginning}
-use Rattle.crash_simulation.specs.ReleasedSections.{one_if, in_step}
-use Rattle.crash_simulation.proofs.SimulationAtStart as starting
-use Rattle.crash_simulation.proofs.SimulationAfterCrash as crashing
-use Rattle.crash_simulation.proofs.SimulationFromWords as recovering
 use Rattle.crash_simulation.proofs.DisjointStores.{elsewhere}
 use Rattle.crash_simulation.proofs.StepSimulation.{evicted_simulates}
-use Rattle.crash_simulation.proofs.StatesMatchSource.{resumed}
-use Rattle.crash_simulation.proofs.LongestAttempts.{IsLedOn, led_of}
-use Rattle.crash_simulation.proofs.SectionsAfterEvents.{released_by, none_more, other_released, stays_done, kept_own, released_own, evicted_done}
-use Rattle.crash_simulation.proofs.SectionsAfterEvents.{kept_crashed, crashed_by}
-use Rattle.crash_simulation.proofs.ThreadsOfMachines.{each_placed}
-use Rattle.crash_simulation.proofs.LastReleases.{none_leaving}
-use Rattle.crash_simulation.proofs.AccountUpdates.{begun_by, more_by, kept_same, pending_is, count_same, own_by, own_is, other_is}
-use Rattle.crash_simulation.proofs.AccountUpdates.{still_accounted, account_stays, own_counted}
+use Rattle.crash_simulation.proofs.StatesMatchSource.{resumed, repeated_or}
+use Rattle.crash_simulation.proofs.LongestAttempts.{StepsInRun, led_of}
+use Rattle.crash_simulation.proofs.AccountUpdates.{begun_by, more_by, kept_same, pending_is, count_same, own_by, own_is, other_is, still_accounted}
+use Rattle.crash_simulation.proofs.AccountUpdates.{account_stays, own_counted}
 use Rattle.crash_simulation.proofs.PointPositions.{own_last_stays, other_last_stays, evicted_last_stays}
+use Rattle.crash_simulation.proofs.SimulationAtStart as starting
+
+-- ---- Sections that are kept, and the machine's releases
+
+-- the releases then_world an event
+abbrev pub released_by : List (List Slot) → World → Event → (released : ℕ → ℕ) → (thread : ℕ) → ℕ
+released_by program w event released n = released n + one_if (releases_last program w event n)
+
+pub none_more : (n : ℕ) → n ≡ n + 0
+none_more n = omega arith
+
+-- ---- Steps that release no hart's last mutex
+
+module _ (program : List (List Slot)) (w : World) (h : ℕ) where
+  abbrev then_world : World
+  then_world = after_event program w (Step h)
+
+  abbrev ReleasesNone : Type 0
+  ReleasesNone = releases_last program w (Step h) h ≡ false
+
+  -- the step leaves the holders
+  none_by : {o : Outcome} → happens program w (Step h) ≡ o → o.0.holders ≡ w.holders → ReleasesNone
+  none_by does same = holders_stay_none program w h (ap (λ (o : Outcome). o.0.holders) does ∙ same)
+
+  pub phase_releases : (phase : Phase) → is_running phase ≡ false → IsInPhase w h phase → ReleasesNone
+  phase_releases Take e i = elim (takes_step program w h i) [
+    | has_all all does ↦ none_by does refl
+    | is_kept_from lock k r other does ↦ none_by does refl
+    | takes_one lock r does ↦
+        no_release program w h (λ none. absurd (holds_none_is h then_world.holders lock none
+        (ap (λ (o : Outcome). slice_get o.0.holders lock) does ∙ get-set_same w.holders lock (Some h) None r.there)))
+  ]
+  phase_releases Wait e i = elim (waits_step program w h i) [
+    | all_have nobody does ↦ none_by does refl
+    | one_takes k ik does ↦ none_by does refl
+  ]
+  phase_releases Resume e i = none_by (resumes_step program w h i).does refl
+  phase_releases Run e i = absurd (true≢false e)
+  phase_releases Done e i = none_by (stopped_stay program w h Done (inl refl) i) refl
+  phase_releases Ended e i = none_by (stopped_stay program w h Ended (inr refl) i) refl
+
+  -- a hart that has stopped stays so
+  pub stays_done : IsWellFormedWorld w → (n : ℕ) → IsInPhase w n Done → IsInPhase then_world n Done
+  stays_done sound n i = elim (same_or_other n h) [
+    | inl same ↦
+        let own : IsInPhase w h Done = subst (λ (k : ℕ). IsInPhase w k Done) same i in
+        let still : then_world ≡ w = ap (λ (o : Outcome). o.0) (stopped_stay program w h Done (inl refl) own) in
+        subst (λ (v : World). IsInPhase v n Done) (sym still) i
+    | inr other ↦ record { hart = i.hart; here = (steps_touch program w h sound).others n other ∙ i.here; phase_is = i.phase_is }
+  ]
+
+  -- each thread's, where the hart's own step releases none
+  pub none_released : ReleasesNone → (released : ℕ → ℕ) (n : ℕ) → released_by program w (Step h) released n ≡ released n
+  none_released none released n =
+      let none_of_it : releases_last program w (Step h) n ≡ false = elim (same_or_other n h) [
+        | inl same ↦ subst (λ (k : ℕ). releases_last program w (Step h) k ≡ false) (sym same) none
+        | inr other ↦ other_release program w h n other
+      ] in
+      let zero = ap (λ (b : Bool). one_if b) none_of_it in
+      omega (arith, zero)
+
+  pub other_released : (released : ℕ → ℕ) (n : ℕ) → n ≢ h → released_by program w (Step h) released n ≡ released n
+  other_released released n other =
+      let zero = ap (λ (b : Bool). one_if b) (other_release program w h n other) in
+      omega (arith, zero)
+
+-- ---- A step of a hart that executes instructions
+
+module _ (y : System) (s : IsSystem y) (w : World) (h : ℕ) (stands : Simulates y s w) (i : IsInPhase w h Run) (o : OwnStep y s w h stands)
+    (r : ℕ → ℕ) where
+  abbrev then_own : ℕ → ℕ
+  then_own = released_by y.runs.program w (Step h) r
+
+  pub kept_own : (n : ℕ) → sections_kept y o.next n ≡ sections_kept y stands.abstract n
+  kept_own n = (led_sections y stands.abstract h o.next o.led n).sections
+
+  own_lag : Releases y w h (stands.ghosts h) o.ghost →
+      r h + one_if (is_leaving (stands.ghosts h)) ≡ then_own h + one_if (is_leaving o.ghost)
+  own_lag (nothing_released none same) =
+      let zero = ap one_if none in
+      let as_before = ap one_if same in
+      omega (arith, zero, as_before)
+  own_lag (last_released releases was is) =
+      let one = ap one_if releases in
+      let before = ap one_if was in
+      let after_it = ap one_if is in
+      omega (arith, one, before, after_it)
+
+  pub released_own : IsReleasedOf y w stands.abstract h (stands.ghosts h) (r h) →
+      IsReleasedOf y (after_event y.runs.program w (Step h)) o.next h o.ghost (then_own h)
+  released_own (in_step e) = in_step (kept_own h ∙ (e ∙ own_lag o.released))
+  released_own (cut_off d e) =
+      let same : d.hart ≡ i.hart = same_there (slice_get w.harts h) d.hart i.hart d.here i.here in
+      absurd (true≢false (sym (ap is_running (sym d.phase_is ∙ (ap (λ (x : Hart). x.phase) same ∙ i.phase_is)))))
+
+-- ---- An eviction
+
+pub evicted_done : (program : List (List Slot)) (w : World) (line mask n : ℕ) → IsInPhase w n Done → IsInPhase (after_event program w (Evict line mask)) n Done
+evicted_done program w line mask n i =
+    record { hart = i.hart; here = ap (λ (v : World). slice_get v.harts n) (evictions_touch program w line mask).1 ∙ i.here; phase_is = i.phase_is }
+
+-- ---- A crash
+
+pub kept_crashed : (y : System) (s : IsSystem y) (w : World) (stands : Simulates y s w) (n : ℕ) →
+    sections_kept y (starting.stands_after y s w stands).abstract n ≡ sections_kept y stands.abstract n
+kept_crashed y s w stands n =
+    ap (λ (us : List ℕ). ended_from stands.abstract.origin.source us n) (append-nil stands.abstract.schedule)
+
+module _ (y : System) (s : IsSystem y) (w : World) (stands : Simulates y s w) (r : ℕ → ℕ) where
+  abbrev crashed : World
+  crashed = after_event y.runs.program w Crash
+
+  phase_none : (n : ℕ) (phase : Phase) → (left y s w stands n).point ≡ 0 → Gathers crashed n (left y s w stands n) phase → phase ≡ Done
+  phase_none n Take none g = absurd (g none)
+  phase_none n Wait none g = absurd (g.0 none)
+  phase_none n Done none g = refl
+  phase_none n phase none g = absurd g
+
+  -- where a record without a point is kept, the hart is left with nothing to do
+  crashed_done : (n : ℕ) → n < thread_count y → (stands.ghosts n).committed ≡ true → (stands.ghosts n).new.point ≡ 0 →
+      IsInPhase crashed n Done
+  crashed_done n below committed none =
+      let c = stands.ghosts n in
+      let point : (left y s w stands n).point ≡ 0 =
+      ap (λ (r : Record). r.point) (left_kept y s w stands n below) ∙ (ap (λ (done : Bool). (if done then c.new else c.old).point) committed ∙ none) in
+      let gathers = starting.gathers y s w stands in
+      let count = (starting.machine y s w stands).count in
+      let log = gathers.logs n (omega (arith, below, count)) in
+      record { hart = log.hart; here = log.here; phase_is = phase_none n log.hart.phase point (gathers.each n log.hart log.here) }
+
+  pub crashed_by : (n : ℕ) → n < thread_count y → IsReleasedOf y w stands.abstract n (stands.ghosts n) (r n) →
+      IsReleasedOf y crashed (starting.stands_after y s w stands).abstract n ((starting.stands_after y s w stands).ghosts n) (r n + 0)
+  crashed_by n below (cut_off i e) =
+      let rests = phase_of y s w n stands Done i below in
+      cut_off (crashed_done n below rests.0.committed rests.1) (kept_crashed y s w stands n ∙ (e ∙ ap suc (none_more (r n))))
+  crashed_by n below (in_step e) =
+      let c = stands.ghosts n in
+      elim (cases_Bool (is_leaving c)) [
+        | inl leaves ↦
+            let one = and_parts c.committed (is_some c.giving && (c.new.point == 0)) leaves in
+            let two = and_parts (is_some c.giving) (c.new.point == 0) one.1 in
+            let kept = kept_crashed y s w stands n in
+            let more = ap one_if leaves in
+            cut_off (crashed_done n below one.0 (eqb-true c.new.point 0 two.1)) (omega (arith, kept, e, more))
+        | inr stays ↦
+            let kept = kept_crashed y s w stands n in
+            let none = ap one_if stays in
+            in_step (omega (arith, kept, e, none))
+      ]
+
+-- ---- The account
 
 -- where the last boundary is taken as committed, no steps are bound
 pub none_bound : (c : ThreadGhost) → c.committed ≡ true → is_bound c ≡ false
 none_bound c is = ap (λ (b : Bool). not b && not (list_any is_store c.rest)) is
 
 -- ---- Starts and crashes
-
-pub nothing_counted : (count n : ℕ) → hart_steps (record { begun = []; kept = []; pending = []; harts = replicate count no_steps }) n ≡ no_steps
-nothing_counted zero n = refl
-nothing_counted (suc count) zero = refl
-nothing_counted (suc count) (suc n) = nothing_counted count n
 
 pub none_counted : (y : System) (w : World) (b : AbstractRun y) (n : ℕ) (c : ThreadGhost) (one : HartSteps) → c.committed ≡ true → steps_begun b.config n ≡ 0 →
     one ≡ no_steps → IsCountedOf y w b n c one
@@ -67,18 +220,19 @@ none_counted y w b n c one committed begun none = record {
 abbrev pub first_counted : (y : System) (s : IsSystem y) (g : Beginning) {w : World} (stands : Simulates y s w) → stands.abstract.origin.source ≡ g.from →
     stands.abstract.schedule ≡ [] → stands.abstract.config.uncommitted ≡ [] →
     ((n : ℕ) → ((stands.ghosts n).committed ≡ true) × ((stands.ghosts n).giving ≡ None)) →
-    SimulatesCounted y s g w (first_steps (length y.runs.program) g.kept) (λ n. 0)
+    SimulatesCounted y s g w (first_steps (length y.runs.program) (record { earlier = g.earlier; schedule = g.kept })) (λ n. 0)
 first_counted y s g {w} stands from none uncommitted fresh = record {
   stands = stands;
   counted = record {
     begins = from;
+    earlier = refl;
     kept = sym (append-nil g.kept) ∙ ap (λ (us : List ℕ). g.kept ++ us) (sym none);
     pending = sym uncommitted;
     count = length-replicate (length y.runs.program) no_steps ∙ s.count;
     each = λ n below. record {
       counted = none_counted y w stands.abstract n (stands.ghosts n) _ (fresh n).0
           (ap (λ (us : List ℕ). steps_begun (record stands.abstract.config { uncommitted = us }) n) uncommitted)
-          (nothing_counted (length y.runs.program) n);
+          (repeated_or (length y.runs.program) n no_steps);
       released = in_step (ap (λ (us : List ℕ). m.ended_from stands.abstract.origin.source us n) none
           ∙ ap (λ (z : Bool). 0 + one_if z) (sym (none_leaving (stands.ghosts n) (fresh n).1)));
     };
@@ -87,27 +241,30 @@ first_counted y s g {w} stands from none uncommitted fresh = record {
 }
 
 abbrev pub start_counted : (y : System) (s : IsSystem y) →
-    SimulatesCounted y s (first_beginning y) (first_world y.runs) (first_steps (length y.runs.program) []) (λ n. 0)
+    SimulatesCounted y s (first_beginning y) (first_world y.runs) (first_steps (length y.runs.program) (only_life [])) (λ n. 0)
 start_counted y s = first_counted y s (first_beginning y) (starting.stands y s) refl refl refl (λ n. (refl, refl))
 
-abbrev pub recovered_counted : (y : System) (s : IsSystem y) (o : Origin (flat_of y)) (words kept : List ℕ) (is : IsRecoveredFrom y s o words) →
-    SimulatesCounted y s (record { from = o.source; kept = kept }) (after_crash_of y.runs.log y.runs.program y.runs.mutexes words)
-    (first_steps (length y.runs.program) kept) (λ n. 0)
+abbrev pub recovered_counted : (y : System) (s : IsSystem y) (o : Origin (flat_of y)) (words : List ℕ) (kept : LifeSchedules)
+    (is : IsRecoveredFrom y s o words) →
+    SimulatesCounted y s (record { from = o.source; earlier = kept.earlier; kept = kept.schedule })
+    (after_crash_of y.runs.log y.runs.program y.runs.mutexes words) (first_steps (length y.runs.program) kept) (λ n. 0)
 recovered_counted y s o words kept is =
-    first_counted y s (record { from = o.source; kept = kept }) (recovering.stands y s o words is) refl refl refl (λ n. (refl, refl))
+    first_counted y s (record { from = o.source; earlier = kept.earlier; kept = kept.schedule }) (starting.recovered_stands y s o words is) refl refl refl
+    (λ n. (refl, refl))
 
 pub crash_counted : (y : System) (s : IsSystem y) {g : Beginning} (w : World) (stands : Simulates y s w) (steps : Steps) (r : ℕ → ℕ) →
     AreCounted y g w stands.abstract stands.ghosts steps r →
-    AreCounted y g (after_event y.runs.program w Crash) (crashing.stands_after y s w stands).abstract (crashing.stands_after y s w stands).ghosts
+    AreCounted y g (after_event y.runs.program w Crash) (starting.stands_after y s w stands).abstract (starting.stands_after y s w stands).ghosts
     (steps_after y.runs.marks y.runs.program w Crash steps) (released_by y.runs.program w Crash r)
 unfolding steps_after
 crash_counted y s {g} w stands steps r counted = record {
   begins = counted.begins;
+  earlier = counted.earlier;
   kept = counted.kept ∙ ap (λ (us : List ℕ). g.kept ++ us) (sym (append-nil stands.abstract.schedule));
   pending = refl;
   count = length-replicate (length steps.harts) no_steps ∙ counted.count;
   each = λ n below. record {
-    counted = none_counted y (after_event y.runs.program w Crash) _ n _ _ refl refl (nothing_counted (length steps.harts) n);
+    counted = none_counted y (after_event y.runs.program w Crash) _ n _ _ refl refl (repeated_or (length steps.harts) n no_steps);
     released = crashed_by y s w stands r n below (counted.each n below).released;
   };
   beyond = λ n outside. kept_crashed y s w stands n ∙ (counted.beyond n outside ∙ none_more (r n));
@@ -157,8 +314,7 @@ same_other m next thread n false differs e = ap (λ (p : List ℕ). steps_begun 
 module _ (y : System) (s : IsSystem y) (w : World) (h : ℕ) (stands : Simulates y s w) (i : IsInPhase w h Run) (o : OwnStep y s w h stands) {steps : Steps}
     {r : ℕ → ℕ} {g : Beginning} (counted : AreCounted y g w stands.abstract stands.ghosts steps r)
     (none : is_bound (stands.ghosts h) ≡ true → passes_mark y.runs.marks y.runs.program w h ≡ false) where
-  abbrev b : AbstractRun y
-  b = stands.abstract
+  open stands use {abstract as b}
 
   abbrev after : World
   after = after_event y.runs.program w (Step h)
@@ -178,7 +334,7 @@ module _ (y : System) (s : IsSystem y) (w : World) (h : ℕ) (stands : Simulates
   abbrev then_steps : Steps
   then_steps = with_step y.runs.marks y.runs.program w h steps
 
-  lead : IsLedOn y b o.next h (begins o.led)
+  lead : StepsInRun y b o.next h (begins o.led)
   lead = led_of y b h o.next o.led
 
   pending : o.next.config.uncommitted ≡ begun_by begun h b.config.uncommitted
@@ -219,6 +375,7 @@ module _ (y : System) (s : IsSystem y) (w : World) (h : ℕ) (stands : Simulates
   pub own_step_counted : AreCounted y g after o.next (with_ghost stands.ghosts h o.ghost) then_steps then_released
   own_step_counted = record {
     begins = ap (λ (o : Origin (flat_of y)). o.source) lead.origin ∙ counted.begins;
+    earlier = step_earlier y.runs.marks y.runs.program w h steps ∙ counted.earlier;
     kept = kept_same begun points h position steps ∙ (counted.kept ∙ ap (λ (us : List ℕ). g.kept ++ us) (sym lead.schedule));
     pending = pending_is begun points h position steps ∙ (ap (begun_by begun h) counted.pending ∙ sym pending);
     count = count_same begun points h position steps ∙ counted.count;

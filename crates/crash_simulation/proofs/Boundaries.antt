@@ -1,16 +1,16 @@
 -- Boundaries that a thread's code begins: they can be recovered from, and their records describe the state.
-use Rattle.std.proofs.Common.{◌≡◌, ◌≢◌, refl, ℕ, zero, suc, ◌+◌, ◌-◌, ◌*◌, ◌%◌, ◌^◌, ◌<◌, ◌≤◌, List, [], ◌∷◌, length, map, sym, ◌∙◌, ap, subst, arith, Option}
-use Rattle.std.proofs.Common.{Some, true}
-use Rattle.std.proofs.lemmas.Bool.{and_parts, leb-true, eqb-true}
+use Rattle.std.proofs.Common.{◌≡◌, ◌≢◌, refl, ℕ, zero, suc, ◌+◌, ◌-◌, ◌*◌, ◌%◌, ◌^◌, ◌<◌, ◌≤◌, List}
+use Rattle.std.proofs.Common.{[], length, map, sym, ◌∙◌, ap, subst, arith, Option, Some, inl, inr}
+use Rattle.std.proofs.Common.{true}
+use Rattle.std.proofs.lemmas.Bool.{and_parts, leb-true, eqb-true, cond_both}
 use Rattle.std.proofs.lemmas.Bool.Decides.{nat_tests}
 use Rattle.std.proofs.lemmas.Option.{none-some, slice_get_within}
-use Rattle.std.proofs.lemmas.List.{length-map}
-use Rattle.std.specs.Prelude.{slice_get, slice_index, sum_by, take, Bool, false, None, ℤ, nat_le, ◌/◌, ◌==◌, ◌&&◌, if◌then◌else◌}
+use Rattle.std.specs.Prelude.{slice_get, sum_by, take, false, None, nat_le, ◌/◌, ◌==◌, ◌&&◌, slice_index_or, pos}
 use Rattle.ido_base.specs.declared.log.Log.TheVariants.{V1}
 use Rattle.ido_base.specs.Layout.{in_range, variable_at}
 use Rattle.ido_ints.specs.declared.kinds.Kind.{Kind}
 use Rattle.ido_ints.specs.Kinds.{bytes_of}
-use Rattle.ido_ints.specs.TypedNumbers.{Typed}
+use Rattle.ido_ints.specs.TypedNumbers.{Typed, typed}
 use Rattle.ido_ints.proofs.Public.{register_below}
 use Rattle.c_tree.specs.Flats as f
 use Rattle.c_tree.specs.Source as m
@@ -25,8 +25,6 @@ use Rattle.rv64_isa.specs.declared.object.Slot.{Slot}
 use Rattle.rv64_isa.specs.Machine.{World}
 use Rattle.rv64_link.specs.LinkedCode.{IsInstructionAt}
 use Rattle.operator_code.specs.ComputingCode.{Carries}
-use Rattle.boundary_code.specs.Boundaries.{Boundary}
-use Rattle.boundary_code.proofs.Public.{on_side_small, stays_on_side}
 use Rattle.code_runs.specs.ComputingRuns.{LocalConfig, config}
 use Rattle.code_runs.specs.CodeTraces.{Program, MarkedEnvironment, Meets, Trace}
 use Rattle.hart_runs.specs.HartsOnRuns.{Agrees, instr_of, instr_at}
@@ -35,19 +33,21 @@ use Rattle.flow_graph.specs.Lowering.{lowered}
 use Rattle.flow_graph.specs.IdempotentCuts.{stores}
 use Rattle.flow_graph.specs.Liveness.{NodeAt}
 use Rattle.flow_graph.specs.Actions.{Seen, GraphThread, FlowState, seen_by}
-use Rattle.flow_graph.proofs.Public.{Good, found_in}
+use Rattle.flow_graph.proofs.Public.{Good, found_in, get_cases}
 use Rattle.region_attempts.proofs.Public.{is_there, owes_at}
 use Rattle.variable_words.proofs.Public.{well_formed_placed, addresses_reach}
 use Rattle.log_states.specs.Laws.{recorded_by, IsRecoverable}
 use Rattle.thread_code.specs.Plans.{Plan, IsNodeOf, IsKept, of_local, of_address, of_value, IsPlan, locks_before}
-use Rattle.thread_code.specs.RegistersAtNodes.{IsPendingIn, HasLowBytes, HasPending, Enters}
+use Rattle.thread_code.specs.RegistersAtNodes.{IsPendingIn, HasPending, Enters}
 use Rattle.thread_code.specs.NodeCodeEffects.{Places, keeping}
 use Rattle.thread_code.specs.Programs.{IsCalling}
 use Rattle.thread_runs.specs.CodeFragments.{IsLockOf, IsUnlockOf}
-use Rattle.recovered_threads.specs.RecordDescriptions.{Code, IsOrderly, ResumesAt, Describes, between, inside}
+use Rattle.recovered_threads.specs.RecordDescriptions.{Code, IsOrderly, ResumesAt, Describes}
 use Rattle.recovered_threads.specs.Laws.{AtBoundary}
-use Rattle.recovered_threads.proofs.Public.{boundaries_recover, same_there, commits_describe}
+use Rattle.recovered_threads.proofs.Public.{boundaries_recover, commits_describe}
 use Rattle.crash_simulation.specs.Systems.{System, IsSystem, thread_count}
+use Rattle.expr_code.specs.declared.home.Home.{Home}
+use Rattle.expr_code.specs.EvaluationCode.{HomeCarries}
 
 -- ---- Addresses in a thread's code
 
@@ -127,32 +127,26 @@ module _ (y : System) (s : IsSystem y) (n : ℕ) (below : n < thread_count y) wh
 
   fetched_in : (address : ℕ) (instr : Instr) → instr_at y.runs.program code.thread.number address ≡ Some instr → IsAddress address
   fetched_in address instr h =
-      by (nat_le (code_start y.runs.program code.thread.number) address && (address % 4 == 0)) refl h
-    where
-      found_of : (o : Option Slot) → instr_of o ≡ Some instr → (found : Slot) × (o ≡ Some found)
-      found_of None e = absurd (none-some instr e)
-      found_of (Some found) e = (found, refl)
-
-      by : (test : Bool) → (nat_le (code_start y.runs.program code.thread.number) address && (address % 4 == 0)) ≡ test →
-          instr_of (if test then slice_get (code_of y.runs.program code.thread.number) ((address - code_start y.runs.program code.thread.number) / 4) else None)
-          ≡ Some instr →
-          IsAddress address
-      by false e there = absurd (none-some instr there)
-      by true e there =
-          let found = found_of _ there in
-          let within = slice_get_within (code_of y.runs.program code.thread.number) ((address - code_start y.runs.program code.thread.number) / 4)
-          found.0 found.1 in
-          let parts = and_parts (nat_le (code_start y.runs.program code.thread.number) address) (address % 4 == 0) e in
-          let from = leb-true (code_start y.runs.program code.thread.number) address parts.0 in
-          let four = eqb-true (address % 4) 0 parts.1 in
-          let words : ℕ = sum_by length (take code.thread.number y.runs.program) in
-          let begins : c.program.start ≡ code_base + 4 * words = ap (λ (p : Program). p.start) (code.is.of_program ∙ (s.own n below).program) in
-          let same : c.program.start ≡ code_start y.runs.program code.thread.number = begins in
-          let size : length c.program.code ≡ length (code_of y.runs.program code.thread.number) =
-          ap (λ (p : Program). length p.code) (code.is.of_program ∙ (s.own n below).program) in
-          let i : ℕ = (address - c.program.start) / 4 in
-          let at : c.program.start + 4 * i ≡ address = omega (arith, from, four, begins, same) in
-          subst (λ (a : ℕ). IsAddress a) at (in_code i (omega (arith, within, size, same)))
+      cond_both (nat_le (code_start y.runs.program code.thread.number) address && (address % 4 == 0)) _ None
+      (λ (o : Option Slot). instr_of o ≡ Some instr → IsAddress address)
+      (λ yes there. elim (get_cases (code_of y.runs.program code.thread.number) ((address - code_start y.runs.program code.thread.number) / 4)) [
+        | inl none ↦ absurd (none-some instr (sym (ap instr_of none) ∙ there))
+        | inr found ↦
+            let within = slice_get_within (code_of y.runs.program code.thread.number) ((address - code_start y.runs.program code.thread.number) / 4)
+            found.0 found.1 in
+            let parts = and_parts (nat_le (code_start y.runs.program code.thread.number) address) (address % 4 == 0) yes in
+            let from = leb-true (code_start y.runs.program code.thread.number) address parts.0 in
+            let four = eqb-true (address % 4) 0 parts.1 in
+            let same : c.program.start ≡ code_start y.runs.program code.thread.number =
+            ap (λ (p : Program). p.start) (code.is.of_program ∙ (s.own n below).program) in
+            let size : length c.program.code ≡ length (code_of y.runs.program code.thread.number) =
+            ap (λ (p : Program). length p.code) (code.is.of_program ∙ (s.own n below).program) in
+            let i : ℕ = (address - c.program.start) / 4 in
+            let begins = (in_code 0 (omega arith)).aligned in
+            let at : c.program.start + 4 * i ≡ address = omega (arith, from, four, begins, same) in
+            subst (λ (a : ℕ). IsAddress a) at (in_code i (omega (arith, within, size, same)))
+      ])
+      (λ no there. absurd (none-some instr there)) h
 
   -- where a thread is resumed after a lock: the code leads from there to the entry of the next node
   pub after_lock_in : (w : World) (environment : MarkedEnvironment) (side : ℕ) (seen : Seen) (x : List ℕ) (from mutex next : ℕ) → Meets c.program environment →
@@ -212,68 +206,15 @@ module _ (p : Plan) (code : Code p) (plan : IsPlan p) (s : FlowState) (good : Go
 
     -- what a boundary keeps has 64 bits
     pub kept_small : (register : ℕ) → IsKept p code.thread graph_thread.at register → read x register < 2 ^ 64
-    kept_small register (of_local local k found live) = carried_small (slice_index code.thread.registers local) _ (enters.locals local k found live)
+    kept_small register (of_local local k own found live at) =
+        let v = typed k (slice_index_or (seen_by s graph_thread).locals local (pos 0)) in
+        carried_small own v (subst (λ (home : Home). HomeCarries x home v) at (enters.locals local k found live))
     kept_small register (of_address (stores is variable kind next at stores_there)) =
         let store = store_ahead is variable kind next at stores_there in
         subst (λ (k : ℕ). k < 2 ^ 64) (sym (pending_there is variable kind next at stores_there store.0 store.1).address) (address_small store.0 store.1)
     kept_small register (of_value (stores is variable kind next at stores_there)) =
         let store = store_ahead is variable kind next at stores_there in
         (pending_there is variable kind next at stores_there store.0 store.1).value.below
-
-    -- ---- All registers cut to 64 bits
-
-    abbrev cut : List ℕ
-    cut = map (λ (k : ℕ). k % 2 ^ 64) x
-
-    cut_read : (register : ℕ) → read cut register ≡ read x register % 2 ^ 64
-    cut_read register = by x register
-      where
-        by : (xs : List ℕ) (i : ℕ) → slice_index (map (λ (k : ℕ). k % 2 ^ 64) xs) i ≡ slice_index xs i % 2 ^ 64
-        by [] i = refl
-        by (k ∷ xs) zero = refl
-        by (k ∷ xs) (suc i) = by xs i
-
-    cut_same : (register : ℕ) → read x register < 2 ^ 64 → read cut register ≡ read x register
-    cut_same register small = let r = cut_read register in omega (arith, r, small)
-
-    cut_carries : (register : ℕ) (v : Typed) → Carries x register v → Carries cut register v
-    cut_carries register v carries =
-        record { held = carries.held; form = cut_same register (carried_small register v carries) ∙ carries.form }
-
-    cut_low : (register : ℕ) (k : Kind) (number : ℤ) → HasLowBytes x register k number → HasLowBytes cut register k number
-    cut_low register k number has =
-        let same = cut_same register has.below in
-        record {
-          held = has.held;
-          below = subst (λ (v : ℕ). v < 2 ^ 64) (sym same) has.below;
-          low = ap (λ (v : ℕ). v % 2 ^ (8 * bytes_of k)) same ∙ has.low;
-        }
-
-    cut_pending : (is : Node) → NodeAt p.graph graph_thread.at is → (a : Action) → is.action ≡ a → IsPendingIn p a (seen_by s graph_thread) cut
-    cut_pending is at (Store variable kind next) e = λ store owes.
-        let has = pending_there is variable kind next at e store owes in
-        record {
-          variable_is = has.variable_is;
-          address = cut_same _ (kept_small _ (of_address (stores is variable kind next at e))) ∙ has.address;
-          value = cut_low _ _ _ has.value;
-          below = has.below;
-        }
-    cut_pending is at a e = tt
-
-    pub cut_enters : Enters p code.thread graph_thread.at (seen_by s graph_thread) side cut
-    cut_enters =
-        let on = enters.at_side in
-        record {
-          at_side = stays_on_side p.log side x cut on (length-map x (λ (k : ℕ). k % 2 ^ 64) ∙ on.count)
-              (cut_same 0 (let e = on.zero_is in omega (arith, e)) ∙ on.zero_is)
-              (cut_same _ (on_side_small p.log side x on));
-          locals = λ local k found live. cut_carries _ _ (enters.locals local k found live);
-          pending = λ is at. cut_pending is at is.action refl;
-          count = enters.count;
-        }
-
-    pub cut_small : (register : ℕ) → read cut register < 2 ^ 64
-    cut_small register = let r = cut_read register in omega (arith, r)
 
 -- ---- A boundary begins
 
@@ -294,54 +235,22 @@ pub record BoundaryIsRecoverable (p : Plan) (code : Code p) (s : FlowState) (nod
 
 module _ (p : Plan) (code : Code p) (s : FlowState) (side resume : ℕ) (x : List ℕ) (plan : IsPlan p) (orderly : IsOrderly p s) (good : Good p.flat s)
     (k : IsBeginning p code s side resume x) where
-  abbrev boundary : Boundary
-  boundary = keeping p code.thread code.is.places k.graph_thread.at
-
-  abbrev cut_x : List ℕ
-  cut_x = cut p code plan s good k.graph_thread k.there side x k.enters
-
-  abbrev at_boundary : AtBoundary p code s side resume cut_x
+  abbrev at_boundary : AtBoundary p code s side resume x
   at_boundary = record {
     graph_thread = k.graph_thread;
     there = k.there;
     goes_on = k.goes_on;
     own = k.own;
     resumes = k.resumes;
-    enters = cut_enters p code plan s good k.graph_thread k.there side x k.enters;
+    enters = k.enters;
     aligned = k.address.aligned;
     somewhere = k.address.somewhere;
     below = k.address.below;
-    registers = cut_small p code plan s good k.graph_thread k.there side x k.enters;
+    registers = kept_small p code plan s good k.graph_thread k.there side x k.enters;
   }
 
-  retold : Describes p code s (recorded_by boundary side resume cut_x) → Describes p code s (recorded_by boundary side resume x)
-  retold (between none point) = between none point
-  retold (inside some i) = inside some (record {
-    graph_thread = i.graph_thread;
-    there = i.there;
-    goes_on = i.goes_on;
-    own = i.own;
-    point = i.point;
-    resumes = i.resumes;
-    locks = i.locks;
-    live = i.live;
-    side = side;
-    enters = subst (λ (v : GraphThread). Enters p code.thread v.at (seen_by s v) side x)
-        (same_there (slice_get s.graph_threads code.thread.number) k.graph_thread i.graph_thread k.there i.there) k.enters;
-  })
-
   pub boundaries_begin : BoundaryIsRecoverable p code s k.graph_thread.at side resume x
-  boundaries_begin =
-      let r = boundaries_recover p code s side resume cut_x plan orderly at_boundary in
-      record {
-        recoverable = record {
-          locks = r.locks;
-          live = r.live;
-          registers = λ register has. kept_small p code plan s good k.graph_thread k.there side x k.enters register
-              ((code.is.kept k.graph_thread.at k.own register).0 has);
-          aligned = r.aligned;
-          somewhere = r.somewhere;
-          below = r.below;
-        };
-        describes = retold (commits_describe p code s side resume cut_x plan orderly at_boundary);
-      }
+  boundaries_begin = record {
+    recoverable = boundaries_recover p code s side resume x plan orderly at_boundary;
+    describes = commits_describe p code s side resume x plan orderly at_boundary;
+  }

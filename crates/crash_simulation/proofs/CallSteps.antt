@@ -1,4 +1,5 @@
 -- A step of a hart at its call: it takes a mutex or waits, gives one back, or ends.
+use Rattle.std.proofs.lemmas.Bool.Decides.{nat_tests}
 use Rattle.std.proofs.Common.{◌≡◌, ◌≢◌, ◌⊎◌, inl, inr, ⊎_elim, refl, ℕ, List, [], ◌++◌, ap, sym, ◌∙◌, subst, arith, Option, Some, None, Bool, true, false}
 use Rattle.std.proofs.Common.{slice_set, suc, length, ◌+◌}
 use Rattle.std.proofs.lemmas.Bool.{true≢false, cond-true, cond-false, cases_Bool, and_parts}
@@ -11,7 +12,6 @@ use Rattle.ido_base.specs.Words.{Word, Entry}
 use Rattle.ido_base.specs.Locks.{holds_none}
 use Rattle.rv64_isa.specs.declared.phase.Phase.TheVariants.{Run, Done, Ended}
 use Rattle.rv64_isa.specs.Machine.{Hart, World, with_holder, moved, gone_on, happens}
-use Rattle.rv64_isa.specs.declared.phase.Phase.{Phase}
 use Rattle.rv64_isa.specs.Rows.{Effect}
 use Rattle.rv64_isa.specs.Schedule.{passes_mark}
 use Rattle.node_code.specs.Pieces.{gives, ends}
@@ -34,7 +34,7 @@ use Rattle.recovered_threads.proofs.Public.{same_there, same_or_other, holds_non
 use Rattle.crash_simulation.specs.ThreadGhosts.{ThreadGhost, InFragment, on_fragment, InPhase, ThreadInv}
 use Rattle.crash_simulation.specs.InstructionSteps.{stays, is_bound, is_leaving, was_unlocked, Releases, nothing_released, last_released, CallsStep, halts}
 use Rattle.crash_simulation.specs.InstructionSteps.{is_nearer}
-use Rattle.crash_simulation.specs.StepsToMark.{entry_ahead, beyond, most_ahead, IsSoon}
+use Rattle.crash_simulation.specs.StepsToMark.{entry_ahead, most_ahead, IsSoon}
 use Rattle.crash_simulation.specs.Systems.{System, IsSystem, flat_of}
 use Rattle.crash_simulation.specs.AbstractRuns.{kept_of, now_of}
 use Rattle.crash_simulation.specs.SimulationRelation.{IsGiving}
@@ -42,16 +42,16 @@ use Rattle.crash_simulation.specs.ThreadGhosts as courses
 use Rattle.crash_simulation.specs.InstructionSteps as moving
 use Rattle.crash_simulation.proofs.LastReleases.{holds_some, no_release, holders_stay_none, is_release, none_leaving, describes_test}
 use Rattle.crash_simulation.proofs.LocksAfterStep.{GoneOn, runs_held, held_given}
-use Rattle.crash_simulation.proofs.OwnHartSteps.{step_to, Site, view, StepOf, own_step, own_giving, held_still}
+use Rattle.crash_simulation.proofs.OwnHartSteps.{step_to, Site, view, StepOf, own_step, own_giving, locks_to, held_still}
 use Rattle.crash_simulation.proofs.PendingFlushes.{Passage, flushed_same, still_reached, reaches_same}
 use Rattle.crash_simulation.proofs.LockCallSteps.{none_from, point_none, AtEnd, MovesHart, FragmentTo, z, invariant, placed_here, exists_now, now_holders}
 use Rattle.crash_simulation.proofs.LockCallSteps.{kept_held, fragment_over, none_left, rest_over, fits, hart_is, committed_over, call_stores, points_none}
 use Rattle.crash_simulation.proofs.LockCallSteps.{words_after, holders_after, there_after, memory_after, describes_new, asks_step}
 use Rattle.crash_simulation.proofs.StatesMatchSource.{kept_matches}
-use Rattle.crash_simulation.proofs.UnchangedMemory.{phase_moves}
+use Rattle.crash_simulation.proofs.KeptThreads.{phase_moves}
 use Rattle.crash_simulation.proofs.LoadFreeEnvironment.{bare_answers, placed}
 use Rattle.crash_simulation.proofs.LocksAtCalls.{not_held, ends_free}
-use Rattle.crash_simulation.proofs.StepsAfterMarks.{less_soon, one_less}
+use Rattle.crash_simulation.proofs.StepsAfterMarks.{less_soon}
 use Rattle.crash_simulation.proofs.FragmentSteps.{not_twice}
 use Rattle.code_runs.specs.CodeTraces.{seen_effects}
 
@@ -138,10 +138,7 @@ module _ {y : System} {s : IsSystem y} {w : World} {h from mutex : ℕ} (at : At
   -- one step less is ahead
   nearer : (c.before_mark ≡ suc (c.before_mark - 1)) × IsSoon y n (c.before_mark - 1)
       (length t.log.hart.queue + (places.words from + entry_ahead y.plan places graph_thread.at))
-  nearer =
-      let last : beyond y.plan places at.o.exit graph_thread.at ≡ suc (places.words from + entry_ahead y.plan places graph_thread.at) =
-      ap (λ (x : ExitPoint). beyond y.plan places x graph_thread.at) at.exit_is in
-      one_less y n c.before_mark _ _ at.o.soon (omega (arith, last))
+  nearer = grind (arith, nat_tests)
 
   given_logs : v.log ≡ w.log
   given_logs = log_stays y.runs.program w (Step n) at.site.stands.machine.sound
@@ -175,20 +172,7 @@ module _ {y : System} {s : IsSystem y} {w : World} {h from mutex : ℕ} (at : At
       }
 
   given_phase : InPhase y v b code given_ghost given_hart graph_thread given_hart.phase × GoneOn given_hart.phase
-  given_phase = elim (cases_Bool is_over) [
-    | inl over ↦
-        let done : Done ≡ given_hart.phase = sym (cond-true is_over Done Run over) in
-        let point = point_none y code (kept_of y b) c.new (describes_new at)
-        (kept_none (and_parts w.recovering (holds_none left_holders n) over).1) in (
-          subst (λ (p : Phase). InPhase y v b code given_ghost given_hart graph_thread p) done (is_settled over, point),
-          subst GoneOn done tt,
-        )
-    | inr more ↦
-        let run : given_hart.phase ≡ Run = cond-false is_over Done Run more in (
-          subst (λ (p : Phase). InPhase y v b code given_ghost given_hart graph_thread p) (sym run) (on_fragment (goes_on_running more run)),
-          subst GoneOn (sym run) tt,
-        )
-  ]
+  given_phase = grind (arith, and_parts, cases_Bool, cond-false, cond-true, describes_new, point_none, goes_on_running, is_settled, kept_none)
 
   abbrev passage : Passage y code
   passage = step_to at.site v b.config.uncommitted b.config.memory b.config.attempts (b.execution, b.respects) given_ghost given_hart
@@ -269,7 +253,7 @@ module _ {y : System} {s : IsSystem y} {w : World} {h from mutex : ℕ} (at : At
     new = given_ghost;
     own = given_thread;
     gone = given_phase.1;
-    held = held_given w v ghosts n given_ghost (now_of y b) mutex owns not_now (holders_after at given_move) gives_it refl;
+    held = λ held. held_given (locks_to at.site b given_ghost refl) held mutex owns not_now (holders_after at given_move) refl gives_it refl;
     counted = record {
       marks = given.no_mark y.runs.marks refl;
       unlocked = λ lock gives. absurd (none-some lock gives);

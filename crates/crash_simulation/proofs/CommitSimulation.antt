@@ -1,10 +1,9 @@
 -- Where boundaries have been committed, the steps before them are kept.
-use Rattle.std.proofs.Common.{◌≡◌, ◌≢◌, ◌⊎◌, inl, inr, refl, ℕ, zero, suc, ◌<◌, ◌≤◌, ◌==◌, List, [], ◌++◌, replicate, not, ◌&&◌, sym, ◌∙◌, ap}
-use Rattle.std.proofs.Common.{append_assoc, subst, arith, Bool, true, false, slice_set}
+use Rattle.std.proofs.Common.{◌≡◌, ◌≢◌, ◌⊎◌, inl, inr, refl, ℕ, zero, suc, ◌<◌, ◌≤◌, ◌==◌, List, [], ◌++◌, replicate, not, ◌&&◌, sym, ◌∙◌, ap, append_assoc}
+use Rattle.std.proofs.Common.{subst, arith, Bool, true, false, slice_set}
 use Rattle.std.specs.Prelude.{◌+◌, slice_get, nat_le, is_some, if◌then◌else◌}
 use Rattle.std.specs.Option.{option_map}
 use Rattle.std.proofs.lemmas.Bool.{true≢false, cond-true, cond-false}
-use Rattle.c_tree.specs.Flats as f
 use Rattle.c_tree.specs.Source as m
 use Rattle.rv64_isa.specs.declared.phase.Phase.TheVariants.{Done}
 use Rattle.ido_base.specs.Words.{last_position}
@@ -21,7 +20,7 @@ use Rattle.recovery_semantics.proofs.Public.{equal_self, unequal_of, since_settl
 use Rattle.region_attempts.specs.Origins.{Origin}
 use Rattle.region_attempts.specs.GraphStates.{flow_solo}
 use Rattle.region_attempts.specs.AttemptsInRegion.{HasCome, IsBeforeBoundary}
-use Rattle.region_attempts.proofs.Public.{attempts_are_whole, graph_stands}
+use Rattle.region_attempts.proofs.Public.{attempts_are_whole}
 use Rattle.std.specs.List.{list_any}
 use Rattle.std.proofs.lemmas.List.{append-nil}
 use Rattle.log_states.specs.Stages.{LogConfig, is_committed, is_store}
@@ -34,24 +33,22 @@ use Rattle.recovered_threads.proofs.Public.{same_or_other}
 use Rattle.crash_simulation.specs.Systems.{System, IsSystem, flat_of, thread_count}
 use Rattle.crash_simulation.specs.AbstractRuns.{AbstractRun, kept_of, now_of}
 use Rattle.crash_simulation.specs.ThreadGhosts.{ThreadGhost, ExitInv, ThreadInv, HasCommittedLog, committed}
-use Rattle.crash_simulation.specs.SimulationRelation.{AreHeld, AreLocked, gathering, gathered, SimulatesBut, anybody, nobody}
+use Rattle.crash_simulation.specs.SimulationRelation.{AreHeld, AreLocked, gathering, gathered, SimulatesBut, Simulates, anybody, nobody}
 use Rattle.crash_simulation.specs.InstructionSteps.{is_bound}
 use Rattle.crash_simulation.specs.AccountRelation.{IsCountedOf, IsAccountedOf, AreCounted, Beginning}
 use Rattle.crash_simulation.specs.ReleasedSections.{one_if, sections_kept, IsReleasedOf, in_step, cut_off}
 use Rattle.crash_simulation.specs.Laws.{CommitStutters}
-use Rattle.crash_simulation.proofs.AccountsAtCommit.{not_kept, kept_is, pending_is, count_same, own_is, other_is}
-use Rattle.crash_simulation.proofs.StatesMatchSource.{resumed}
-use Rattle.crash_simulation.proofs.AccountUpdates.{still_accounted}
+use Rattle.crash_simulation.proofs.AccountUpdates.{not_kept, kept_is, kept_pending_is, kept_count_same, kept_own_is, kept_other_is, still_accounted}
+use Rattle.crash_simulation.proofs.StatesMatchSource.{resumed, as_source}
 use Rattle.crash_simulation.proofs.PendingReleases.{IsAtBoundary, at_keeps, at_took, at_gives, under_way}
 use Rattle.crash_simulation.proofs.ThreadsOfMachines.{each_thread, phase_of}
-use Rattle.crash_simulation.proofs.ThreadCommits.{MaySettle, is_emptied, invariant, kept_by, none_describes, committed_run, now_same, source_same, own_begun}
-use Rattle.crash_simulation.proofs.ThreadCommits.{own_done, own_describes, begun_same, unlock_kept}
+use Rattle.crash_simulation.proofs.ThreadCommits.{MaySettle, is_emptied, invariant, none_describes, committed_run, now_same, source_same, own_begun, own_done}
+use Rattle.crash_simulation.proofs.ThreadCommits.{own_describes, begun_same, unlock_kept, taken, own_stands, other_stands}
 use Rattle.crash_simulation.proofs.LongestAttempts.{AreFurthest, settled_furthest}
 use Rattle.crash_simulation.proofs.LocksAfterStep.{held_alike}
 use Rattle.crash_simulation.proofs.LastReleases.{uncommitted_leaving}
-use Rattle.crash_simulation.proofs.Sections.{leaves, kept_more, kept_others}
-use Rattle.crash_simulation.proofs.EndedSections.{AreSameSections, EndAsLeft, same_end, both_same, end_then_same, same_then_end, own_end, others_same}
-use Rattle.crash_simulation.proofs.ThreadsAtCommit.{taken, own_stands, other_stands}
+use Rattle.crash_simulation.proofs.Sections.{leaves, kept_more, kept_others, AreSameSections, EndAsLeft, same_end, both_same, end_then_same, same_then_end}
+use Rattle.crash_simulation.proofs.Sections.{own_end, others_same}
 
 -- ---- What a thread has done before a boundary that is committed
 
@@ -62,11 +59,8 @@ data HasToSettle (y : System) (b : AbstractRun y) (thread : ℕ) : Type 0 where
 
 module _ (y : System) (s : IsSystem y) (w : World) (b : AbstractRun y) (code : Code y.plan) (c : ThreadGhost) (t : ThreadInv y w b code c)
     (not_yet : c.committed ≡ false) (sooner : committed y w b code c t.log.hart ≡ true) where
-  abbrev u : ℕ
-  u = code.thread.number
-
-  abbrev x : f.Flat
-  x = flat_of y
+  open code.thread use {number as u}
+  open y.plan use {flat as x}
 
   durable : (v e : ℕ) → Writes b.config.kept u (attempt_of b.config u).done v e → IsStable (history_at b.config.memory v e) (number_at (now b.config) v e)
   durable v e writes =
@@ -87,7 +81,7 @@ module _ (y : System) (s : IsSystem y) (w : World) (b : AbstractRun y) (code : C
     node = t.graph_thread.at;
     steps = some;
     at =
-        let alone = (graph_stands x b.origin b.config b.schedule s.plan.formed (invariant y s b) (kept_by y s b)).alone u in
+        let alone = (as_source y s b).alone u in
         ap (option_map (λ (z : GraphThread). z.at))
         (ap (λ (n : ℕ). slice_get (flow_solo x (kept_of y b) u n).graph_threads u) (sym h.1) ∙ (sym alone ∙ t.walks));
     stands = h.0.stands;
@@ -118,8 +112,7 @@ abbrev seen : World → ThreadGhost → LogConfig
 seen w c = record { words = w.words; queue = []; rest = c.rest }
 
 module _ (y : System) (s : IsSystem y) (w : World) (k : ℕ) (below : k < thread_count y) (stands : SimulatesBut y s w (λ n. k ≤ n)) where
-  abbrev b : AbstractRun y
-  b = stands.abstract
+  open stands use {abstract as b}
 
   abbrev c : ThreadGhost
   c = stands.ghosts k
@@ -237,7 +230,7 @@ module _ (y : System) (s : IsSystem y) (w : World) (k : ℕ) (below : k < thread
 
       own_counted : IsCountedOf y w one.next k (taken c) (hart_steps (with_kept w.log w.words k steps) k)
       own_counted =
-          let is = own_is y w b k c steps mine_counted bound reached (let n = counted.count in omega (arith, below, n)) in
+          let is = kept_own_is y w b k c steps mine_counted bound reached (let n = counted.count in omega (arith, below, n)) in
           subst (λ (z : HartSteps). IsCountedOf y w one.next k (taken c) z) (sym is)
           (record { free = λ e. (sym one.own_begun, refl); bound = λ e. absurd (true≢false (sym e)) })
 
@@ -257,11 +250,12 @@ module _ (y : System) (s : IsSystem y) (w : World) (k : ℕ) (below : k < thread
       counted_after : AreCounted y g w one.next ghosts (with_kept w.log w.words k steps) r
       counted_after = record {
         begins = ap (λ (o : Origin (flat_of y)). o.source) one.origin ∙ counted.begins;
+        earlier = counted.earlier;
         kept = kept_is y w b k c steps mine_counted bound reached
             ∙ (ap (λ (us : List ℕ). us ++ replicate (steps_begun b.config k) k) counted.kept
             ∙ (append_assoc g.kept b.schedule (replicate (steps_begun b.config k) k) ∙ ap (λ (us : List ℕ). g.kept ++ us) (sym one.schedule)));
-        pending = pending_is y w b k c steps mine_counted bound reached ∙ (ap (without (steps_begun b.config k) k) counted.pending ∙ sym one.pending);
-        count = count_same y w b k c steps mine_counted bound reached ∙ counted.count;
+        pending = kept_pending_is y w b k c steps mine_counted bound reached ∙ (ap (without (steps_begun b.config k) k) counted.pending ∙ sym one.pending);
+        count = kept_count_same y w b k c steps mine_counted bound reached ∙ counted.count;
         each = each_taken
             (λ (n : ℕ) (inside : n < thread_count y) (c' : ThreadGhost). IsAccountedOf y w one.next n c' (hart_steps (with_kept w.log w.words k steps) n) (r n))
             (record { counted = own_counted; released = own_released (counted.each k below).released })
@@ -272,7 +266,7 @@ module _ (y : System) (s : IsSystem y) (w : World) (k : ℕ) (below : k < thread
               sections = kept_others y s b one.next k one.origin one.schedule n apart;
               last = λ e. refl;
               done = λ d. d;
-            }) (other_is y w b k c steps mine_counted bound reached n apart) refl (counted.each n inside));
+            }) (kept_other_is y w b k c steps mine_counted bound reached n apart) refl (counted.each n inside));
         beyond = λ n outside. kept_others y s b one.next k one.origin one.schedule n (λ e. omega (arith, outside, below, e)) ∙ counted.beyond n outside;
       }
 
@@ -307,7 +301,7 @@ waits_for waiting t caught = record {
 }
 
 module _ (y : System) (s : IsSystem y) (w : World) (first : SimulatesBut y s w anybody) where
-  abbrev Caught : ℕ → Type 0
+  abbrev pub Caught : ℕ → Type 0
   Caught count = CatchesUp y s w first count (λ n. count ≤ n)
 
   module _ (k : ℕ) (below : k < thread_count y) (h : Caught k) where
@@ -400,20 +394,12 @@ module _ (y : System) (s : IsSystem y) (w : World) (first : SimulatesBut y s w a
       let c = h.stands.ghosts k in
       by_both k (omega (arith, within)) h c.committed (list_any is_store c.rest) (is_committed w.log k (seen w c)) refl refl refl
 
+  pub all_caught_up : Caught (thread_count y)
+  all_caught_up = all_catch_up (thread_count y) (omega arith)
+
   -- all that is committed is taken so
-  pub all_caught_up : CatchesUp y s w first (thread_count y) nobody
-  all_caught_up =
-      let h = all_catch_up (thread_count y) (omega arith) in
-      record {
-        stands = waits_for nobody h.stands (λ n below none. h.stands.caught_up n below (λ l. omega (arith, below, l)));
-        source = h.source;
-        tried = h.tried;
-        giving = h.giving;
-        ahead = h.ahead;
-        counted = h.counted;
-        ends = h.ends;
-        same_later = h.same_later;
-      }
+  abbrev pub none_waits : Caught (thread_count y) → Simulates y s w
+  none_waits h = waits_for nobody h.stands (λ n below none. h.stands.caught_up n below (λ l. omega (arith, below, l)))
 
 pub commit_stutters : CommitStutters
-commit_stutters y s w first = (all_caught_up y s w first).stands
+commit_stutters y s w first = none_waits y s w first (all_caught_up y s w first)

@@ -1,5 +1,5 @@
 -- What a hart may store is in no other thread's log, and beside all that other threads read.
-use Rattle.std.proofs.Common.{◌≡◌, ◌≢◌, inl, inr, refl, ℕ, ◌+◌, ◌/◌, ◌<◌, ◌≤◌, List, ◌∷◌, length, ap, arith, sym, ◌∙◌, subst, Option, Some, None, true, ⊎_elim}
+use Rattle.std.proofs.Common.{◌≡◌, ◌≢◌, inl, inr, refl, ℕ, ◌+◌, ◌/◌, ◌<◌, ◌≤◌, List, ◌∷◌, length, ap, arith, sym, ◌∙◌, subst, Some, true, ⊎_elim}
 use Rattle.std.proofs.Common.{map}
 use Rattle.std.proofs.lemmas.Bool.{true≢false, and_from}
 use Rattle.std.proofs.lemmas.Option.{same_Some}
@@ -19,11 +19,9 @@ use Rattle.memory_layout.specs.Variables.{HaveRoom}
 use Rattle.variable_words.proofs.Public.{by_size, well_formed_placed, steps_work}
 use Rattle.variable_words.specs.MemoryEffects.{MayMakeStore, IsWork, Rests, Queues, WritesBack, Makes}
 use Rattle.rv64_isa.specs.declared.object.Slot.{Slot}
-use Rattle.rv64_isa.specs.declared.object.Slot.TheVariants.{Row}
-use Rattle.rv64_isa.specs.Rows.{Effect, Stores, row}
+use Rattle.rv64_isa.specs.Rows.{Effect, Stores}
 use Rattle.rv64_isa.specs.Machine.{Hart, World, after_event}
 use Rattle.rv64_isa.specs.Frames.{IsWellFormedWorld}
-use Rattle.rv64_isa.specs.Schedule.{is_running}
 use Rattle.recovery_semantics.specs.Configs.{now}
 use Rattle.log_states.specs.Logs.{log_word}
 use Rattle.log_states.specs.Stages.{is_store}
@@ -45,23 +43,10 @@ abbrev width_of : Effect → ℕ
 width_of (Stores address bytes value) = bytes
 width_of effect = 0
 
--- the effect of an instruction that was fetched
-abbrev effect_in : Hart → Option Slot → Option Effect
-effect_in hart o = elim o [
-  | Some (Row instr) ↦ Some (row instr hart.registers hart.pc)
-  | _ ↦ None
-]
-
 -- the next instruction of a hart that makes a store
 pub next_store : (program : List (List Slot)) (w : World) (h address bytes value : ℕ) (st : MayMakeStore program w h address bytes value) →
     IsNext program w h st.executes.hart (Stores address bytes value)
-next_store program w h address bytes value st =
-    let e = st.executes in
-    record {
-      here = e.there;
-      runs = ap is_running e.runs;
-      is = ap (effect_in e.hart) e.fetches ∙ ap (λ (x : Effect). Some x) e.effect_is;
-    }
+next_store program w h address bytes value st = grind (arith)
 
 module _ (y : System) (s : IsSystem y) (w : World) (h : ℕ) (b : AbstractRun y)
     (logs : y.plan.log ≡ w.log)
@@ -111,8 +96,7 @@ module _ (y : System) (s : IsSystem y) (w : World) (h : ℕ) (b : AbstractRun y)
   module _ (n : ℕ) (other : h ≢ n) (z : MarkedEnvironment)
       (answers : (address bytes value : ℕ) → z.around.loads address bytes ≡ Some value → IsUnguarded address bytes) where
     answer_ends : (at count : ℕ) → IsUnguarded at count → at + count ≤ variables_end
-    answer_ends at count g =
-        omega (arith, element_ends (flat_of y).variables room g.variable g.element g.is g.there g.within)
+    answer_ends at count g = grind (arith, element_ends, room)
 
     module _ (address bytes value : ℕ) where
       abstract_all : (effect : Effect) → effect ≡ Stores address bytes value → MayStore y b h effect → IsAbstractAll z address bytes

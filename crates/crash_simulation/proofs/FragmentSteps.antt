@@ -1,23 +1,24 @@
 -- A step of a hart in a fragment: it makes the next of the effects ahead, or none, or writes an entry back.
+use Rattle.std.proofs.lemmas.Bool.Decides.{nat_tests}
 use Rattle.std.proofs.Common.{◌≡◌, ◌⊎◌, inl, inr, ⊎_elim, refl, ℕ, suc, ◌+◌, ◌*◌, ◌/◌, ◌%◌, ◌<◌, ◌≤◌, List, [], ◌∷◌, ◌++◌, length, ap, sym, ◌∙◌, subst, arith}
 use Rattle.std.proofs.Common.{Option, Some, None, Bool, true, false}
-use Rattle.std.proofs.lemmas.Bool.{true≢false, cond_both, cases_Bool, ltb-true, ltb-false}
-use Rattle.std.specs.Prelude.{slice_get, Contains, if◌then◌else◌, not, nat_lt, ◌&&◌, ◌||◌, ◌==◌, ◌-◌}
+use Rattle.std.proofs.lemmas.Bool.{true≢false}
+use Rattle.std.specs.Prelude.{slice_get, Contains, if◌then◌else◌, not, ◌&&◌, ◌-◌}
 use Rattle.std.specs.List.{list_any}
 use Rattle.std.specs.Option.{option_map}
 use Rattle.log_states.specs.Machines.{config_of, MovesTo, IsNext, IsLogEffect, StoresWord, CleansLine, PassesFence, is_boundary_effect}
 use Rattle.log_states.specs.Stages.{LogIs, Moves, fences_ahead, is_store, is_committed}
-use Rattle.log_states.specs.Logs.{log_word, point_in}
-use Rattle.ido_base.specs.Words.{Word, Entry, word_at, last_position, stored}
-use Rattle.ido_base.specs.Layout.{byte_number, variable_at, log_of, log_words, logs_base, variables_base}
+use Rattle.log_states.specs.Logs.{log_word}
+use Rattle.ido_base.specs.Words.{Word, Entry, word_at, last_position}
+use Rattle.ido_base.specs.Layout.{byte_number, variable_at, log_of, log_words}
 use Rattle.ido_base.specs.declared.log.Log.{Log}
 use Rattle.ido_base.specs.declared.event.Event.TheVariants.{Step}
 use Rattle.ido_base.specs.declared.event.Reply.{Reply}
 use Rattle.ido_base.specs.Growth.{PersistsThrough, AreEntries}
 use Rattle.ido_base.specs.Growth as growth
-use Rattle.ido_base.proofs.Public.{are_persisted_refl, write_backs_raise}
+use Rattle.ido_base.proofs.Public.{write_backs_raise}
 use Rattle.rv64_isa.specs.Rows.{Effect, Continues, Loads, Stores, Cleans, Fences, Calls}
-use Rattle.rv64_isa.specs.Schedule.{has_moved, is_running, effect_at, is_point_store, passes_mark, stores_point}
+use Rattle.rv64_isa.specs.Schedule.{has_moved, is_running, effect_at, is_point_store, stores_point}
 use Rattle.rv64_isa.specs.declared.phase.Phase.{Phase}
 use Rattle.rv64_isa.specs.Machine.{Hart, World}
 use Rattle.flow_graph.specs.Actions.{GraphThread}
@@ -26,18 +27,18 @@ use Rattle.hart_runs.specs.RunSteps as steps
 use Rattle.hart_runs.specs.RunSteps.{Contents, Changes, is_clean, steps_left}
 use Rattle.hart_runs.specs.HartsOnRuns.{OnRun}
 use Rattle.crash_simulation.specs.Systems.{System, IsSystem, flat_of, shapes_of, places_of}
-use Rattle.crash_simulation.specs.ThreadGhosts.{ThreadGhost, ExitInv, InFragment, on_fragment, InPhase, IsComing, is_reached, is_ahead, IsFlushed, ThreadInv}
+use Rattle.crash_simulation.specs.ThreadGhosts.{ThreadGhost, ExitInv, InFragment, on_fragment, InPhase, is_reached, is_ahead, IsFlushed, ThreadInv}
 use Rattle.crash_simulation.specs.InstructionSteps.{goes, MayStore, nothing, in_log, is_bound, is_nearer, was_unlocked, nothing_released, OnFragmentNow}
 use Rattle.crash_simulation.specs.InstructionSteps.{FragmentsStep}
 use Rattle.crash_simulation.specs.StepsToMark.{beyond, IsSoon}
-use Rattle.crash_simulation.specs.AbstractRuns.{AbstractRun, kept_of, attempts_of}
+use Rattle.crash_simulation.specs.AbstractRuns.{AbstractRun, kept_of}
 use Rattle.crash_simulation.proofs.OwnHartSteps.{step_to, Site, view, StepOf, own_step, held_still}
-use Rattle.crash_simulation.proofs.PendingFlushes.{Passage, StillComes, run_after, flushed_same}
-use Rattle.crash_simulation.proofs.Elements.{room, word_of_element, position_within, position_durable}
-use Rattle.crash_simulation.proofs.StepsAfterMarks.{one_less}
+use Rattle.crash_simulation.proofs.PendingFlushes.{Passage, StillComes, run_after, flushed_same, fence_settles}
+use Rattle.crash_simulation.proofs.Elements.{room, word_of_element, position_within}
+use Rattle.crash_simulation.proofs.KeptThreads.{answers_kept}
 use Rattle.crash_simulation.proofs.LastReleases.{holders_stay_none, and_none}
 use Rattle.crash_simulation.proofs.UncommittedSteps.{leads_on}
-use Rattle.crash_simulation.proofs.StatesMatchSource.{cuts, resumed}
+use Rattle.crash_simulation.proofs.StatesMatchSource.{resumed}
 use Rattle.crash_simulation.proofs.LocksAfterStep.{GoneOn}
 use Rattle.hart_runs.proofs.Public.{forward_reaches, drains_reach, cleans_reach_now, fences_settle}
 use Rattle.thread_runs.specs.CodeFragments.{ExitPoint, Arrives, Keeps, Asks, Took, Gives, Ends, Stage, IsOnFragment, effects_of, on_machine}
@@ -50,11 +51,10 @@ use Rattle.recovery_semantics.specs.VariableSpots.{memory_in}
 use Rattle.recovery_semantics.proofs.Public.{memory_persisted, memory_stays, since_is_persisted}
 use Rattle.region_attempts.specs.GraphStates.{flow_solo}
 use Rattle.region_attempts.specs.AttemptsInRegion.{IsBeforeBoundary}
-use Rattle.region_attempts.specs.PendingCleans.{line_of, CleansSince}
-use Rattle.region_attempts.proofs.Public.{graph_stands, stores_are_cleaned}
+use Rattle.region_attempts.proofs.Public.{graph_stands}
 use Rattle.variable_words.proofs.Public.{variables_apart}
 use Rattle.log_states.proofs.Public.{stores_nothing, one_effect, stays_committed, point_store_is_last, boundaries_stay_in, keeps, not_done, address_of}
-use Rattle.log_states.proofs.Public.{contains_cases, contains_first, contains_later, contains_none, own_steps_move, steps_move, word_of_log, beyond_variables}
+use Rattle.log_states.proofs.Public.{contains_cases, contains_first, contains_later, own_steps_move, steps_move, word_of_log, beyond_variables}
 use Rattle.recovered_threads.proofs.Public.{same_there}
 use Rattle.crash_simulation.specs.ThreadGhosts as courses
 
@@ -68,8 +68,7 @@ pub data Made (cleans rest later : List Effect) (effect : Effect) : Type 0 where
   bounds_first : cleans ≡ [] → rest ≡ effect ∷ later → Made cleans rest later effect
 
 clean_is : (effect : Effect) → is_clean effect ≡ true → (address : ℕ) × (effect ≡ Cleans address)
-clean_is (Cleans address) h = (address, refl)
-clean_is effect h = absurd (true≢false (sym h))
+clean_is effect h = grind (arith, nat_tests)
 
 first_made : (cleans rest later : List Effect) (effect : Effect) → ((e : Effect) → Contains cleans e → is_clean e ≡ true) →
     cleans ++ rest ≡ effect ∷ later → Made cleans rest later effect
@@ -80,7 +79,7 @@ first_made (x ∷ others) rest later effect all h =
     let c = clean_is x (all x (contains_first x others)) in
     cleans_first c.0 others (sym first ∙ c.1) (ap (λ (e : Effect). e ∷ others) c.1) (sym after)
 
-made_by : (cleans rest later : List Effect) (effect : Effect) → ((e : Effect) → Contains cleans e → is_clean e ≡ true) →
+pub made_by : (cleans rest later : List Effect) (effect : Effect) → ((e : Effect) → Contains cleans e → is_clean e ≡ true) →
     cleans ++ rest ≡ effects_of effect ++ later → Made cleans rest later effect
 made_by cleans rest later (Continues registers pc) all h = no_effect refl (sym h)
 made_by cleans rest later (Loads address bytes signed register) all h = no_effect refl (sym h)
@@ -88,39 +87,53 @@ made_by cleans rest later Calls all h = no_effect refl (sym h)
 made_by cleans rest later effect all h = first_made cleans rest later effect all h
 
 -- what stores nothing leaves words
-words_same : (effect : Effect) (old new : Contents) → is_store effect ≡ false → Changes old effect new → new.words ≡ old.words
-words_same (Continues registers pc) old new none c = ap (λ (x : Contents). x.words) c
-words_same (Loads address bytes signed register) old new none c = ap (λ (x : Contents). x.words) c
-words_same (Stores address bytes value) old new none c = absurd (true≢false none)
-words_same Calls old new none c = absurd c
-words_same effect old new none c = ap (λ (x : Contents). x.words) c.1
+pub words_same : (effect : Effect) (old new : Contents) → is_store effect ≡ false → Changes old effect new → new.words ≡ old.words
+words_same effect old new none c = grind (arith, nat_tests)
 
 pub held_up_stores_none : (effect : Effect) (queue : List Entry) → steps.IsHeldUp queue effect → is_store effect ≡ false
-held_up_stores_none (Stores address bytes value) queue h = absurd h
-held_up_stores_none effect queue h = refl
+held_up_stores_none effect queue h = grind (arith, nat_tests)
 
 -- ---- Lines
 
 -- the bytes of a line have one line's number
 line_number : (a d : ℕ) → a / 64 ≡ d / 64 → byte_number a / 64 ≡ byte_number d / 64
-line_number a d same =
-    cond_both (nat_lt a logs_base) (a - variables_base) (65536 + (a - logs_base)) (λ (n : ℕ). n / 64 ≡ byte_number d / 64)
-    (λ low. cond_both (nat_lt d logs_base) (d - variables_base) (65536 + (d - logs_base)) (λ (n : ℕ). (a - variables_base) / 64 ≡ n / 64)
-    (λ _. omega (arith, same))
-    (λ no. absurd (omega (arith, same, ltb-true a logs_base low, ltb-false d logs_base no))))
-    (λ high. cond_both (nat_lt d logs_base) (d - variables_base) (65536 + (d - logs_base)) (λ (n : ℕ). (65536 + (a - logs_base)) / 64 ≡ n / 64)
-    (λ low. absurd (omega (arith, same, ltb-false a logs_base high, ltb-true d logs_base low)))
-    (λ no. omega (arith, same, ltb-false a logs_base high, ltb-false d logs_base no)))
+line_number a d same = grind (arith, nat_tests)
 
 -- ---- What is counted
 
-no_point : (log : Log) (thread : ℕ) (effect : Effect) → is_store effect ≡ false → is_point_store log thread effect ≡ false
-no_point log thread (Stores address bytes value) none = absurd (true≢false none)
-no_point log thread effect none = refl
+pub no_point : (log : Log) (thread : ℕ) (effect : Effect) → is_store effect ≡ false → is_point_store log thread effect ≡ false
+no_point log thread effect none = grind (arith, nat_tests)
 
 pub not_twice : (b : Bool) → false ≡ (not b && b)
-not_twice true = refl
-not_twice false = refl
+not_twice b = grind (arith, nat_tests)
+
+-- ---- Effects of the log
+
+pub log_may : (y : System) (b : AbstractRun y) (w : World) (n : ℕ) → y.plan.log ≡ w.log → (effect : Effect) → IsLogEffect w.log n effect →
+    MayStore y b n effect
+log_may y b w n logs effect (StoresWord i value below same) = subst (MayStore y b n) (sym same) (in_log (log_of w.log n + 8 * i) value i
+    (subst (λ (l : Log). i < log_words l) (sym logs) below)
+    (subst (λ (l : Log). byte_number (log_of w.log n + 8 * i) / 8 ≡ log_word l n i) (sym logs) (word_of_log w.log n i)))
+log_may y b w n logs effect (CleansLine i below same) = nothing effect (ap is_store same)
+log_may y b w n logs effect (PassesFence same) = nothing effect (ap is_store same)
+
+-- they leave variables as they are
+pub log_memory : (y : System) → IsSystem y → (w : World) (n : ℕ) (effect : Effect) (queue : List Entry) (new : Contents) →
+    Changes (record { words = w.words; queue = queue }) effect new → IsLogEffect w.log n effect →
+    memory_in (places_of y) new.words ≡ memory_in (places_of y) w.words
+log_memory y s w n effect queue new changes (StoresWord i value below same) =
+    let place : ℕ = log_of w.log n + 8 * i in
+    let stores : Changes (record { words = w.words; queue = queue }) (Stores place 8 value) new =
+    subst (λ (e : Effect). Changes (record { words = w.words; queue = queue }) e new) same changes in
+    let apart = variables_apart (flat_of y).variables 8192 (room y s) (omega arith) in
+    ap (λ (x : Contents). memory_in (places_of y) x.words) stores
+    ∙ memory_stays (places_of y) w.words (byte_number place) 8 value
+    (λ u e kind at there meets. let low = (apart.whole u e kind at there).1 in let far = beyond_variables w.log n i in
+    omega (arith, low, far, meets))
+log_memory y s w n effect queue new changes (CleansLine i below same) =
+    ap (memory_in (places_of y)) (words_same effect (record { words = w.words; queue = queue }) new (ap is_store same) changes)
+log_memory y s w n effect queue new changes (PassesFence same) =
+    ap (memory_in (places_of y)) (words_same effect (record { words = w.words; queue = queue }) new (ap is_store same) changes)
 
 -- ---- What a step in a fragment makes of the thread
 
@@ -144,10 +157,6 @@ module _ {y : System} {s : IsSystem y} {w : World} {h : ℕ} (site : Site y s w 
 
   hart_is : t.log.hart ≡ fragment.on.hart
   hart_is = same_there (slice_get w.harts n) t.log.hart fragment.on.hart t.log.here fragment.on.here
-
-  no_mark : passes_mark y.runs.marks y.runs.program w n ≡ false
-  no_mark = (law y.plan code.thread places y.runs.program w n o.environment stage left (c.cleans ++ c.rest) sound fragment).1 y.runs.marks
-      (sym (fragment.meets.marks ∙ ap (λ (p : Program). p.nodes) (code.is.of_program ∙ (s.own h site.below).program)))
 
   abbrev old_memory : Memory
   old_memory = memory_in (places_of y) w.words
@@ -203,8 +212,7 @@ module _ {y : System} {s : IsSystem y} {w : World} {h : ℕ} (site : Site y s w 
     abbrev new : ThreadGhost
     new = ghost_with rest cleans
 
-    abbrev hart : Hart
-    hart = d.on.on.hart
+    open d.on.on use {hart}
 
     abbrev passage : Passage y code
     passage = step_to site v b.config.uncommitted new_memory b.config.attempts (leads_on y b _ (persists new_memory persisting) refl tt) new hart
@@ -239,8 +247,7 @@ module _ {y : System} {s : IsSystem y} {w : World} {h : ℕ} (site : Site y s w 
 
     nearer : (c.before_mark ≡ suc (c.before_mark - 1)) × IsSoon y n (c.before_mark - 1)
         (steps_left d.more (seen_effects d.later) hart.queue + beyond y.plan places o.exit graph_thread.at)
-    nearer =
-        one_less y n c.before_mark _ _ o.soon (omega (arith, ap (λ (x : Hart). length x.queue) hart_is, d.less, is))
+    nearer = grind (arith, nat_tests)
 
     -- what holds at the fragment's exit point goes on to hold
     goes_on : courses.IsInAttempt y b code c → courses.IsInAttempt y next code new
@@ -251,8 +258,7 @@ module _ {y : System} {s : IsSystem y} {w : World} {h : ℕ} (site : Site y s w 
 
     bounded_on : (giving : Option ℕ) (Before After : Type 0) → (Before → After) → courses.IsBounded y b code c graph_thread giving Before →
         courses.IsBounded y next code new graph_thread giving After
-    bounded_on giving Before After on g =
-        record { execution = g.execution; cleans = ahead.no_cleans g.cleans; gives = g.gives; before = λ un. on (g.before un); after = g.after }
+    bounded_on giving Before After on g = grind (arith)
 
     fits_on : (exit : ExitPoint) → ExitInv y b code c graph_thread exit → ExitInv y next code new graph_thread exit
     fits_on Arrives f = (goes_on f.0, f.1)
@@ -265,18 +271,7 @@ module _ {y : System} {s : IsSystem y} {w : World} {h : ℕ} (site : Site y s w 
     fragment_after : InFragment y v next code new hart graph_thread
     fragment_after = record {
       environment = o.environment;
-      answers = λ address bytes value e.
-          let g = o.answers address bytes value e in
-          record {
-            variable = g.variable;
-            element = g.element;
-            is = g.is;
-            there = g.there;
-            within = g.within;
-            address_is = g.address_is;
-            bytes_are = g.bytes_are;
-            guards = g.guards;
-          };
+      answers = answers_kept b next code c new (λ v e guards. guards) o.environment o.answers;
       exit = o.exit;
       side = o.side;
       at_side = o.at_side;
@@ -319,30 +314,32 @@ module _ {y : System} {s : IsSystem y} {w : World} {h : ℕ} (site : Site y s w 
       own = thread_after;
       gone = subst GoneOn (sym d.on.on.runs) tt;
       held = held_still site next new d.holders refl refl refl;
-      counted = record { marks = no_mark; unlocked = λ mutex gives. was_unlocked refl gives; points = points; bound = bound; nears = is_nearer nearer.0 };
+      counted = record {
+        marks =
+            (law y.plan code.thread places y.runs.program w n o.environment stage left (c.cleans ++ c.rest) sound fragment).1 y.runs.marks
+            (sym (fragment.meets.marks ∙ ap (λ (p : Program). p.nodes) (code.is.of_program ∙ (s.own h site.below).program)));
+        unlocked = λ mutex gives. was_unlocked refl gives;
+        points = points;
+        bound = bound;
+        nears = is_nearer nearer.0;
+      };
       released = nothing_released (holders_stay_none y.runs.program w n d.holders) refl;
     }
 
   -- ---- Memory
 
-  same_persisted : v.words ≡ w.words → ArePersisted old_memory new_memory
-  same_persisted same =
-      memory_persisted (places_of y) w.words v.words (subst (λ (ws : List Word). growth.ArePersisted w.words ws) (sym same) (are_persisted_refl w.words))
+  same_persisted : new_memory ≡ old_memory → ArePersisted old_memory new_memory
+  same_persisted same = grind (arith, nat_tests)
 
   settled_still : (persisted : ArePersisted old_memory new_memory) (rest : List Effect) → fences_ahead rest ≡ fences_ahead c.rest → Settles rest
-  settled_still persisted rest same u e un few f =
-      let up = (persisted.each u e).no_lower in
-      let old : f.position ≤ (history_at old_memory u e).durable =
-      subst (λ (m : Memory). f.position ≤ (history_at m u e).durable) (sym memory_is) (f.fenced un (omega (arith, same, few))) in
-      omega (arith, old, up)
+  settled_still persisted rest same u e un few f = grind (arith, nat_tests)
 
   next_is : (effect : Effect) → effect_at y.runs.program n fragment.on.hart ≡ Some effect → IsNext y.runs.program w n fragment.on.hart effect
   next_is effect at = record { here = fragment.on.here; runs = ap is_running fragment.on.runs; is = at }
 
   -- a step that stores nothing leaves the log
   still_moves : (d : Does) → is_store d.effect ≡ false → MovesTo n w fragment.on.hart c.rest v c.rest
-  still_moves d none = steps_move y.runs.program w n n fragment.on.hart c.rest sound fragment.on.here
-      (stores_nothing y.runs.program w n n fragment.on.hart d.effect d.next none)
+  still_moves d none = grind (arith, steps_move, stores_nothing, fragment)
 
   abbrev all_ahead : (d : Does) → d.later ≡ c.cleans ++ c.rest → Ahead d
   all_ahead d is =
@@ -378,8 +375,7 @@ module _ {y : System} {s : IsSystem y} {w : World} {h : ℕ} (site : Site y s w 
 
   module _ (g : runs.CompletesInstruction y.plan code.thread places (on_machine y.runs.program w n o.environment) stage left
       (c.cleans ++ c.rest) fragment) where
-    abbrev effect : Effect
-    effect = g.forward.effect
+    open g.forward use {effect}
 
     abbrev old : Contents
     old = record { words = w.words; queue = fragment.on.hart.queue }
@@ -403,7 +399,7 @@ module _ {y : System} {s : IsSystem y} {w : World} {h : ℕ} (site : Site y s w 
     -- nothing but cleans
     makes_none : (ahead : Ahead does) → ahead.rest ≡ c.rest → is_store effect ≡ false → StepOf site n
     makes_none ahead same none =
-        let persisted = same_persisted (words_are ∙ words_same effect old g.forward.contents none g.forward.changes) in
+        let persisted = same_persisted (ap (memory_in (places_of y)) (words_are ∙ words_same effect old g.forward.contents none g.forward.changes)) in
         step_made does ahead persisted (subst (MovesTo n w fragment.on.hart c.rest v) (sym same) (still_moves does none))
         (settled_still persisted ahead.rest (ap fences_ahead same)) (nothing effect none)
         (g.point ∙ no_point w.log n effect none ∙ not_twice (is_bound c)
@@ -443,6 +439,9 @@ module _ {y : System} {s : IsSystem y} {w : World} {h : ℕ} (site : Site y s w 
           (subst (λ (r : Reply). MovesTo n w fragment.on.hart (effect ∷ g.later) v (if has_moved r then g.later else effect ∷ g.later))
           g.forward.reply (own_steps_move y.runs.program w n fragment.on.hart effect g.later does.next inside.1))
 
+      abbrev here : Passage y code
+      here = step_to site v b.config.uncommitted b.config.memory b.config.attempts (b.execution, b.respects) c g.on.on.hart
+
       some_rest : c.rest ≡ [] → ⊥
       some_rest none = not_done effect g.later (sym none ∙ rest)
 
@@ -461,45 +460,33 @@ module _ {y : System} {s : IsSystem y} {w : World} {h : ℕ} (site : Site y s w 
       before_by (Gives from mutex) f un some = inr (mutex, inr (f.before un).unlocks_it)
       before_by Ends f un some = absurd (some_rest f.goes.rest)
 
-      -- what the attempt has stored is cleaned, and durable after the fence
-      fence_settles : effect ≡ Fences → Settles g.later
-      fence_settles is_fence u e un few f = by (f.comes cleaned)
-        where
-          cleaned : CleansSince (attempts_of y b) n f.before (attempt_of b.config n).done (line_of (shapes_of y) u e)
-          cleaned =
-              let r = resumed y s b in
-              stores_are_cleaned (flat_of y) y.plan.boundaries (shapes_of y) y.left_out b.origin b.config b.schedule n f.before u e s.plan.formed
-              (cuts y s b) s.left_out r.resumed.invariant r.resumed.kept (r.inside n) (before_by o.exit o.fits un (omega arith))
-              f.within f.writes
+      -- what the attempt has stored is durable after the fence
+      fence_settled : effect ≡ Fences → Settles g.later
+      fence_settled is_fence u e un few f =
+          fence_settles here s memory_is no_cleans (before_by o.exit o.fits un (let within = f.within in omega (arith, within)))
+          (λ j position r. fences_settle y.runs.program w n run g.forward is_fence j position
+          (subst (λ (x : Hart). PersistsThrough w.words x.queue j position) hart_is r)) u e f
 
-          by : IsComing y w b code c t.log.hart u e f.position → f.position ≤ (history_at new_memory u e).durable
-          by (is_reached r) =
-              position_durable y s w.words v.words u e f.position
-              (subst (λ (m : Memory). f.position < length (history_at m u e).values) (sym memory_is) f.since.there)
-              (fences_settle y.runs.program w n run g.forward is_fence (word_of_element y s u e) f.position
-              (subst (λ (x : Hart). PersistsThrough w.words x.queue (word_of_element y s u e) f.position) hart_is r))
-          by (is_ahead variable element found line) =
-              absurd (contains_none (Cleans (variable_at (shapes_of y) variable element))
-              (subst (λ (es : List Effect). Contains es (Cleans (variable_at (shapes_of y) variable element))) no_cleans found))
+      -- variables are as they were
+      persisted : ArePersisted old_memory new_memory
+      persisted = same_persisted (ap (memory_in (places_of y)) words_are
+          ∙ log_memory y s w n effect fragment.on.hart.queue g.forward.contents g.forward.changes inside.0)
 
       -- a store of the point binds the steps, and no other effect does
       abbrev then_bound : ThreadGhost
       then_bound = ghost_with g.later c.cleans
 
-      makes_bound : (persisted : ArePersisted old_memory new_memory) → Settles g.later → MayStore y b n effect →
-          stores_point y.runs.program w (Step n) n ≡ (not (is_bound c) && is_bound then_bound) →
+      makes_bound : Settles g.later → stores_point y.runs.program w (Step n) n ≡ (not (is_bound c) && is_bound then_bound) →
           (is_bound c ≡ true → is_bound then_bound ≡ true) → StepOf site n
-      makes_bound persisted settled may points bound =
-          let ahead : Ahead does = record {
-            rest = g.later;
-            cleans = c.cleans;
-            later_is = ap (λ (es : List Effect). es ++ g.later) (sym no_cleans);
-            all = t.cleans;
-            no_rest = λ none. absurd (some_rest none);
-            no_cleans = λ e. e;
-            still = λ address found. inl found;
-          } in
-          step_made does ahead persisted moves_log settled may points bound
+      makes_bound settled points bound = step_made does (record {
+        rest = g.later;
+        cleans = c.cleans;
+        later_is = ap (λ (es : List Effect). es ++ g.later) (sym no_cleans);
+        all = t.cleans;
+        no_rest = λ none. absurd (some_rest none);
+        no_cleans = λ e. e;
+        still = λ address found. inl found;
+      }) persisted moves_log settled (log_may y b w n logs effect inside.0) points bound
 
       fences_same : (e : Effect) → effect ≡ e → fences_ahead (e ∷ g.later) ≡ fences_ahead g.later → fences_ahead g.later ≡ fences_ahead c.rest
       fences_same e same none = sym (ap fences_ahead (rest ∙ ap (λ (x : Effect). x ∷ g.later) same) ∙ none)
@@ -508,34 +495,19 @@ module _ {y : System} {s : IsSystem y} {w : World} {h : ℕ} (site : Site y s w 
       none_more = omega arith
 
       bound_same : (e : Effect) → effect ≡ e → is_store e ≡ false → is_bound then_bound ≡ is_bound c
-      bound_same e same none = ap (λ (any : Bool). not c.committed && not any)
-          (sym (ap (list_any is_store) (rest ∙ ap (λ (x : Effect). x ∷ g.later) same) ∙ ap (λ (b : Bool). b || list_any is_store g.later) none))
+      bound_same e same none = grind (arith, nat_tests)
 
-      makes_no_store : (e : Effect) → effect ≡ e → is_store e ≡ false → (ArePersisted old_memory new_memory → Settles g.later) → StepOf site n
+      makes_no_store : (e : Effect) → effect ≡ e → is_store e ≡ false → Settles g.later → StepOf site n
       makes_no_store e same no_store settled =
-          let none : is_store effect ≡ false = ap is_store same ∙ no_store in
-          let words : v.words ≡ w.words = words_are ∙ words_same effect old g.forward.contents none g.forward.changes in
           let bound = bound_same e same no_store in
-          makes_bound (same_persisted words) (settled (same_persisted words)) (nothing effect none)
-          (g.point ∙ no_point w.log n effect none ∙ not_twice (is_bound c) ∙ ap (λ (b : Bool). not (is_bound c) && b) (sym bound)) (λ was. bound ∙ was)
+          makes_bound settled
+          (g.point ∙ no_point w.log n effect (ap is_store same ∙ no_store) ∙ not_twice (is_bound c)
+          ∙ ap (λ (b : Bool). not (is_bound c) && b) (sym bound)) (λ was. bound ∙ was)
 
       -- a word of the log
       module _ (i value : ℕ) (below : i < log_words w.log) (same : effect ≡ Stores (log_of w.log n + 8 * i) 8 value) where
         abbrev place : ℕ
         place = log_of w.log n + 8 * i
-
-        log_persisted : ArePersisted old_memory new_memory
-        log_persisted =
-            let changes : Changes old (Stores place 8 value) g.forward.contents =
-            subst (λ (e : Effect). Changes old e g.forward.contents) same g.forward.changes in
-            let words : v.words ≡ stored w.words (byte_number place) 8 value = words_are ∙ ap (λ (x : Contents). x.words) changes in
-            let apart = variables_apart (flat_of y).variables 8192 (room y s) (omega arith) in
-            let memory : memory_in (places_of y) (stored w.words (byte_number place) 8 value) ≡ memory_in (places_of y) w.words =
-            memory_stays (places_of y) w.words (byte_number place) 8 value
-            (λ u e kind at there meets. let low = (apart.whole u e kind at there).1 in let far = beyond_variables w.log n i in
-            omega (arith, low, far, meets)) in
-            subst (λ (m : Memory). ArePersisted old_memory m) (sym (ap (memory_in (places_of y)) words ∙ memory))
-            (memory_persisted (places_of y) w.words w.words (are_persisted_refl w.words))
 
         rest_is : c.rest ≡ Stores place 8 value ∷ g.later
         rest_is = rest ∙ ap (λ (x : Effect). x ∷ g.later) same
@@ -547,13 +519,7 @@ module _ {y : System} {s : IsSystem y} {w : World} {h : ℕ} (site : Site y s w 
         unbound = ap (λ (any : Bool). not c.committed && not any) some_store ∙ and_none (not c.committed)
 
         uncommitted : c.committed ≡ false
-        uncommitted = ⊎_elim
-            (λ yes.
-            let was : is_committed w.log n (config_of w t.log.hart c.rest) ≡ true = t.no_sooner yes in
-            absurd (true≢false (sym was ∙ ap (λ (any : Bool). not any &&
-            ((point_in w.log w.words n).durable == last_position (point_in w.log w.words n))) some_store)))
-            (λ no. no)
-            (cases_Bool c.committed)
+        uncommitted = grind (arith, nat_tests)
 
         points_are : stores_point y.runs.program w (Step n) n ≡ (not (is_bound c) && is_bound then_bound)
         points_are =
@@ -563,18 +529,14 @@ module _ {y : System} {s : IsSystem y} {w : World} {h : ℕ} (site : Site y s w 
             ∙ ap (λ (b : Bool). not b && not (list_any is_store g.later)) uncommitted)
 
         makes_log_store : StepOf site n
-        makes_log_store =
-            makes_bound log_persisted (settled_still log_persisted g.later (fences_same (Stores place 8 value) same none_more))
-            (subst (MayStore y b n) (sym same) (in_log place value i (subst (λ (l : Log). i < log_words l) (sym logs) below)
-            (subst (λ (l : Log). byte_number place / 8 ≡ log_word l n i) (sym logs) (word_of_log w.log n i)))) points_are
-            (λ was. absurd (true≢false (sym was ∙ unbound)))
+        makes_log_store = grind (arith, true≢false, fences_same, makes_bound, none_more, persisted, points_are, settled_still, unbound)
 
       makes_log : IsLogEffect w.log n effect → StepOf site n
       makes_log (StoresWord i value below same) = makes_log_store i value below same
       makes_log (CleansLine i below same) =
           makes_no_store (Cleans (log_of w.log n + 8 * i)) same refl
-          (λ persisted. settled_still persisted g.later (fences_same (Cleans (log_of w.log n + 8 * i)) same none_more))
-      makes_log (PassesFence same) = makes_no_store Fences same refl (λ persisted. fence_settles same)
+          (settled_still persisted g.later (fences_same (Cleans (log_of w.log n + 8 * i)) same none_more))
+      makes_log (PassesFence same) = makes_no_store Fences same refl (fence_settled same)
 
     made : Made c.cleans c.rest g.later effect → StepOf site n
     made (no_effect none later) = makes_none (all_ahead does later) refl none

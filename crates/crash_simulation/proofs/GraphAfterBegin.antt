@@ -17,10 +17,10 @@ use Rattle.recovery_semantics.specs.Events.{ConfigStep, IsGoing, steps_begun}
 use Rattle.recovery_semantics.specs.Executions.{kept_steps}
 use Rattle.region_attempts.specs.GraphStates.{FollowsEvent, flow_kept, flow_now, flow_solo, node_after}
 use Rattle.region_attempts.specs.AttemptsInRegion.{HasCome}
-use Rattle.region_attempts.proofs.Public.{graph_stands, graph_follows, one_node}
+use Rattle.region_attempts.proofs.Public.{graph_follows, one_node}
 use Rattle.crash_simulation.specs.Systems.{System, IsSystem, flat_of}
 use Rattle.crash_simulation.specs.AbstractRuns.{AbstractRun, kept_of, now_of}
-use Rattle.crash_simulation.proofs.StatesMatchSource.{resumed}
+use Rattle.crash_simulation.proofs.StatesMatchSource.{resumed, as_source}
 
 -- ---- Effects
 
@@ -60,9 +60,7 @@ module _ (s : FlowState) (t : ℕ) (graph_thread : GraphThread) where
 module _ (y : System) (s : IsSystem y) (b : AbstractRun y) where
   -- the states of the source and of the graph match
   pub matches_now : Matches (flat_of y) (now_of y b) (now b.config)
-  matches_now =
-      let r = (resumed y s b).resumed in
-      (graph_stands (flat_of y) b.origin b.config b.schedule s.plan.formed r.invariant r.kept).now_matches
+  matches_now = (as_source y s b).now_matches
 
   pub follows_on : (next : Config) (h : ConfigStep b.config next) → kept_steps h ≡ [] →
       FollowsEvent (flat_of y) (kept_of y b) (now_of y b) (flow_now (flat_of y) (kept_of y b) next) h
@@ -74,9 +72,7 @@ module _ (y : System) (s : IsSystem y) (b : AbstractRun y) where
 
   -- a thread's own steps alone leave its graph thread as it is now
   pub alone : (t : ℕ) → slice_get (now_of y b).graph_threads t ≡ slice_get (flow_solo (flat_of y) (kept_of y b) t (steps_begun b.config t)).graph_threads t
-  alone t =
-      let r = (resumed y s b).resumed in
-      (graph_stands (flat_of y) b.origin b.config b.schedule s.plan.formed r.invariant r.kept).alone t
+  alone t = (as_source y s b).alone t
 
   -- where the attempt goes on, it is at the node of its graph thread
   pub boundary_after_is : (t : ℕ) (graph_thread : GraphThread) → IsGoing b.config t → slice_get (now_of y b).graph_threads t ≡ Some graph_thread →

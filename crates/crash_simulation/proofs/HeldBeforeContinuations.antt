@@ -3,6 +3,7 @@ use Rattle.std.proofs.Common.{◌≡◌, ◌≢◌, refl, ℕ, zero, suc, List, 
 use Rattle.std.proofs.lemmas.Bool.{true≢false, eq-eqb}
 use Rattle.std.specs.Prelude.{slice_get, slice_set}
 use Rattle.ido_base.specs.declared.place.Place.{Place}
+use Rattle.c_tree.specs.Exprs as e
 use Rattle.c_tree.specs.Flats as f
 use Rattle.c_tree.specs.Source as m
 use Rattle.c_tree.specs.LockDiscipline.{Held, holds, none_held, IsDisciplined}
@@ -29,13 +30,13 @@ none_in (suc count) zero = refl
 none_in (suc count) (suc mutex) = none_in count mutex
 
 -- what a thread has left after an unlock it has without the mutex
-pub not_held_after : {x : f.Flat} (t : f.Thread) (step : ℕ) {place : Place} {mutex : ℕ} {rest : List f.Statement} → IsDisciplined x t →
-    slice_get (thread_lefts t) step ≡ Some (f.Unlock place mutex ∷ rest) → {s : m.State} (number : ℕ) {thread : m.Thread} → StateKeeps x s →
-    slice_get s.threads number ≡ Some thread → thread.left ≡ rest → slice_get s.holders mutex ≢ Some (Some number)
-not_held_after {x} t step {place} {mutex} {rest} keep here {s} number {thread} keeps there left held =
-    let found = set_left x t step (f.Unlock place mutex ∷ rest) keep here in
+pub not_held_after : {x : f.Flat} (t : f.Thread) (step : ℕ) {place : Place} {name : e.LockName} {rest : List f.Statement} → IsDisciplined x t →
+    slice_get (thread_lefts t) step ≡ Some (f.Unlock place name ∷ rest) → {s : m.State} (number : ℕ) {thread : m.Thread} → StateKeeps x s →
+    slice_get s.threads number ≡ Some thread → thread.left ≡ rest → slice_get s.holders name.mutex ≢ Some (Some number)
+not_held_after {x} t step {place} {name} {rest} keep here {s} number {thread} keeps there left held =
+    let found = set_left x t step (f.Unlock place name ∷ rest) keep here in
     let k = found.2 in
     let given : k.0 ≡ held_by number s.holders = (held_is_given x s number thread k.0 keeps there).0
     (subst (λ (y : List f.Statement). KeepList x.variables k.0 y (none_held (length x.mutexes))) (sym left) k.2) in
-    let away : holds k.0 mutex ≡ false = ap (λ (h : Held). holds h mutex) (keeps_unlock x.variables k.1).1 ∙ set_away found.0 mutex in
-    true≢false (sym (holds_it number s.holders mutex held) ∙ (ap (λ (h : Held). holds h mutex) (sym given) ∙ away))
+    let away : holds k.0 name.mutex ≡ false = ap (λ (h : Held). holds h name.mutex) (keeps_unlock x.variables k.1).1 ∙ set_away found.0 name.mutex in
+    true≢false (sym (holds_it number s.holders name.mutex held) ∙ (ap (λ (h : Held). holds h name.mutex) (sym given) ∙ away))

@@ -1,5 +1,5 @@
 -- Releases of a hart's last mutex, and threads that leave a section.
-use Rattle.std.proofs.Common.{◌≡◌, ◌≢◌, inl, inr, refl, ℕ, List, ap, sym, ◌∙◌, Option, Some, None, Bool, true, false, eq-eqb}
+use Rattle.std.proofs.Common.{◌≡◌, ◌≢◌, inl, inr, refl, ℕ, List, ap, sym, ◌∙◌, Option, Some, None, Bool, true, false, eq-eqb, ◌≤◌, arith}
 use Rattle.std.proofs.lemmas.Bool.{true≢false, cases_Bool, ne_eqb}
 use Rattle.std.specs.Prelude.{slice_get, is_some, not, ◌&&◌, ◌==◌}
 use Rattle.ido_base.specs.declared.event.Event.TheVariants.{Step}
@@ -14,6 +14,7 @@ use Rattle.recovered_threads.proofs.Public.{holds_none_is}
 use Rattle.crash_simulation.specs.Systems.{System}
 use Rattle.crash_simulation.specs.ThreadGhosts.{ThreadGhost}
 use Rattle.crash_simulation.specs.InstructionSteps.{is_leaving}
+use Rattle.crash_simulation.specs.ReleasedSections.{one_if}
 
 -- ---- Holders
 
@@ -55,6 +56,10 @@ module _ (program : List (List Slot)) (w : World) (h : ℕ) where
       ap (λ (b : Bool). b && (not (holds_none w.holders n) && holds_none (after_event program w (Step n)).holders n)) apart
 
 -- ---- Ghost states of threads
+
+pub at_most_one : (b : Bool) → one_if b ≤ 1
+at_most_one true = omega arith
+at_most_one false = omega arith
 
 pub and_none : (b : Bool) → (b && false) ≡ false
 and_none true = refl

@@ -1,18 +1,43 @@
 -- An environment that answers no loads: a thread's code is met in it in any world, and a fragment that has come to its end is one in it.
-use Rattle.std.proofs.Common.{◌≡◌, refl, ℕ, ◌+◌, ◌*◌, ◌^◌, ◌<◌, List, [], ◌∷◌, length, sym, ◌∙◌, subst, arith, false}
+use Rattle.std.proofs.Common.{◌≡◌, refl, ℕ, ◌+◌, ◌-◌, ◌*◌, ◌/◌, ◌%◌, ◌^◌, ◌<◌, List, [], ◌∷◌, length, sym, ◌∙◌, ap, subst, arith, Some, true, false}
+use Rattle.std.proofs.lemmas.Bool.{cond-true}
 use Rattle.std.proofs.lemmas.Option.{none-some}
-use Rattle.std.specs.Prelude.{slice_index_or, Bool}
+use Rattle.std.specs.Prelude.{slice_get, slice_index_or, Bool, nat_le, ◌==◌, ◌&&◌}
+use Rattle.rv64_isa.specs.declared.instr.Instr.{Instr}
+use Rattle.rv64_isa.specs.declared.object.Slot.{Slot}
+use Rattle.rv64_isa.specs.declared.object.Slot.TheVariants.{Row}
+use Rattle.rv64_isa.specs.Programs.{code_start, code_of}
 use Rattle.rv64_isa.specs.Rows.{Effect}
 use Rattle.rv64_isa.specs.Machine.{World}
 use Rattle.code_runs.specs.CodeTraces.{Program, MarkedEnvironment, Meets, seen_effects}
-use Rattle.hart_runs.specs.HartsOnRuns.{Agrees, environment_of}
+use Rattle.hart_runs.specs.HartsOnRuns.{instr_of, instr_at, Agrees, environment_of}
+use Rattle.hart_runs.specs.Laws.{EnvironmentsMeet}
 use Rattle.thread_runs.specs.CodeFragments.{Stage, ReadsVariables, IsOnFragment, IsPlaced, on_machine}
 use Rattle.thread_runs.proofs.Public.{plans_are_placed}
 use Rattle.recovered_threads.specs.RecordDescriptions.{Code}
 use Rattle.crash_simulation.specs.Systems.{IsOwnCode, System, IsSystem, thread_count}
 use Rattle.crash_simulation.specs.AbstractRuns.{AbstractRun}
 use Rattle.crash_simulation.specs.ThreadGhosts.{ThreadGhost, AnswersGuarded}
-use Rattle.crash_simulation.proofs.SimulationAtStart.{environments_meet}
+
+-- ---- A thread's code is met where it stands
+
+fetch_there : (program : List (List Slot)) (h i : ℕ) (instr : Instr) → slice_get (code_of program h) i ≡ Some (Row instr) →
+    instr_at program h (code_start program h + 4 * i) ≡ Some instr
+fetch_there program h i instr there =
+    let start : ℕ = code_start program h in
+    let test : (nat_le start (start + 4 * i) && ((start + 4 * i) % 4 == 0)) ≡ true = grind arith in
+    let index : (start + 4 * i - start) / 4 ≡ i = omega arith in
+    ap instr_of (cond-true _ _ _ test ∙ ap (slice_get (code_of program h)) index ∙ there)
+
+environments_meet : EnvironmentsMeet
+environments_meet program marks resumes reads w h = record {
+  fetches = λ address instr st.
+      let at : code_start program h + 4 * st.0 ≡ address = sym st.1 in
+      subst (λ (a : ℕ). instr_at program h a ≡ Some instr) at (fetch_there program h st.0 instr st.2);
+  marks = refl;
+}
+
+-- ---- An environment that answers no loads
 
 -- nothing is seen of no effects alone
 pub none_seen : (effects : List Effect) → seen_effects effects ≡ [] → effects ≡ []

@@ -1,32 +1,31 @@
 -- Loads of the elements that a node reads are answered.
-use Rattle.std.proofs.Common.{◌≡◌, ⊎_elim, refl, ℕ, zero, suc, ◌<◌, List, [], ◌∷◌, ◌++◌, map, ap, sym, subst, arith, Option, Some, None, Bool, true, false}
+use Rattle.std.proofs.Common.{◌≡◌, ⊎_elim, refl, ℕ, zero, suc, ◌<◌, List, [], ◌∷◌, ◌++◌, map, sym, subst, arith, Option, Some, None, Bool, true, false}
 use Rattle.std.proofs.lemmas.Bool.{and_parts, or_cases}
 use Rattle.std.proofs.lemmas.Bool.Decides.{nat_tests}
-use Rattle.std.proofs.lemmas.Option.{same_Some}
 use Rattle.std.proofs.lemmas.List.Elements.{Contains-append_left, Contains-append_right}
 use Rattle.std.specs.Prelude.{slice_get, is_some, ℤ, Contains, nat_lt, ◌==◌, ◌&&◌, ◌||◌}
-use Rattle.std.specs.List.{AllByRecursion, AllZip}
+use Rattle.std.specs.List.{AllZip}
 use Rattle.ido_base.specs.Layout.{variable_at}
 use Rattle.ido_ints.specs.declared.kinds.Kind.{Kind}
 use Rattle.ido_ints.specs.Kinds.{bytes_of, Holds}
 use Rattle.c_tree.specs.Exprs as e
 use Rattle.c_tree.specs.Flats as f
 use Rattle.c_tree.specs.Source as m
-use Rattle.c_tree.specs.WellFormed.{elements_in, shape_of, IsDeclared, IsExpr, Fits, IsTarget, TargetFits, IsWellFormed, IsFlatStatement, IsFlatPlaced}
+use Rattle.c_tree.specs.WellFormed.{elements_in, shape_of, IsDeclared, IsExpr, Fits, IsTarget, TargetFits, IsFlatStatement, IsFlatPlaced}
 use Rattle.c_tree.specs.Programs.{Variable}
 use Rattle.c_tree.specs.Values.{value, element_at}
-use Rattle.c_ranges.specs.RunInvariants.{AreNumbersOf, IsStatementLeft, IsThreadOf}
+use Rattle.c_ranges.specs.RunInvariants.{AreNumbersOf, IsThreadOf}
 use Rattle.c_ranges.proofs.Public.{fits_element, Pair, all_held, elements_is, zip_found}
 use Rattle.expr_code.specs.EvaluationCode.{Source, IsLoaded, AreLoaded}
 use Rattle.flow_graph.specs.Paths.{Element, element, expr_elements, target_elements, reads_of}
-use Rattle.flow_graph.specs.Nodes.{Action, Eval, Test, Node}
-use Rattle.flow_graph.specs.Lowering.{lowered}
-use Rattle.flow_graph.specs.Liveness.{NodeAt}
+use Rattle.flow_graph.specs.Nodes.{Action, Eval, Test}
 use Rattle.flow_graph.specs.Lockstep.{Standing, free, threads_standings}
-use Rattle.flow_graph.specs.Actions.{Seen, GraphThread, FlowState, seen_by}
+use Rattle.flow_graph.specs.Actions.{Seen, FlowState, seen_by}
 use Rattle.flow_graph.proofs.Public.{ActionLeads, chooses, repeats, Good}
 use Rattle.thread_code.specs.RegistersAtNodes.{IsAnsweredIn, IsAnswered}
-use Rattle.region_attempts.proofs.Public.{IsThere, is_there}
+use Rattle.region_attempts.proofs.Public.{IsThere}
+use Rattle.crash_simulation.proofs.NodeEffects.{IsAtNode}
+use Rattle.crash_simulation.proofs.NodeEffects as nodes
 
 -- ---- Accesses to elements
 
@@ -41,70 +40,34 @@ abbrev pub reads_all : List Variable → List Element → (address bytes : ℕ) 
 reads_all vs [] address bytes = false
 reads_all vs (one ∷ more) address bytes = reads_one vs one address bytes (slice_get vs one.variable) || reads_all vs more address bytes
 
-pub record IsRead (vs : List Variable) (ones : List Element) (address bytes : ℕ) : Type 0 where
-  pub one : Element
-  pub of : Contains ones one
+-- the access is to that element
+pub record IsRead (vs : List Variable) (one : Element) (address bytes : ℕ) : Type 0 where
   pub it : Variable
   pub found : slice_get vs one.variable ≡ Some it
   pub within : one.element < elements_in it.length
   pub address_is : address ≡ variable_at (map shape_of vs) one.variable one.element
   pub bytes_are : bytes ≡ bytes_of it.kind
 
-read_first : (vs : List Variable) (one : Element) (more : List Element) (address bytes : ℕ) (o : Option Variable) → slice_get vs one.variable ≡ o →
-    reads_one vs one address bytes o ≡ true → IsRead vs (one ∷ more) address bytes
-read_first vs one more address bytes None found h = cc
-read_first vs one more address bytes (Some it) found h =
-    let a = and_parts (nat_lt one.element (elements_in it.length)) _ h in
-    let b = and_parts (variable_at (map shape_of vs) one.variable one.element == address) (bytes_of it.kind == bytes) a.1 in
-    let below = a.0 in
-    let same = b.0 in
-    let wide = b.1 in
-    record {
-      one = one;
-      of = (0, omega arith, refl);
-      it = it;
-      found = found;
-      within = grind (arith, nat_tests);
-      address_is = grind (arith, nat_tests);
-      bytes_are = grind (arith, nat_tests);
-    }
+read_first : (vs : List Variable) (one : Element) (address bytes : ℕ) (o : Option Variable) → slice_get vs one.variable ≡ o →
+    reads_one vs one address bytes o ≡ true → IsRead vs one address bytes
+read_first vs one address bytes o found h = grind (arith, and_parts, map, nat_tests)
 
-pub is_read : (vs : List Variable) (ones : List Element) (address bytes : ℕ) → reads_all vs ones address bytes ≡ true → IsRead vs ones address bytes
+pub is_read : (vs : List Variable) (ones : List Element) (address bytes : ℕ) → reads_all vs ones address bytes ≡ true →
+    (one : Element) × Contains ones one × IsRead vs one address bytes
 is_read vs [] address bytes h = cc
 is_read vs (one ∷ more) address bytes h = ⊎_elim
-    (λ a. read_first vs one more address bytes (slice_get vs one.variable) refl a)
-    (λ b.
-    let r = is_read vs more address bytes b in
-    record {
-      one = r.one;
-      of = (suc r.of.0, let l = r.of.1 in omega (arith, l), r.of.2);
-      it = r.it;
-      found = r.found;
-      within = r.within;
-      address_is = r.address_is;
-      bytes_are = r.bytes_are;
-    })
+    (λ a. (one, (0, omega arith, refl), read_first vs one address bytes (slice_get vs one.variable) refl a))
+    (λ b. let r = is_read vs more address bytes b in (r.0, (suc r.1.0, let l = r.1.1 in omega (arith, l), r.1.2), r.2))
     (or_cases (reads_one vs one address bytes (slice_get vs one.variable)) (reads_all vs more address bytes) h)
-
-reads_itself : (n count at bytes : ℕ) → n < count → (nat_lt n count && ((at == at) && (bytes == bytes))) ≡ true
-reads_itself n count at bytes below = grind (arith, nat_tests)
 
 reads_head : (vs : List Variable) (one : Element) (more : List Element) (it : Variable) (o : Option Variable) → o ≡ Some it →
     one.element < elements_in it.length →
     (reads_one vs one (variable_at (map shape_of vs) one.variable one.element) (bytes_of it.kind) o ||
     reads_all vs more (variable_at (map shape_of vs) one.variable one.element) (bytes_of it.kind)) ≡ true
-reads_head vs one more it None found below = cc
-reads_head vs one more it (Some other) found below =
-    let same : it ≡ other = same_Some it other (sym found) in
-    let address : ℕ = variable_at (map shape_of vs) one.variable one.element in
-    let first : reads_one vs one address (bytes_of it.kind) (Some other) ≡ true =
-    subst (λ (z : Variable). reads_one vs one address (bytes_of it.kind) (Some z) ≡ true) same
-    (reads_itself one.element (elements_in it.length) address (bytes_of it.kind) below) in
-    ap (λ (b : Bool). b || reads_all vs more address (bytes_of it.kind)) first
+reads_head vs one more it o found below = grind (arith, nat_tests)
 
 or_second : (a b : Bool) → b ≡ true → (a || b) ≡ true
-or_second true b h = refl
-or_second false b h = h
+or_second a b h = grind (arith, nat_tests)
 
 pub reads_there : (vs : List Variable) (ones : List Element) (one : Element) (it : Variable) → Contains ones one → slice_get vs one.variable ≡ Some it →
     one.element < elements_in it.length → reads_all vs ones (variable_at (map shape_of vs) one.variable one.element) (bytes_of it.kind) ≡ true
@@ -119,8 +82,7 @@ reads_there vs (first ∷ more) one it (suc k, l, is) found below =
 -- ---- What expressions read
 
 scalar_one : (o : Option ℕ) → is_some o ≡ false → 0 < elements_in o
-scalar_one None h = omega arith
-scalar_one (Some n) h = cc
+scalar_one o h = grind (arith, nat_tests)
 
 -- a load of the element, which is there, is answered
 abbrev pub Loaded : Source → (loads : (address bytes : ℕ) → Option ℕ) → Element → Type 0
@@ -137,8 +99,7 @@ module _ (vs : List Variable) (ks kinds : List Kind) (ls : List ℤ) (p : Option
 
   loaded_declared : (variable number : ℕ) (kind : Kind) (array : Bool) (d : IsDeclared vs variable kind array) → number < elements_in d.it.length →
       Loaded source loads (element variable number) → IsLoaded source loads kind variable number
-  loaded_declared variable number kind array d below all =
-      subst (λ (k : Kind). IsLoaded source loads k variable number) d.kind (all d.it d.found below)
+  loaded_declared variable number kind array d below all = grind (arith, nat_tests)
 
   pub loaded_expr : (x : e.Expr) → IsExpr vs ks x → Fits vs x → ((one : Element) → Contains (expr_elements x seen) one → Loaded source loads one) →
       AreLoaded source loads x
@@ -172,17 +133,17 @@ module _ (vs : List Variable) (ks kinds : List Kind) (ls : List ℤ) (p : Option
 
 -- ---- What nodes read
 
-module _ (x : f.Flat) (w : IsWellFormed x) (s : FlowState) (good : Good x s) (t : ℕ) (graph_thread : GraphThread) (node : Node)
-    (found : slice_get s.graph_threads t ≡ Some graph_thread) (at : NodeAt (lowered x) graph_thread.at node) (kinds : List Kind)
+module _ {x : f.Flat} {s : FlowState} {t : ℕ} (good : Good x s) (i : IsAtNode x s good.source t) (kinds : List Kind)
     (loads : (address bytes : ℕ) → Option ℕ) where
-  there : IsThere x good.source t graph_thread node
-  there = is_there x w t s good.source good.matches graph_thread node found at
+  open i use {graph_thread, node}
+
+  abbrev there : IsThere x good.source t graph_thread node
+  there = nodes.there i
 
   own : Pair (λ (u : f.Thread) (own : m.Thread). IsThreadOf x u.locals own) x.threads t there.thread
   own = zip_found (λ (u : f.Thread) (own : m.Thread). IsThreadOf x u.locals own) x.threads good.source.threads t there.thread good.formed.threads there.there
 
-  abbrev ks : List Kind
-  ks = own.it.locals
+  open own.it use {locals as ks}
 
   abbrev all : List Standing
   all = threads_standings x.threads
@@ -191,10 +152,7 @@ module _ (x : f.Flat) (w : IsWellFormed x) (s : FlowState) (good : Good x s) (t 
   standing = record { left = there.thread.left; owes = is_some there.thread.pending }
 
   left_formed : (y : f.Statement) (rest : List f.Statement) → standing ≡ free (y ∷ rest) → IsFlatStatement x ks y
-  left_formed y rest is =
-      let left : there.thread.left ≡ y ∷ rest = ap (λ (z : Standing). z.left) is in
-      let kept = subst (AllByRecursion (IsStatementLeft x ks)) left own.related.left in
-      kept.0.1
+  left_formed y rest is = grind (arith, nat_tests)
 
   test_formed : (condition : e.Placed) (holds fails : ℕ) → ActionLeads all (Test condition holds fails) standing → IsFlatPlaced x ks condition
   test_formed condition holds fails d = elim d [
@@ -218,7 +176,7 @@ module _ (x : f.Flat) (w : IsWellFormed x) (s : FlowState) (good : Good x s) (t 
 
   target_here : (target : e.Lvalue) → IsTarget x.variables ks target → TargetFits x.variables target →
       ((one : Element) → Contains (target_elements target (seen_by s graph_thread)) one → Loaded here loads one) → IsAnsweredIn here loads target
-  target_here (e.ToLocal local kind) formed fits each = tt
+  target_here (e.ToLocal place local kind) formed fits each = tt
   target_here (e.ToVariable place variable kind) formed fits each = tt
   target_here (e.ToElement place variable kind index) formed fits each = expr_here index (formed.1, fits.1) each
 

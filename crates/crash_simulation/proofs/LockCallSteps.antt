@@ -1,4 +1,5 @@
 -- A hart at its call, and at one that asks for a mutex: it takes it, or waits.
+use Rattle.std.proofs.lemmas.Bool.Decides.{nat_tests}
 use Rattle.std.proofs.Common.{◌≡◌, ◌≢◌, inl, inr, ⊎_elim, refl, ℕ, suc, ◌+◌, ◌<◌, List, [], ◌∷◌, ◌++◌, length, ap, sym, ◌∙◌, subst, arith, Option, Some, None}
 use Rattle.std.proofs.Common.{Bool, true, false, ℤ, ◌≤◌}
 use Rattle.std.proofs.lemmas.Option.{none-some, same_Some, slice_get_within}
@@ -30,8 +31,7 @@ use Rattle.recovery_semantics.specs.Laws.{HasLocked, HasUnlocked}
 use Rattle.recovery_semantics.specs.VariableSpots.{memory_in}
 use Rattle.recovery_semantics.proofs.Public.{goes_alone, counted_own, unequal_of, left_is_free, held_before}
 use Rattle.log_states.specs.Logs.{Record}
-use Rattle.log_states.specs.Stages.{LogIs}
-use Rattle.log_states.specs.Machines.{config_of, IsNext, IsElsewhere}
+use Rattle.log_states.specs.Machines.{IsNext, IsElsewhere}
 use Rattle.log_states.specs.Laws.{recorded_by}
 use Rattle.log_states.specs.LogInvariant.{LogInv}
 use Rattle.log_states.proofs.Public.{stores_nothing, one_effect, side_follows, contains_none, boundaries_fence, begins_standing, steps_keep, boundary_stores}
@@ -41,7 +41,7 @@ use Rattle.thread_code.specs.Programs.{IsCalling}
 use Rattle.thread_runs.specs.CodeFragments.{ExitPoint, Asks, Took, IsOnFragment, IsPlaced, IsLockOf, on_machine}
 use Rattle.thread_runs.specs.Laws.{TakesMutex}
 use Rattle.thread_runs.proofs.Public.{call_there, fragments_see_all, locks_take, locks_wait, few_cleans}
-use Rattle.recovered_threads.specs.RecordDescriptions.{Code, past_lock, Describes, between, inside}
+use Rattle.recovered_threads.specs.RecordDescriptions.{Code, past_lock, Describes}
 use Rattle.recovered_threads.proofs.Public.{same_there, holds_none_is}
 use Rattle.crash_simulation.specs.ThreadGhosts.{ThreadGhost, ExitInv, InFragment, on_fragment, InPhase, ThreadInv}
 use Rattle.crash_simulation.specs.InstructionSteps.{stays, goes, abstract_next, MayStore, nothing, is_bound, was_unlocked, nothing_released, OnFragmentNow}
@@ -59,7 +59,7 @@ use Rattle.crash_simulation.proofs.Boundaries.{after_lock_in, IsBeginning, Bound
 use Rattle.crash_simulation.proofs.LoadFreeEnvironment.{bare, bare_answers, bare_reads, placed, none_ahead, resettled}
 use Rattle.crash_simulation.proofs.LocksAtCalls.{locks_it, mutex_there, taken, takes_it, source_takes}
 use Rattle.crash_simulation.proofs.PendingFlushes.{Passage, flushed_same, still_reached, reaches_same}
-use Rattle.crash_simulation.proofs.OwnHartSteps.{step_to, Site, view, StepOf, held_still, own_giving}
+use Rattle.crash_simulation.proofs.OwnHartSteps.{log_at, step_to, Site, view, StepOf, held_still, own_giving, locks_to}
 use Rattle.crash_simulation.proofs.UncommittedSteps.{leads_on}
 use Rattle.crash_simulation.proofs.RecordsAfterCrash.{caught_is_over}
 use Rattle.crash_simulation.proofs.LocksAfterStep.{GoneOn, held_taken}
@@ -85,8 +85,7 @@ lock_or_end mutex next e = cc
 pub point_none : (y : System) (code : Code y.plan) (kept : FlowState) (r : Record) → Describes y.plan code kept r →
     holds_none kept.holders code.thread.number ≡ true →
     r.point ≡ 0
-point_none y code kept r (between none point) free = point
-point_none y code kept r (inside some i) free = absurd (true≢false (sym free ∙ some))
+point_none y code kept r describes free = grind (arith, nat_tests)
 
 -- ---- A hart at the end of its fragment
 
@@ -133,9 +132,7 @@ module _ {y : System} {s : IsSystem y} {w : World} {h : ℕ} {exit : ExitPoint} 
       (held_before (flat_of y) b.config n lock invariant kept)))
 
   whole : FragmentTo at.o.environment exit 0 (c.cleans ++ c.rest)
-  whole =
-      subst (λ (e : ExitPoint). FragmentTo at.o.environment e 0 (c.cleans ++ c.rest)) at.exit_is
-      (subst (λ (k : ℕ). FragmentTo at.o.environment at.o.exit k (c.cleans ++ c.rest)) at.zero_left at.o.fragment)
+  whole = grind (arith, nat_tests)
 
   -- nothing is ahead, and no answer counts
   pub fragment_over : FragmentTo z exit 0 []
@@ -196,9 +193,7 @@ module _ {y : System} {s : IsSystem y} {w : World} {h : ℕ} {exit : ExitPoint} 
     holders_after = ap (λ (x : Outcome). x.0.holders) m.does
 
     pub there_after : slice_get v.harts n ≡ Some m.new
-    there_after =
-        ap (λ (x : Outcome). slice_get x.0.harts n) m.does
-        ∙ get-set_same m.u.harts n m.new fragment_over.on.hart (ap (λ (hs : List Hart). slice_get hs n) m.harts ∙ fragment_over.on.here)
+    there_after = grind (arith, get-set_same, fragment_over)
 
     pub memory_after : memory_in (places_of y) v.words ≡ b.config.memory
     memory_after = ap (memory_in (places_of y)) words_after ∙ at.site.stands.memory
@@ -368,20 +363,10 @@ module _ {y : System} {s : IsSystem y} {w : World} {h mutex next : ℕ} (at : At
         }) begins_there.recoverable)
         (call_elsewhere at at_lock)
 
-    abbrev new : Hart
-    new = it.on.on.on.hart
-
-    log_new : LogIs v.log n c.new then_ghost.new (config_of v new then_ghost.rest)
-    log_new =
-        subst (λ (x : Hart). LogIs v.log n c.new then_ghost.new (config_of v x then_ghost.rest))
-        (same_there (slice_get v.harts n) log_then.hart new log_then.here it.on.on.on.here) log_then.log
+    open it.on.on.on use {hart as new}
 
     abbrev moving_hart : MovesHart at
     moving_hart = record { u = with_holder w mutex (Some n); new = gone_on asks.on.hart; does = it.does; words = refl; harts = refl }
-
-    queue_then : new.queue ≡ t.log.hart.queue
-    queue_then = ap (λ (x : Hart). x.queue) (same_there (slice_get v.harts n) new (gone_on asks.on.hart) it.on.on.on.here (there_after at moving_hart))
-        ∙ ap (λ (x : Hart). x.queue) (hart_is at)
 
     -- ---- The thread
 
@@ -426,7 +411,7 @@ module _ {y : System} {s : IsSystem y} {w : World} {h mutex next : ℕ} (at : At
 
     thread_then : ThreadInv y v then_abstract code then_ghost
     thread_then = record {
-      log = record { hart = new; here = it.on.on.on.here; log = log_new };
+      log = log_at log_then new it.on.on.on.here;
       no_sooner = λ yes. absurd (true≢false (sym yes));
       describes = describes_new at;
       will_describe = λ no. begins_there.describes;
@@ -436,7 +421,10 @@ module _ {y : System} {s : IsSystem y} {w : World} {h mutex next : ℕ} (at : At
       walks = walks;
       phase = subst (λ (p : Phase). InPhase y v then_abstract code then_ghost new moved_thread p) (sym it.on.on.on.runs) (on_fragment then_fragment);
       flushed = λ u e writes. flushed_same passage
-          (still_reached passage goes_clean.cleans (reaches_same passage (words_after at moving_hart) queue_then)) u e
+          (still_reached passage goes_clean.cleans
+          (reaches_same passage (words_after at moving_hart)
+          (ap (λ (x : Hart). x.queue) (same_there (slice_get v.harts n) new (gone_on asks.on.hart) it.on.on.on.here (there_after at moving_hart))
+          ∙ ap (λ (x : Hart). x.queue) (hart_is at)))) u e
           (λ position since. since) (t.flushed u e writes)
           (λ un few. let two = boundaries_fence b_next at.o.side resume asks.registers in absurd (omega (arith, two, few))) refl;
     }
@@ -451,10 +439,9 @@ module _ {y : System} {s : IsSystem y} {w : World} {h mutex next : ℕ} (at : At
       new = then_ghost;
       own = thread_then;
       gone = subst GoneOn (sym it.on.on.on.runs) tt;
-      held = held_taken w v ghosts n then_ghost (now_of y b) mutex (now_of y then_abstract) free now_is_free (holders_after at moving_hart)
-          (ap (λ (x : FlowState). x.holders) now_is)
-          (ap (λ (x : FlowState). length x.graph_threads) now_is ∙ length-set (now_of y b).graph_threads n moved_thread)
-          (sym goes_clean.goes.giving ∙ own_giving at.site);
+      held = λ held. held_taken (locks_to at.site then_abstract then_ghost
+          (ap (λ (x : FlowState). length x.graph_threads) now_is ∙ length-set (now_of y b).graph_threads n moved_thread)) held mutex free now_is_free
+          (holders_after at moving_hart) (ap (λ (x : FlowState). x.holders) now_is) (sym (own_giving at.site) ∙ goes_clean.goes.giving) refl;
       counted = record {
         marks = it.mark y.runs.marks refl;
         unlocked = λ lock gives. absurd (none-some lock gives);

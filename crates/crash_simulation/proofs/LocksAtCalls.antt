@@ -1,4 +1,5 @@
 -- What a thread holds, locks and unlocks where its graph thread is at a call.
+use Rattle.std.proofs.lemmas.Bool.Decides.{nat_tests}
 use Rattle.std.proofs.Common.{◌≡◌, ◌≢◌, refl, ℕ, zero, suc, ◌-◌, ◌<◌, List, [], ◌∷◌, length, ap, sym, ◌∙◌, subst, arith, Option, Some, None, false}
 use Rattle.std.proofs.lemmas.Bool.{true≢false}
 use Rattle.std.proofs.lemmas.Option.{none-some, same_Some, slice_get_within}
@@ -13,14 +14,14 @@ use Rattle.c_ranges.proofs.Public.{zip_found}
 use Rattle.source_machine.specs.Mutexes.{locks, first_lock, held_by}
 use Rattle.source_machine.specs.Discipline.{KeepList, StateKeeps}
 use Rattle.source_machine.proofs.Public.{locks_found, run_keeps}
-use Rattle.flow_graph.specs.Actions.{GraphThread, FlowState, effect_of, seen_by, node_step, effect_step, graph_step}
-use Rattle.flow_graph.specs.Lockstep.{Standing, free, threads_standings, thread_standings, GraphThreadMatches, StepsMatch}
+use Rattle.flow_graph.specs.Actions.{GraphThread, FlowState, effect_of, seen_by, graph_step}
+use Rattle.flow_graph.specs.Lockstep.{Standing, free, threads_standings, thread_standings, GraphThreadMatches}
 use Rattle.flow_graph.specs.declared.graph.Part.{Part}
 use Rattle.flow_graph.specs.Nodes.{Action, Node, Graph}
 use Rattle.flow_graph.specs.Lowering.{lowered, parts, threads_nodes}
 use Rattle.flow_graph.specs.Liveness.{NodeAt}
 use Rattle.flow_graph.specs.Actions as g
-use Rattle.flow_graph.proofs.Public.{ActionLeads, Agree, Locks, Unlocks, agrees, found_in, graph_is, lowered_nodes, lowered_threads, steps_lockstep, matched}
+use Rattle.flow_graph.proofs.Public.{ActionLeads, Agree, Locks, Unlocks, agrees, found_in, lowered_nodes, lowered_threads}
 use Rattle.recovery_semantics.specs.Configs.{now}
 use Rattle.region_attempts.proofs.Public.{IsThere, is_there}
 use Rattle.thread_runs.specs.CodeFragments.{IsLockOf, IsUnlockOf, IsEndOf}
@@ -28,6 +29,8 @@ use Rattle.recovered_threads.specs.RecordDescriptions.{Code}
 use Rattle.recovered_threads.proofs.Public.{left_at, standing_at}
 use Rattle.crash_simulation.specs.Systems.{System, IsSystem, flat_of}
 use Rattle.crash_simulation.specs.AbstractRuns.{AbstractRun, now_of}
+use Rattle.crash_simulation.proofs.NodeEffects.{IsAtNode, step_is, source_steps}
+use Rattle.crash_simulation.proofs.NodeEffects as nodes
 use Rattle.crash_simulation.proofs.HeldBeforeContinuations.{holds_it, none_in, not_held_after}
 use Rattle.crash_simulation.proofs.StatesMatchSource.{resumed, now_good}
 use Rattle.crash_simulation.proofs.GraphAfterBegin.{matches_now}
@@ -42,13 +45,11 @@ standing_of all (x ∷ ns) (s ∷ ss) (suc k) n h e = standing_of all ns ss k n 
 
 ahead_by : (o : Option Pending) (left : List f.Statement) → is_some o ≡ false →
     (let r : Option ℕ = elim o [ Some p ↦ None | None ↦ first_lock left ] in r) ≡ first_lock left
-ahead_by (Some p) left h = absurd (true≢false h)
-ahead_by None left h = refl
+ahead_by o left h = grind (arith, nat_tests)
 
 module _ (y : System) (s : IsSystem y) (b : AbstractRun y) (code : Code y.plan) (graph_thread : GraphThread)
     (there : slice_get (now_of y b).graph_threads code.thread.number ≡ Some graph_thread) where
-  abbrev number : ℕ
-  number = code.thread.number
+  open code.thread use {number}
 
   abbrev all : List Standing
   all = threads_standings (flat_of y).threads
@@ -59,9 +60,15 @@ module _ (y : System) (s : IsSystem y) (b : AbstractRun y) (code : Code y.plan) 
   in_lowered : (node : ℕ) (is : Node) → NodeAt y.plan.graph node is → NodeAt (lowered (flat_of y)) node is
   in_lowered node is at = subst (λ (graph : Graph). NodeAt graph node is) s.plan.lowered at
 
-  here : (is : Node) → NodeAt y.plan.graph graph_thread.at is → IsThere (flat_of y) (now b.config) number graph_thread is
-  here is at =
-      is_there (flat_of y) s.plan.formed number (now_of y b) (now b.config) (matches_now y s b) graph_thread is there (in_lowered graph_thread.at is at)
+  abbrev at_node : (is : Node) → NodeAt y.plan.graph graph_thread.at is → IsAtNode (flat_of y) (now_of y b) (now b.config) number
+  at_node is at = record {
+    formed = s.plan.formed;
+    matches = matches_now y s b;
+    graph_thread = graph_thread;
+    found = there;
+    node = is;
+    at = in_lowered graph_thread.at is at;
+  }
 
   -- ---- At a lock
 
@@ -72,7 +79,7 @@ module _ (y : System) (s : IsSystem y) (b : AbstractRun y) (code : Code y.plan) 
 
     pub locks_it : locks (now b.config) number ≡ Some mutex
     locks_it =
-        let th = here lock.is lock.at in
+        let th = nodes.there (at_node lock.is lock.at) in
         let l = locks_there (now b.config) th in
         locks_found (now b.config) number th.thread th.there
         ∙ (ahead_by th.thread.pending th.thread.left (ap (λ (z : Standing). z.owes) l.is)
@@ -87,10 +94,10 @@ module _ (y : System) (s : IsSystem y) (b : AbstractRun y) (code : Code y.plan) 
         let l = locks_there good.source th in
         let own = zip_found (λ (t : f.Thread) (k : m.Thread). IsThreadOf (flat_of y) t.locals k) (flat_of y).threads good.source.threads number th.thread
         good.formed.threads th.there in
-        let left : AllByRecursion (IsStatementLeft (flat_of y) own.it.locals) (f.Lock l.place mutex ∷ l.rest) =
+        let left : AllByRecursion (IsStatementLeft (flat_of y) own.it.locals) (f.Lock l.place (record { mutex = mutex; key = None }) ∷ l.rest) =
         subst (λ (ss : List f.Statement). AllByRecursion (IsStatementLeft (flat_of y) own.it.locals) ss) (ap (λ (z : Standing). z.left) l.is)
         own.related.left in
-        left.0.1
+        left.0.1.0
 
     -- the thread takes it where it is free
     abbrev pub taken : FlowState
@@ -98,17 +105,11 @@ module _ (y : System) (s : IsSystem y) (b : AbstractRun y) (code : Code y.plan) 
 
     pub takes_it : slice_get (now_of y b).holders mutex ≡ Some None → graph_step (lowered (flat_of y)) (now_of y b) number ≡ Some taken
     takes_it is_free =
-        graph_is (lowered (flat_of y)) (now_of y b) number (Some graph_thread) there
-        ∙ (ap (λ (o : Option Node). node_step (now_of y b) number graph_thread o) (in_lowered graph_thread.at lock.is lock.at)
-        ∙ (ap (λ (a : Action). effect_step (now_of y b) number graph_thread (effect_of a (seen_by (now_of y b) graph_thread))) lock.locks
-        ∙ ap (λ (o : Option (Option ℕ)). let r : Option FlowState = elim o [ Some None ↦ Some taken | _ ↦ None ] in r) is_free))
+        step_is (at_node lock.is lock.at) (g.Takes mutex next) (ap (λ (a : Action). effect_of a (seen_by (now_of y b) graph_thread)) lock.locks)
+        ∙ ap (λ (o : Option (Option ℕ)). let r : Option FlowState = elim o [ Some None ↦ Some taken | _ ↦ None ] in r) is_free
 
     pub source_takes : slice_get (now_of y b).holders mutex ≡ Some None → (after : m.State) × (source_step (now b.config) number ≡ Some after)
-    source_takes is_free =
-        let m = matched (flat_of y) taken (source_step (now b.config) number)
-        (subst (λ (o : Option FlowState). StepsMatch (flat_of y) o (source_step (now b.config) number)) (takes_it is_free)
-        (steps_lockstep (flat_of y) (now_of y b) (now b.config) number s.plan.formed (matches_now y s b))) in
-        (m.0, m.1)
+    source_takes is_free = let m = source_steps (at_node lock.is lock.at) taken (takes_it is_free) in (m.0, m.1)
 
   -- ---- After an unlock
 
@@ -140,7 +141,7 @@ module _ (y : System) (s : IsSystem y) (b : AbstractRun y) (code : Code y.plan) 
   module _ (last : IsEndOf y.plan code.thread graph_thread.at) where
     pub ends_free : (lock : ℕ) → slice_get (now_of y b).holders lock ≢ Some (Some number)
     ends_free lock held =
-        let th = here last.is last.at in
+        let th = nodes.there (at_node last.is last.at) in
         let is : record { left = th.thread.left; owes = is_some th.thread.pending } ≡ free [] =
         subst (λ (a : Action). ActionLeads all a (record { left = th.thread.left; owes = is_some th.thread.pending })) last.ends th.does in
         let none : held_by number (now b.config).holders ≡ none_held (length (flat_of y).mutexes) =

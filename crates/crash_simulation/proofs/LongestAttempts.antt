@@ -34,34 +34,35 @@ stepped_furthest a is = let e : suc a.done ≡ max a.longest (suc a.done) = omeg
 -- ---- What happens by a thread
 
 -- nothing more is kept, a step of the thread is begun or none, and each attempt has come as far as any before
-pub record IsLed (m next : Config) (thread : ℕ) (begun : Bool) : Type 0 where
+pub record StepsInConfig (m next : Config) (thread : ℕ) (begun : Bool) : Type 0 where
   pub kept : next.kept ≡ m.kept
   pub pending : next.uncommitted ≡ begun_by begun thread m.uncommitted
   pub tried : AreFurthest m → AreFurthest next
 
-happens_led : (m next : Config) (thread : ℕ) (h : ConfigStep m next) → IsDoneBy thread h → IsLed m next thread (is_begun h)
-happens_led m _ thread (steps_locally u attempts g) by = record {
+config_steps : (m next : Config) (thread : ℕ) (h : ConfigStep m next) → IsDoneBy thread h → StepsInConfig m next thread (is_begun h)
+config_steps m _ thread (steps_locally u attempts g) by = record {
   kept = refl;
   pending = ap (λ (k : ℕ). m.uncommitted ++ k ∷ []) by;
   tried = λ furthest. attempted_furthest m.attempts attempts u _ g.attempt (stepped_furthest (attempt_of m u) (furthest u)) furthest;
 }
-happens_led m _ thread (stores u memory attempts g) by = record {
+config_steps m _ thread (stores u memory attempts g) by = record {
   kept = refl;
   pending = ap (λ (k : ℕ). m.uncommitted ++ k ∷ []) by;
   tried = λ furthest. attempted_furthest m.attempts attempts u _ g.attempt (stepped_furthest (attempt_of m u) (furthest u)) furthest;
 }
-happens_led m _ thread (synchronises u g) by =
+config_steps m _ thread (synchronises u g) by =
     record { kept = refl; pending = ap (λ (k : ℕ). m.uncommitted ++ k ∷ []) by; tried = λ furthest. furthest }
-happens_led m _ thread (persists memory g) by = record { kept = refl; pending = refl; tried = λ furthest. furthest }
-happens_led m _ thread (commits u attempts g) by = absurd by
-happens_led m _ thread (crashes attempts g) by = absurd by
+config_steps m _ thread (persists memory g) by = record { kept = refl; pending = refl; tried = λ furthest. furthest }
+config_steps m _ thread (commits u attempts g) by = absurd by
+config_steps m _ thread (crashes attempts g) by = absurd by
 
--- of an abstract run, where nothing may happen, too
-pub record IsLedOn (y : System) (b next : AbstractRun y) (thread : ℕ) (begun : Bool) : Type 0 where
+-- of an abstract run, to which nothing may happen, too
+pub record StepsInRun (y : System) (b next : AbstractRun y) (thread : ℕ) (begun : Bool) : Type 0 where
   pub origin : next.origin ≡ b.origin
   pub schedule : next.schedule ≡ b.schedule
-  pub config : IsLed b.config next.config thread begun
+  pub config : StepsInConfig b.config next.config thread begun
 
-pub led_of : (y : System) (b : AbstractRun y) (thread : ℕ) (next : AbstractRun y) (led : StepsOrStutters y b thread next) → IsLedOn y b next thread (begins led)
+pub led_of : (y : System) (b : AbstractRun y) (thread : ℕ) (next : AbstractRun y) (led : StepsOrStutters y b thread next) →
+    StepsInRun y b next thread (begins led)
 led_of y b thread _ stays = record { origin = refl; schedule = refl; config = record { kept = refl; pending = refl; tried = λ furthest. furthest } }
-led_of y b thread _ (goes next h by execution respects) = record { origin = refl; schedule = refl; config = happens_led b.config next thread h by }
+led_of y b thread _ (goes next h by execution respects) = record { origin = refl; schedule = refl; config = config_steps b.config next thread h by }

@@ -1,61 +1,46 @@
 -- A hart at its node's code is at the node's mark.
-use Rattle.std.proofs.Common.{◌≡◌, refl, ℕ, ◌<◌, List, [], ◌++◌, ap, sym, ◌∙◌, subst, Some, Bool, true, false}
+use Rattle.std.proofs.lemmas.Bool.Decides.{nat_tests}
+use Rattle.std.proofs.Common.{◌≡◌, ◌≢◌, refl, ℕ, ◌+◌, ◌*◌, ◌≤◌, List, [], ◌++◌, sym, ◌∙◌, subst, arith, Some, Bool, true, false}
 use Rattle.std.specs.Prelude.{length, slice_get}
 use Rattle.ido_base.specs.declared.log.Log.{Log}
-use Rattle.rv64_isa.specs.declared.object.Slot.{Slot}
 use Rattle.rv64_isa.specs.Rows.{Effect}
 use Rattle.rv64_isa.specs.Machine.{World}
 use Rattle.rv64_isa.specs.Schedule.{is_point_store}
-use Rattle.rv64_isa.specs.Rows as r
-use Rattle.code_runs.specs.CodeTraces.{MarkedEnvironment}
-use Rattle.flow_graph.specs.Nodes.{Node, Graph}
+use Rattle.code_runs.specs.CodeTraces.{MarkedEnvironment, seen_effects}
+use Rattle.flow_graph.specs.Nodes.{End, Node, Graph}
 use Rattle.flow_graph.specs.Lowering.{lowered}
 use Rattle.flow_graph.specs.Liveness.{NodeAt}
-use Rattle.flow_graph.specs.Actions.{Seen, effect_of, graph_step}
+use Rattle.flow_graph.specs.Actions.{effect_of, graph_step}
 use Rattle.flow_graph.specs.Actions as a
-use Rattle.hart_runs.specs.RunSteps.{Contents, Changes}
+use Rattle.hart_runs.specs.RunSteps.{Contents, Changes, cleans_in}
 use Rattle.log_states.specs.Stages.{is_store}
-use Rattle.thread_code.specs.Plans.{Plan, Thread}
-use Rattle.thread_code.specs.NodeCodeEffects.{Places}
+use Rattle.thread_code.specs.Plans.{Plan, Thread, IsNodeOf}
+use Rattle.thread_code.specs.NodeCodeEffects.{Places, keeping}
 use Rattle.thread_code.specs.RegistersAtNodes.{IsAnswered, source_of}
 use Rattle.thread_runs.specs.CodeFragments.{ReadsVariables, MayDo, AreSeen, Stage, stage_after, effects_of, on_machine}
-use Rattle.thread_runs.specs.Laws.{IsAtSomeMark, Performing, PassesMark, Stays}
-use Rattle.thread_runs.proofs.Public.{nodes_begin}
-use Rattle.crash_simulation.specs.Systems.{System, IsSystem, flat_of, thread_count}
+use Rattle.thread_runs.specs.Laws.{IsAtSomeMark, Performing, PassesMark, Stays, left_of}
+use Rattle.thread_runs.proofs.Public.{nodes_begin, next_by, next_follows, marks_are_bounded, few_cleans}
+use Rattle.crash_simulation.specs.StepsToMark.{entry_ahead, beyond, most_ahead}
+use Rattle.crash_simulation.specs.Systems.{System, IsSystem, flat_of}
 use Rattle.crash_simulation.specs.AbstractRuns.{now_of}
 use Rattle.crash_simulation.proofs.GraphAfterBegin.{takes_none, after_effect, done_is, matches_now}
 use Rattle.crash_simulation.proofs.LoadFreeEnvironment.{placed, meets_with}
 use Rattle.crash_simulation.proofs.NodeEnvironments.{environment_with, agrees_here}
-use Rattle.crash_simulation.proofs.NodeEffects.{is_quiet, step_is}
-use Rattle.crash_simulation.proofs.OwnHartSteps.{view, same_number, AtNode}
+use Rattle.crash_simulation.proofs.NodeEffects.{is_quiet, IsAtNode, step_is}
+use Rattle.crash_simulation.proofs.StepsAfterMarks.{fits_by, most_is}
+use Rattle.crash_simulation.proofs.StepsBetweenMarks.{alone_fits}
+use Rattle.crash_simulation.proofs.OwnHartSteps.{view, AtNode}
 use Rattle.recovered_threads.proofs.Public.{same_there}
 use Rattle.recovery_semantics.specs.Configs.{now}
-
-mark_of : (p : Plan) (t : Thread) (c : Places) (program : List (List Slot)) (w : World) (h : ℕ) (s : MarkedEnvironment) (node : ℕ) (seen : Seen) (side : ℕ)
-    (registers : List ℕ) (e : a.Effect) → takes_none e ≡ true → Performing p t c (on_machine program w h s) node seen side registers e →
-    IsAtSomeMark p t c (on_machine program w h s) node seen side registers e
-mark_of p t c program w h s node seen side registers (a.Takes mutex next) free m = cc
-mark_of p t c program w h s node seen side registers e free m = m
 
 -- ---- Quiet effects
 
 pub quiet_may : (p : Plan) (t : Thread) (c : Places) (log : Log) (threads : ℕ) (s : MarkedEnvironment) (e : a.Effect) → is_quiet e ≡ true →
     MayDo p t c log threads s e
-quiet_may p t c log threads s (a.Makes store next) quiet = cc
-quiet_may p t c log threads s (a.Takes mutex next) quiet = cc
-quiet_may p t c log threads s (a.Gives mutex next) quiet = cc
-quiet_may p t c log threads s e quiet = tt
-
-pub quiet_seen : (p : Plan) (t : Thread) (c : Places) (node side : ℕ) (registers : List ℕ) (e : a.Effect) (effects : List Effect) → is_quiet e ≡ true →
-    AreSeen p t c node side registers e effects → effects ≡ []
-quiet_seen p t c node side registers (a.Makes store next) effects quiet seen = cc
-quiet_seen p t c node side registers (a.Takes mutex next) effects quiet seen = cc
-quiet_seen p t c node side registers (a.Gives mutex next) effects quiet seen = cc
-quiet_seen p t c node side registers e effects quiet seen = seen
+quiet_may p t c log threads s e quiet = grind (arith, nat_tests)
 
 pub quiet_free : (e : a.Effect) → is_quiet e ≡ true → takes_none e ≡ true
-quiet_free (a.Takes mutex next) quiet = cc
-quiet_free e quiet = refl
+quiet_free e quiet = grind (arith, nat_tests)
 
 -- ---- Instructions of which nothing is seen
 
@@ -67,65 +52,132 @@ pub record IsUnseen (log : Log) (n : ℕ) (effect : Effect) (later : List Effect
 
 pub unseen : (log : Log) (n : ℕ) (effect : Effect) (later effects : List Effect) → effects ≡ [] → effects ≡ effects_of effect ++ later →
     IsUnseen log n effect later
-unseen log n (r.Continues registers pc) later effects none is =
-    record { later_is = sym is ∙ none; no_store = refl; no_point = refl; same = λ old new changes. ap (λ (x : Contents). x.words) changes }
-unseen log n (r.Loads address bytes signed register) later effects none is =
-    record { later_is = sym is ∙ none; no_store = refl; no_point = refl; same = λ old new changes. ap (λ (x : Contents). x.words) changes }
-unseen log n r.Calls later effects none is =
-    record { later_is = sym is ∙ none; no_store = refl; no_point = refl; same = λ old new changes. absurd changes }
-unseen log n effect later effects none is = cc
+unseen log n effect later effects none is = grind (arith)
 
 -- ---- The mark
 
 module _ {y : System} {s : IsSystem y} {w : World} {h : ℕ} (site : AtNode y s w h) where
   open view site.hart use {b, code, t, n, places, graph_thread, seen}
+  open site.core use {side, registers}
+  open site.hart.stands.machine use {short}
 
-  abbrev pub MarkIn : MarkedEnvironment → a.Effect → Type 0
-  MarkIn z e = IsAtSomeMark y.plan code.thread places (on_machine y.runs.program w n z) graph_thread.at seen site.core.side site.core.registers e
-
-  -- a hart at the mark of its node, where it has the effect
-  pub record AtMark : Type 0 where
-    pub environment : MarkedEnvironment
+  -- what the thread does at its node, and which loads are answered for that
+  pub record Doing : Type 0 where
+    pub node : Node
+    pub at : NodeAt (lowered (flat_of y)) graph_thread.at node
     pub effect : a.Effect
-    pub mark : MarkIn environment effect
+    pub free : takes_none effect ≡ true
+    pub does : effect_of node.action seen ≡ Some effect
+    pub reads : ℕ → ℕ → Bool
+
+  module _ (d : Doing) where
+    open d use {node, effect, reads}
+
+    abbrev pub environment : MarkedEnvironment
+    environment = environment_with site reads
+
+    abbrev pub stage_then : Stage
+    stage_then = stage_after y.plan code.thread places graph_thread.at seen side effect
+
+    abbrev pub MarkIn : Type 0
+    MarkIn = IsAtSomeMark y.plan code.thread places (on_machine y.runs.program w n environment) graph_thread.at seen side registers effect
+
+    abbrev pub in_graph : IsAtNode (flat_of y) (now_of y b) (now b.config) n
+    in_graph = record { formed = s.plan.formed; matches = matches_now y s b; graph_thread = graph_thread; found = t.walks; node = node; at = d.at }
+
+    pub at_plan : NodeAt y.plan.graph graph_thread.at node
+    at_plan = subst (λ (g : Graph). NodeAt g graph_thread.at node) (sym s.plan.lowered) d.at
+
+    pub graph_step_is : graph_step (lowered (flat_of y)) (now_of y b) n ≡ Some (after_effect (now_of y b) n graph_thread effect)
+    graph_step_is = step_is in_graph effect d.does ∙ done_is (now_of y b) n graph_thread effect d.free site.core.goes.execution
+
+    pub at_some_mark : ReadsVariables environment → IsAnswered (source_of y.plan code.thread seen) environment.around.loads node.action →
+        MayDo y.plan code.thread places w.log (length w.harts) environment effect → MarkIn
+    at_some_mark reading answered may =
+        by effect d.free (nodes_begin y.plan code.thread y.runs.program code.program code.is w n environment graph_thread.at seen side registers node effect
+        (placed y s w h site.hart.below site.hart.stands.machine.log site.hart.stands.machine.count) (meets_with y code (s.own h site.hart.below) w reads)
+        (agrees_here site reads) reading at_plan d.does answered may site.core.core)
+      where
+        by : (e : a.Effect) → takes_none e ≡ true →
+            Performing y.plan code.thread places (on_machine y.runs.program w n environment) graph_thread.at seen side registers e →
+            IsAtSomeMark y.plan code.thread places (on_machine y.runs.program w n environment) graph_thread.at seen side registers e
+        by (a.Takes mutex next) free m = cc
+        by e free m = m
+
+  -- a hart at the mark of its node
+  pub record AtMark : Type 0 where
+    pub doing : Doing
+    pub mark : MarkIn doing
 
   module _ (m : AtMark) where
-    abbrev pub stage_then : Stage
-    stage_then = stage_after y.plan code.thread places graph_thread.at seen site.core.side m.effect
+    open m.doing use {effect}
+
+    abbrev stage : Stage
+    stage = stage_then m.doing
 
     -- its step passes the mark, or writes an entry back
     abbrev pub Passes : Type 0
-    Passes = PassesMark y.plan code.thread places (on_machine y.runs.program w n m.environment) m.effect stage_then m.mark.steps m.mark.effects m.mark.at
+    Passes = PassesMark y.plan code.thread places (on_machine y.runs.program w n (environment m.doing)) effect stage m.mark.steps m.mark.effects m.mark.at
 
     abbrev pub WritesBack : Type 0
-    WritesBack = Stays y.plan code.thread places (on_machine y.runs.program w n m.environment) m.effect stage_then m.mark.steps m.mark.effects m.mark.at
+    WritesBack = Stays y.plan code.thread places (on_machine y.runs.program w n (environment m.doing)) effect stage m.mark.steps m.mark.effects m.mark.at
 
     pub old_hart : m.mark.at.on.hart ≡ t.log.hart
     old_hart = same_there (slice_get w.harts n) m.mark.at.on.hart t.log.hart m.mark.at.on.here t.log.here
 
-  pub inside : n < thread_count y
-  inside = subst (λ (k : ℕ). k < thread_count y) (sym (same_number site.hart)) site.hart.below
+    -- of a quiet one nothing is seen
+    pub quiet_seen : is_quiet effect ≡ true → m.mark.effects ≡ []
+    quiet_seen quiet = grind (arith, nat_tests)
 
-  abbrev pub environment_of : (reads : ℕ → ℕ → Bool) → MarkedEnvironment
-  environment_of reads = environment_with y s w b code (s.own h site.hart.below) site.hart.stands.machine.count inside reads
+    -- ---- After it
 
-  module _ (node : Node) (at : NodeAt (lowered (flat_of y)) graph_thread.at node) (e : a.Effect) (free : takes_none e ≡ true)
-      (does : effect_of node.action seen ≡ Some e) where
-    pub at_plan : NodeAt y.plan.graph graph_thread.at node
-    at_plan = subst (λ (g : Graph). NodeAt g graph_thread.at node) (sym s.plan.lowered) at
+    module _ (p : Passes) where
+      abbrev left : ℕ
+      left = left_of y.plan code.thread places p.on
 
-    pub graph_step_is : graph_step (lowered (flat_of y)) (now_of y b) n ≡ Some (after_effect (now_of y b) n graph_thread e)
-    graph_step_is =
-        step_is (flat_of y) s.plan.formed (now_of y b) (now b.config) n (matches_now y s b) graph_thread t.walks node at e does
-        ∙ done_is (now_of y b) n graph_thread e free site.core.goes.execution
+      abbrev words : ℕ
+      words = places.words graph_thread.at
 
-    pub at_some_mark : (reads : ℕ → ℕ → Bool) → ReadsVariables (environment_of reads) →
-        IsAnswered (source_of y.plan code.thread seen) (environment_of reads).around.loads node.action →
-        MayDo y.plan code.thread places w.log (length w.harts) (environment_of reads) e → MarkIn (environment_of reads) e
-    at_some_mark reads reading answered may =
-        let own = s.own h site.hart.below in
-        let count = site.hart.stands.machine.count in
-        mark_of y.plan code.thread places y.runs.program w n (environment_of reads) graph_thread.at seen site.core.side site.core.registers e free
-        (nodes_begin y.plan code.thread y.runs.program code.program code.is w n (environment_of reads) graph_thread.at seen site.core.side
-        site.core.registers node e (placed y s w h site.hart.below site.hart.stands.machine.log count)
-        (meets_with y code own w reads) (agrees_here y s w b code own count inside reads) reading at_plan does answered may site.core.core)
+      abbrev L : ℕ
+      L = length code.program.code
+
+      few : left ≤ 2 * words + 15
+      few = omega (
+        arith,
+        p.less,
+        m.mark.short,
+        marks_are_bounded y.plan code.thread places y.runs.program w n (environment m.doing) effect stage
+            m.mark.steps m.mark.effects short m.mark.at,
+      )
+
+      cleaned : cleans_in (seen_effects m.mark.effects) ≤ 5 → left ≤ words + 20
+      cleaned cleans = grind (arith, nat_tests)
+
+      -- what is left of the fragment and what is ahead after it fit into the code
+      soon_by : (e : a.Effect) → words ≤ L → IsNodeOf code.thread (stage_after y.plan code.thread places graph_thread.at seen side e).node →
+          ((next : ℕ) → IsNodeOf code.thread next → next_by e ≡ Some next → 2 * words + entry_ahead y.plan places next + 4 ≤ 2 * L) →
+          AreSeen y.plan code.thread places graph_thread.at side registers e m.mark.effects →
+          left + beyond y.plan places (stage_after y.plan code.thread places graph_thread.at seen side e).exit
+          (stage_after y.plan code.thread places graph_thread.at seen side e).node ≤ 2 * L + 17
+      soon_by (a.Sets local number next) whole own fit are = let f = fit next own refl in omega (arith, f, few)
+      soon_by (a.Owes store next) whole own fit are = let f = fit next own refl in omega (arith, f, few)
+      soon_by (a.Makes store next) whole own fit are = let f = fit next own refl in omega (arith, f, few)
+      soon_by (a.Goes next) whole own fit are = let f = fit next own refl in omega (arith, f, few)
+      soon_by (a.Takes mutex next) whole own fit are = omega (arith, few, whole)
+      soon_by (a.Gives mutex next) whole own fit are =
+          let f = fit next own refl in
+          let g = cleaned (subst (λ (es : List Effect). cleans_in (seen_effects es) ≤ 5) (sym are)
+          (few_cleans (keeping y.plan code.thread places next) side (places.after graph_thread.at) registers)) in
+          omega (arith, f, g)
+      soon_by a.Ends whole own fit are = omega (arith, few, whole)
+
+      not_end : (next : ℕ) → next_by effect ≡ Some next → m.doing.node.action ≢ End
+      not_end next by same = grind (arith, nat_tests)
+
+      pub passed_soon : left + beyond y.plan places stage.exit stage.node ≤ most_ahead y n
+      passed_soon =
+          let own = site.core.core.own in
+          let all = soon_by effect (alone_fits y.plan code.thread code.program code.is s.plan code.of graph_thread.at own) p.on.own
+          (λ next next_of by. fits_by y s h site.hart.below graph_thread.at m.doing.node own (at_plan m.doing) next next_of
+          (next_follows m.doing.node.action seen effect next m.doing.does by) (not_end next by)) m.mark.seen_are in
+          omega (arith, all, most_is y s h site.hart.below)

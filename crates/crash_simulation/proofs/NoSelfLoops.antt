@@ -1,5 +1,5 @@
 -- No lock, unlock or store is followed by itself, and a thread's last node is its end.
-use Rattle.std.proofs.Common.{◌≡◌, ◌≢◌, refl, ℕ, zero, suc, ◌+◌, ◌<◌, ◌≤◌, List, [], ◌∷◌, ◌++◌, length, sym, ◌∙◌, ap, arith, subst, true, false, Some}
+use Rattle.std.proofs.Common.{◌≡◌, ◌≢◌, refl, ℕ, zero, suc, ◌+◌, ◌<◌, ◌≤◌, List, [], ◌∷◌, ◌++◌, length, sym, ◌∙◌, ap, arith, subst, Some}
 use Rattle.std.proofs.lemmas.Option.{slice_get_within}
 use Rattle.std.specs.Prelude.{slice_get}
 use Rattle.ido_base.specs.declared.place.Place.{Place}
@@ -10,7 +10,7 @@ use Rattle.flow_graph.specs.Nodes.{Action, Store, Lock, Unlock, End, Node}
 use Rattle.flow_graph.specs.Lowering.{lowered, plain_node, statements_nodes, statements_count, thread_nodes, thread_count, threads_nodes, part, parts}
 use Rattle.flow_graph.specs.declared.graph.Part.{Part}
 use Rattle.flow_graph.specs.Liveness.{NodeAt}
-use Rattle.flow_graph.specs.Lockstep.{Standing, free, HasStandingAt, threads_standings}
+use Rattle.flow_graph.specs.Lockstep.{Standing, HasStandingAt, threads_standings}
 use Rattle.flow_graph.proofs.Public.{found_in, length-statements_nodes, length-thread_nodes, ActionLeads, agrees}
 use Rattle.crash_simulation.proofs.LocksAtCalls.{standing_of}
 
@@ -43,23 +43,13 @@ module _ (x : f.Flat) (w : IsWellFormed x) (node : ℕ) (is : Node) (at : NodeAt
   does_as z e = subst DoneBy e left_there.does
 
   pub lock_goes_on : (mutex next : ℕ) → is.action ≡ Lock mutex next → next ≢ node
-  lock_goes_on mutex next e same =
-      let d = does_as (Lock mutex next) e in
-      let here : left_there.standing ≡ free d.rest = one_standing (free d.rest) (subst (λ (k : ℕ). HasStandingAt x k (free d.rest)) same d.follows) in
-      no_rest (f.Lock d.place mutex) d.rest (ap (λ (s : Standing). s.left) (sym d.is ∙ here))
+  lock_goes_on mutex next e same = grind (arith, does_as, left_there, no_rest, one_standing)
 
   pub unlock_goes_on : (mutex next : ℕ) → is.action ≡ Unlock mutex next → next ≢ node
-  unlock_goes_on mutex next e same =
-      let d = does_as (Unlock mutex next) e in
-      let here : left_there.standing ≡ free d.rest = one_standing (free d.rest) (subst (λ (k : ℕ). HasStandingAt x k (free d.rest)) same d.follows) in
-      no_rest (f.Unlock d.place mutex) d.rest (ap (λ (s : Standing). s.left) (sym d.is ∙ here))
+  unlock_goes_on mutex next e same = grind (arith, does_as, left_there, no_rest, one_standing)
 
   pub store_goes_on : (variable : ℕ) (kind : Kind) (next : ℕ) → is.action ≡ Store variable kind next → next ≢ node
-  store_goes_on variable kind next e same =
-      let d = does_as (Store variable kind next) e in
-      let here : left_there.standing ≡ free d.rest = one_standing (free d.rest) (subst (λ (k : ℕ). HasStandingAt x k (free d.rest)) same d.follows) in
-      let owes : true ≡ false = ap (λ (s : Standing). s.owes) (sym d.is ∙ here) in
-      cc
+  store_goes_on variable kind next e same = grind (arith, does_as, left_there, one_standing)
 
 -- ---- The last node of a thread
 

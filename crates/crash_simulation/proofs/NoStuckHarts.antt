@@ -1,13 +1,12 @@
 -- No hart is stuck, and none waits for a lock of its record.
-use Rattle.std.proofs.Common.{◌≡◌, ◌≢◌, inl, inr, refl, ℕ, ◌<◌, [], ap, sym, ◌∙◌, subst, arith, Option, Some, None}
+use Rattle.std.proofs.Common.{◌≡◌, ◌≢◌, inl, inr, refl, ℕ, [], ap, sym, ◌∙◌, subst, arith, Option, Some, None}
 use Rattle.std.specs.Prelude.{slice_get}
 use Rattle.ido_base.specs.declared.event.Event.TheVariants.{Step}
-use Rattle.ido_base.specs.declared.event.Reply.TheVariants.{Moved, Still, Stuck}
+use Rattle.ido_base.specs.declared.event.Reply.TheVariants.{Still, Stuck}
 use Rattle.ido_base.specs.declared.event.Cause.{Cause}
 use Rattle.rv64_isa.specs.declared.phase.Phase.{Phase}
-use Rattle.rv64_isa.specs.declared.phase.Phase.TheVariants.{Take, Wait, Resume, Run, Done, Ended}
+use Rattle.rv64_isa.specs.declared.phase.Phase.TheVariants.{Run}
 use Rattle.rv64_isa.specs.Machine.{Hart, World, stepped, happens, reply_to}
-use Rattle.flow_graph.specs.Actions.{Seen, seen_by}
 use Rattle.flow_graph.proofs.Public.{get_cases, no_more}
 use Rattle.hart_runs.specs.Calls.{IsInPhase}
 use Rattle.hart_runs.specs.Calls as harts
@@ -15,13 +14,11 @@ use Rattle.hart_runs.proofs.Public as harts_well
 use Rattle.thread_runs.specs.CodeFragments.{ExitPoint, Asks, Gives, Ends}
 use Rattle.thread_runs.specs.Laws.{MarksPass}
 use Rattle.thread_runs.proofs.Public.{locks_are_well, unlocks_are_well, ends_are_well}
-use Rattle.recovered_threads.specs.RecordDescriptions.{Code}
 use Rattle.recovered_threads.specs.RecoveryStates.{HasGathered}
 use Rattle.recovered_threads.proofs.Public.{takes_never_wait}
-use Rattle.crash_simulation.specs.Systems.{System, IsSystem, thread_count}
-use Rattle.crash_simulation.specs.AbstractRuns.{AbstractRun, now_of}
-use Rattle.crash_simulation.specs.ThreadGhosts.{ThreadGhost, ThreadInv}
-use Rattle.crash_simulation.specs.SimulationRelation.{AreHeld, AreLocked, gathering, gathered, records_of, Simulates}
+use Rattle.crash_simulation.specs.Systems.{System, IsSystem}
+use Rattle.crash_simulation.specs.AbstractRuns.{now_of}
+use Rattle.crash_simulation.specs.SimulationRelation.{AreHeld, gathering, gathered, records_of, Simulates}
 use Rattle.crash_simulation.specs.InstructionSteps as moving
 use Rattle.crash_simulation.specs.InstructionSteps.{OnFragmentNow, AtCoreNow, IsReadyToStep}
 use Rattle.crash_simulation.specs.Laws.{NoneIsStuck, TakesMove}
@@ -33,6 +30,7 @@ use Rattle.crash_simulation.proofs.CallSteps as calls
 use Rattle.crash_simulation.proofs.ReadyHarts.{runs_ready}
 use Rattle.crash_simulation.proofs.SimulationInRecovery as recovering
 use Rattle.crash_simulation.proofs.RunOrCall.{IsWhere, on_run, at_call, is_where}
+use Rattle.crash_simulation.proofs.OwnHartSteps.{Site, view, same_number}
 
 -- hart h is not stuck
 abbrev IsFree : System → World → (h : ℕ) → Type 0
@@ -40,59 +38,34 @@ IsFree y w h = (cause : Cause) → reply_to y.runs.program w (Step h) ≢ Stuck 
 
 -- ---- A hart in Run that is ready
 
-module _ (y : System) (s : IsSystem y) (w : World) (h : ℕ) (stands : Simulates y s w) (below : h < thread_count y) where
-  abbrev b : AbstractRun y
-  b = stands.abstract
-
-  abbrev code : Code y.plan
-  code = s.codes.each h below
-
-  abbrev c : ThreadGhost
-  c = stands.ghosts h
-
-  abbrev t : ThreadInv y w b code c
-  t = stands.each h below
-
-  abbrev thread : ℕ
-  thread = code.thread.number
-
-  abbrev seen : Seen
-  seen = seen_by (now_of y b) t.graph_thread
+module _ {y : System} {s : IsSystem y} {w : World} {h : ℕ} (site : Site y s w h) where
+  open site use {stands, below}
+  open view site use {b, code, t, n, graph_thread, seen}
 
   -- at its end, where the thread makes a call
   module _ (held : AreHeld w stands.ghosts (now_of y b)) (o : OnFragmentNow y s w h stands below) (over : o.steps ≡ 0) where
-    asks : (mutex next : ℕ) → o.exit ≡ Asks mutex next → IsFree y w thread
-    asks mutex next is =
+    by_call : (exit : ExitPoint) → moving.IsCalling y s w h stands below exit → o.exit ≡ exit → IsFree y w n
+    by_call _ (moving.asks mutex next) is =
         let fragment = at_calls.asks (at_calls.at_end y s w h stands below held (Asks mutex next) o over is) in
-        let within = mutex_there y s b code t.graph_thread t.walks mutex next fragment.of_graph in
+        let within = mutex_there y s b code graph_thread t.walks mutex next fragment.of_graph in
         let count = stands.machine.mutexes in
         elim (get_cases w.holders mutex) [
           | inl none ↦ let long = no_more w.holders mutex none in absurd (omega (arith, long, count, within))
           | inr there ↦
-              locks_are_well harts_well.none_is_stuck y.plan code.thread y.runs.program code.program code.is w thread (bare y s w h below)
-              t.graph_thread.at mutex next
-              seen o.side [] there.0 fragment there.1
+              locks_are_well harts_well.none_is_stuck y.plan code.thread y.runs.program code.program code.is w n (bare y s w h below) graph_thread.at mutex
+              next seen o.side [] there.0 fragment there.1
         ]
-
-    gives : (from mutex : ℕ) → o.exit ≡ Gives from mutex → IsFree y w thread
-    gives from mutex is =
+    by_call _ (moving.gives from mutex) is =
         let at = at_calls.at_end y s w h stands below held (Gives from mutex) o over is in
-        unlocks_are_well harts_well.none_is_stuck y.plan code.thread y.runs.program code.program code.is w thread (bare y s w h below) from mutex
-        t.graph_thread.at seen o.side [] (calls.giving at) (calls.owns at)
-
-    ends : o.exit ≡ Ends → IsFree y w thread
-    ends is =
+        unlocks_are_well harts_well.none_is_stuck y.plan code.thread y.runs.program code.program code.is w n (bare y s w h below) from mutex
+        graph_thread.at seen o.side [] (calls.giving at) (calls.owns at)
+    by_call _ moving.ends is =
         let at = at_calls.at_end y s w h stands below held Ends o over is in
-        ends_are_well harts_well.none_is_stuck y.plan code.thread y.runs.program code.program code.is w thread (bare y s w h below)
-        t.graph_thread.at seen o.side [] (calls.ending at) (at_calls.none_from thread 0 w.holders (calls.none_here at))
+        ends_are_well harts_well.none_is_stuck y.plan code.thread y.runs.program code.program code.is w n (bare y s w h below) graph_thread.at seen o.side []
+        (calls.ending at) (at_calls.none_from n 0 w.holders (calls.none_here at))
 
-    by_call : (exit : ExitPoint) → moving.IsCalling y s w h stands below exit → o.exit ≡ exit → IsFree y w thread
-    by_call _ (moving.asks mutex next) is = asks mutex next is
-    by_call _ (moving.gives from mutex) is = gives from mutex is
-    by_call _ moving.ends is = ends is
-
-  by_where : AreHeld w stands.ghosts (now_of y b) → IsWhere y s w h stands below → IsFree y w thread
-  by_where held (on_run r) = harts_well.none_is_stuck y.runs.program w thread (harts.on_run r.run r.agrees)
+  by_where : AreHeld w stands.ghosts (now_of y b) → IsWhere y s w h stands below → IsFree y w n
+  by_where held (on_run r) = harts_well.none_is_stuck y.runs.program w n (harts.on_run r.run r.agrees)
   by_where held (at_call o over calling) = by_call held o over o.exit calling refl
 
 -- ---- Whichever hart
@@ -102,15 +75,12 @@ module _ (marks : MarksPass) (y : System) (s : IsSystem y) (w : World) (stands :
   runs i =
       let r = runs_ready y s w h stands i in
       let held = (runs_held y s w r.stands.abstract r.stands.ghosts h r.stands.machine.log r.stands.machine.sound i r.stands.locks).1 in
-      subst (λ (n : ℕ). IsFree y w n) (s.codes.number h r.below) (by_where y s w h r.stands r.below held (is_where y s w h r.stands r.below marks r.ready))
+      let site : Site y s w h = record { stands = r.stands; below = r.below } in
+      subst (λ (n : ℕ). IsFree y w n) (same_number site) (by_where site held (is_where y s w h r.stands r.below marks r.ready))
 
   by_phase : (phase : Phase) → IsInPhase w h phase → IsFree y w h
-  by_phase Take i = harts_well.none_is_stuck y.runs.program w h (harts.apart Take refl i)
-  by_phase Wait i = harts_well.none_is_stuck y.runs.program w h (harts.apart Wait refl i)
-  by_phase Resume i = harts_well.none_is_stuck y.runs.program w h (harts.apart Resume refl i)
   by_phase Run i = runs i
-  by_phase Done i = harts_well.none_is_stuck y.runs.program w h (harts.apart Done refl i)
-  by_phase Ended i = harts_well.none_is_stuck y.runs.program w h (harts.apart Ended refl i)
+  by_phase phase i = harts_well.none_is_stuck y.runs.program w h (harts.apart phase refl i)
 
   -- nothing happens where there is no hart
   still : slice_get w.harts h ≡ None → reply_to y.runs.program w (Step h) ≡ Still
@@ -126,12 +96,8 @@ none_is_stuck marks y s w stands h = free_by marks y s w stands h (slice_get w.h
 
 -- ---- A hart that takes its locks
 
-moves_by : (y : System) (s : IsSystem y) (w : World) (h : ℕ) (stands : Simulates y s w) → IsInPhase w h Take →
-    AreLocked y w stands.abstract stands.ghosts → reply_to y.runs.program w (Step h) ≡ Moved
-moves_by y s w h stands i (gathering none gathers) =
-    (takes_never_wait y.runs.program w (records_of stands.ghosts) h gathers (recovering.apart y s w h stands none gathers) i).0
-moves_by y s w h stands i (gathered ag held) =
-    absurd (subst (λ (p : Phase). HasGathered w h (records_of stands.ghosts h) p) i.phase_is (ag.each h i.hart i.here))
-
 pub takes_move : TakesMove
-takes_move y s w h stands i = moves_by y s w h stands i stands.locks
+takes_move y s w h stands i = elim stands.locks [
+  | gathering none gathers ↦ (takes_never_wait y.runs.program w (records_of stands.ghosts) h gathers (recovering.apart y s w h stands none gathers) i).0
+  | gathered ag held ↦ absurd (subst (HasGathered w h (records_of stands.ghosts h)) i.phase_is (ag.each h i.hart i.here))
+]

@@ -41,7 +41,7 @@ module _ {y : System} {s : IsSystem y} {w : World} {h : ℕ} (site : AtNode y s 
     quietly z is effect does = quiet effect (ap (λ (x : Action). effect_of x seen) is ∙ does)
 
     by_action : (z : Action) → found.0.action ≡ z → P
-    by_action (Eval (e.ToLocal local kind) value next) is = quietly _ is _ refl refl
+    by_action (Eval (e.ToLocal place local kind) value next) is = quietly _ is _ refl refl
     by_action (Eval (e.ToVariable place variable kind) value next) is = quietly _ is _ refl refl
     by_action (Eval (e.ToElement place variable kind index) value next) is = quietly _ is _ refl refl
     by_action (Store variable kind next) is = store (makes_store variable kind next is)

@@ -1,13 +1,12 @@
 -- The environment in which a thread's hart makes a step at its node: loads of what the node reads are answered, and no others.
-use Rattle.std.proofs.Common.{◌≡◌, refl, ℕ, ◌*◌, ◌^◌, ◌<◌, List, [], length, map, ap, sym, ◌∙◌, subst, arith, mod-lt, pow_pos, Some, None, Bool, true, false}
+use Rattle.std.proofs.lemmas.Bool.Decides.{nat_tests}
+use Rattle.std.proofs.Common.{◌≡◌, ℕ, ◌*◌, ◌^◌, ◌<◌, List, [], length, map, ap, sym, ◌∙◌, subst, arith, mod-lt, pow_pos, Some, None, Bool, true}
 use Rattle.std.proofs.lemmas.Bool.{cond-true, and_parts}
-use Rattle.std.proofs.lemmas.Option.{none-some, same_Some}
 use Rattle.std.specs.Prelude.{slice_get, slice_index_or, ℤ, pos, Contains, ◌&&◌, if◌then◌else◌}
 use Rattle.ido_base.specs.declared.log.Log.{Log}
 use Rattle.ido_base.specs.Words.{loaded}
-use Rattle.ido_base.specs.Layout.{variable_at, in_range, aligned, byte_number}
+use Rattle.ido_base.specs.Layout.{variable_at, byte_number}
 use Rattle.ido_base.specs.Words as words
-use Rattle.ido_ints.specs.declared.kinds.Kind.TheVariants.{Char, UnsignedChar, SignedChar}
 use Rattle.ido_ints.specs.Kinds.{bytes_of, bits_of, modulus_of, Holds}
 use Rattle.ido_ints.specs.declared.kinds.Kind.{Kind}
 use Rattle.ido_ints.specs.Reduction.{reduced, residue}
@@ -24,24 +23,22 @@ use Rattle.variable_words.proofs.Public.{addresses_reach}
 use Rattle.flow_graph.specs.Nodes.{Node}
 use Rattle.flow_graph.specs.Lowering.{lowered}
 use Rattle.flow_graph.specs.Liveness.{NodeAt}
-use Rattle.flow_graph.specs.Actions.{Seen, GraphThread, seen_by}
 use Rattle.flow_graph.specs.Paths.{Element, reads_of}
 use Rattle.hart_runs.specs.HartsOnRuns.{is_width, is_access, environment_of, Agrees}
 use Rattle.recovery_semantics.specs.ElementHistories.{history_at, live_number, number_at, Memory}
-use Rattle.recovery_semantics.specs.VariableSpots.{IsAtSpot, memory_in}
+use Rattle.recovery_semantics.specs.VariableSpots.{IsAtSpot}
 use Rattle.recovery_semantics.specs.Configs.{now}
-use Rattle.recovery_semantics.specs.Events.{IsGoing}
 use Rattle.recovery_semantics.proofs.Public.{memory_loaded}
 use Rattle.region_attempts.specs.Laws.{ReadsHere}
 use Rattle.region_attempts.proofs.Public.{rerun_reads_nothing_overwritten, readers_guard}
 use Rattle.thread_code.specs.RegistersAtNodes.{IsAnswered, source_of}
 use Rattle.thread_runs.specs.CodeFragments.{ReadsVariables}
-use Rattle.recovered_threads.specs.RecordDescriptions.{Code}
-use Rattle.crash_simulation.specs.Systems.{System, IsSystem, IsOwnCode, flat_of, places_of, thread_count}
-use Rattle.crash_simulation.specs.AbstractRuns.{AbstractRun, kept_of, now_of}
+use Rattle.crash_simulation.specs.Systems.{System, IsSystem, flat_of}
+use Rattle.crash_simulation.specs.AbstractRuns.{AbstractRun, kept_of}
 use Rattle.crash_simulation.specs.ThreadGhosts.{ThreadGhost, AnswersGuarded}
+use Rattle.crash_simulation.proofs.OwnHartSteps.{view, AtNode}
 use Rattle.crash_simulation.proofs.StatesMatchSource.{cuts, resumed, now_good}
-use Rattle.crash_simulation.proofs.Loads.{reads_all, IsRead, is_read, reads_there, Loaded, answered}
+use Rattle.crash_simulation.proofs.Loads.{reads_all, is_read, reads_there, Loaded, answered}
 use Rattle.crash_simulation.proofs.GraphAfterBegin.{matches_now}
 use Rattle.crash_simulation.proofs.Elements.{room}
 use Rattle.crash_simulation.proofs.DisjointElements.{element_ends}
@@ -49,28 +46,19 @@ use Rattle.crash_simulation.proofs.DisjointElements.{element_ends}
 -- ---- Accesses
 
 answered_some : (b : Bool) (x value : ℕ) → (if b then Some x else None) ≡ Some value → (b ≡ true) × (x ≡ value)
-answered_some true x value h = (refl, same_Some x value h)
-answered_some false x value h = absurd (none-some value h)
+answered_some b x value h = grind (arith, nat_tests)
 
 kind_width : (k : Kind) → is_width (bytes_of k) ≡ true
-kind_width Char = refl
-kind_width UnsignedChar = refl
-kind_width SignedChar = refl
-kind_width k = refl
+kind_width k = grind (arith, nat_tests)
 
 and_both : (a b : Bool) → a ≡ true → b ≡ true → (a && b) ≡ true
-and_both true b h k = k
-and_both false b h k = cc
+and_both a b h k = grind (arith, nat_tests)
 
 -- an element may be accessed, and stands before the end of the variables
 pub element_access : (log : Log) (vs : List Variable) (threads v e : ℕ) (is : Variable) → HaveRoom (map shape_of vs) → slice_get vs v ≡ Some is →
     e < elements_in is.length →
     is_access log threads (variable_at (map shape_of vs) v e) (bytes_of is.kind) ≡ true
-element_access log vs threads v e is room there within =
-    let a = addresses_reach log vs threads v e is room there within in
-    and_both (is_width (bytes_of is.kind)) _ (kind_width is.kind)
-    (and_both (in_range log threads (variable_at (map shape_of vs) v e) (bytes_of is.kind)) (aligned (variable_at (map shape_of vs) v e) (bytes_of is.kind))
-    a.inside a.is_aligned)
+element_access log vs threads v e is room there within = grind (arith, addresses_reach, map, and_both, kind_width)
 
 -- ---- Numbers
 
@@ -88,18 +76,14 @@ loaded_below ws number count = mod-lt _ (pow_pos (8 * count))
 
 -- ---- The environment
 
-module _ (y : System) (s : IsSystem y) (w : World) (b : AbstractRun y) (code : Code y.plan) (own : IsOwnCode y code) (count : length w.harts ≡ thread_count y)
-    (inside : code.thread.number < thread_count y) where
-  abbrev pub environment_with : (reads : ℕ → ℕ → Bool) → MarkedEnvironment
-  environment_with reads = environment_of y.runs.program (slice_index_or y.runs.marks code.thread.number []) reads w code.thread.number
+module _ {y : System} {s : IsSystem y} {w : World} {h : ℕ} (site : AtNode y s w h) where
+  open view site.hart use {b, code, t, n, graph_thread, seen}
 
-  pub agrees_here : (reads : ℕ → ℕ → Bool) → Agrees y.runs.program w code.thread.number (environment_with reads)
-  agrees_here reads = record {
-    fetches = λ address instr e. e;
-    loads = λ address bytes value e.
-        let a = answered_some (reads address bytes && is_access w.log (length w.harts) address bytes) (loaded w.words (byte_number address) bytes) value e in
-        record { may = (and_parts (reads address bytes) (is_access w.log (length w.harts) address bytes) a.0).1; is = a.1 };
-  }
+  abbrev pub environment_with : (reads : ℕ → ℕ → Bool) → MarkedEnvironment
+  environment_with reads = environment_of y.runs.program (slice_index_or y.runs.marks n []) reads w n
+
+  pub agrees_here : (reads : ℕ → ℕ → Bool) → Agrees y.runs.program w n (environment_with reads)
+  agrees_here reads = grind (arith, and_parts, answered_some)
 
   -- ---- Of elements
 
@@ -110,52 +94,28 @@ module _ (y : System) (s : IsSystem y) (w : World) (b : AbstractRun y) (code : C
     abbrev pub reading : MarkedEnvironment
     reading = environment_with (reads_all vs ones)
 
-    read_of : (address bytes value : ℕ) → reading.around.loads address bytes ≡ Some value → IsRead vs ones address bytes
-    read_of address bytes value e =
-        let a = answered_some (reads_all vs ones address bytes && is_access w.log (length w.harts) address bytes)
-        (loaded w.words (byte_number address) bytes) value e in
-        is_read vs ones address bytes (and_parts (reads_all vs ones address bytes) (is_access w.log (length w.harts) address bytes) a.0).0
-
     pub reads_variables : ReadsVariables reading
-    reads_variables address bytes value e =
-        let r = read_of address bytes value e in
-        omega (arith, element_ends vs (room y s) r.one.variable r.one.element r.it r.found r.within)
+    reads_variables address bytes value e = grind (arith, nat_tests, and_parts, element_ends, is_read, nat_tests, reads_all, room)
 
     -- what it answers the thread guards, in any state where it guards what it reads
     pub answers_guarded : (next : AbstractRun y) (c : ThreadGhost) →
-        ((one : Element) → Contains ones one → Guards (flat_of y) (now next.config) code.thread.number one.variable one.element) →
+        ((one : Element) → Contains ones one → Guards (flat_of y) (now next.config) n one.variable one.element) →
         AnswersGuarded y next code c reading
-    answers_guarded next c guards address bytes value e =
-        let r = read_of address bytes value e in
-        record {
-          variable = r.one.variable;
-          element = r.one.element;
-          is = r.it;
-          there = r.found;
-          within = r.within;
-          address_is = r.address_is;
-          bytes_are = r.bytes_are;
-          guards = guards r.one r.of;
-        }
+    answers_guarded next c guards address bytes value e = grind (arith, nat_tests, and_parts, is_read, nat_tests, reads_all)
 
   -- ---- At a node
 
-  module _ (memory : memory_in (places_of y) w.words ≡ b.config.memory) (going : IsGoing b.config code.thread.number) (graph_thread : GraphThread)
-      (found : slice_get (now_of y b).graph_threads code.thread.number ≡ Some graph_thread) (node : Node)
-      (at : NodeAt (lowered (flat_of y)) graph_thread.at node) where
-    abbrev pub seen : Seen
-    seen = seen_by (now_of y b) graph_thread
-
+  module _ (node : Node) (at : NodeAt (lowered (flat_of y)) graph_thread.at node) where
     abbrev pub ones : List Element
     ones = reads_of node.action seen
 
-    reads_here : (one : Element) → Contains ones one → ReadsHere (flat_of y) (kept_of y b) b.config code.thread.number one
-    reads_here one of = record { going = going; graph_thread = graph_thread; found = found; node = node; at = at; reads = of }
+    reads_here : (one : Element) → Contains ones one → ReadsHere (flat_of y) (kept_of y b) b.config n one
+    reads_here one of = record { going = site.core.goes.goes.going; graph_thread = graph_thread; found = t.walks; node = node; at = at; reads = of }
 
-    pub guards_here : (one : Element) → Contains ones one → Guards (flat_of y) (now b.config) code.thread.number one.variable one.element
+    pub guards_here : (one : Element) → Contains ones one → Guards (flat_of y) (now b.config) n one.variable one.element
     guards_here one of =
         let r = (resumed y s b).resumed in
-        readers_guard (flat_of y) b.origin b.config b.schedule code.thread.number one s.plan.formed r.invariant r.kept (reads_here one of)
+        readers_guard (flat_of y) b.origin b.config b.schedule n one s.plan.formed r.invariant r.kept (reads_here one of)
 
     loaded_here : (one : Element) → Contains ones one → Loaded (source_of y.plan code.thread seen) (reading ones).around.loads one
     loaded_here one of it there within =
@@ -166,15 +126,15 @@ module _ (y : System) (s : IsSystem y) (w : World) (b : AbstractRun y) (code : C
         let may : (reads_all vs ones address bytes && is_access w.log (length w.harts) address bytes) ≡ true =
         and_both (reads_all vs ones address bytes) (is_access w.log (length w.harts) address bytes) (reads_there vs ones one it of there within) access in
         let right =
-        rerun_reads_nothing_overwritten.here (flat_of y) y.plan.boundaries b.origin b.config b.schedule code.thread.number one s.plan.formed (cuts y s b)
-        r.resumed.invariant r.resumed.kept (r.inside code.thread.number) (reads_here one of) in
+        rerun_reads_nothing_overwritten.here (flat_of y) y.plan.boundaries b.origin b.config b.schedule n one s.plan.formed (cuts y s b)
+        r.resumed.invariant r.resumed.kept (r.inside n) (reads_here one of) in
         let is_at : IsAtSpot (spots_of vs) one.variable one.element it.kind (byte_number address) =
         (addresses_reach w.log vs (length w.harts) one.variable one.element it (room y s) there within).at in
         let same : number_at (now b.config) one.variable one.element ≡ element_number seen.variables one.variable one.element =
         ap (λ (ns : List (List ℤ)). element_number ns one.variable one.element) (sym (matches_now y s b).variables) in
         let value : reduced it.kind (pos (loaded w.words (byte_number address) bytes)) ≡ element_number seen.variables one.variable one.element =
         memory_loaded (spots_of vs) w.words one.variable one.element it.kind (byte_number address) is_at
-        ∙ ap (λ (m : Memory). live_number (history_at m one.variable one.element)) memory
+        ∙ ap (λ (m : Memory). live_number (history_at m one.variable one.element)) site.hart.stands.memory
         ∙ right ∙ same in
         let number = number_loaded it.kind (loaded w.words (byte_number address) bytes) _ (loaded_below w.words (byte_number address) bytes) value in
         record {
@@ -185,6 +145,12 @@ module _ (y : System) (s : IsSystem y) (w : World) (b : AbstractRun y) (code : C
     -- loads of all that it reads are answered
     pub answered_here : IsAnswered (source_of y.plan code.thread seen) (reading ones).around.loads node.action
     answered_here =
-        answered (flat_of y) s.plan.formed (now_of y b) (now_good y s b) code.thread.number graph_thread node found at code.thread.kinds
-        (reading ones).around.loads
+        answered (now_good y s b) (record {
+          formed = s.plan.formed;
+          matches = (now_good y s b).matches;
+          graph_thread = graph_thread;
+          found = t.walks;
+          node = node;
+          at = at;
+        }) code.thread.kinds (reading ones).around.loads
         loaded_here

@@ -1,4 +1,6 @@
 -- A step of a thread's own hart: what the machine is to know of it.
+use Rattle.std.proofs.lemmas.Bool.Decides.{nat_tests}
+use Rattle.std.proofs.Common.{arith}
 use Rattle.std.proofs.Common.{◌≡◌, refl, ℕ, ◌<◌, List, [], length, ap, sym, ◌∙◌, subst, Some, None, true}
 use Rattle.std.proofs.lemmas.Bool.{cond-true, true≢false}
 use Rattle.std.proofs.lemmas.Option.{none-some}
@@ -17,21 +19,32 @@ use Rattle.recovery_semantics.specs.VariableSpots.{memory_in}
 use Rattle.recovery_semantics.specs.ElementHistories.{Memory}
 use Rattle.log_states.specs.Machines.{IsNext, IsElsewhere, config_of}
 use Rattle.log_states.specs.LogInvariant.{LogInv}
+use Rattle.log_states.specs.Logs.{Record}
+use Rattle.log_states.specs.Stages.{LogIs}
 use Rattle.log_states.proofs.Public.{steps_keep, ends_committed}
 use Rattle.recovered_threads.specs.RecordDescriptions.{Code, Describes}
 use Rattle.recovered_threads.proofs.Public.{same_there}
-use Rattle.crash_simulation.specs.ThreadGhosts.{ThreadGhost, IsInAttempt, InPhase, IsFlushed, ThreadInv}
+use Rattle.crash_simulation.specs.ThreadGhosts.{ThreadGhost, InPhase, IsFlushed, ThreadInv}
 use Rattle.crash_simulation.specs.InstructionSteps.{StepsOrStutters, MayStore, with_ghost, begins, IsCounted, Releases, OwnStep, AtCoreNow, thread_of}
 use Rattle.crash_simulation.specs.Systems.{System, IsSystem, places_of, thread_count}
 use Rattle.crash_simulation.specs.AbstractRuns.{AbstractRun, kept_of, now_of}
 use Rattle.crash_simulation.specs.SimulationRelation.{AreHeld, Simulates}
 use Rattle.crash_simulation.proofs.PendingFlushes.{Leads, Passage}
-use Rattle.crash_simulation.proofs.LocksAfterStep.{GoneOn, locked_after, held_same}
+use Rattle.crash_simulation.proofs.LocksAfterStep.{GoneOn, LockStep, locked_after}
 
 -- the ghost state of a thread on its way between boundaries, with these cleans and steps ahead
 abbrev pub going : ThreadGhost → (cleans : List Effect) → (before_mark : ℕ) → ThreadGhost
 going c cleans before_mark =
     record { old = c.old; new = c.new; rest = []; committed = true; cleans = cleans; giving = None; before_mark = before_mark }
+
+-- a thread's log, of the hart that is found
+abbrev pub log_at : {thread : ℕ} {old new : Record} {u : World} {rest : List Effect} → LogInv thread old new u rest → (hart : Hart) →
+    slice_get u.harts thread ≡ Some hart → LogInv thread old new u rest
+log_at {thread} {old} {new} {u} {rest} log hart there = record {
+  hart = hart;
+  here = there;
+  log = subst (λ (x : Hart). LogIs u.log thread old new (config_of u x rest)) (same_there (slice_get u.harts thread) log.hart hart log.here there) log.log;
+}
 
 -- ---- The step
 
@@ -127,48 +140,45 @@ module _ {y : System} {s : IsSystem y} {w : World} {h : ℕ} (site : Site y s w 
         released = p.released;
       }
 
-  -- the thread's hart goes on where a hart is found that runs
-  pub goes_on : (later : Hart) → slice_get v.harts n ≡ Some later → later.phase ≡ Run → (found : Hart) → slice_get v.harts n ≡ Some found →
-      GoneOn found.phase
-  goes_on later there runs found here =
-      subst (λ (x : Hart). GoneOn x.phase) (same_there (slice_get v.harts n) later found there here) (subst GoneOn (sym runs) tt)
-
   -- ---- Locks
 
   pub own_giving : c.giving ≡ (ghosts n).giving
   own_giving = ap (λ (k : ℕ). (ghosts k).giving) (sym same_number)
 
+  abbrev pub locks_to : (next : AbstractRun y) → ThreadGhost → length (now_of y next).graph_threads ≡ length (now_of y b).graph_threads → LockStep
+  locks_to next new count = record { w = w; v = v; ghosts = ghosts; h = n; ghost = new; now = now_of y b; next = now_of y next; count = count }
+
   -- where holders stay, and what the thread gives back
   pub held_still : (next : AbstractRun y) (new : ThreadGhost) → v.holders ≡ w.holders → (now_of y next).holders ≡ (now_of y b).holders →
       length (now_of y next).graph_threads ≡ length (now_of y b).graph_threads → new.giving ≡ c.giving →
       AreHeld w ghosts (now_of y b) → AreHeld v (with_ghost ghosts n new) (now_of y next)
-  held_still next new holders now_holders count gives =
-      held_same w v ghosts n new (now_of y b) (now_of y next) holders now_holders count (gives ∙ own_giving)
+  held_still next new holders now_holders count gives held = grind (arith, nat_tests)
 
-  -- ---- The thread, between boundaries
+-- ---- The thread, between boundaries
 
-  module _ (next : AbstractRun y) (same : kept_of y next ≡ kept_of y b) (goes : IsInAttempt y b code c) (cleans : List Effect) (before_mark : ℕ)
+module _ {y : System} {s : IsSystem y} {w : World} {h : ℕ} (site : AtNode y s w h) where
+  open view site.hart use {b, code, c, t, n, v}
+
+  module _ (next : AbstractRun y) (same : kept_of y next ≡ kept_of y b) (cleans : List Effect) (before_mark : ℕ)
       (clean : (effect : Effect) → Contains cleans effect → is_clean effect ≡ true) (elsewhere : IsElsewhere y.runs.program w n n)
       (graph_thread : GraphThread) (walks : slice_get (now_of y next).graph_threads n ≡ Some graph_thread) where
-    log_after : LogInv n c.old c.new v []
-    log_after = steps_keep y.runs.program n n c.old c.new w [] site.stands.machine.sound
-        (subst (λ (rest : List Effect). LogInv n c.old c.new w rest) goes.rest t.log) elsewhere
-
-    pub thread_going : ((hart : Hart) → slice_get v.harts n ≡ Some hart →
-        InPhase y v next code (going c cleans before_mark) hart graph_thread hart.phase) →
-        ((hart : Hart) → slice_get v.harts n ≡ Some hart → (u e : ℕ) →
-        Writes next.config.kept n (attempt_of next.config n).done u e → IsFlushed y v next code (going c cleans before_mark) hart u e) →
+    abbrev pub thread_going : (hart : Hart) → slice_get v.harts n ≡ Some hart →
+        InPhase y v next code (going c cleans before_mark) hart graph_thread hart.phase →
+        ((u e : ℕ) → Writes next.config.kept n (attempt_of next.config n).done u e → IsFlushed y v next code (going c cleans before_mark) hart u e) →
         ThreadInv y v next code (going c cleans before_mark)
-    thread_going phase flushed = record {
-      log = log_after;
-      no_sooner = λ _. ends_committed v.log n c.old c.new (config_of v log_after.hart []) log_after.log refl;
-      describes = subst (λ (kept : FlowState). Describes y.plan code kept c.new) (sym same)
-          (subst (Describes y.plan code (kept_of y b)) (cond-true c.committed c.new c.old goes.committed) t.describes);
-      will_describe = λ un. absurd (true≢false un);
-      unlocked = λ mutex gives over. absurd (none-some mutex gives);
-      cleans = clean;
-      graph_thread = graph_thread;
-      walks = walks;
-      phase = phase log_after.hart log_after.here;
-      flushed = flushed log_after.hart log_after.here;
-    }
+    thread_going hart there phase flushed =
+        let log : LogInv n c.old c.new v [] = log_at (steps_keep y.runs.program n n c.old c.new w [] site.hart.stands.machine.sound
+        (subst (λ (rest : List Effect). LogInv n c.old c.new w rest) site.core.goes.goes.rest t.log) elsewhere) hart there in
+        record {
+          log = log;
+          no_sooner = λ _. ends_committed v.log n c.old c.new (config_of v hart []) log.log refl;
+          describes = subst (λ (kept : FlowState). Describes y.plan code kept c.new) (sym same)
+              (subst (Describes y.plan code (kept_of y b)) (cond-true c.committed c.new c.old site.core.goes.goes.committed) t.describes);
+          will_describe = λ un. absurd (true≢false un);
+          unlocked = λ mutex gives over. absurd (none-some mutex gives);
+          cleans = clean;
+          graph_thread = graph_thread;
+          walks = walks;
+          phase = phase;
+          flushed = flushed;
+        }

@@ -1,24 +1,27 @@
 -- What a thread has stored is still on its way to be durable, after a step of its own.
+use Rattle.std.proofs.lemmas.Bool.Decides.{nat_tests}
 use Rattle.std.proofs.Common.{◌≡◌, ◌⊎◌, inl, inr, refl, ℕ, suc, ◌<◌, ◌≤◌, List, [], length, subst, sym, arith, false}
 use Rattle.std.specs.Prelude.{Contains}
 use Rattle.ido_base.specs.Growth.{PersistsThrough}
-use Rattle.ido_base.specs.Words.{Word, Entry}
-use Rattle.ido_base.specs.Layout.{variable_at}
+use Rattle.ido_base.specs.Words.{word_at}
 use Rattle.rv64_isa.specs.Machine.{Hart, World}
 use Rattle.rv64_isa.specs.Rows.{Effect}
 use Rattle.flow_graph.proofs.Public.{contains_none, below_or_past}
-use Rattle.rv64_isa.specs.Rows as rows
 use Rattle.recovery_semantics.specs.ElementHistories.{Memory, IsSince, history_at}
 use Rattle.recovery_semantics.specs.Attempts.{Attempt, attempt_at}
 use Rattle.recovery_semantics.specs.Configs.{Config, attempt_of}
 use Rattle.recovery_semantics.specs.Executions.{Execution}
-use Rattle.region_attempts.specs.AttemptsInRegion.{RespectsAll}
+use Rattle.recovery_semantics.specs.VariableSpots.{memory_in}
+use Rattle.region_attempts.specs.AttemptsInRegion.{RespectsAll, IsBeforeBoundary}
+use Rattle.region_attempts.proofs.Public.{stores_are_cleaned}
 use Rattle.region_attempts.specs.PendingCleans.{line_of, Cleans, CleansSince}
 use Rattle.log_states.specs.Stages.{fences_ahead}
 use Rattle.recovered_threads.specs.RecordDescriptions.{Code}
-use Rattle.crash_simulation.specs.Systems.{System, flat_of, shapes_of}
+use Rattle.crash_simulation.specs.Systems.{System, IsSystem, flat_of, shapes_of, places_of}
 use Rattle.crash_simulation.specs.ThreadGhosts.{ThreadGhost, IsComing, is_reached, is_ahead, IsFlushed}
-use Rattle.crash_simulation.specs.AbstractRuns.{AbstractRun, attempts_of}
+use Rattle.crash_simulation.specs.AbstractRuns.{AbstractRun, kept_of, attempts_of}
+use Rattle.crash_simulation.proofs.StatesMatchSource.{cuts, resumed}
+use Rattle.crash_simulation.proofs.Elements.{word_of_element, position_durable}
 use Rattle.crash_simulation.specs.InstructionSteps.{abstract_next}
 
 -- the config with the same kept state, with other steps begun, in other memory
@@ -50,8 +53,7 @@ module _ {y : System} {code : Code y.plan} (p : Passage y code) where
   abbrev pub run_after : AbstractRun y
   run_after = abstract_next y b (config_with b.config pending memory attempts) p.leads.0 p.leads.1
 
-  abbrev number : ℕ
-  number = code.thread.number
+  open code.thread use {number}
 
   abbrev before : ℕ
   before = (attempt_of b.config number).done
@@ -61,15 +63,7 @@ module _ {y : System} {code : Code y.plan} (p : Passage y code) where
 
   -- the attempt's steps clean what they did
   pub as_before : (at line : ℕ) → Cleans (attempts_of y run_after) number at line → Cleans (attempts_of y b) number at line
-  as_before at line k = record {
-    node = k.node;
-    at = k.at;
-    variable = k.variable;
-    element = k.element;
-    stores = k.stores;
-    in_line = k.in_line;
-    cleans = k.cleans;
-  }
+  as_before at line k = grind (arith)
 
   -- what the step itself cleans is coming
   abbrev pub ComesNow : Type 0
@@ -85,15 +79,31 @@ module _ {y : System} {code : Code y.plan} (p : Passage y code) where
   Reaches = (j position : ℕ) → PersistsThrough w.words old.queue j position → PersistsThrough v.words after.queue j position
 
   pub reaches_same : v.words ≡ w.words → after.queue ≡ old.queue → Reaches
-  reaches_same words queue j position r = subst (λ (q : List Entry). PersistsThrough v.words q j position) (sym queue)
-      (subst (λ (ws : List Word). PersistsThrough ws old.queue j position) (sym words) r)
+  reaches_same words queue j position r = grind (arith, nat_tests)
 
   -- where no cleans are ahead
+  no_clean : c.cleans ≡ [] → (clean : Effect) → Contains c.cleans clean → ⊥
+  no_clean none clean has = contains_none clean (subst (λ (es : List Effect). Contains es clean) none has)
+
   pub still_reached : c.cleans ≡ [] → Reaches → StillComes
-  still_reached none reach u e position within (is_reached r) = is_reached (reach _ position r)
-  still_reached none reach u e position within (is_ahead variable element has line) =
-      absurd (contains_none (rows.Cleans (variable_at (shapes_of y) variable element))
-      (subst (λ (es : List Effect). Contains es (rows.Cleans (variable_at (shapes_of y) variable element))) none has))
+  still_reached none reach = grind (arith, nat_tests)
+
+  -- then what the attempt has stored before a boundary is durable after a fence
+  module _ (s : IsSystem y) (memory_is : memory_in (places_of y) w.words ≡ b.config.memory) (none : c.cleans ≡ [])
+      (stands : IsBeforeBoundary (flat_of y) y.plan.boundaries (kept_of y b) b.config number)
+      (settles : (j position : ℕ) → PersistsThrough w.words old.queue j position → position ≤ (word_at v.words j).durable) where
+    pub fence_settles : (u e : ℕ) (f : IsFlushed y w b code c old u e) → f.position ≤ (history_at (memory_in (places_of y) v.words) u e).durable
+    fence_settles u e f =
+        let r = resumed y s b in
+        by (f.comes (stores_are_cleaned (flat_of y) y.plan.boundaries (shapes_of y) y.left_out b.origin b.config b.schedule number f.before u e
+        s.plan.formed (cuts y s b) s.left_out r.resumed.invariant r.resumed.kept (r.inside number) stands f.within f.writes))
+      where
+        by : IsComing y w b code c old u e f.position → f.position ≤ (history_at (memory_in (places_of y) v.words) u e).durable
+        by (is_ahead variable element has line) = absurd (no_clean none _ has)
+        by (is_reached reached) =
+            position_durable y s w.words v.words u e f.position
+            (subst (λ (m : Memory). f.position < length (history_at m u e).values) (sym memory_is) f.since.there)
+            (settles (word_of_element y s u e) f.position reached)
 
   module _ (still : StillComes) (u e : ℕ) (since : (p : ℕ) → IsSince (history_at b.config.memory u e) p → IsSince (history_at memory u e) p)
       (f : IsFlushed y w b code c old u e) (fenced : new.committed ≡ false → fences_ahead new.rest < 2 → f.position ≤ (history_at memory u e).durable) where

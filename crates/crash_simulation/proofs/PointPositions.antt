@@ -1,7 +1,8 @@
 -- The last position of a thread's point along what stores nothing to it.
-use Rattle.std.proofs.Common.{◌≡◌, ◌≢◌, refl, ℕ, List, ◌∷◌, length, sym, ◌∙◌, ap, arith, subst, Bool, true, false, Option, Some, None}
-use Rattle.std.specs.Prelude.{slice_get, ◌==◌, ◌&&◌, if◌then◌else◌}
-use Rattle.std.proofs.lemmas.Bool.{cond_both, both_ways, and_from, and_right, eq-eqb, true≢false}
+use Rattle.std.proofs.lemmas.Bool.Decides.{nat_tests}
+use Rattle.std.proofs.Common.{◌≡◌, ◌≢◌, ℕ, List, ◌∷◌, sym, ◌∙◌, ap, arith, subst, true, false, Option, Some, None}
+use Rattle.std.specs.Prelude.{slice_get, ◌&&◌, if◌then◌else◌}
+use Rattle.std.proofs.lemmas.Bool.{and_from, eq-eqb, true≢false}
 use Rattle.log_states.proofs.Public.{some_words, word_beside}
 use Rattle.rv64_isa.proofs.Public.{log_stays, evictions_touch}
 use Rattle.ido_base.specs.declared.log.Log.{Log}
@@ -9,23 +10,20 @@ use Rattle.ido_base.specs.declared.event.Event.TheVariants.{Step, Evict}
 use Rattle.ido_base.specs.declared.event.Reply.{Reply}
 use Rattle.ido_base.specs.declared.event.Reply.TheVariants.{Moved}
 use Rattle.ido_base.specs.Words.{Word, Entry, last_position}
-use Rattle.ido_base.specs.Layout.{in_range, aligned, byte_number, word_number, point_at}
+use Rattle.ido_base.specs.Layout.{byte_number, word_number, point_at}
 use Rattle.ido_base.specs.Growth.{AreEntries}
 use Rattle.ido_base.proofs.Public.{same_last, write_backs_raise}
 use Rattle.rv64_isa.specs.declared.object.Slot.{Slot}
 use Rattle.rv64_isa.specs.declared.phase.Phase.{Phase}
-use Rattle.rv64_isa.specs.declared.phase.Phase.TheVariants.{Run}
-use Rattle.rv64_isa.specs.Rows.{Effect}
-use Rattle.rv64_isa.specs.Machine.{Hart, World, Outcome, access, applied, executed, phase_step, stepped, happens, after_event, reply_to}
+use Rattle.rv64_isa.specs.Machine.{Hart, World, happens, after_event, reply_to}
 use Rattle.rv64_isa.specs.Frames.{IsWellFormedWorld}
-use Rattle.rv64_isa.specs.Schedule.{Steps, has_moved, is_running, completing, effect_at, is_mark, is_point_store, passes_mark, stores_point, with_step}
+use Rattle.rv64_isa.specs.Schedule.{Steps, has_moved, is_running, completing, is_mark, passes_mark, stores_point, with_step}
 use Rattle.recovery_semantics.proofs.Public.{equal_self}
 use Rattle.variable_words.specs.MemoryEffects.{MayMakeStore, IsWork, Rests, Queues, WritesBack, Makes}
 use Rattle.variable_words.proofs.Public.{steps_work}
 use Rattle.log_states.specs.Logs.{point_in}
 use Rattle.log_states.specs.Machines.{IsElsewhere}
 use Rattle.crash_simulation.proofs.DisjointStores.{next_store}
-use Rattle.crash_simulation.proofs.AccountUpdates.{counted_by}
 
 -- the hart, where it runs and its step completes an instruction
 abbrev completing_by : Reply → Option Hart → Option Hart
@@ -34,52 +32,20 @@ completing_by reply o = elim o [
   | None ↦ None
 ]
 
-abbrev tested : (Effect → Bool) → Option Effect → Bool
-tested test o = elim o [
-  | None ↦ false
-  | Some effect ↦ test effect
-]
-
-abbrev tested_at : (Effect → Bool) → List (List Slot) → (h : ℕ) → Option Hart → Bool
-tested_at test program h o = elim o [
-  | None ↦ false
-  | Some hart ↦ tested test (effect_at program h hart)
-]
-
 -- ---- A store to the thread's point is counted so
 
-access_made : (w : World) (address bytes : ℕ) (outcome : Outcome) → in_range w.log (length w.harts) address bytes ≡ true → aligned address bytes ≡ true →
-    access w address bytes outcome ≡ outcome
-access_made w address bytes outcome inside even =
-    cond_both (in_range w.log (length w.harts) address bytes) _ _ (λ (o : Outcome). o ≡ outcome)
-    (λ _. cond_both (aligned address bytes) _ _ (λ (o : Outcome). o ≡ outcome) (λ _. refl) (λ no. absurd (both_ways (aligned address bytes) no even)))
-    (λ no. absurd (both_ways (in_range w.log (length w.harts) address bytes) no inside))
-
 module _ (program : List (List Slot)) (w : World) (h address bytes value : ℕ) (st : MayMakeStore program w h address bytes value) where
-  abbrev hart : Hart
-  hart = st.executes.hart
+  open st.executes use {hart}
 
   moves : reply_to program w (Step h) ≡ Moved
   unfolding happens
-  moves =
-      ap (λ (o : Option Hart). (stepped program w h o).1) st.executes.there
-      ∙ (ap (λ (p : Phase). (phase_step program w h hart p).1) st.executes.runs
-      ∙ (ap (λ (o : Option Slot). (executed w h hart o).1) st.executes.fetches
-      ∙ (ap (λ (e : Effect). (applied w h hart e).1) st.executes.effect_is
-      ∙ ap (λ (o : Outcome). o.1) (access_made w address bytes _ st.inside st.is_aligned))))
+  moves = grind (arith, nat_tests)
 
   completes_it : completing program w h ≡ Some hart
-  completes_it =
-      ap (completing_by (reply_to program w (Step h))) st.executes.there
-      ∙ (ap (λ (p : Phase). if is_running p && has_moved (reply_to program w (Step h)) then Some hart else None) st.executes.runs
-      ∙ ap (λ (r : Reply). if is_running Run && has_moved r then Some hart else None) moves)
+  completes_it = grind (arith, moves)
 
   pub point_stored : word_number address ≡ word_number (point_at w.log h) → stores_point program w (Step h) h ≡ true
-  point_stored same =
-      and_from (h == h) _ (equal_self h)
-      (ap (tested_at (is_point_store w.log h) program h) completes_it
-      ∙ (ap (tested (is_point_store w.log h)) (next_store program w h address bytes value st).is
-      ∙ eq-eqb (word_number address) (word_number (point_at w.log h)) same))
+  point_stored same = grind (arith, and_from, eq-eqb, equal_self, next_store, completes_it)
 
 -- ---- A step of a hart
 
@@ -137,21 +103,12 @@ module _ (marks : List (List ℕ)) (program : List (List Slot)) (w : World) (h :
   pub no_mark : passes_mark marks program w h ≡ false
   no_mark = ap (λ (o : Option Hart). elim o [ Some hart ↦ is_mark marks h hart.pc | None ↦ false ]) none
 
-  no_point : stores_point program w (Step h) h ≡ false
-  no_point = and_right (h == h) _ (ap (tested_at (is_point_store w.log h) program h) none)
-
   pub nothing_counted : (s : Steps) → with_step marks program w h s ≡ s
-  nothing_counted s =
-      ap (λ (begun : Bool). counted_by begun (stores_point program w (Step h) h) h
-      (last_position (point_in w.log (after_event program w (Step h)).words h)) s) no_mark
-      ∙ ap (λ (points : Bool). counted_by false points h (last_position (point_in w.log (after_event program w (Step h)).words h)) s) no_point
+  nothing_counted s = grind (arith, nat_tests)
 
 pub not_there : (program : List (List Slot)) (w : World) (h : ℕ) → slice_get w.harts h ≡ None → completing program w h ≡ None
 not_there program w h none = ap (completing_by (reply_to program w (Step h))) none
 
 pub not_running : (program : List (List Slot)) (w : World) (h : ℕ) (hart : Hart) (phase : Phase) → slice_get w.harts h ≡ Some hart → hart.phase ≡ phase →
     is_running phase ≡ false → completing program w h ≡ None
-not_running program w h hart phase here is none =
-    ap (completing_by (reply_to program w (Step h))) here
-    ∙ (ap (λ (p : Phase). if is_running p && has_moved (reply_to program w (Step h)) then Some hart else None) is
-    ∙ ap (λ (b : Bool). if b && has_moved (reply_to program w (Step h)) then Some hart else None) none)
+not_running program w h hart phase here is none = grind (arith, nat_tests)

@@ -1,9 +1,24 @@
 -- A hart that executes instructions is in a fragment, at a call, or at the code of a node that takes no mutex.
-use Rattle.std.proofs.Common.{◌≡◌, ◌≢◌, ◌⊎◌, inl, inr, ⊎_elim, refl, ℕ, zero, suc, ◌+◌, ◌*◌, ◌≤◌, List, [], ◌∷◌, ◌++◌, length, ap, ap₂, arith, sym, ◌∙◌, subst}
-use Rattle.std.proofs.Common.{Option, Some, None, Bool, true, false}
+use Rattle.std.proofs.Common.{◌≡◌, refl, ℕ, ◌<◌, ap, sym, ◌∙◌, subst, Some, ◌⊎◌, inl, inr, ⊎_elim, zero, suc, ◌+◌, ◌*◌, ◌≤◌, List, [], ◌∷◌, ◌++◌, length, ap₂}
+use Rattle.std.proofs.Common.{arith, Option, None, Bool, true, false}
+use Rattle.std.specs.Prelude.{slice_get, not, ◌&&◌, if◌then◌else◌}
+use Rattle.rv64_isa.specs.declared.phase.Phase.{Phase}
+use Rattle.rv64_isa.specs.declared.phase.Phase.TheVariants.{Run}
+use Rattle.rv64_isa.specs.Machine.{Hart, World}
+use Rattle.hart_runs.specs.Calls.{IsInPhase}
+use Rattle.recovered_threads.specs.RecordDescriptions.{Code, Describes, at_chosen}
+use Rattle.recovered_threads.specs.RecoveryStates.{Gathers, HasGathered, AreGathered}
+use Rattle.recovered_threads.proofs.Public.{same_there}
+use Rattle.crash_simulation.specs.Systems.{System, IsSystem, thread_count, flat_of}
+use Rattle.crash_simulation.specs.AbstractRuns.{AbstractRun, now_of, kept_of}
+use Rattle.crash_simulation.specs.ThreadGhosts.{ThreadGhost, ThreadInv, HasCommittedLog, InFragment, IsRunningThread, InPhase, ExitInv, AnswersGuarded}
+use Rattle.crash_simulation.specs.SimulationRelation.{AreLocked, gathering, gathered, records_of, Simulates}
+use Rattle.crash_simulation.proofs.LocksAfterStep.{held_alike, each_ghost}
+use Rattle.crash_simulation.specs.InstructionSteps.{with_ghost, SaysSame, AreSimilar, OnFragmentNow, AtCoreNow, IsCalling, asks, gives, ends, is_bound}
+use Rattle.crash_simulation.specs.InstructionSteps.{IsReadyToStep, SimulatesReady, RunsReady}
+use Rattle.crash_simulation.proofs.ThreadsOfMachines.{each_placed}
 use Rattle.std.proofs.lemmas.Bool.{true≢false}
 use Rattle.std.proofs.lemmas.Option.{none-some, same_Some, slice_get_within, slice_get-map}
-use Rattle.std.specs.Prelude.{slice_get, not, ◌&&◌, if◌then◌else◌}
 use Rattle.std.specs.List.{list_any}
 use Rattle.std.specs.Option.{option_map}
 use Rattle.boundary_code.specs.Boundaries.{IsOnSide, Boundary, boundary_effects, side_after}
@@ -14,13 +29,9 @@ use Rattle.log_states.specs.LogInvariant.{LogInv}
 use Rattle.ido_base.specs.declared.log.Log.{Log}
 use Rattle.c_tree.specs.Programs as v
 use Rattle.c_tree.specs.Source.{Pending}
-use Rattle.rv64_isa.specs.declared.phase.Phase.{Phase}
-use Rattle.rv64_isa.specs.declared.phase.Phase.TheVariants.{Run}
 use Rattle.rv64_isa.specs.Rows.{Effect}
-use Rattle.rv64_isa.specs.Machine.{Hart, World}
 use Rattle.code_runs.specs.CodeTraces.{MarkedEnvironment, seen_effects}
 use Rattle.hart_runs.specs.RunSteps.{cleans_in, steps_left}
-use Rattle.hart_runs.specs.Calls.{IsInPhase}
 use Rattle.flow_graph.specs.Nodes.{Action, Lock, Unlock, Node, Graph}
 use Rattle.flow_graph.specs.Lowering.{lowered, threads_nodes}
 use Rattle.flow_graph.specs.Actions.{effect_of, GraphThread}
@@ -40,15 +51,10 @@ use Rattle.thread_runs.specs.CodeFragments.{ExitPoint, Arrives, Keeps, Asks, Too
 use Rattle.thread_runs.specs.Laws.{IsOnSomeFragment}
 use Rattle.thread_runs.proofs.Public.{arrivals_end, took_end, at_end, nodes_begin, cleans_on}
 use Rattle.crash_simulation.specs.StepsToMark.{weight, call_weight, entry_ahead, core_ahead, beyond, IsSoon}
-use Rattle.crash_simulation.specs.ThreadGhosts.{ThreadGhost, InFragment, IsRunningThread, InPhase, ExitInv, AnswersGuarded, ThreadInv, HasCommittedLog}
-use Rattle.crash_simulation.specs.InstructionSteps.{OnFragmentNow, AtCoreNow, IsCalling, asks, gives, ends, is_bound, IsReadyToStep, SimulatesReady, RunsReady}
-use Rattle.crash_simulation.specs.Systems.{System, IsSystem, flat_of}
-use Rattle.crash_simulation.specs.AbstractRuns.{AbstractRun, kept_of, now_of}
 use Rattle.crash_simulation.proofs.LoadFreeEnvironment.{bare, bare_agrees, bare_meets, bare_answers, bare_reads, placed, none_ahead, resettled}
 use Rattle.crash_simulation.proofs.Boundaries.{IsAddress, stands_in, store_is, store_ahead, BoundaryIsRecoverable, boundaries_begin}
 use Rattle.crash_simulation.proofs.PendingFlushes.{Passage, flushed_same, still_reached, reaches_same}
 use Rattle.crash_simulation.proofs.StatesMatchSource.{resumed, now_orderly, now_good}
-use Rattle.crash_simulation.proofs.ThreadUpdates.{OfThread, SimulatesAnd, placed_anew}
 use Rattle.crash_simulation.proofs.StepsBetweenMarks.{weight_is}
 use Rattle.crash_simulation.proofs.StepsAfterMarks.{core_less, less_soon}
 use Rattle.crash_simulation.proofs.LastReleases.{none_leaving}
@@ -56,8 +62,6 @@ use Rattle.crash_simulation.proofs.NodeEffects.{some_node}
 use Rattle.crash_simulation.proofs.GraphAfterBegin.{matches_now}
 use Rattle.crash_simulation.proofs.OwnHartSteps.{Site, view, step_to}
 use Rattle.crash_simulation.proofs.RecordsAfterCrash.{caught_is_over}
-use Rattle.recovered_threads.specs.RecordDescriptions.{Describes, at_chosen}
-use Rattle.recovered_threads.proofs.Public.{same_there}
 use Rattle.crash_simulation.specs.ThreadGhosts as courses
 use Rattle.crash_simulation.specs.InstructionSteps as moving
 
@@ -77,12 +81,6 @@ right_empty (x ∷ xs) ys h = cc
 record HasNodeThere (y : System) (graph_thread : GraphThread) : Type 0 where
   is : Node
   at : NodeAt y.plan.graph graph_thread.at is
-
-stands_there : (y : System) (s : IsSystem y) (b : AbstractRun y) (n : ℕ) (graph_thread : GraphThread) →
-    slice_get (now_of y b).graph_threads n ≡ Some graph_thread → HasNodeThere y graph_thread
-stands_there y s b n graph_thread there =
-    let found = some_node (flat_of y) s.plan.formed (now_of y b) (now b.config) n (matches_now y s b) graph_thread there in
-    record { is = found.0; at = subst (λ (g : Graph). NodeAt g graph_thread.at found.0) (sym s.plan.lowered) found.1 }
 
 -- a boundary stands before it by choice, or none does
 chosen_or_not : (y : System) (node : ℕ) (is : Node) → NodeAt y.plan.graph node is →
@@ -120,15 +118,10 @@ chosen_stores y s node is at chosen = elim (s.plan.at_writes.before node chosen.
       (ap (λ (z : Node). z.writes) (sym same) ∙ writes.writes)
 ]
 
--- an action that takes no mutex
-takes_none : (y : System) (node : ℕ) (is : Node) → NodeAt y.plan.graph node is → ((mutex next : ℕ) → is.action ≢ Lock mutex next) →
-    (other : Node) (mutex next : ℕ) → NodeAt y.plan.graph node other → other.action ≢ Lock mutex next
-takes_none y node is at none other mutex next there locks = none mutex next (ap (λ (z : Node). z.action) (same_Some is other (sym at ∙ there)) ∙ locks)
-
 -- ---- A thread in a machine that simulates an abstract run
 
 -- in a fragment through the boundary before its node
-abbrev OnKeeps : (y : System) (w : World) → OfThread y w
+abbrev OnKeeps : (y : System) (w : World) (b : AbstractRun y) (code : Code y.plan) (c : ThreadGhost) → ThreadInv y w b code c → Type 0
 OnKeeps y w b code c t = (o : InFragment y w b code c t.log.hart t.graph_thread) × (o.exit ≡ Keeps)
 
 module _ {y : System} {s : IsSystem y} {w : World} {h : ℕ} (site : Site y s w h) where
@@ -145,13 +138,20 @@ module _ {y : System} {s : IsSystem y} {w : World} {h : ℕ} (site : Site y s w 
   FragmentWith z side steps exit effects = IsOnFragment y.plan code.thread places (on_machine y.runs.program w n z)
       (record { exit = exit; node = graph_thread.at; seen = seen; side = side }) steps effects
 
-  -- in a fragment with so many instructions ahead the hart is as near to its mark as is said
-  abbrev SoonBy : ExitPoint → (steps : ℕ) → Type 0
-  SoonBy exit steps =
-      IsSoon y n c.before_mark (steps_left steps (seen_effects (c.cleans ++ c.rest)) t.log.hart.queue + beyond y.plan places exit graph_thread.at)
+  -- in a fragment to that exit point, with so many instructions ahead
+  record IsAt (exit : ExitPoint) (steps : ℕ) : Type 0 where
+    environment : MarkedEnvironment
+    answers : AnswersGuarded y b code c environment
+    side : ℕ
+    at_side : IsSideOf c.new side
+    fragment : FragmentWith environment side steps exit (c.cleans ++ c.rest)
+    fits : ExitInv y b code c graph_thread exit
+    soon : IsSoon y n c.before_mark (steps_left steps (seen_effects (c.cleans ++ c.rest)) t.log.hart.queue + beyond y.plan places exit graph_thread.at)
 
   there : HasNodeThere y graph_thread
-  there = stands_there y s b n graph_thread t.walks
+  there =
+      let found = some_node (flat_of y) s.plan.formed (now_of y b) (now b.config) n (matches_now y s b) graph_thread t.walks in
+      record { is = found.0; at = subst (λ (g : Graph). NodeAt g graph_thread.at found.0) (sym s.plan.lowered) found.1 }
 
   placed_here : IsPlaced y.plan code.thread places w.log (length w.harts)
   placed_here = placed y s w h site.below logs count
@@ -163,8 +163,8 @@ module _ {y : System} {s : IsSystem y} {w : World} {h : ℕ} (site : Site y s w 
 
   -- ---- At a node's code
 
-  core_asks : (core : AtCoreNow y s w h site.stands site.below) (mutex next : ℕ) → there.is.action ≡ Lock mutex next → Ready
-  core_asks core mutex next e =
+  core_by : (core : AtCoreNow y s w h site.stands site.below) (action : Action) → there.is.action ≡ action → Ready
+  core_by core (Lock mutex next) e =
       let some : IsOnSomeFragment y.plan code.thread places (on_machine y.runs.program w n bare_here)
       (record { exit = Asks mutex next; node = graph_thread.at; seen = seen; side = core.side }) (places.words graph_thread.at) [] =
       nodes_begin y.plan code.thread y.runs.program code.program code.is w n bare_here graph_thread.at seen core.side core.registers there.is
@@ -188,67 +188,68 @@ module _ {y : System} {s : IsSystem y} {w : World} {h : ℕ} (site : Site y s w 
             less_soon y n c.before_mark _ _ core.soon (omega (arith, whole, no_cleans));
       } in
       fragment_ready o some.steps refl (asks mutex next)
-
-  core_by : (core : AtCoreNow y s w h site.stands site.below) (action : Action) → there.is.action ≡ action → Ready
-  core_by core (Lock mutex next) e = core_asks core mutex next e
-  core_by core action e = moving.at_core core (takes_none y graph_thread.at there.is there.at (λ m k l. let z = sym e ∙ l in cc))
+  core_by core action e = moving.at_core core (λ is mutex next at locks.
+      let z = sym e ∙ (ap (λ (x : Node). x.action) (same_Some there.is is (sym there.at ∙ at)) ∙ locks) in cc)
 
   core_ready : AtCoreNow y s w h site.stands site.below → Ready
   core_ready core = core_by core there.is.action refl
 
-  -- ---- After the boundary before it
+  -- ---- At a fragment's end
 
-  module _ (environment : MarkedEnvironment) (side : ℕ) (at_side : IsSideOf c.new side) where
-    -- nothing is ahead at a fragment's end
-    none_left : (exit : ExitPoint) → FragmentWith environment side 0 exit (c.cleans ++ c.rest) → c.cleans ++ c.rest ≡ []
-    none_left exit fragment = none_ahead y s w h site.below environment _ (c.cleans ++ c.rest) fragment
+  -- nothing is ahead there
+  none_left : {exit : ExitPoint} → IsAt exit 0 → c.cleans ++ c.rest ≡ []
+  none_left a = none_ahead y s w h site.below a.environment _ (c.cleans ++ c.rest) a.fragment
 
-    keeps_ready : FragmentWith environment side 0 Keeps (c.cleans ++ c.rest) → ExitInv y b code c graph_thread Keeps →
-        IsSoon y n c.before_mark (length t.log.hart.queue + core_ahead y.plan places graph_thread.at) → Ready
-    keeps_ready fragment fits soon =
-        let rest : c.rest ≡ [] = right_empty c.cleans c.rest (none_left Keeps fragment) in
-        let committed : c.committed ≡ true = caught_is_over y w b code c t rest (site.stands.caught_up h site.below (λ e. e)) in
-        core_ready (record {
-          side = side;
-          at_side = at_side;
-          registers = fragment.registers;
-          core = record { own = fragment.own; at = at_end w n environment _ _ fragment.on; enters = fragment.has };
-          goes = record {
-            goes = record { going = fits.1; rest = rest; giving = fits.2.gives; committed = committed };
-            cleans = fits.2.cleans;
-            execution = fits.2.execution;
-          };
-          fresh = λ k. sym fits.1 ∙ fits.2.after committed;
-          soon = soon;
-        })
+  settled : {exit : ExitPoint} → IsAt exit 0 → c.committed ≡ true
+  settled a = caught_is_over y w b code c t (right_empty c.cleans c.rest (none_left a)) (site.stands.caught_up h site.below (λ e. e))
 
-    -- ---- At the entry of a node with no boundary before it
+  -- in an environment that answers no loads
+  alone_on : {exit : ExitPoint} (a : IsAt exit 0) → FragmentWith bare_here a.side 0 exit []
+  alone_on a = resettled y s w h site.below a.environment _ (c.cleans ++ c.rest) a.fragment
 
-    plain_ready : FragmentWith environment side 0 Arrives (c.cleans ++ c.rest) → ExitInv y b code c graph_thread Arrives →
-        ¬ (IsChosen y.plan.graph y.plan.boundaries graph_thread.at) →
-        IsSoon y n c.before_mark (length t.log.hart.queue + entry_ahead y.plan places graph_thread.at) → Ready
-    plain_ready fragment fits plain soon =
-        let again = resettled y s w h site.below environment _ (c.cleans ++ c.rest) fragment in
-        core_ready (record {
-          side = side;
-          at_side = at_side;
-          registers = again.registers;
-          core = (arrivals_end y.plan code.thread y.runs.program code.program code.is w n bare_here graph_thread.at seen side []
-              placed_here (bare_reads y s w h site.below) there.is there.at again).plain plain;
-          goes = record { goes = fits.0; cleans = left_empty c.cleans c.rest (none_left Arrives fragment); execution = fits.1 };
-          fresh = λ k. absurd (plain k);
-          soon = let less = core_less y.plan places graph_thread.at in less_soon y n c.before_mark _ _ soon (omega (arith, less));
-        })
+  -- after the boundary before its node
+  keeps_ready : IsAt Keeps 0 → Ready
+  keeps_ready a = core_ready (record {
+    side = side;
+    at_side = at_side;
+    registers = fragment.registers;
+    core = record { own = fragment.own; at = at_end w n environment _ _ fragment.on; enters = fragment.has };
+    goes = record {
+      goes = record { going = fits.1; rest = right_empty c.cleans c.rest (none_left a); giving = fits.2.gives; committed = settled a };
+      cleans = fits.2.cleans;
+      execution = fits.2.execution;
+    };
+    fresh = λ k. sym fits.1 ∙ fits.2.after (settled a);
+    soon = less_soon y n c.before_mark _ _ soon (omega arith);
+  })
+    where
+      open a use {environment, side, at_side, fragment, fits, soon}
+
+  -- at the entry of a node with no boundary before it
+  plain_ready : IsAt Arrives 0 → ¬ (IsChosen y.plan.graph y.plan.boundaries graph_thread.at) → Ready
+  plain_ready a plain =
+      let again = alone_on a in
+      core_ready (record {
+        side = a.side;
+        at_side = a.at_side;
+        registers = again.registers;
+        core = (arrivals_end y.plan code.thread y.runs.program code.program code.is w n bare_here graph_thread.at seen a.side []
+            placed_here (bare_reads y s w h site.below) there.is there.at again).plain plain;
+        goes = record { goes = a.fits.0; cleans = left_empty c.cleans c.rest (none_left a); execution = a.fits.1 };
+        fresh = λ k. absurd (plain k);
+        soon = let less = core_less y.plan places graph_thread.at in less_soon y n c.before_mark _ _ a.soon (omega (arith, less));
+      })
 
   -- ---- At the entry of a node with a boundary before it by choice
 
-  module _ (side : ℕ) (at_side : IsSideOf c.new side) (fits : ExitInv y b code c graph_thread Arrives) (cleans : c.cleans ≡ [])
-      (chosen : IsChosen y.plan.graph y.plan.boundaries graph_thread.at) (i : IsInPhase w h Run) (soon : SoonBy Arrives 0)
-      (fragment : FragmentWith bare_here side 0 Arrives []) where
+  module _ (at : IsAt Arrives 0) (chosen : IsChosen y.plan.graph y.plan.boundaries graph_thread.at) (i : IsInPhase w h Run) where
+    open at use {side, at_side, fits, soon}
     open fits.0 use {going, rest as no_rest, giving as no_giving, committed as no_boundary}
 
-    abbrev registers : List ℕ
-    registers = fragment.registers
+    fragment : FragmentWith bare_here side 0 Arrives []
+    fragment = alone_on at
+
+    open fragment use {registers}
 
     abbrev boundary : Boundary
     boundary = keeping y.plan code.thread places graph_thread.at
@@ -358,8 +359,9 @@ module _ {y : System} {s : IsSystem y} {w : World} {h : ℕ} (site : Site y s w 
       walks = t.walks;
       phase = subst (λ (p : Phase). InPhase y w b code ghost log.hart graph_thread p) (sym runs) (courses.on_fragment keeps_now);
       flushed = λ u e writes. flushed_same passage
-          (still_reached passage cleans (reaches_same passage refl (ap (λ (x : Hart). x.queue) same_hart))) u e (λ position since. since) (t.flushed u e writes)
-          (λ un few. let two = boundaries_fence boundary side resume registers in absurd (omega (arith, two, few))) refl;
+          (still_reached passage (left_empty c.cleans c.rest (none_left at)) (reaches_same passage refl (ap (λ (x : Hart). x.queue) same_hart))) u e
+          (λ position since. since) (t.flushed u e writes) (λ un few. let two = boundaries_fence boundary side resume registers in
+          absurd (omega (arith, two, few))) refl;
     }
 
     caught : HasCommittedLog y w b code ghost thread
@@ -371,53 +373,88 @@ module _ {y : System} {s : IsSystem y} {w : World} {h : ℕ} (site : Site y s w 
     unbound = ap (λ (some : Bool). not some) (boundary_stores boundary side resume registers)
         ∙ sym (ap (λ (done : Bool). not done && not (list_any is_store c.rest)) no_boundary)
 
-    begun : SimulatesAnd y s w h site.below site.stands (OnKeeps y w)
-    begun = placed_anew y s w h site.stands site.below i (OnKeeps y w) (record {
-      ghost = ghost;
-      thread = thread;
-      caught = caught;
-      says = record { bound = unbound; leaving = none_leaving ghost refl ∙ sym (none_leaving c no_giving); giving = sym no_giving; ahead = refl };
-      so = (keeps_now, refl);
-    })
+    says : SaysSame ghost c
+    says = record { bound = unbound; leaving = none_leaving ghost refl ∙ sym (none_leaving c no_giving); giving = sym no_giving; ahead = refl }
+
+    -- ---- The machine, where that is the thread's ghost state
+
+    abbrev new : ℕ → ThreadGhost
+    new = with_ghost site.stands.ghosts h ghost
+
+    abbrev Given : (m : ℕ) (within : m < thread_count y) → ThreadGhost → Type 0
+    Given m within g = (z : ThreadInv y w b (s.codes.each m within) g) × HasCommittedLog y w b (s.codes.each m within) g z ×
+        (m ≡ h → OnKeeps y w b (s.codes.each m within) g z)
+
+    all : (m : ℕ) (within : m < thread_count y) → Given m within (new m)
+    all = each_placed (thread_count y) site.stands.ghosts h site.below ghost Given (thread, caught, λ e. (keeps_now, refl))
+        (λ m within other. (site.stands.each m within, site.stands.caught_up m within (λ e. e), λ e. absurd (other e)))
+
+    says_same : (m : ℕ) → SaysSame (new m) (site.stands.ghosts m)
+    says_same = each_ghost site.stands.ghosts h ghost (λ (m : ℕ) (g : ThreadGhost). SaysSame g (site.stands.ghosts m)) says
+        (λ m other. record { bound = refl; leaving = refl; giving = refl; ahead = refl })
+
+    gathered_on : AreGathered w (records_of site.stands.ghosts) → AreGathered w (records_of new)
+    gathered_on ag = record {
+      each = each_ghost site.stands.ghosts h ghost
+          (λ (m : ℕ) (g : ThreadGhost). (hart : Hart) → slice_get w.harts m ≡ Some hart → HasGathered w m g.new hart.phase)
+          (λ hart there.
+          let is : hart ≡ i.hart = same_there (slice_get w.harts h) hart i.hart there i.here in
+          subst (λ (p : Phase). HasGathered w h ghost.new p) (sym (ap (λ (x : Hart). x.phase) is ∙ i.phase_is)) tt)
+          (λ m other. ag.each m);
+    }
+
+    locked_on : AreLocked y w b site.stands.ghosts → AreLocked y w b new
+    locked_on (gathering none gathers) = absurd (subst (Gathers w h (records_of site.stands.ghosts h)) i.phase_is (gathers.each h i.hart i.here))
+    locked_on (gathered ag held) =
+        gathered (gathered_on ag) (held_alike w w site.stands.ghosts new (now_of y b) refl (λ m. (says_same m).giving) held)
+
+    abbrev begun : Simulates y s w
+    begun = record {
+      machine = site.stands.machine;
+      abstract = b;
+      memory = site.stands.memory;
+      ghosts = new;
+      each = λ m within. (all m within).0;
+      locks = locked_on site.stands.locks;
+      caught_up = λ m within none. (all m within).1;
+    }
 
   -- ---- In a fragment, whatever it leads to
 
-  -- what such a fragment needs of the exit point, with the rest as it is
-  abbrev To : (Type 0) → ExitPoint → (steps : ℕ) → Type 0
-  To Result exit steps = (environment : MarkedEnvironment) → AnswersGuarded y b code c environment → (side : ℕ) → IsSideOf c.new side →
-      FragmentWith environment side steps exit (c.cleans ++ c.rest) → ExitInv y b code c graph_thread exit → SoonBy exit steps → Result
-
-  abbrev now_on : (exit : ExitPoint) (steps : ℕ) → To (OnFragmentNow y s w h site.stands site.below) exit steps
-  now_on exit steps environment answers side at_side fragment fits soon = record {
-    environment = environment;
-    answers = answers;
+  abbrev now_on : {exit : ExitPoint} {steps : ℕ} → IsAt exit steps → OnFragmentNow y s w h site.stands site.below
+  now_on {exit} {steps} a = record {
+    environment = a.environment;
+    answers = a.answers;
     exit = exit;
-    side = side;
-    at_side = at_side;
+    side = a.side;
+    at_side = a.at_side;
     steps = steps;
-    fragment = fragment;
-    fits = fits;
-    soon = soon;
+    fragment = a.fragment;
+    fits = a.fits;
+    soon = a.soon;
   }
 
-  keeps_by : (steps : ℕ) → To Ready Keeps steps
-  keeps_by zero environment answers side at_side fragment fits soon =
-      keeps_ready environment side at_side fragment fits (less_soon y n c.before_mark _ _ soon (omega arith))
-  keeps_by (suc k) environment answers side at_side fragment fits soon =
-      moving.on_fragment (now_on Keeps (suc k) environment answers side at_side fragment fits soon) k refl
+  at_of : (o : OnFragmentNow y s w h site.stands site.below) → IsAt o.exit o.steps
+  at_of o = record {
+    environment = o.environment;
+    answers = o.answers;
+    side = o.side;
+    at_side = o.at_side;
+    fragment = o.fragment;
+    fits = o.fits;
+    soon = o.soon;
+  }
 
-  keeps_at : (exit : ExitPoint) → exit ≡ Keeps → (steps : ℕ) → To Ready exit steps
-  keeps_at Keeps e steps = keeps_by steps
-  keeps_at exit e steps = let none : ⊥ = cc in absurd none
-
-  keeps_then : OnKeeps y w b code c t → Ready
-  keeps_then k = let o = k.0 in keeps_at o.exit k.1 o.steps o.environment o.answers o.side o.at_side o.fragment o.fits o.soon
+  keeps_at : (exit : ExitPoint) → exit ≡ Keeps → (steps : ℕ) → IsAt exit steps → Ready
+  keeps_at Keeps e zero a = keeps_ready a
+  keeps_at Keeps e (suc k) a = moving.on_fragment (now_on a) k refl
+  keeps_at exit e steps a = let none : ⊥ = cc in absurd none
 
 module _ {y : System} {s : IsSystem y} {w : World} {h : ℕ} (site : Site y s w h) (i : IsInPhase w h Run) where
   open view site use {b, code, c, t, n, graph_thread}
 
-  abbrev Of : ExitPoint → (steps : ℕ) → Type 0
-  Of exit steps = To site (SimulatesReady y s w h site.stands) exit steps
+  abbrev Result : Type 0
+  Result = SimulatesReady y s w h site.stands
 
   as_it_is : IsReadyToStep y s w h site.stands site.below → SimulatesReady y s w h site.stands
   as_it_is ready = record {
@@ -428,64 +465,59 @@ module _ {y : System} {s : IsSystem y} {w : World} {h : ℕ} (site : Site y s w 
   }
 
   -- before its end
-  goes_on : (exit : ExitPoint) (k : ℕ) → Of exit (suc k)
-  goes_on exit k environment answers side at_side fragment fits soon =
-      as_it_is (moving.on_fragment (now_on site exit (suc k) environment answers side at_side fragment fits soon) k refl)
+  goes_on : {exit : ExitPoint} (k : ℕ) → IsAt site exit (suc k) → Result
+  goes_on k a = as_it_is (moving.on_fragment (now_on site a) k refl)
 
-  calling : (exit : ExitPoint) (steps : ℕ) → IsCalling y s w h site.stands site.below exit → Of exit steps
-  calling exit steps calls environment answers side at_side fragment fits soon =
-      as_it_is (fragment_ready site (now_on site exit steps environment answers side at_side fragment fits soon) steps refl calls)
+  calling : {exit : ExitPoint} {steps : ℕ} → IsCalling y s w h site.stands site.below exit → IsAt site exit steps → Result
+  calling {exit} {steps} calls a = as_it_is (fragment_ready site (now_on site a) steps refl calls)
 
-  arrived : Of Arrives 0
-  arrived environment answers side at_side fragment fits soon =
-      elim (chosen_or_not y graph_thread.at (there site).is (there site).at) [
-        | inl chosen ↦
-            let none = none_left site environment side at_side Arrives fragment in
-            let z = begun site side at_side fits (left_empty _ _ none) chosen i soon (resettled y s w h site.below environment _ _ fragment) in
-            record {
-              stands = z.stands;
-              similar = z.similar;
-              below = site.below;
-              ready = keeps_then (record { stands = z.stands; below = site.below }) z.so;
-            }
-        | inr plain ↦
-            as_it_is (plain_ready site environment side at_side fragment fits plain (less_soon y n c.before_mark _ _ soon (omega arith)))
-      ]
-
-  arrives : (steps : ℕ) → Of Arrives steps
-  arrives zero = arrived
-  arrives (suc k) = goes_on Arrives k
+  arrives : (steps : ℕ) → IsAt site Arrives steps → Result
+  arrives (suc k) a = goes_on k a
+  arrives zero a = elim (chosen_or_not y graph_thread.at (there site).is (there site).at) [
+    | inl chosen ↦
+        let k = (all site a chosen i h site.below).2 refl in
+        let anew : Site y s w h = record { stands = begun site a chosen i; below = site.below } in
+        record {
+          stands = anew.stands;
+          similar = record { abstract = refl; same = says_same site a chosen i };
+          below = site.below;
+          ready = keeps_at anew k.0.exit k.1 k.0.steps (at_of anew k.0);
+        }
+    | inr plain ↦ as_it_is (plain_ready site a plain)
+  ]
 
   -- after the boundary that follows a lock
-  took : (from : ℕ) → Of (Took from) 0
-  took from environment answers side at_side fragment bounded soon =
-      let none = none_left site environment side at_side (Took from) fragment in
-      let rest = right_empty c.cleans c.rest none in
-      let committed = caught_is_over y w b code c t rest (site.stands.caught_up h site.below (λ e. e)) in
-      let some = took_end y.plan _ y.runs.program _ code.is w n (bare_here site) from _ _ side [] (placed_here site)
-      (resettled y s w h site.below environment _ _ fragment) in
-      let going : IsGoing b.config n =
-      ⊎_elim (λ e. e) (λ e. absurd (let more = e.0 in omega (arith, more, bounded.after committed))) ((resumed y s b).resumed.invariant.tried n).begun in
-      arrives some.steps (bare_here site) (bare_answers y s w h site.below _ _) side at_side
-      (subst (FragmentWith site (bare_here site) side some.steps Arrives) (sym none) some.on)
-      (record { going = going; rest = rest; giving = bounded.gives; committed = committed }, bounded.execution)
-      (let short = some.short in less_soon y n c.before_mark _ _ soon (omega (arith, short)))
+  took : (from : ℕ) → IsAt site (Took from) 0 → Result
+  took from a =
+      let bounded = a.fits in
+      let none = none_left site a in
+      let some = took_end y.plan _ y.runs.program _ code.is w n (bare_here site) from _ _ a.side [] (placed_here site) (alone_on site a) in
+      let going : IsGoing b.config n = ⊎_elim (λ e. e)
+      (λ e. absurd (let more = e.0 in omega (arith, more, bounded.after (settled site a)))) ((resumed y s b).resumed.invariant.tried n).begun in
+      arrives some.steps (record {
+        environment = bare_here site;
+        answers = bare_answers y s w h site.below _ _;
+        side = a.side;
+        at_side = a.at_side;
+        fragment = subst (FragmentWith site (bare_here site) a.side some.steps Arrives) (sym none) some.on;
+        fits = (record { going = going; rest = right_empty c.cleans c.rest none; giving = bounded.gives; committed = settled site a }, bounded.execution);
+        soon = let short = some.short in less_soon y n c.before_mark _ _ a.soon (omega (arith, short));
+      })
 
-  by_exit : (exit : ExitPoint) (steps : ℕ) → Of exit steps
+  by_exit : (exit : ExitPoint) (steps : ℕ) → IsAt site exit steps → Result
   by_exit Arrives steps = arrives steps
-  by_exit Keeps steps = λ environment answers side at_side fragment fits soon.
-      as_it_is (keeps_by site steps environment answers side at_side fragment fits soon)
-  by_exit (Asks mutex next) steps = calling (Asks mutex next) steps (asks mutex next)
+  by_exit Keeps steps = λ a. as_it_is (keeps_at site Keeps refl steps a)
+  by_exit (Asks mutex next) steps = calling (asks mutex next)
   by_exit (Took from) zero = took from
-  by_exit (Took from) (suc k) = goes_on (Took from) k
-  by_exit (ways.Gives from mutex) steps = calling (ways.Gives from mutex) steps (gives from mutex)
-  by_exit ways.Ends steps = calling ways.Ends steps ends
+  by_exit (Took from) (suc k) = goes_on k
+  by_exit (ways.Gives from mutex) steps = calling (gives from mutex)
+  by_exit ways.Ends steps = calling ends
 
-  in_run : IsRunningThread y w b code c t.log.hart graph_thread → SimulatesReady y s w h site.stands
-  in_run (courses.on_fragment o) = by_exit o.exit o.steps o.environment o.answers o.side o.at_side o.fragment o.fits o.soon
+  in_run : IsRunningThread y w b code c t.log.hart graph_thread → Result
+  in_run (courses.on_fragment o) = by_exit o.exit o.steps (at_of site o)
   in_run (courses.at_core core) = as_it_is (core_ready site core)
 
-  ready : SimulatesReady y s w h site.stands
+  ready : Result
   ready =
       let same : t.log.hart ≡ i.hart =
       same_there (slice_get w.harts h) t.log.hart i.hart (ap (slice_get w.harts) (sym (s.codes.number h site.below)) ∙ t.log.here)

@@ -1,5 +1,5 @@
 -- What a crash would leave describes the kept state.
-use Rattle.std.proofs.Common.{◌≡◌, ℕ, ◌<◌, [], sym, ◌∙◌, subst, Bool, true}
+use Rattle.std.proofs.Common.{◌≡◌, ℕ, ◌<◌, [], sym, ◌∙◌, subst, Bool, true, ap, List, map, Option}
 use Rattle.std.specs.Prelude.{if◌then◌else◌}
 use Rattle.rv64_isa.specs.Machine.{World, durable_point}
 use Rattle.log_states.specs.Logs.{Record}
@@ -8,10 +8,17 @@ use Rattle.log_states.specs.Machines.{config_of}
 use Rattle.log_states.specs.LogInvariant.{LogInv}
 use Rattle.log_states.proofs.Public.{log_facts, ends_committed}
 use Rattle.recovered_threads.specs.RecordDescriptions.{Code, Describes, AllDescribe}
-use Rattle.crash_simulation.specs.Systems.{System, IsSystem, thread_count}
+use Rattle.crash_simulation.specs.Systems.{System, IsSystem, thread_count, flat_of}
 use Rattle.crash_simulation.specs.AbstractRuns.{AbstractRun, kept_of}
-use Rattle.crash_simulation.specs.ThreadGhosts.{ThreadGhost, ThreadInv, HasCommittedLog}
+use Rattle.crash_simulation.specs.ThreadGhosts.{ThreadGhost, ThreadInv, HasCommittedLog, record_kept}
 use Rattle.crash_simulation.specs.SimulationRelation.{Simulates}
+use Rattle.ido_base.specs.Locks.{holds_none}
+use Rattle.c_tree.specs.Source.{State}
+use Rattle.recovery_semantics.specs.ElementHistories.{Memory, durable_number}
+use Rattle.recovery_semantics.proofs.Public.{between_is_kept}
+use Rattle.recovered_threads.proofs.Public.{points_settle}
+use Rattle.crash_simulation.specs.Laws.{SettledIsKept}
+use Rattle.crash_simulation.proofs.StatesMatchSource.{free_holds_none, resumed, kept_matches, orderly}
 
 module _ (y : System) (w : World) (b : AbstractRun y) (code : Code y.plan) (c : ThreadGhost) where
   -- of a thread with no boundary under way all that is committed is taken so where its last boundary is, and only there
@@ -36,17 +43,39 @@ module _ (y : System) (s : IsSystem y) (w : World) (stands : Simulates y s w) wh
       (s.codes.number n below)
       (stands.each n below).log
 
+  -- the records that are kept
+  pub left_kept : (n : ℕ) → n < thread_count y → left n ≡ record_kept (stands.ghosts n)
+  left_kept n below =
+      let c = stands.ghosts n in
+      ap (λ (k : ℕ). left_by_crash w.log k c.old c.new (seen c)) (sym (s.codes.number n below))
+      ∙ ap (λ (done : Bool). if done then c.new else c.old) (stands.caught_up n below (λ e. e))
+
   pub left_describes : AllDescribe y.plan s.codes (kept_of y stands.abstract) left
   left_describes n below =
-      let c = stands.ghosts n in
-      let code = s.codes.each n below in
-      let told : Describes y.plan code (kept_of y stands.abstract) (left_by_crash w.log code.thread.number c.old c.new (seen c)) =
-      subst (λ (done : Bool). Describes y.plan code (kept_of y stands.abstract) (if done then c.new else c.old)) (sym (stands.caught_up n below (λ e. e)))
-      (stands.each n below).describes in
-      subst (λ (k : ℕ). Describes y.plan code (kept_of y stands.abstract) (left_by_crash w.log k c.old c.new (seen c))) (s.codes.number n below) told
+      subst (Describes y.plan (s.codes.each n below) (kept_of y stands.abstract)) (sym (left_kept n below)) (stands.each n below).describes
 
   pub left_point : (n : ℕ) → n < thread_count y → durable_point w.log w.words n ≡ (left n).point
   left_point n below =
       let c = stands.ghosts n in
       log_facts.record_follows_locks.point w.log n c.old c.new (record { words = w.words; queue = (log_of n below).hart.queue; rest = c.rest })
       (log_of n below).log
+
+-- ---- Where all points are 0, durable memory has what is kept
+
+-- all threads stand between sections in what is kept
+pub between_there : (y : System) (s : IsSystem y) (w : World) (stands : Simulates y s w) →
+    ((n : ℕ) → n < thread_count y → durable_point w.log w.words n ≡ 0) → (thread : ℕ) → holds_none stands.abstract.config.kept.holders thread ≡ true
+between_there y s w stands zeros thread =
+    let b = stands.abstract in
+    let free = (points_settle w.log y.plan s.codes (kept_of y b) (left y s w stands) w.words (orderly y s b) (left_describes y s w stands)
+    (left_point y s w stands)).0 zeros in
+    subst (λ (hs : List (Option ℕ)). holds_none hs thread ≡ true) (kept_matches y s b).holders (free_holds_none thread 0 (kept_of y b).holders free)
+
+pub settled_is_kept : SettledIsKept
+settled_is_kept y s w stands zeros =
+    let r = resumed y s stands.abstract in
+    let durable = between_is_kept (flat_of y) stands.abstract.config r.resumed.invariant (between_there y s w stands zeros) in
+    record {
+      runs = r.resumed.kept.runs;
+      durable = ap (λ (m : Memory). map (map durable_number) m) stands.memory ∙ durable ∙ ap (λ (z : State). z.variables) (sym r.resumed.kept.is);
+    }

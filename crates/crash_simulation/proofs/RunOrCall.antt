@@ -10,7 +10,7 @@ use Rattle.thread_runs.specs.Laws.{IsAtSomeMark, MarksPass, run_of, run_at}
 use Rattle.thread_runs.specs.CodeFragments.{IsOnFragment, on_machine}
 use Rattle.recovered_threads.specs.RecordDescriptions.{Code}
 use Rattle.crash_simulation.specs.Systems.{System, IsSystem, thread_count}
-use Rattle.crash_simulation.specs.AbstractRuns.{AbstractRun, now_of}
+use Rattle.crash_simulation.specs.AbstractRuns.{now_of}
 use Rattle.crash_simulation.specs.ThreadGhosts.{ThreadGhost, ThreadInv}
 use Rattle.crash_simulation.specs.SimulationRelation.{Simulates}
 use Rattle.crash_simulation.specs.InstructionSteps.{OnFragmentNow, AtCoreNow, thread_of}
@@ -30,8 +30,7 @@ pub record RunsOn (y : System) (w : World) (h : ℕ) : Type 0 where
   pub agrees : Agrees y.runs.program w h run.environment
 
 module _ (y : System) (s : IsSystem y) (w : World) (h : ℕ) (stands : Simulates y s w) (below : h < thread_count y) where
-  abbrev b : AbstractRun y
-  b = stands.abstract
+  open stands use {abstract as b}
 
   abbrev code : Code y.plan
   code = s.codes.each h below
@@ -42,11 +41,8 @@ module _ (y : System) (s : IsSystem y) (w : World) (h : ℕ) (stands : Simulates
   abbrev thread : ThreadInv y w b code ghost
   thread = thread_of y s w h stands below
 
-  abbrev n : ℕ
-  n = code.thread.number
-
-  abbrev graph_thread : GraphThread
-  graph_thread = thread.graph_thread
+  open code.thread use {number as n}
+  open thread use {graph_thread}
 
   abbrev seen : Seen
   seen = seen_by (now_of y b) graph_thread

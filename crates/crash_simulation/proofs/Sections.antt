@@ -1,6 +1,6 @@
--- How many sections end by steps of one thread that are kept.
-use Rattle.std.proofs.Common.{◌≡◌, ◌≢◌, refl, ℕ, zero, suc, ◌+◌, ◌≤◌, List, [], ◌∷◌, ◌++◌, replicate, ap, ap₂, sym, ◌∙◌, subst, arith}
-use Rattle.std.proofs.Common.{Option, Some, None, Bool, true, false}
+-- How many sections end by steps of one thread that are kept: one, exactly where it stood in one before, and stands in none after.
+use Rattle.std.proofs.Common.{◌≡◌, ◌≢◌, refl, ℕ, zero, suc, ◌+◌, ◌≤◌, List, [], ◌∷◌, ◌++◌, replicate, ap, ap₂, sym, ◌∙◌, subst, arith, Option, Some, None, Bool}
+use Rattle.std.proofs.Common.{true, false, ⊎_elim}
 use Rattle.std.specs.Prelude.{is_some, not, ◌&&◌, ◌==◌}
 use Rattle.std.proofs.lemmas.Bool.{true≢false}
 use Rattle.ido_base.specs.Locks.{holds_none}
@@ -8,16 +8,15 @@ use Rattle.c_tree.specs.Flats as f
 use Rattle.c_tree.specs.Source as m
 use Rattle.c_tree.specs.LockDiscipline.{Held}
 use Rattle.source_machine.specs.Discipline.{StateKeeps}
-use Rattle.source_machine.specs.Mutexes.{locks, unlocks, held_by}
+use Rattle.source_machine.specs.Mutexes.{held_by}
 use Rattle.source_machine.proofs.Public.{Passed, locks_found, stepped, apart, run_keeps, unlocks_held, solo as solo_law, mutex_passed, ends_by, goes_on}
 use Rattle.rv64_isa.specs.Machine.{World}
 use Rattle.recovery_semantics.specs.Attempts.{IsInner, solo}
 use Rattle.recovery_semantics.specs.Configs.{Invariant, now, attempt_of}
 use Rattle.recovery_semantics.specs.Events.{steps_begun}
-use Rattle.recovery_semantics.specs.Laws.{HasLocked, HasUnlocked, IsKeptBy}
-use Rattle.recovery_semantics.proofs.Public.{solo_holders, last_first, more_empty, LastStep, prefix_runs, last_step}
+use Rattle.recovery_semantics.specs.Laws.{IsKeptBy}
+use Rattle.recovery_semantics.proofs.Public.{solo_holders, last_first, more_empty, prefix_runs, last_step, same_other}
 use Rattle.region_attempts.specs.Origins.{Origin}
-use Rattle.region_attempts.proofs.Public.{graph_stands}
 use Rattle.thread_runs.specs.CodeFragments.{ExitPoint}
 use Rattle.recovered_threads.specs.RecordDescriptions.{Code}
 use Rattle.recovered_threads.proofs.Public.{none_where}
@@ -30,6 +29,9 @@ use Rattle.crash_simulation.proofs.PendingReleases.{IsAtBoundary, at_keeps, at_t
 use Rattle.crash_simulation.proofs.ThreadCommits.{invariant, kept_by}
 use Rattle.boundary_code.specs.Boundaries.{is_empty}
 use Rattle.thread_code.specs.Plans.{locks_held}
+use Rattle.crash_simulation.specs.InstructionSteps.{StepsOrStutters}
+use Rattle.crash_simulation.proofs.LongestAttempts.{led_of}
+use Rattle.crash_simulation.proofs.StatesMatchSource.{as_source}
 
 -- ---- One step
 
@@ -94,107 +96,137 @@ module _ (x : f.Flat) (s : m.State) (t : ℕ) (keeps : StateKeeps x s) where
       let more = one_more s t n runs t in
       omega (arith, before, none, more)
 
+-- ---- A thread's begun steps
+
+module _ (y : System) (s : IsSystem y) (b : AbstractRun y) (k : ℕ) where
+  open y.plan use {flat as x}
+  open b.config use {kept as K}
+  open attempt_of b.config k use {done, longest}
+
+  abbrev begun : ℕ
+  begun = steps_begun b.config k
+
+  i : Invariant x b.config
+  i = invariant y s b
+
+  runs : m.runs_from K (replicate begun k) ≡ true
+  runs = (solo_law x K b.config.uncommitted k i.keeps i.runs i.hands).runs
+
+  -- the thread's own steps, so many, end a section exactly where it has left one by them
+  abbrev Ends : ℕ → Type 0
+  Ends n = m.ended_from K (replicate n k) k ≡ one_if (not (m.is_between K k) && m.is_between (solo K k n) k)
+
+  -- inner steps keep what it holds
+  between_on : m.is_between (solo K k done) k ≡ m.is_between K k
+  between_on =
+      ap (λ (hs : List (Option ℕ)). holds_none hs k) (solo_holders x k done longest K i.keeps (i.tried k).inner (i.tried k).within)
+
+  going_ends : m.runs_from K (replicate done k) ≡ true → Ends done
+  going_ends made =
+      inner_end x K k i.keeps done longest (i.tried k).inner (i.tried k).within made
+      ∙ sym (none_ends (m.is_between K k) (m.is_between (solo K k done) k) between_on)
+
+  -- and so does the one that passes a mutex
+  past_ends : m.runs_from K (replicate (suc done) k) ≡ true → Ends (suc done)
+  past_ends made =
+      let none = inner_end x K k i.keeps done longest (i.tried k).inner (i.tried k).within (fewer_run K k done made) in
+      let more = one_more K k done made k in
+      let last : m.ended_from K (replicate (suc done) k) k ≡ m.ends_section (solo K k done) (solo K k (suc done)) k = omega (arith, none, more) in
+      last ∙ ap (λ (z : Bool). one_if (not z && m.is_between (solo K k (suc done)) k)) between_on
+
+  own_ends : Ends begun
+  own_ends = ⊎_elim
+      (λ e. subst Ends (sym e) (going_ends (subst (λ (n : ℕ). m.runs_from K (replicate n k) ≡ true) e runs)))
+      (λ p. subst Ends (sym p.0) (past_ends (subst (λ (n : ℕ). m.runs_from K (replicate n k) ≡ true) p.0 runs)))
+      (i.tried k).begun
+
 -- ---- A thread whose boundary is committed
 
 module _ (y : System) (s : IsSystem y) (w : World) (b : AbstractRun y) (code : Code y.plan) (c : ThreadGhost) (t : ThreadInv y w b code c)
     (not_yet : c.committed ≡ false) where
-  abbrev u : ℕ
-  u = code.thread.number
-
-  abbrev x : f.Flat
-  x = flat_of y
-
-  abbrev K : m.State
-  K = b.config.kept
-
-  abbrev done : ℕ
-  done = (attempt_of b.config u).done
-
-  abbrev z : m.State
-  z = solo K u done
-
-  abbrev next : m.State
-  next = solo K u (suc done)
-
-  i : Invariant x b.config
-  i = invariant y s b
+  open code.thread use {number as u}
+  open y.plan use {flat as x}
+  open b.config use {kept as K}
+  open attempt_of b.config u use {done}
+  open invariant y s b use {keeps as kept_keeps, runs as run, hands}
 
   -- by its steps that are kept then
   abbrev Leaves : Type 0
   Leaves = m.ended_from K (replicate (steps_begun b.config u) u) u ≡ one_if (is_some c.giving && (c.new.point == 0))
 
-  runs : m.runs_from K (replicate (steps_begun b.config u) u) ≡ true
-  runs = (solo_law x K b.config.uncommitted u i.keeps i.runs i.hands).runs
+  -- it stands between sections then where the record's point is 0
+  now_between : m.is_between (solo K u (steps_begun b.config u)) u ≡ (c.new.point == 0)
+  now_between =
+      between_same (now b.config) (solo K u (steps_begun b.config u)) u (sym (solo_law x K b.config.uncommitted u kept_keeps run hands).same.held)
+      ∙ (ap (λ (hs : List (Option ℕ)). holds_none hs u)
+      (sym (as_source y s b).now_matches.holders)
+      ∙ sym (describes_test y code (now_of y b) c.new (t.will_describe not_yet)))
 
-  none_given : c.giving ≡ None → one_if (is_some c.giving && (c.new.point == 0)) ≡ 0
-  none_given none = ap (λ (o : Option ℕ). one_if (is_some o && (c.new.point == 0))) none
+  keeps_there : StateKeeps x (solo K u done)
+  keeps_there = run_keeps x K (replicate done u) kept_keeps
 
-  inner_ends : steps_begun b.config u ≡ done → m.ended_from K (replicate (steps_begun b.config u) u) u ≡ 0
-  inner_ends e =
-      let within = (i.tried u).within in
-      inner_end x K u i.keeps (steps_begun b.config u) (attempt_of b.config u).longest (i.tried u).inner (omega (arith, e, within)) runs
-
-  -- with the step that ends the attempt
-  module _ (begun : steps_begun b.config u ≡ suc done) where
-    all_run : m.runs_from K (replicate (suc done) u) ≡ true
-    all_run = subst (λ (k : ℕ). m.runs_from K (replicate k u) ≡ true) begun runs
-
-    last : LastStep K u done
-    last = last_step K u done all_run
-
-    keeps_there : StateKeeps x z
-    keeps_there = run_keeps x K (replicate done u) i.keeps
-
-    last_ends : m.ended_from K (replicate (steps_begun b.config u) u) u ≡ m.ends_section z next u
-    last_ends =
-        let none = inner_end x K u i.keeps done (attempt_of b.config u).longest (i.tried u).inner (i.tried u).within (fewer_run K u done all_run) in
-        let more = one_more K u done all_run u in
-        let same : m.ended_from K (replicate (steps_begun b.config u) u) u ≡ m.ended_from K (replicate (suc done) u) u =
-        ap (λ (k : ℕ). m.ended_from K (replicate k u) u) begun in
-        omega (arith, none, more, same)
-
-    -- an unlock ends one where the record's point is 0
-    now_held : m.is_between next u ≡ (c.new.point == 0)
-    now_held =
-        let own = (solo_law x K b.config.uncommitted u i.keeps i.runs i.hands).same.held in
-        let same : held_by u next.holders ≡ held_by u (now b.config).holders =
-        ap (λ (k : ℕ). held_by u (solo K u k).holders) (sym begun) ∙ sym own in
-        let test = describes_test y code (now_of y b) c.new (t.will_describe not_yet) in
-        between_same (now b.config) next u same
-        ∙ (ap (λ (hs : List (Option ℕ)). holds_none hs u)
-        (sym (graph_stands x b.origin b.config b.schedule s.plan.formed i (kept_by y s b)).now_matches.holders) ∙ sym test)
-
-    unlock_ends : (mutex : ℕ) → unlocks z u ≡ Some mutex → m.ends_section z next u ≡ one_if (c.new.point == 0)
-    unlock_ends mutex is =
-        let held : m.is_between z u ≡ false = holds_some u z.holders mutex (unlocks_held x z u mutex keeps_there is) in
-        λ k. one_if (not (held k) && now_held k)
-
-    -- a lock ends none
-    lock_ends : (mutex : ℕ) → locks z u ≡ Some mutex → m.ends_section z next u ≡ 0
-    lock_ends mutex is =
-        let step = stepped x z last.next u keeps_there last.is in
-        let takes : Passed = record { mutex = mutex; holder = Some u } in
-        let ahead : step.does.change.passed ≡ Some takes = step.does.ahead mutex (sym (locks_found z u step.thread step.there) ∙ is) in
-        let held : m.is_between next u ≡ false =
-        ap (λ (q : m.State). m.is_between q u) last.after
-        ∙ holds_some u last.next.holders mutex (mutex_passed x z last.next u step takes ahead) in
-        ap (λ (later : Bool). one_if (not (m.is_between z u) && later)) held ∙ none_after (m.is_between z u)
-
-  given_ends : (mutex : ℕ) → c.giving ≡ Some mutex → HasUnlocked b.config u mutex → Leaves
-  given_ends mutex gives h =
-      last_ends h.begun ∙ (unlock_ends h.begun mutex h.unlocks_it
-      ∙ ap (λ (o : Option ℕ). one_if (is_some o && (c.new.point == 0))) (sym gives))
-
-  locked_ends : c.giving ≡ None → (h : (mutex : ℕ) × HasLocked b.config u mutex) → Leaves
-  locked_ends none h = last_ends h.1.begun ∙ (lock_ends h.1.begun h.0 h.1.locks_it ∙ sym (none_given none))
+  none_given : c.giving ≡ None → 0 ≡ one_if (is_some c.giving && (c.new.point == 0))
+  none_given none = ap (λ (o : Option ℕ). one_if (is_some o && (c.new.point == 0))) (sym none)
 
   leaves_by : (exit : ExitPoint) → IsAtBoundary exit → ExitInv y b code c t.graph_thread exit → Leaves
-  leaves_by _ at_keeps h = inner_ends h.1 ∙ sym (none_given h.2.gives)
-  leaves_by _ (at_took from) h = locked_ends h.gives (h.before not_yet)
-  leaves_by _ (at_gives from mutex) h = given_ends mutex h.gives (h.before not_yet)
+  leaves_by _ at_keeps h =
+      own_ends y s b u ∙ (none_ends (m.is_between K u) (m.is_between (solo K u (steps_begun b.config u)) u)
+      (ap (λ (n : ℕ). m.is_between (solo K u n) u) h.1 ∙ between_on y s b u) ∙ none_given h.2.gives)
+  -- a lock ends none
+  leaves_by _ (at_took from) g =
+      let h = (g.before not_yet).1 in
+      let last = last_step K u done (subst (λ (n : ℕ). m.runs_from K (replicate n u) ≡ true) h.begun (runs y s b u)) in
+      let step = stepped x (solo K u done) last.next u keeps_there last.is in
+      let mutex = (g.before not_yet).0 in
+      let takes : Passed = record { mutex = mutex; holder = Some u } in
+      let ahead : step.does.change.passed ≡ Some takes = step.does.ahead mutex (sym (locks_found (solo K u done) u step.thread step.there) ∙ h.locks_it) in
+      let held : m.is_between (solo K u (steps_begun b.config u)) u ≡ false =
+      ap (λ (n : ℕ). m.is_between (solo K u n) u) h.begun ∙ (ap (λ (q : m.State). m.is_between q u) last.after
+      ∙ holds_some u last.next.holders mutex (mutex_passed x (solo K u done) last.next u step takes ahead)) in
+      own_ends y s b u ∙ (ap (λ (later : Bool). one_if (not (m.is_between K u) && later)) held ∙ (none_after (m.is_between K u) ∙ none_given g.gives))
+  -- an unlock ends one where the record's point is 0
+  leaves_by _ (at_gives from mutex) g =
+      let h = g.before not_yet in
+      let held : m.is_between K u ≡ false =
+      sym (between_on y s b u) ∙ holds_some u (solo K u done).holders mutex (unlocks_held x (solo K u done) u mutex keeps_there h.unlocks_it) in
+      own_ends y s b u
+      ∙ ((λ j. one_if (not (held j) && now_between j)) ∙ ap (λ (o : Option ℕ). one_if (is_some o && (c.new.point == 0))) (sym g.gives))
 
   pub leaves : Leaves
   leaves = let u = under_way y w b code c t not_yet in leaves_by u.on.exit u.exit u.on.fits
+
+-- ---- One abstract run after another
+
+-- the thread stands between sections in what is kept
+abbrev pub kept_between : (y : System) → AbstractRun y → (thread : ℕ) → Bool
+kept_between y b n = m.is_between b.config.kept n
+
+-- no more sections of the thread are kept, and it stands between sections where it did
+pub record AreSameSections (y : System) (b next : AbstractRun y) (n : ℕ) : Type 0 where
+  pub sections : sections_kept y next n ≡ sections_kept y b n
+  pub between : kept_between y next n ≡ kept_between y b n
+
+-- one more is kept exactly where the thread stood in a section, and stands in none
+abbrev pub EndAsLeft : (y : System) → (b next : AbstractRun y) → (thread : ℕ) → Type 0
+EndAsLeft y b next n = sections_kept y next n ≡ sections_kept y b n + one_if (not (kept_between y b n) && kept_between y next n)
+
+module _ (y : System) (b next : AbstractRun y) (n : ℕ) where
+  pub same_end : AreSameSections y b next n → EndAsLeft y b next n
+  same_end i =
+      let none : one_if (not (kept_between y b n) && kept_between y next n) ≡ 0 = none_ends (kept_between y b n) (kept_between y next n) i.between in
+      let same = i.sections in
+      omega (arith, none, same)
+
+  module _ (last : AbstractRun y) where
+    pub both_same : AreSameSections y b next n → AreSameSections y next last n → AreSameSections y b last n
+    both_same one two = record { sections = two.sections ∙ one.sections; between = two.between ∙ one.between }
+
+    pub end_then_same : EndAsLeft y b next n → AreSameSections y next last n → EndAsLeft y b last n
+    end_then_same e i =
+        i.sections ∙ (e ∙ ap (λ (z : Bool). sections_kept y b n + one_if (not (kept_between y b n) && z)) (sym i.between))
+
+    pub same_then_end : AreSameSections y b next n → EndAsLeft y next last n → EndAsLeft y b last n
+    same_then_end i e = e ∙ ap₂ (λ (k : ℕ) (z : Bool). k + one_if (not z && kept_between y last n)) i.sections i.between
 
 -- ---- The schedule with the thread's steps after it
 
@@ -212,8 +244,34 @@ module _ (y : System) (s : IsSystem y) (b next : AbstractRun y) (k : ℕ) (origi
 
   pub kept_others : (n : ℕ) → n ≢ k → sections_kept y next n ≡ sections_kept y b n
   kept_others n other =
-      let i = invariant y s b in
-      let none = others_end (flat_of y) b.config.kept k i.keeps n (steps_begun b.config k) other
-      (solo_law (flat_of y) b.config.kept b.config.uncommitted k i.keeps i.runs i.hands).runs in
+      let none = others_end (flat_of y) b.config.kept k (invariant y s b).keeps n (steps_begun b.config k) other (runs y s b k) in
       let more = kept_more n in
       omega (arith, none, more)
+
+  kept_is : next.config.kept ≡ solo b.config.kept k (steps_begun b.config k)
+  kept_is =
+      let by : IsKeptBy b.origin.source b.config.kept b.schedule = kept_by y s b in
+      let then_by : IsKeptBy next.origin.source next.config.kept next.schedule = kept_by y s next in
+      sym then_by.is ∙ (ap₂ (λ (o : Origin (flat_of y)) (us : List ℕ). m.after_from o.source us) origin schedule
+      ∙ ((goes_on b.origin.source b.schedule steps by.runs).after ∙ ap (λ (z : m.State). m.after_from z steps) by.is))
+
+  pub own_end : EndAsLeft y b next k
+  own_end =
+      kept_more k
+      ∙ ap (λ (n : ℕ). sections_kept y b k + n)
+      (own_ends y s b k ∙ ap (λ (z : m.State). one_if (not (m.is_between b.config.kept k) && m.is_between z k)) (sym kept_is))
+
+  pub others_same : (n : ℕ) → n ≢ k → AreSameSections y b next n
+  others_same n other = record {
+    sections = kept_others n other;
+    between = ap (λ (z : m.State). m.is_between z n) kept_is ∙ between_same b.config.kept (solo b.config.kept k (steps_begun b.config k)) n
+        (same_other (flat_of y) b.config k (invariant y s b) n other).held;
+  }
+
+-- ---- What happens by a thread
+
+pub led_sections : (y : System) (b : AbstractRun y) (thread : ℕ) (next : AbstractRun y) → StepsOrStutters y b thread next → (n : ℕ) →
+    AreSameSections y b next n
+led_sections y b thread next led n =
+    let l = led_of y b thread next led in
+    record { sections = λ i. m.ended_from (l.origin i).source (l.schedule i) n; between = ap (λ (z : m.State). m.is_between z n) l.config.kept }

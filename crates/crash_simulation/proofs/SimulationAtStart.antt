@@ -1,64 +1,356 @@
--- At its start the machine simulates the abstract run that begins at the source's start.
-use Rattle.std.proofs.Common.{◌≡◌, refl, ℕ, zero, suc, ◌+◌, ◌-◌, ◌*◌, ◌/◌, ◌%◌, ◌<◌, List, [], ◌∷◌, length, map, replicate, sym, ◌∙◌, ap, subst, arith}
-use Rattle.std.proofs.Common.{Option, Some, None, true, false, add-zero, ℤ}
-use Rattle.std.specs.Option.{option_map}
-use Rattle.std.specs.Prelude.{slice_get, slice_index, slice_index_or, pos, nat_le, ◌==◌, ◌&&◌}
-use Rattle.std.proofs.lemmas.Bool.{true≢false, cond-true}
+-- Where it starts, after a crash, and where recovery begins with words that describe an origin, the machine simulates an abstract run.
+use Rattle.std.proofs.Common.{◌≡◌, refl, ℕ, ◌<◌, [], sym, ◌∙◌, ap, subst, arith, Some, None, true, zero, suc, List, ◌∷◌, ◌++◌, map, length, replicate, Option}
+use Rattle.std.proofs.Common.{◌+◌, add-zero, ℤ}
+use Rattle.std.specs.Prelude.{slice_get, Contains, pos}
+use Rattle.std.proofs.lemmas.Bool.{true≢false}
 use Rattle.std.proofs.lemmas.Option.{none-some, same_Some, slice_get-map, slice_get_within}
-use Rattle.std.proofs.lemmas.List.{length-replicate}
+use Rattle.rv64_isa.specs.declared.phase.Phase.{Phase}
+use Rattle.rv64_isa.specs.declared.phase.Phase.TheVariants.{Take, Wait, Done, Run}
+use Rattle.rv64_isa.specs.Machine.{Hart, World, after_event, happens, after_crash_of, resume_of, fresh_hart, numbers_from, start_of}
+use Rattle.source_machine.specs.StepExchanges.{steps_of}
+use Rattle.flow_graph.specs.Lowering.{lowered, parts, part, thread_count as node_count}
+use Rattle.flow_graph.specs.Actions.{GraphThread, graph_after, Seen, graph_thread_start, seen_by}
+use Rattle.flow_graph.proofs.Public.{found_in, contains_none}
+use Rattle.recovery_semantics.specs.Configs.{attempt_of}
+use Rattle.recovery_semantics.specs.VariableSpots.{memory_in}
+use Rattle.log_states.specs.Logs.{Record, nothing_recorded}
+use Rattle.log_states.specs.Stages.{LogIs}
+use Rattle.log_states.specs.Machines.{config_of}
+use Rattle.log_states.specs.LogInvariant.{LogInv}
+use Rattle.log_states.proofs.Public.{ends_committed, contains_first, starts_standing}
+use Rattle.recovered_threads.specs.RecordDescriptions.{Code, AllDescribe, Describes, ResumesAt, at_chosen, past_lock, past_unlock, between, inside}
+use Rattle.recovered_threads.specs.RecoveryStates.{Gathers, AreGathering, HasGathered}
+use Rattle.crash_simulation.specs.Systems.{System, IsSystem, flat_of, places_of, thread_count}
+use Rattle.crash_simulation.specs.AbstractRuns.{AbstractRun, kept_of, now_of}
+use Rattle.crash_simulation.specs.ThreadGhosts.{ThreadGhost, Rests, InPhase, ThreadInv, InFragment, on_fragment}
+use Rattle.crash_simulation.specs.StepsToMark.{most_ahead}
+use Rattle.crash_simulation.specs.SimulationRelation.{IsMachineOf, Simulates, gathering, gathered}
+use Rattle.crash_simulation.proofs.StatesMatchSource.{orderly, begins_orderly, free_holds_none, none_holds, is_repeated, repeated_or}
+use Rattle.crash_simulation.proofs.RecordsAfterCrash.{over_is_caught, left, log_of, left_describes}
+use Rattle.std.proofs.lemmas.List.{append-nil, length-replicate}
+use Rattle.ido_base.specs.declared.event.Event.TheVariants.{Crash}
+use Rattle.recovery_semantics.specs.ElementHistories.{crashed, Memory, AreStable, durable_number, memory_of}
+use Rattle.recovery_semantics.specs.Attempts.{Attempt, attempt_at}
+use Rattle.recovery_semantics.specs.Events.{IsAgain, crashes}
+use Rattle.recovery_semantics.specs.Executions.{then, first_config, begins}
+use Rattle.region_attempts.specs.GraphStates.{flow_kept, node_of}
+use Rattle.variable_words.proofs.Public.{crashes_hold, durable_are_memory, well_formed_placed, starts_hold}
+use Rattle.recovered_threads.proofs.Public.{crashes_gather}
+use Rattle.crash_simulation.specs.Laws.{CrashSimulates, StartSimulates}
+use Rattle.crash_simulation.proofs.ThreadsOfMachines.{machine_stays}
+use Rattle.std.specs.Option.{option_map}
+use Rattle.ido_base.specs.declared.log.Log.{Log}
+use Rattle.ido_base.specs.Layout.{word_count}
+use Rattle.ido_base.specs.Words.{Word, durable_value, word_of}
+use Rattle.rv64_isa.specs.declared.object.Slot.{Slot}
+use Rattle.rv64_isa.specs.Frames.{IsWellFormedWorld}
+use Rattle.rv64_isa.proofs.Public.{crashes_simulate, starts_simulate}
+use Rattle.flow_graph.specs.Nodes.{Action, Graph, successors, Store}
+use Rattle.flow_graph.specs.Liveness.{NodeAt}
+use Rattle.flow_graph.specs.IdempotentCuts as cutting
+use Rattle.flow_graph.specs.IdempotentCuts.{AreCuts, at_boundary}
+use Rattle.recovery_semantics.proofs.Public.{crashed_are_stable, none_yet, fresh_are_stable}
+use Rattle.variable_words.specs.Variables.{durable_variables}
+use Rattle.region_attempts.specs.Origins.{Origin}
+use Rattle.region_attempts.specs.AttemptsInRegion as attempts
+use Rattle.region_attempts.specs.AttemptsInRegion.{Resumes, BeginsAtBoundaries}
+use Rattle.hart_runs.specs.Laws.{AreShort}
+use Rattle.hart_runs.proofs.Public.{queues_stay_short, starts_are_short}
+use Rattle.crash_simulation.specs.RecoveredWords.{IsRecoveredFrom, RecoveredWordsSimulate}
+use Rattle.crash_simulation.proofs.LastReleases.{holds_some}
 use Rattle.ido_ints.specs.TypedNumbers.{typed}
 use Rattle.ido_ints.proofs.Public.{Holds-zero}
-use Rattle.operator_code.specs.ComputingCode.{Carries}
 use Rattle.operator_code.proofs.Public.{zero_form}
 use Rattle.c_tree.specs.Flats as f
 use Rattle.c_tree.specs.Source as m
-use Rattle.rv64_isa.specs.declared.instr.Instr.{Instr}
-use Rattle.rv64_isa.specs.declared.object.Slot.{Slot}
-use Rattle.rv64_isa.specs.declared.object.Slot.TheVariants.{Row}
-use Rattle.rv64_isa.specs.declared.phase.Phase.{Phase}
-use Rattle.rv64_isa.specs.declared.phase.Phase.TheVariants.{Run}
 use Rattle.rv64_isa.specs.Executables.{first_world}
-use Rattle.rv64_isa.specs.Programs.{code_start, code_of}
-use Rattle.rv64_isa.specs.Machine.{Hart, World, fresh_hart, numbers_from, start_of}
-use Rattle.rv64_isa.proofs.Public.{starts_simulate}
+use Rattle.rv64_isa.specs.Programs.{code_start}
 use Rattle.boundary_code.proofs.Public.{fresh_on_side}
 use Rattle.code_runs.specs.ComputingRuns.{config}
-use Rattle.code_runs.specs.CodeTraces.{Program, MarkedEnvironment, Meets}
-use Rattle.hart_runs.specs.HartsOnRuns.{instr_of, instr_at, environment_of, Agrees}
-use Rattle.hart_runs.specs.Laws.{program_at, EnvironmentsMeet}
-use Rattle.hart_runs.proofs.Public.{starts_are_short}
+use Rattle.code_runs.specs.CodeTraces.{Program}
 use Rattle.flow_graph.specs.declared.graph.Part.{Part}
-use Rattle.flow_graph.specs.Nodes.{Action, Eval, Store, Test, Lock, Unlock, End, Graph}
-use Rattle.flow_graph.specs.Lowering.{lowered, parts, part, thread_count}
-use Rattle.flow_graph.specs.Actions.{Seen, GraphThread, graph_thread_start, seen_by}
-use Rattle.flow_graph.proofs.Public.{contains_none}
-use Rattle.recovery_semantics.specs.ElementHistories.{memory_of}
-use Rattle.recovery_semantics.specs.Attempts.{no_attempt, attempt_at}
-use Rattle.recovery_semantics.specs.Executions.{first_config, begins}
-use Rattle.recovery_semantics.proofs.Public.{fresh_are_stable}
-use Rattle.region_attempts.specs.Origins.{Origin}
 use Rattle.region_attempts.proofs.Public.{free_at_boundaries, start_free, start_origin}
-use Rattle.variable_words.proofs.Public.{starts_hold}
-use Rattle.log_states.specs.Logs.{nothing_recorded}
-use Rattle.log_states.specs.Machines.{config_of}
-use Rattle.log_states.proofs.Public.{ends_committed, starts_standing}
-use Rattle.thread_code.specs.Plans.{IsNodeOf}
+use Rattle.thread_code.specs.Plans.{Plan, IsNodeOf}
 use Rattle.thread_code.specs.RegistersAtNodes.{IsPendingIn, Enters}
 use Rattle.thread_code.proofs.Public.{locals_are}
 use Rattle.thread_runs.specs.CodeFragments.{Arrives}
 use Rattle.thread_runs.proofs.Public.{threads_start}
-use Rattle.recovered_threads.specs.RecordDescriptions.{Code, between}
-use Rattle.recovered_threads.specs.RecoveryStates.{HasGathered}
-use Rattle.crash_simulation.specs.Systems as systems
-use Rattle.crash_simulation.specs.Systems.{System, IsSystem, flat_of}
-use Rattle.crash_simulation.specs.AbstractRuns.{AbstractRun, kept_of, now_of}
-use Rattle.crash_simulation.specs.ThreadGhosts.{ThreadGhost, InFragment, on_fragment, InPhase, ThreadInv}
-use Rattle.crash_simulation.specs.StepsToMark.{most_ahead}
 use Rattle.crash_simulation.proofs.StepsAfterMarks.{entry_soon}
-use Rattle.crash_simulation.specs.SimulationRelation.{Simulates, gathered}
-use Rattle.crash_simulation.specs.Laws.{StartSimulates}
-use Rattle.crash_simulation.proofs.StatesMatchSource.{free_holds_none, none_holds}
-use Rattle.crash_simulation.proofs.RecordsAfterCrash.{over_is_caught}
+use Rattle.crash_simulation.proofs.LoadFreeEnvironment.{bare, bare_agrees, bare_meets, bare_answers}
+use Rattle.expr_code.specs.declared.home.Home.{Home}
+use Rattle.expr_code.specs.declared.home.Home.TheVariants.{InRegister}
+use Rattle.expr_code.specs.EvaluationCode.{home_of, HomeCarries}
+use Rattle.ido_ints.specs.declared.kinds.Kind.{Kind}
+
+-- ---- A machine whose harts begin to gather the locks of records simulates an abstract run at the state that these describe
+
+-- the machine's harts gather the locks of the records, which describe what the abstract run has kept: no more is begun
+pub record BeginsAgain (y : System) (s : IsSystem y) (v : World) (abstract : AbstractRun y) (records : ℕ → Record) : Type 0 where
+  pub machine : IsMachineOf y v
+  pub memory : memory_in (places_of y) v.words ≡ abstract.config.memory
+  pub none : abstract.config.uncommitted ≡ []
+  pub fresh : (n : ℕ) → (attempt_of abstract.config n).done ≡ 0
+  pub gathers : AreGathering v records
+  pub describe : AllDescribe y.plan s.codes (kept_of y abstract) records
+
+module _ (y : System) (s : IsSystem y) (v : World) (abstract : AbstractRun y) (records : ℕ → Record) (again : BeginsAgain y s v abstract records) where
+  abbrev pub gathering_ghosts : ℕ → ThreadGhost
+  gathering_ghosts n = record { old = nothing_recorded; new = records n; rest = []; committed = true; cleans = []; giving = None; before_mark = most_ahead y n }
+
+  in_phase : (code : Code y.plan) (n : ℕ) (hart : Hart) (graph_thread : GraphThread) (phase : Phase) → Gathers v n (records n) phase →
+      Rests y abstract code (gathering_ghosts n) → InPhase y v abstract code (gathering_ghosts n) hart graph_thread phase
+  in_phase code n hart graph_thread Take g rests = rests
+  in_phase code n hart graph_thread Wait g rests = rests
+  in_phase code n hart graph_thread Done g rests = (rests, g)
+  in_phase code n hart graph_thread phase g rests = absurd g
+
+  pub gathering_thread : (n : ℕ) (below : n < thread_count y) → ThreadInv y v abstract (s.codes.each n below) (gathering_ghosts n)
+  gathering_thread n below =
+      let code = s.codes.each n below in
+      let same : code.thread.number ≡ n = s.codes.number n below in
+      let count = again.machine.count in
+      let there = again.gathers.logs n (omega (arith, below, count)) in
+      let log : LogInv code.thread.number nothing_recorded (records n) v [] = record {
+        hart = there.hart;
+        here = ap (slice_get v.harts) same ∙ there.here;
+        log = subst (λ (k : ℕ). LogIs v.log k nothing_recorded (records n) (config_of v there.hart [])) (sym same) there.log;
+      } in
+      let kept = orderly y s abstract in
+      let found = found_in (kept_of y abstract).graph_threads code.thread.number (let k = kept.count in omega (arith, below, same, k)) in
+      let rests : Rests y abstract code (gathering_ghosts n) = record {
+        begun = ap (steps_of code.thread.number) again.none;
+        done = again.fresh code.thread.number;
+        rest = refl;
+        cleans = refl;
+        giving = refl;
+        committed = refl;
+        whole = ap (most_ahead y) (sym same);
+      } in
+      record {
+        log = log;
+        no_sooner = λ e. ends_committed v.log code.thread.number nothing_recorded (records n) (config_of v log.hart []) log.log refl;
+        describes = again.describe n below;
+        will_describe = λ un. absurd (true≢false un);
+        unlocked = λ mutex gives over. absurd (none-some mutex gives);
+        cleans = λ effect c. absurd (contains_none effect c);
+        graph_thread = found.0;
+        walks =
+            ap (λ (us : List ℕ). slice_get (graph_after (lowered (flat_of y)) (kept_of y abstract) us).graph_threads code.thread.number) again.none ∙ found.1;
+        phase = in_phase code n log.hart found.0 log.hart.phase (again.gathers.each n log.hart there.here) rests;
+        flushed = λ v e writes. let within = writes.within in let zero_done = again.fresh code.thread.number in absurd (omega (arith, within, zero_done));
+      }
+
+  abbrev pub gathering_simulates : Simulates y s v
+  gathering_simulates = record {
+    machine = again.machine;
+    abstract = abstract;
+    memory = again.memory;
+    ghosts = gathering_ghosts;
+    each = gathering_thread;
+    locks = gathering again.none again.gathers;
+    caught_up = λ n below all. over_is_caught y v abstract (s.codes.each n below) (gathering_ghosts n) (gathering_thread n below) refl refl;
+  }
+
+-- ---- After a crash the machine simulates an abstract run at what is kept
+
+-- ---- Attempts
+
+pub again : Attempt → Attempt
+again a = record { done = 0; longest = a.longest }
+
+pub done_again : (attempts : List Attempt) (t : ℕ) → (attempt_at (map again attempts) t).done ≡ 0
+unfolding again
+done_again [] t = refl
+done_again (a ∷ rest) zero = refl
+done_again (a ∷ rest) (suc t) = done_again rest t
+
+longest_again : (attempts : List Attempt) (t : ℕ) → (attempt_at (map again attempts) t).longest ≡ (attempt_at attempts t).longest
+unfolding again
+longest_again [] t = refl
+longest_again (a ∷ rest) zero = refl
+longest_again (a ∷ rest) (suc t) = longest_again rest t
+
+-- ---- The config after a crash
+
+module _ (y : System) (s : IsSystem y) (w : World) (stands : Simulates y s w) where
+  open stands use {abstract as b}
+
+  abbrev after : World
+  after = after_event y.runs.program w Crash
+
+  pub is_again : IsAgain b.config.attempts (map again b.config.attempts)
+  is_again = record { done = done_again b.config.attempts; longest = longest_again b.config.attempts }
+
+  abbrev crashed_run : AbstractRun y
+  crashed_run = record {
+    origin = b.origin;
+    config = record { kept = b.config.kept; uncommitted = []; memory = crashed b.config.memory; attempts = map again b.config.attempts };
+    schedule = b.schedule ++ [];
+    execution = then b.execution (crashes (map again b.config.attempts) is_again);
+    respects = (b.respects, tt);
+  }
+
+  -- ---- Each thread
+
+  pub machine : IsMachineOf y after
+  machine = machine_stays y s w Crash stands.machine
+
+  pub gathers : AreGathering after (left y s w stands)
+  gathers =
+      crashes_gather y.runs.program w (λ n. (stands.ghosts n).old) (λ n. (stands.ghosts n).new) (left y s w stands)
+      (λ n. (stands.ghosts n).rest) (s.count ∙ sym stands.machine.count)
+      (λ n below. log_of y s w stands n (let c = stands.machine.count in omega (arith, below, c))) (λ n below. refl)
+
+  pub describe : AllDescribe y.plan s.codes (kept_of y crashed_run) (left y s w stands)
+  describe n below =
+      subst (λ (us : List ℕ). Describes y.plan (s.codes.each n below) (flow_kept (flat_of y) b.origin us) (left y s w stands n)) (sym (append-nil b.schedule))
+      (left_describes y s w stands n below)
+
+  abbrev pub stands_after : Simulates y s after
+  stands_after = gathering_simulates y s after crashed_run (left y s w stands) (record {
+    machine = machine;
+    memory = crashes_hold (places_of y) y.runs.program w ∙ ap crashed stands.memory;
+    none = refl;
+    fresh = done_again b.config.attempts;
+    gathers = gathers;
+    describe = describe;
+  })
+
+pub crash_simulates : CrashSimulates
+crash_simulates y s w stands = stands_after y s w stands
+
+-- ---- Words whose records describe an origin: the abstract run begins there
+
+-- words without a past are what they leave
+left_again : (words : List ℕ) → map durable_value (map word_of words) ≡ words
+left_again [] = refl
+left_again (n ∷ words) = λ i. n ∷ left_again words i
+
+-- another crash leaves the machine as it is
+pub crashed_again : (log : Log) (program : List (List Slot)) (locks : ℕ) (words : List ℕ) →
+    after_event program (after_crash_of log program locks words) Crash ≡ after_crash_of log program locks words
+unfolding happens after_crash_of
+crashed_again log program locks words =
+    λ i. after_crash_of log program (length-replicate locks (let none : Option ℕ = None in none) i) (left_again words i)
+
+module _ (y : System) (s : IsSystem y) (o : Origin (flat_of y)) (words : List ℕ) (is : IsRecoveredFrom y s o words) where
+  abbrev v : World
+  v = after_crash_of y.runs.log y.runs.program y.runs.mutexes words
+
+  pub words_are : v.words ≡ map word_of words
+  unfolding after_crash_of
+  words_are = refl
+
+  pub recovered_holders : v.holders ≡ replicate y.runs.mutexes None
+  unfolding after_crash_of
+  recovered_holders = refl
+
+  pub stand : IsWellFormedWorld v × (length v.harts ≡ length y.runs.program)
+  stand = crashes_simulate y.runs.log y.runs.program y.runs.mutexes words (is.size ∙ ap (word_count y.runs.log) (sym s.count))
+
+  pub recovered_log : y.plan.log ≡ v.log
+  unfolding after_crash_of
+  recovered_log = s.log
+
+  -- a world without harts that a crash leaves so
+  abbrev no_harts : World
+  no_harts = record { log = y.runs.log; words = map word_of words; harts = []; holders = replicate y.runs.mutexes None; recovering = true }
+
+  pub harts_come_back : after_event y.runs.program no_harts Crash ≡ v
+  unfolding happens
+  harts_come_back = λ i. after_crash_of y.runs.log y.runs.program (length-replicate y.runs.mutexes (let none : Option ℕ = None in none) i) (left_again words i)
+
+  pub short : AreShort v
+  short = subst AreShort harts_come_back (queues_stay_short y.runs.program no_harts Crash (λ h hart there. absurd (none-some hart there)))
+
+  -- ---- Variables
+
+  abbrev memory : Memory
+  memory = memory_in (places_of y) v.words
+
+  pub left_memory : memory ≡ crashed memory
+  left_memory =
+      ap (λ (z : World). memory_in (places_of y) z.words) (sym (crashed_again y.runs.log y.runs.program y.runs.mutexes words))
+      ∙ crashes_hold (places_of y) y.runs.program v
+
+  pub stable : AreStable o.source memory
+  stable =
+      let numbers : o.source.variables ≡ map (map durable_number) memory =
+      sym is.variables ∙ (ap (λ (ws : List Word). durable_variables ws (flat_of y).variables) (sym words_are)
+      ∙ durable_are_memory (flat_of y).variables v.words (well_formed_placed (flat_of y) s.plan.formed).room) in
+      subst (AreStable o.source) (sym left_memory) (crashed_are_stable o.source memory numbers)
+
+  -- ---- Boundaries
+
+  pub cuts : AreCuts (lowered (flat_of y)) y.plan.boundaries
+  cuts = subst (λ (g : Graph). AreCuts g y.plan.boundaries) s.plan.lowered s.plan.cuts
+
+  -- a thread stands where its record resumes it
+  pub resumes_at : (code : Code y.plan) (node address : ℕ) → ResumesAt y.plan code node address → Resumes (lowered (flat_of y)) y.plan.boundaries node
+  resumes_at code node address (at_chosen chosen) = attempts.begins (at_boundary chosen.stands)
+  resumes_at code node address (past_lock from mutex it own there takes) =
+      let at : NodeAt (lowered (flat_of y)) from it = subst (λ (g : Graph). NodeAt g from it) s.plan.lowered there in
+      attempts.begins (cutting.past_lock from (cuts.past_locks from (cutting.locks it mutex node at takes)) (record {
+        is = it;
+        at = at;
+        goes = subst (λ (a : Action). Contains (successors a) node) (sym takes) (contains_first node []);
+      }))
+  resumes_at code node address (past_unlock from mutex it own there gives holds) =
+      let at : NodeAt (lowered (flat_of y)) from it = subst (λ (g : Graph). NodeAt g from it) s.plan.lowered there in
+      attempts.past_unlock from (cutting.unlocks it mutex node at gives) (record {
+        is = it;
+        at = at;
+        goes = subst (λ (a : Action). Contains (successors a) node) (sym gives) (contains_first node []);
+      })
+
+  pub boundary_by : (code : Code y.plan) (mutex node : ℕ) (r : Record) → slice_get o.flow.holders mutex ≡ Some (Some code.thread.number) →
+      node_of o.flow code.thread.number ≡ Some node → Describes y.plan code o.flow r → Resumes (lowered (flat_of y)) y.plan.boundaries node
+  boundary_by code mutex node r held at (between none point) =
+      absurd (true≢false (sym none ∙ holds_some code.thread.number o.flow.holders mutex held))
+  boundary_by code mutex node r held at (inside some i) =
+      let same : i.graph_thread.at ≡ node = same_Some i.graph_thread.at node (ap (option_map (λ (g : GraphThread). g.at)) (sym i.there) ∙ at) in
+      subst (λ (k : ℕ). Resumes (lowered (flat_of y)) y.plan.boundaries k) same (resumes_at code i.graph_thread.at (resume_of r.point) i.resumes)
+
+  pub at_boundaries : BeginsAtBoundaries (flat_of y) y.plan.boundaries o
+  at_boundaries t mutex node held at =
+      let there : slice_get o.flow.holders mutex ≡ Some (Some t) = ap (λ (hs : List (Option ℕ)). slice_get hs mutex) o.matches.holders ∙ held in
+      let below : t < thread_count y = (begins_orderly y.plan s.plan o).holders mutex t there in
+      let number : (s.codes.each t below).thread.number ≡ t = s.codes.number t below in
+      boundary_by (s.codes.each t below) mutex node (is.recovers.records t)
+      (subst (λ (k : ℕ). slice_get o.flow.holders mutex ≡ Some (Some k)) (sym number) there)
+      (subst (λ (k : ℕ). node_of o.flow k ≡ Some node) (sym number) at) (is.recovers.describe t below)
+
+  -- ---- The abstract run
+
+  abbrev recovered_run : AbstractRun y
+  recovered_run = record {
+    origin = o;
+    config = first_config (flat_of y) o.source memory;
+    schedule = [];
+    execution = begins memory stable;
+    respects = at_boundaries;
+  }
+
+  abbrev pub recovered_stands : Simulates y s v
+  recovered_stands = gathering_simulates y s v recovered_run is.recovers.records (record {
+    machine = record {
+      count = stand.1 ∙ s.count;
+      log = recovered_log;
+      mutexes = ap (λ (hs : List (Option ℕ)). length hs) recovered_holders ∙ length-replicate y.runs.mutexes (let none : Option ℕ = None in none) ∙ s.mutexes;
+      sound = stand.0;
+      short = short;
+    };
+    memory = refl;
+    none = refl;
+    fresh = λ n. ap (λ (a : Attempt). a.done) (none_yet (flat_of y).threads n);
+    gathers = is.recovers.gathering;
+    describe = is.recovers.describe;
+  })
+
+pub recovered_words_simulate : RecoveredWordsSimulate
+recovered_words_simulate y s o words is = record { stands = recovered_stands y s o words is; begins = refl }
+
+-- ---- The start: the abstract run begins at the source's start
 
 -- ---- Lists
 
@@ -69,48 +361,15 @@ row_of {A} g at (suc count) (suc i) below =
     let same : at + 1 + i ≡ at + suc i = omega arith in
     row_of g (at + 1) count i (omega (arith, below)) ∙ ap (λ (n : ℕ). Some (g n)) same
 
-pub zero_read : (n r : ℕ) → slice_index (replicate n 0) r ≡ 0
-zero_read zero r = refl
-zero_read (suc n) zero = refl
-zero_read (suc n) (suc r) = zero_read n r
-
-pub zero_local : (n i : ℕ) → slice_index_or (replicate n (pos 0)) i (pos 0) ≡ pos 0
-zero_local zero i = refl
-zero_local (suc n) zero = refl
-zero_local (suc n) (suc i) = zero_local n i
-
-nothing_done : (ts : List f.Thread) (n : ℕ) → 0 ≡ (attempt_at (map (λ (t : f.Thread). no_attempt) ts) n).done
-nothing_done [] n = refl
-nothing_done (t ∷ ts) zero = refl
-nothing_done (t ∷ ts) (suc n) = nothing_done ts n
-
-nothing_free : (locks lock : ℕ) (holder : Option ℕ) → slice_get (replicate locks (let none : Option ℕ = None in none)) lock ≡ Some holder → holder ≡ None
-nothing_free zero lock holder h = absurd (none-some holder h)
-nothing_free (suc locks) zero holder h = sym (same_Some None holder h)
-nothing_free (suc locks) (suc lock) holder h = nothing_free locks lock holder h
-
 part_has_nodes : (ts : List f.Thread) (first n : ℕ) (own : Part) → slice_get (parts ts first) n ≡ Some own → own.first < own.end
 part_has_nodes [] first n own h = absurd (none-some own h)
 part_has_nodes (t ∷ ts) first zero own h = subst (λ (o : Part). o.first < o.end) (same_Some (part t first) own h) (omega arith)
-part_has_nodes (t ∷ ts) first (suc n) own h = part_has_nodes ts (first + thread_count t) n own h
+part_has_nodes (t ∷ ts) first (suc n) own h = part_has_nodes ts (first + node_count t) n own h
 
--- ---- A thread's code is met where it stands
-
-fetch_there : (program : List (List Slot)) (h i : ℕ) (instr : Instr) → slice_get (code_of program h) i ≡ Some (Row instr) →
-    instr_at program h (code_start program h + 4 * i) ≡ Some instr
-fetch_there program h i instr there =
-    let start : ℕ = code_start program h in
-    let test : (nat_le start (start + 4 * i) && ((start + 4 * i) % 4 == 0)) ≡ true = grind arith in
-    let index : (start + 4 * i - start) / 4 ≡ i = omega arith in
-    ap instr_of (cond-true _ _ _ test ∙ ap (slice_get (code_of program h)) index ∙ there)
-
-pub environments_meet : EnvironmentsMeet
-environments_meet program marks resumes reads w h = record {
-  fetches = λ address instr st.
-      let at : code_start program h + 4 * st.0 ≡ address = sym st.1 in
-      subst (λ (a : ℕ). instr_at program h a ≡ Some instr) at (fetch_there program h st.0 instr st.2);
-  marks = refl;
-}
+-- what is pending of no store
+pub pending_free : (p : Plan) (action : Action) (seen : Seen) (x : List ℕ) → seen.pending ≡ None → IsPendingIn p action seen x
+pending_free p (Store variable kind next) seen x none = λ store h. absurd (none-some store (sym none ∙ h))
+pending_free p action seen x none = tt
 
 -- ---- The start
 
@@ -135,6 +394,9 @@ module _ (y : System) (s : IsSystem y) where
   abbrev ghosts : ℕ → ThreadGhost
   ghosts n = record { old = nothing_recorded; new = nothing_recorded; rest = []; committed = true; cleans = []; giving = None; before_mark = most_ahead y n }
 
+  none_done : (n : ℕ) → (attempt_of abstract.config n).done ≡ 0
+  none_done n = ap (λ (a : Attempt). a.done) (none_yet (flat_of y).threads n)
+
   fresh : (n : ℕ) → n < length y.runs.program → slice_get w.harts n ≡ Some (fresh_hart y.runs.program Run n)
   unfolding start_of
   fresh n below =
@@ -147,51 +409,38 @@ module _ (y : System) (s : IsSystem y) where
   unfolding start_of
   holders_are = refl
 
-  abbrev environment : (number : ℕ) → MarkedEnvironment
-  environment number = environment_of y.runs.program (slice_index_or y.runs.marks number []) (λ address bytes. false) w number
-
-  agrees : (number : ℕ) → Agrees y.runs.program w number (environment number)
-  agrees number = record { fetches = λ address instr e. e; loads = λ address bytes value e. absurd (none-some value e) }
-
-  pending_free : (action : Action) (seen : Seen) (x : List ℕ) → seen.pending ≡ None → IsPendingIn y.plan action seen x
-  pending_free (Eval target value next) seen x none = tt
-  pending_free (Store variable kind next) seen x none = λ store h. absurd (none-some store (sym none ∙ h))
-  pending_free (Test condition holds fails) seen x none = tt
-  pending_free (Lock mutex next) seen x none = tt
-  pending_free (Unlock mutex next) seen x none = tt
-  pending_free End seen x none = tt
-
   abbrev graph_thread : Code y.plan → GraphThread
   graph_thread code = graph_thread_start code.thread.part
 
+  part_there : (code : Code y.plan) → slice_get (lowered (flat_of y)).threads code.thread.number ≡ Some code.thread.part
+  part_there code = subst (λ (graph : Graph). slice_get graph.threads code.thread.number ≡ Some code.thread.part) s.plan.lowered code.of.nodes
+
   walks : (code : Code y.plan) → slice_get (now_of y abstract).graph_threads code.thread.number ≡ Some (graph_thread code)
   walks code =
-      let there : slice_get (lowered (flat_of y)).threads code.thread.number ≡ Some code.thread.part =
-      subst (λ (graph : Graph). slice_get graph.threads code.thread.number ≡ Some code.thread.part) s.plan.lowered code.of.nodes in
-      slice_get-map graph_thread_start (lowered (flat_of y)).threads code.thread.number ∙ ap (option_map graph_thread_start) there
+      slice_get-map graph_thread_start (lowered (flat_of y)).threads code.thread.number ∙ ap (option_map graph_thread_start) (part_there code)
 
   has_nodes : (n : ℕ) (own : Part) → slice_get (lowered (flat_of y)).threads n ≡ Some own → own.first < own.end
   unfolding lowered
   has_nodes n own there = part_has_nodes (flat_of y).threads 0 n own there
 
   first_node : (code : Code y.plan) → IsNodeOf code.thread code.thread.part.first
-  first_node code =
-      let there : slice_get (lowered (flat_of y)).threads code.thread.number ≡ Some code.thread.part =
-      subst (λ (graph : Graph). slice_get graph.threads code.thread.number ≡ Some code.thread.part) s.plan.lowered code.of.nodes in
-      record { from_first = omega arith; below_end = has_nodes code.thread.number code.thread.part there }
+  first_node code = record { from_first = omega arith; below_end = has_nodes code.thread.number code.thread.part (part_there code) }
+
+  zero_carried : (k : Kind) (home : Home) → HomeCarries (replicate 32 0) home (typed k (pos 0))
+  zero_carried k (InRegister register) = record { held = Holds-zero k; form = repeated_or 32 register 0 ∙ sym (zero_form k) }
 
   enters : (code : Code y.plan) → Enters y.plan code.thread code.thread.part.first (seen_by (now_of y abstract) (graph_thread code)) 0 (replicate 32 0)
   enters code = record {
     at_side = fresh_on_side y.plan.log;
     count = length-replicate code.thread.part.locals (pos 0) ∙ locals_are y.plan code.thread s.plan code.of;
     locals = λ local k there live.
-        let value = zero_local code.thread.part.locals local in
-        subst (λ (z : ℤ). Carries (replicate 32 0) (slice_index code.thread.registers local) (typed k z)) (sym value)
-        (record { held = Holds-zero k; form = zero_read 32 (slice_index code.thread.registers local) ∙ sym (zero_form k) });
-    pending = λ is at. pending_free is.action (seen_by (now_of y abstract) (graph_thread code)) (replicate 32 0) refl;
+        let value = repeated_or code.thread.part.locals local (pos 0) in
+        subst (λ (z : ℤ). HomeCarries (replicate 32 0) (home_of code.thread.locals local) (typed k z)) (sym value)
+        (zero_carried k (home_of code.thread.locals local));
+    pending = λ is at. pending_free y.plan is.action (seen_by (now_of y abstract) (graph_thread code)) (replicate 32 0) refl;
   }
 
-  on_its_fragment : (n : ℕ) (below : n < systems.thread_count y) (hart : Hart) → slice_get w.harts (s.codes.each n below).thread.number ≡ Some hart →
+  on_its_fragment : (n : ℕ) (below : n < thread_count y) (hart : Hart) → slice_get w.harts (s.codes.each n below).thread.number ≡ Some hart →
       InFragment y w abstract (s.codes.each n below) (ghosts n) hart (graph_thread (s.codes.each n below))
   on_its_fragment n below hart here =
       let code = s.codes.each n below in
@@ -200,26 +449,20 @@ module _ (y : System) (s : IsSystem y) where
       let c = s.count in
       let same = s.codes.number n below in
       let inside : number < length y.runs.program = omega (arith, below, c, same) in
-      let is : program_at y.runs.program number (slice_index_or y.runs.marks number []) (slice_index_or y.runs.resumes number []) ≡ code.is.places.program =
-      sym (code.is.of_program ∙ own.program) in
-      let meets : Meets code.is.places.program (environment number) =
-      subst (λ (p : Program). Meets p (environment number)) is
-      (environments_meet y.runs.program (slice_index_or y.runs.marks number []) (slice_index_or y.runs.resumes number []) (λ address bytes. false) w number) in
       let start : code_start y.runs.program number ≡ code.program.start = ap (λ (p : Program). p.start) (sym own.program) in
       record {
-        environment = environment number;
-        answers = λ address bytes value e. absurd (none-some value e);
+        environment = bare y s w n below;
+        answers = bare_answers y s w n below abstract (ghosts n);
         exit = Arrives;
         side = 0;
         at_side = λ none. absurd (none refl);
         steps = 0;
         fragment =
-            threads_start y.plan code.thread y.runs.program code.program code.is w number (environment number)
-            (seen_by (now_of y abstract) (graph_thread code)) 0
-            (replicate 32 0) meets (agrees number) (first_node code)
+            threads_start y.plan code.thread y.runs.program code.program code.is w number (bare y s w n below)
+            (seen_by (now_of y abstract) (graph_thread code)) 0 (replicate 32 0) (bare_meets y s w n below) (bare_agrees y s w n below) (first_node code)
             (record { hart = fresh_hart y.runs.program Run number; here = fresh number inside; runs = refl; is = ap (config (replicate 32 0)) start })
             (enters code);
-        fits = (record { going = nothing_done (flat_of y).threads number; rest = refl; giving = refl; committed = refl }, refl);
+        fits = (record { going = sym (none_done number); rest = refl; giving = refl; committed = refl }, refl);
         soon =
             let all = entry_soon y s n below code.thread.part.first (length hart.queue) (first_node code)
             (starts_are_short y.runs.log y.runs.program y.runs.mutexes y.runs.initial number hart here) in
@@ -227,7 +470,7 @@ module _ (y : System) (s : IsSystem y) where
             (omega (arith, all, is), omega (arith, is));
       }
 
-  pub thread : (n : ℕ) (below : n < systems.thread_count y) → ThreadInv y w abstract (s.codes.each n below) (ghosts n)
+  pub thread : (n : ℕ) (below : n < thread_count y) → ThreadInv y w abstract (s.codes.each n below) (ghosts n)
   thread n below =
       let code = s.codes.each n below in
       let number = code.thread.number in
@@ -237,7 +480,7 @@ module _ (y : System) (s : IsSystem y) where
       let log = starts_standing y.runs.log y.runs.program y.runs.mutexes number y.runs.initial inside in
       let is : fresh_hart y.runs.program Run number ≡ log.hart = same_Some _ _ (sym (fresh number inside) ∙ log.here) in
       let runs : Run ≡ log.hart.phase = ap (λ (h : Hart). h.phase) is in
-      let none = free_holds_none number 0 (kept_of y abstract).holders (nothing_free (length (flat_of y).mutexes)) in
+      let none = free_holds_none number 0 (kept_of y abstract).holders (λ lock. is_repeated (length (flat_of y).mutexes) lock None) in
       record {
         log = log;
         no_sooner = λ e. ends_committed w.log number nothing_recorded nothing_recorded (config_of w log.hart []) log.log refl;
@@ -250,8 +493,7 @@ module _ (y : System) (s : IsSystem y) where
         phase =
             subst (λ (p : Phase). InPhase y w abstract code (ghosts n) log.hart (graph_thread code) p) runs
             (on_fragment (on_its_fragment n below log.hart log.here));
-        flushed = λ v e writes. let within = writes.within in let zero_done = nothing_done (flat_of y).threads number in
-            absurd (omega (arith, within, zero_done));
+        flushed = λ v e writes. let within = writes.within in let zero_done = none_done number in absurd (omega (arith, within, zero_done));
       }
 
   pub log_is : y.plan.log ≡ w.log

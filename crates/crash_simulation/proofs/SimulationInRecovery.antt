@@ -1,5 +1,5 @@
--- Steps of harts that gather their locks, and of those that have stopped.
-use Rattle.std.proofs.Common.{◌≡◌, ◌⊎◌, inl, inr, refl, ℕ, ◌<◌, List, [], length, ap, arith, sym, ◌∙◌, subst, Option, Some, Bool}
+-- Steps of harts that gather their locks, of those that recovery resumes, and of those that have stopped.
+use Rattle.std.proofs.Common.{◌≡◌, ◌⊎◌, inl, inr, refl, ℕ, ◌<◌, List, [], length, ap, arith, sym, ◌∙◌, subst, Option, Some, Bool, ◌≢◌, ◌++◌, ap₂, ◌≤◌}
 use Rattle.std.specs.Prelude.{slice_get, if◌then◌else◌}
 use Rattle.std.proofs.lemmas.Option.{none-some}
 use Rattle.rv64_isa.proofs.Public.{log_stays, get-set_same}
@@ -7,31 +7,50 @@ use Rattle.ido_base.specs.declared.event.Event.TheVariants.{Step}
 use Rattle.ido_base.specs.declared.event.Reply.{Reply}
 use Rattle.ido_base.specs.declared.event.Reply.TheVariants.{Waits, Barrier, Still}
 use Rattle.rv64_isa.specs.declared.phase.Phase.{Phase}
-use Rattle.rv64_isa.specs.declared.phase.Phase.TheVariants.{Take, Wait, Resume, Run, Done, Ended}
-use Rattle.rv64_isa.specs.Machine.{Hart, World, Outcome, happens, moved, with_holder, after_event}
-use Rattle.flow_graph.specs.Actions.{GraphThread, FlowState}
+use Rattle.rv64_isa.specs.declared.phase.Phase.TheVariants.{Take, Wait, Resume, Done, Ended}
+use Rattle.rv64_isa.specs.Machine.{Hart, World, Outcome, happens, moved, with_holder, after_event, resume_of}
+use Rattle.flow_graph.specs.Actions.{GraphThread, FlowState, seen_by}
 use Rattle.flow_graph.specs.Lowering.{lowered}
 use Rattle.flow_graph.specs.Actions as g
 use Rattle.recovery_semantics.specs.VariableSpots.{memory_in}
-use Rattle.log_states.specs.Logs.{Record}
+use Rattle.log_states.specs.Logs.{Record, side_of}
 use Rattle.hart_runs.specs.Calls as calls
 use Rattle.hart_runs.specs.Calls.{IsInPhase, TakesLocks, has_all, takes_one, is_kept_from, AwaitsOthers}
-use Rattle.hart_runs.proofs.Public.{takes_step, waits_step, stopped_stay}
-use Rattle.recovered_threads.specs.RecordDescriptions.{Code, Describes, AllDescribe}
+use Rattle.hart_runs.proofs.Public.{takes_step, waits_step, stopped_stay, resumes_step}
+use Rattle.recovered_threads.specs.RecordDescriptions.{Code, Describes, AllDescribe, ResumesAt, at_chosen, past_lock, past_unlock}
 use Rattle.recovered_threads.specs.RecoveryStates as r
-use Rattle.recovered_threads.specs.RecoveryStates.{Gathers, AreGathering, HasGathered, AreGathered, Awaits}
+use Rattle.recovered_threads.specs.RecoveryStates.{Gathers, AreGathering, HasGathered, AreGathered, Awaits, IsRecoveredHart, ResumesThread}
 use Rattle.recovered_threads.specs.Laws.{AreRecordsApart}
 use Rattle.recovered_threads.proofs.Public.{same_there, same_or_other, takes_never_wait, waits_for_takers, gathered_go_on, records_are_apart, gathered_are_kept}
+use Rattle.recovered_threads.proofs.Public.{harts_go_on}
 use Rattle.crash_simulation.specs.Systems.{System, IsSystem, flat_of, places_of, thread_count}
-use Rattle.crash_simulation.specs.AbstractRuns.{AbstractRun, kept_of, now_of}
-use Rattle.crash_simulation.specs.ThreadGhosts.{Rests, InPhase, ThreadInv}
-use Rattle.crash_simulation.specs.SimulationRelation.{AreHeld, AreLocked, gathering, gathered, records_of, SimulatesBut, Simulates, anybody}
-use Rattle.crash_simulation.specs.Laws.{TakesStand, WaitsStand, StoppedStand}
+use Rattle.crash_simulation.specs.AbstractRuns.{kept_of, now_of}
+use Rattle.crash_simulation.specs.ThreadGhosts.{Rests, InPhase, ThreadInv, ThreadGhost, IsRunningThread}
+use Rattle.crash_simulation.specs.SimulationRelation.{AreHeld, AreLocked, gathering, gathered, records_of, SimulatesBut, Simulates, anybody, IsMachineOf}
+use Rattle.crash_simulation.specs.Laws.{TakesStand, WaitsStand, StoppedStand, ResumesStand}
 use Rattle.crash_simulation.proofs.LocksAfterStep.{held_alike}
 use Rattle.crash_simulation.proofs.StatesMatchSource.{orderly}
-use Rattle.crash_simulation.proofs.UnchangedMemory.{phase_moves, others_stand}
+use Rattle.crash_simulation.proofs.KeptThreads.{phase_moves, others_stand}
 use Rattle.crash_simulation.proofs.ThreadsOfMachines.{machine_stays, phase_of}
 use Rattle.crash_simulation.proofs.CommitSimulation.{commit_stutters}
+use Rattle.rv64_isa.specs.Rows.{Effect}
+use Rattle.code_runs.specs.ComputingRuns.{config}
+use Rattle.code_runs.specs.CodeTraces.{seen_effects}
+use Rattle.region_attempts.specs.GraphStates.{flow_solo}
+use Rattle.thread_runs.specs.CodeFragments.{Arrives, IsOnFragment, on_machine}
+use Rattle.thread_runs.specs.Laws.{GoesOnFrom}
+use Rattle.thread_runs.proofs.Public.{fragments_see_all, cores_see_all, locks_go_on, unlocks_go_on}
+use Rattle.crash_simulation.specs.ThreadGhosts as courses
+use Rattle.crash_simulation.proofs.LoadFreeEnvironment.{bare, bare_agrees, bare_meets, bare_answers, placed}
+use Rattle.crash_simulation.proofs.GraphAfterBegin.{alone}
+use Rattle.crash_simulation.proofs.OwnHartSteps.{Site, view, same_number}
+use Rattle.hart_runs.specs.HartsOnRuns.{IsRunningAt}
+use Rattle.hart_runs.specs.RunSteps.{cleans_in}
+use Rattle.std.specs.List.{Contains}
+use Rattle.flow_graph.specs.Nodes.{Action, Node, End, successors}
+use Rattle.flow_graph.specs.Liveness.{NodeAt}
+use Rattle.thread_code.specs.Plans.{IsNodeOf}
+use Rattle.crash_simulation.proofs.StepsAfterMarks.{entry_soon, core_less, whole_soon, most_is, fits_by}
 
 -- what a step of hart h leaves that moves it alone: memory is as it was
 pub record IsQuiet (w v : World) (h : ℕ) (old new : Hart) : Type 0 where
@@ -46,8 +65,7 @@ pub record SimulatesStill (y : System) (s : IsSystem y) (w v : World) (old : Sim
   pub locks : AreLocked y v old.abstract old.ghosts
 
 module _ (y : System) (s : IsSystem y) (w : World) (h : ℕ) (stands : Simulates y s w) where
-  abbrev b : AbstractRun y
-  b = stands.abstract
+  open stands use {abstract as b}
 
   abbrev after : World
   after = after_event y.runs.program w (Step h)
@@ -80,15 +98,13 @@ module _ (y : System) (s : IsSystem y) (w : World) (h : ℕ) (stands : Simulates
       AreLocked y after b stands.ghosts → SimulatesStill y s w after stands
   quiet_stands old new here q own locks = record { words = q.words; each = each; locks = locks }
     where
-      logs_stay : after.log ≡ w.log
-      logs_stay = log_stays y.runs.program w (Step h) stands.machine.sound
-
       mine : (below : h < thread_count y) → ThreadInv y after b (s.codes.each h below) (stands.ghosts h)
       mine below =
           let t = stands.each h below in
           let number = s.codes.number h below in
           let is : old ≡ t.log.hart = same_there (slice_get w.harts h) old t.log.hart here (ap (slice_get w.harts) (sym number) ∙ t.log.here) in
-          phase_moves y w after b (s.codes.each h below) (stands.ghosts h) q.words logs_stay t new (ap (slice_get after.harts) number ∙ q.here)
+          phase_moves y w after b (s.codes.each h below) (stands.ghosts h) q.words (log_stays y.runs.program w (Step h) stands.machine.sound) t new
+          (ap (slice_get after.harts) number ∙ q.here)
           (q.queue ∙ ap (λ (x : Hart). x.queue) is) (own below)
 
       each : (n : ℕ) (below : n < thread_count y) → ThreadInv y after b (s.codes.each n below) (stands.ghosts n)
@@ -115,10 +131,8 @@ module _ (y : System) (s : IsSystem y) (w : World) (h : ℕ) (stands : Simulates
         InPhase y w b code (stands.ghosts n) hart graph_thread phase → Rests y b code (stands.ghosts n)
     rest_in n code hart graph_thread Take gath p = p
     rest_in n code hart graph_thread Wait gath p = p
-    rest_in n code hart graph_thread Resume gath p = absurd gath
-    rest_in n code hart graph_thread Run gath p = absurd gath
     rest_in n code hart graph_thread Done gath p = p.0
-    rest_in n code hart graph_thread Ended gath p = absurd gath
+    rest_in n code hart graph_thread phase gath p = absurd gath
 
     pub all_rest : (n : ℕ) (below : n < thread_count y) → Rests y b (s.codes.each n below) (stands.ghosts n)
     all_rest n below =
@@ -141,7 +155,7 @@ module _ (y : System) (s : IsSystem y) (w : World) (h : ℕ) (stands : Simulates
 
     -- ---- Take
 
-    pub takes : IsInPhase w h Take → SimulatesStill y s w after stands
+    takes : IsInPhase w h Take → SimulatesStill y s w after stands
     takes i = by (takes_step y.runs.program w h i)
       where
         rests : (below : h < thread_count y) → Rests y b (s.codes.each h below) (stands.ghosts h)
@@ -181,7 +195,7 @@ module _ (y : System) (s : IsSystem y) (w : World) (h : ℕ) (stands : Simulates
         }
 
   -- a hart that waits is let through
-  pub waits : (i : IsInPhase w h Wait) → AreLocked y w b stands.ghosts → SimulatesStill y s w after stands
+  waits : (i : IsInPhase w h Wait) → AreLocked y w b stands.ghosts → SimulatesStill y s w after stands
   waits i locks = by (waits_step y.runs.program w h i) locks
     where
       go : happens y.runs.program w (Step h) ≡ moved w h (record i.hart { phase = Resume }) → AreGathered after records →
@@ -203,28 +217,23 @@ module _ (y : System) (s : IsSystem y) (w : World) (h : ℕ) (stands : Simulates
       by (calls.all_have nobody does) (gathering none gathers) = first none gathers nobody does (waits_for_takers y.runs.program w records h gathers i)
       by (calls.all_have nobody does) (gathered ag held) = go does (gathered_go_on y.runs.program w records h Wait ag (inl refl) i).1 held
 
-takes_by : (y : System) (s : IsSystem y) (w : World) (h : ℕ) (stands : Simulates y s w) → IsInPhase w h Take →
-    AreLocked y w stands.abstract stands.ghosts → SimulatesStill y s w (after_event y.runs.program w (Step h)) stands
-takes_by y s w h stands i (gathering none gathers) = takes y s w h stands none gathers i
-takes_by y s w h stands i (gathered ag held) =
-    absurd (subst (λ (p : Phase). HasGathered w h (records_of stands.ghosts h) p) i.phase_is (ag.each h i.hart i.here))
+  -- ---- Whichever is so of its locks
 
-pub takes_still : (y : System) (s : IsSystem y) (w : World) (h : ℕ) (stands : Simulates y s w) → IsInPhase w h Take →
-    SimulatesStill y s w (after_event y.runs.program w (Step h)) stands
-takes_still y s w h stands i = takes_by y s w h stands i stands.locks
+  pub takes_still : IsInPhase w h Take → SimulatesStill y s w after stands
+  takes_still i = elim stands.locks [
+    | gathering none gathers ↦ takes none gathers i
+    | gathered ag held ↦ absurd (subst (HasGathered w h (records h)) i.phase_is (ag.each h i.hart i.here))
+  ]
 
-pub waits_still : (y : System) (s : IsSystem y) (w : World) (h : ℕ) (stands : Simulates y s w) → IsInPhase w h Wait →
-    SimulatesStill y s w (after_event y.runs.program w (Step h)) stands
-waits_still y s w h stands i = waits y s w h stands i stands.locks
+  pub waits_still : IsInPhase w h Wait → SimulatesStill y s w after stands
+  waits_still i = waits i stands.locks
 
-pub stopped_still : (y : System) (s : IsSystem y) (w : World) (h : ℕ) (phase : Phase) (stands : Simulates y s w) → (phase ≡ Done) ⊎ (phase ≡ Ended) →
-    IsInPhase w h phase → SimulatesStill y s w (after_event y.runs.program w (Step h)) stands
-stopped_still y s w h phase stands stopped i = nothing_happens y s w h stands Still (stopped_stay y.runs.program w h phase stopped i)
+  pub stopped_still : (phase : Phase) → (phase ≡ Done) ⊎ (phase ≡ Ended) → IsInPhase w h phase → SimulatesStill y s w after stands
+  stopped_still phase stopped i = nothing_happens Still (stopped_stay y.runs.program w h phase stopped i)
 
--- what is committed then is taken so
-pub goes_on : (y : System) (s : IsSystem y) (w : World) (h : ℕ) (stands : Simulates y s w) →
-    SimulatesStill y s w (after_event y.runs.program w (Step h)) stands → Simulates y s (after_event y.runs.program w (Step h))
-goes_on y s w h stands still = commit_stutters y s (after_event y.runs.program w (Step h)) (still_simulates y s w h stands still)
+  -- what is committed then is taken so
+  pub goes_on : SimulatesStill y s w after stands → Simulates y s after
+  goes_on still = commit_stutters y s after (still_simulates still)
 
 pub takes_stand : TakesStand
 takes_stand y s w h stands i = goes_on y s w h stands (takes_still y s w h stands i)
@@ -233,4 +242,148 @@ pub waits_stand : WaitsStand
 waits_stand y s w h stands i = goes_on y s w h stands (waits_still y s w h stands i)
 
 pub stopped_stand : StoppedStand
-stopped_stand y s w h phase stands stopped i = goes_on y s w h stands (stopped_still y s w h phase stands stopped i)
+stopped_stand y s w h phase stands stopped i = goes_on y s w h stands (stopped_still y s w h stands phase stopped i)
+
+-- ---- A hart that recovery resumes goes on at the node of its graph thread
+
+module _ (y : System) (s : IsSystem y) (w : World) (h : ℕ) (stands : Simulates y s w) (i : IsInPhase w h Resume)
+    (ag : AreGathered w (records_of stands.ghosts)) (held : AreHeld w stands.ghosts (now_of y stands.abstract)) where
+  open stands use {abstract as b}
+  open resumes_step y.runs.program w h i use {after as new, does, queue}
+
+  abbrev resumed : World
+  resumed = after_event y.runs.program w (Step h)
+
+  module _ (below : h < thread_count y) where
+    abbrev site : Site y s w h
+    site = record { stands = stands; below = below }
+
+    open view site use {code, c as ghost, n, places}
+
+    rests : Rests y b code ghost
+    rests = phase_of y s w h stands Resume i below
+
+    describes : Describes y.plan code (kept_of y b) ghost.new
+    describes =
+        subst (λ (done : Bool). Describes y.plan code (kept_of y b) (if done then ghost.new else ghost.old)) rests.committed
+        (stands.each h below).describes
+
+    go : ResumesThread y.runs.program code (kept_of y b) w i.hart ghost.new
+    go =
+        let ready : IsRecoveredHart w h ghost.new = subst (HasGathered w h ghost.new) i.phase_is (ag.each h i.hart i.here) in
+        harts_go_on y.runs.program y.plan code (kept_of y b) w ghost.new stands.machine.log describes
+        (subst (λ (k : ℕ). IsRecoveredHart w k ghost.new) (sym (same_number site)) ready)
+        (record { hart = i.hart; here = ap (slice_get w.harts) (same_number site) ∙ i.here; phase_is = i.phase_is })
+
+    open go.told use {graph_thread, own as of_thread}
+
+    there : slice_get resumed.harts h ≡ Some go.after
+    there = (moved_is y s w h stands w i.hart go.after i.here
+        (subst (λ (k : ℕ). happens y.runs.program w (Step k) ≡ moved w k go.after) (same_number site) go.does) refl refl go.queue).here
+
+    -- the resumed thread's graph thread is that of the kept state
+    same_graph_thread : graph_thread ≡ (stands.each h below).graph_thread
+    same_graph_thread =
+        let kept : slice_get (now_of y b).graph_threads n ≡ slice_get (kept_of y b).graph_threads n =
+        alone y s b n ∙ ap (λ (k : ℕ). slice_get (flow_solo (flat_of y) (kept_of y b) n k).graph_threads n) rests.begun in
+        same_there (slice_get (kept_of y b).graph_threads n) graph_thread (stands.each h below).graph_thread go.told.there
+        (sym kept ∙ (stands.each h below).walks)
+
+    machine : IsMachineOf y resumed
+    machine = machine_stays y s w (Step h) stands.machine
+
+    abbrev side : ℕ
+    side = side_of ghost.new
+
+    goes : courses.IsInAttempt y b code ghost
+    goes = record { going = rests.begun ∙ sym rests.done; rest = rests.rest; giving = rests.giving; committed = rests.committed }
+
+    short : length go.after.queue ≤ 16
+    short = machine.short h go.after there
+
+    abbrev IsHere : ℕ → Type 0
+    IsHere address = IsRunningAt resumed n (config go.after.registers address)
+
+    runs_at_core : IsHere (places.core graph_thread.at) → IsRunningThread y resumed b code ghost go.after graph_thread
+    runs_at_core at = courses.at_core (record {
+      side = side;
+      at_side = λ some. refl;
+      registers = go.after.registers;
+      core =
+          cores_see_all y.plan code.thread places resumed n graph_thread.at (seen_by (kept_of y b) graph_thread) side go.after.registers
+          (now_of y b).variables (record { own = of_thread; at = at; enters = go.enters });
+      goes = record { goes = goes; cleans = rests.cleans; execution = go.told.goes_on };
+      fresh = λ chosen. rests.done;
+      soon =
+          let all = entry_soon y s h below graph_thread.at (length go.after.queue) of_thread short in
+          let less = core_less y.plan places graph_thread.at in
+          whole_soon y n ghost.before_mark _ rests.whole (omega (arith, all, less));
+    })
+
+    -- resumed a lock or an unlock, whose code leads to the node
+    runs_after : (from : ℕ) (is : Node) → IsNodeOf code.thread from → NodeAt y.plan.graph from is → Contains (successors is.action) graph_thread.at →
+        is.action ≢ End → GoesOnFrom from graph_thread.at y.plan code.thread → IsHere (places.after from) →
+        IsRunningThread y resumed b code ghost go.after graph_thread
+    runs_after from is own found follows other leads at =
+        let environment = bare y s resumed h below in
+        let seen = seen_by (kept_of y b) graph_thread in
+        let fragment = leads y.runs.program code.program code.is resumed n environment seen side go.after.registers
+        (placed y s resumed h below machine.log machine.count) (bare_meets y s resumed h below) (bare_agrees y s resumed h below) at go.enters in
+        let none : ghost.cleans ++ ghost.rest ≡ [] = ap₂ ◌++◌ rests.cleans rests.rest in
+        courses.on_fragment (record {
+          environment = environment;
+          answers = bare_answers y s resumed h below b ghost;
+          exit = Arrives;
+          side = side;
+          at_side = λ some. refl;
+          steps = fragment.steps;
+          fragment = subst (IsOnFragment y.plan code.thread places (on_machine y.runs.program resumed n environment) _ fragment.steps) (sym none)
+              (fragments_see_all y.plan code.thread places y.runs.program resumed n environment _ fragment.steps [] (now_of y b).variables fragment.on);
+          fits = (goes, go.told.goes_on);
+          soon =
+              let few = fragment.short in
+              let queue = short in
+              let most = most_is y s h below in
+              let fit = fits_by y s h below from is own found graph_thread.at of_thread follows other in
+              let no_cleans : cleans_in (seen_effects (ghost.cleans ++ ghost.rest)) ≡ 0 = ap (λ (es : List Effect). cleans_in (seen_effects es)) none in
+              whole_soon y n ghost.before_mark _ rests.whole (omega (arith, few, queue, most, no_cleans, fit));
+        })
+
+    runs_by : (address : ℕ) → ResumesAt y.plan code graph_thread.at address → IsHere address → IsRunningThread y resumed b code ghost go.after graph_thread
+    runs_by _ (at_chosen chosen) at = runs_at_core at
+    runs_by _ (past_lock from mutex is own found locks) at =
+        runs_after from is own found (subst (λ (z : Action). Contains (successors z) graph_thread.at) (sym locks) (0, omega arith, refl)) (λ ends. cc)
+        (locks_go_on y.plan code.thread from mutex graph_thread.at (record { own = own; is = is; at = found; locks = locks })) at
+    runs_by _ (past_unlock from mutex is own found unlocks holds) at =
+        runs_after from is own found (subst (λ (z : Action). Contains (successors z) graph_thread.at) (sym unlocks) (0, omega arith, refl)) (λ ends. cc)
+        (unlocks_go_on y.plan code.thread from mutex graph_thread.at (record { own = own; is = is; at = found; unlocks = unlocks })) at
+
+    own : InPhase y resumed b code ghost new (stands.each h below).graph_thread new.phase
+    own =
+        let here : slice_get resumed.harts h ≡ Some new = (moved_is y s w h stands w i.hart new i.here does refl refl queue).here in
+        let is : go.after ≡ new = same_there (slice_get resumed.harts h) go.after new there here in
+        let runs : IsRunningThread y resumed b code ghost go.after (stands.each h below).graph_thread =
+        subst (IsRunningThread y resumed b code ghost go.after) same_graph_thread (runs_by (resume_of ghost.new.point) go.told.resumes (record {
+          hart = go.after;
+          here = ap (slice_get resumed.harts) (same_number site) ∙ there;
+          runs = go.runs;
+          is = ap (config go.after.registers) go.pc;
+        })) in
+        subst (λ (x : Hart). InPhase y resumed b code ghost x (stands.each h below).graph_thread x.phase) is
+        (subst (InPhase y resumed b code ghost go.after (stands.each h below).graph_thread) (sym go.runs) runs)
+
+  resumes : SimulatesStill y s w resumed stands
+  resumes =
+      quiet_stands y s w h stands i.hart new i.here (moved_is y s w h stands w i.hart new i.here does refl refl queue) own
+      (gathered (gathered_go_on y.runs.program w (records_of stands.ghosts) h Resume ag (inr refl) i).1
+      (held_alike w resumed stands.ghosts stands.ghosts (now_of y b) (ap (λ (o : Outcome). o.0.holders) does) (λ n. refl) held))
+
+pub resumes_still : (y : System) (s : IsSystem y) (w : World) (h : ℕ) (stands : Simulates y s w) → IsInPhase w h Resume →
+    SimulatesStill y s w (after_event y.runs.program w (Step h)) stands
+resumes_still y s w h stands i = elim stands.locks [
+  | gathering none gathers ↦ absurd (subst (Gathers w h (records_of stands.ghosts h)) i.phase_is (gathers.each h i.hart i.here))
+  | gathered ag held ↦ resumes y s w h stands i ag held
+]
+
+pub resumes_stand : ResumesStand
+resumes_stand y s w h stands i = goes_on y s w h stands (resumes_still y s w h stands i)

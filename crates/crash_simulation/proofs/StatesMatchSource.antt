@@ -1,13 +1,12 @@
 -- The kept state and the state now match ones of the source, in which mutexes are held by threads.
 use Rattle.std.proofs.Common.{◌≡◌, refl, ℕ, zero, suc, ◌+◌, List, [], ◌∷◌, length, replicate, sym, ◌∙◌, ap, subst, arith, Option, Some, None, true}
-use Rattle.std.specs.Prelude.{slice_get, is_none}
+use Rattle.std.specs.Prelude.{slice_get, slice_index_or, is_none}
 use Rattle.std.specs.List.{AllZip}
-use Rattle.std.proofs.lemmas.Option.{none-some}
+use Rattle.std.proofs.lemmas.Option.{none-some, same_Some}
 use Rattle.std.proofs.lemmas.List.{length-map}
 use Rattle.ido_base.specs.Locks.{held_from}
 use Rattle.c_tree.specs.Flats as f
 use Rattle.c_tree.specs.Source as m
-use Rattle.c_tree.specs.WellFormed.{IsWellFormed}
 use Rattle.c_ranges.specs.RunInvariants.{IsThreadOf}
 use Rattle.flow_graph.specs.Nodes.{Graph}
 use Rattle.flow_graph.specs.Lowering.{lowered}
@@ -16,7 +15,7 @@ use Rattle.flow_graph.specs.Lockstep.{Matches}
 use Rattle.flow_graph.specs.Actions.{FlowState, graph_thread_start, graph_step, graph_after}
 use Rattle.flow_graph.proofs.Public.{Good, begins_lockstep, good_after}
 use Rattle.region_attempts.specs.Origins.{Origin}
-use Rattle.region_attempts.specs.Laws.{StaysResumed}
+use Rattle.region_attempts.specs.Laws.{StaysResumed, MatchesSource}
 use Rattle.region_attempts.proofs.Public.{executions_stay, graph_stands, kept_good as kept_good_of}
 use Rattle.thread_code.specs.Plans.{Plan, IsPlan}
 use Rattle.recovered_threads.specs.RecordDescriptions.{IsOrderly}
@@ -44,15 +43,12 @@ zip_length R [] (y ∷ ys) h = absurd h
 zip_length R (x ∷ xs) [] h = absurd h
 zip_length R (x ∷ xs) (y ∷ ys) h = ap suc (zip_length R xs ys h.1)
 
--- the graph has as many threads as the form
-as_many : (x : f.Flat) → IsWellFormed x → length (lowered x).threads ≡ length x.threads
-as_many x w = sym (length-map (lowered x).threads graph_thread_start) ∙ (begins_lockstep x w).count ∙ length-map x.threads m.thread_start
-
 pub begins_orderly : (p : Plan) → IsPlan p → (o : Origin p.flat) → IsOrderly p o.flow
 begins_orderly p plan o =
     let all : length o.source.threads ≡ length p.graph.threads =
     zip_length (λ (t : f.Thread) (thread : m.Thread). IsThreadOf p.flat t.locals thread) p.flat.threads o.source.threads o.formed.threads
-    ∙ sym (as_many p.flat plan.formed) ∙ ap (λ (graph : Graph). length graph.threads) (sym plan.lowered) in
+    ∙ sym (sym (length-map (lowered p.flat).threads graph_thread_start) ∙ (begins_lockstep p.flat plan.formed).count ∙ length-map p.flat.threads m.thread_start)
+    ∙ ap (λ (graph : Graph). length graph.threads) (sym plan.lowered) in
     record {
       source = o.source;
       matches = o.matches;
@@ -71,10 +67,19 @@ free_holds_none n at [] free = refl
 free_holds_none n at (None ∷ holders) free = free_holds_none n (at + 1) holders (λ lock holder there. free (suc lock) holder there)
 free_holds_none n at (Some holder ∷ holders) free = absurd (none-some holder (sym (free 0 (Some holder) refl)))
 
+-- a list of one thing has that alone
+pub is_repeated : {A : Type 0} (count i : ℕ) (a x : A) → slice_get (replicate count a) i ≡ Some x → x ≡ a
+is_repeated zero i a x h = absurd (none-some x h)
+is_repeated (suc count) zero a x h = sym (same_Some a x h)
+is_repeated (suc count) (suc i) a x h = is_repeated count i a x h
+
+pub repeated_or : {A : Type 0} (count i : ℕ) (a : A) → slice_index_or (replicate count a) i a ≡ a
+repeated_or zero i a = refl
+repeated_or (suc count) zero a = refl
+repeated_or (suc count) (suc i) a = repeated_or count i a
+
 pub none_holds : (locks lock n : ℕ) → slice_get (replicate locks (let none : Option ℕ = None in none)) lock ≡ Some (Some n) → ⊥
-none_holds zero lock n h = cc
-none_holds (suc locks) zero n h = cc
-none_holds (suc locks) (suc lock) n h = none_holds locks lock n h
+none_holds locks lock n h = let e : Some n ≡ None = is_repeated locks lock None (Some n) h in cc
 
 module _ (y : System) (s : IsSystem y) (b : AbstractRun y) where
   pub cuts : AreCuts (lowered (flat_of y)) y.plan.boundaries
@@ -83,8 +88,11 @@ module _ (y : System) (s : IsSystem y) (b : AbstractRun y) where
   pub resumed : StaysResumed (flat_of y) y.plan.boundaries b.origin b.config b.schedule
   resumed = executions_stay (flat_of y) y.plan.boundaries b.origin b.config b.schedule s.plan.formed cuts b.execution b.respects
 
+  pub as_source : MatchesSource (flat_of y) b.config (kept_of y b)
+  as_source = graph_stands (flat_of y) b.origin b.config b.schedule s.plan.formed resumed.resumed.invariant resumed.resumed.kept
+
   pub kept_matches : Matches (flat_of y) (kept_of y b) b.config.kept
-  kept_matches = (graph_stands (flat_of y) b.origin b.config b.schedule s.plan.formed resumed.resumed.invariant resumed.resumed.kept).kept_matches
+  kept_matches = as_source.kept_matches
 
   -- ---- The kept state and the state now
 

@@ -1,10 +1,8 @@
 -- After a step of a hart that executes instructions, and after an eviction, the machine simulates an abstract run, where commits may still be to be taken.
-use Rattle.std.proofs.Common.{◌≡◌, ◌≢◌, refl, ℕ, suc, ◌<◌, List, [], length, ap, arith, sym, ◌∙◌, subst, Option, Some}
-use Rattle.std.specs.Prelude.{slice_get}
+use Rattle.std.proofs.Common.{◌≢◌, refl, ℕ, suc, ◌<◌, [], arith, sym, ◌∙◌}
 use Rattle.ido_base.specs.declared.event.Event.TheVariants.{Step, Evict}
 use Rattle.rv64_isa.specs.declared.phase.Phase.TheVariants.{Run}
-use Rattle.rv64_isa.specs.Machine.{Hart, World, after_event}
-use Rattle.rv64_isa.proofs.Public.{evictions_touch}
+use Rattle.rv64_isa.specs.Machine.{World, after_event, happens}
 use Rattle.recovery_semantics.specs.ElementHistories.{Memory, ArePersisted}
 use Rattle.recovery_semantics.specs.Configs.{Config}
 use Rattle.recovery_semantics.specs.Events.{persists}
@@ -27,7 +25,7 @@ use Rattle.crash_simulation.specs.Laws.{EvictionsSimulate}
 use Rattle.crash_simulation.proofs.LocksAfterStep.{held_alike}
 use Rattle.crash_simulation.proofs.UncommittedSteps.{leads_on}
 use Rattle.crash_simulation.proofs.DisjointStores.{elsewhere, agrees_after}
-use Rattle.crash_simulation.proofs.OtherEventsKeepThreads.{led_on}
+use Rattle.crash_simulation.proofs.KeptThreads.{led_on}
 use Rattle.crash_simulation.proofs.ThreadsOfMachines.{machine_stays, each_placed}
 
 -- ---- A step
@@ -75,9 +73,7 @@ module _ (y : System) (s : IsSystem y) (w : World) (line mask : ℕ) (stands : S
   persisted = memory_in (places_of y) evicted.words
 
   pub raises : ArePersisted stands.abstract.config.memory persisted
-  raises =
-      subst (λ (memory : Memory). ArePersisted memory persisted) stands.memory
-      (events_raise y.runs.program w (places_of y) (Evict line mask) stands.machine.sound tt)
+  raises = grind (arith, events_raise)
 
   abbrev next : Config
   next = record stands.abstract.config { memory = persisted }
@@ -101,48 +97,30 @@ module _ (y : System) (s : IsSystem y) (w : World) (line mask : ℕ) (stands : S
       }) s (suc code.thread.number) (λ e. omega (arith, e)) run_after (goes next (persists persisted raises) tt abstract_persisted.0 abstract_persisted.1)
       (stands.each n below)
 
-  holders_same : evicted.holders ≡ w.holders
-  holders_same = ap (λ (v : World). v.holders) (evictions_touch y.runs.program w line mask).1
-
-  harts_same : evicted.harts ≡ w.harts
-  harts_same = ap (λ (v : World). v.harts) (evictions_touch y.runs.program w line mask).1
-
-  there_before : (h : ℕ) (hart : Hart) → slice_get evicted.harts h ≡ Some hart → slice_get w.harts h ≡ Some hart
-  there_before h hart there = ap (λ (hs : List Hart). slice_get hs h) (sym harts_same) ∙ there
-
-  held_before : (lock : ℕ) (holder : Option ℕ) → slice_get evicted.holders lock ≡ Some holder → slice_get w.holders lock ≡ Some holder
-  held_before lock holder there = ap (λ (hs : List (Option ℕ)). slice_get hs lock) (sym holders_same) ∙ there
-
   record_evicted : (h : ℕ) (r : Record) → HasRecord w h r → HasRecord evicted h r
   record_evicted h r has = evictions_keep y.runs.program line mask h nothing_recorded r w [] has
 
   gathering_evicted : (records : ℕ → Record) → AreGathering w records → AreGathering evicted records
+  unfolding happens
   gathering_evicted records are = record {
-    each = λ h hart there. gathers_on w evicted h (records h) hart.phase (λ all lock holder held has. all lock holder (held_before lock holder held) has)
-        (are.each h hart (there_before h hart there));
-    logs = λ h below. record_evicted h (records h) (are.logs h (subst (λ (hs : List Hart). h < length hs) harts_same below));
-    held = λ lock h there.
-        let own = are.held lock h (held_before lock (Some h) there) in
-        record { exists = subst (λ (hs : List Hart). h < length hs) (sym harts_same) own.exists; has = own.has };
+    each = λ h hart there. gathers_on w evicted h (records h) hart.phase (λ all lock holder held has. all lock holder held has) (are.each h hart there);
+    logs = λ h below. record_evicted h (records h) (are.logs h below);
+    held = λ lock h there. let own = are.held lock h there in record { exists = own.exists; has = own.has };
   }
 
   gathered_evicted : (records : ℕ → Record) → AreGathered w records → AreGathered evicted records
+  unfolding happens
   gathered_evicted records are = record {
     each = λ h hart there. gathered_on w evicted h (records h) hart.phase
-        (λ is. record {
-          inside = is.inside;
-          all = λ lock holder held has. is.all lock holder (held_before lock holder held) has;
-          only = λ lock held. is.only lock (held_before lock (Some h) held);
-          log = record_evicted h (records h) is.log;
-        })
-        (are.each h hart (there_before h hart there));
+        (λ is. record { inside = is.inside; all = is.all; only = is.only; log = record_evicted h (records h) is.log }) (are.each h hart there);
   }
 
   pub locked_evicted : AreLocked y w stands.abstract stands.ghosts → AreLocked y evicted run_after stands.ghosts
+  unfolding happens
   locked_evicted (gathering none gathers) = gathering none (gathering_evicted (records_of stands.ghosts) gathers)
   locked_evicted (gathered are held) =
       gathered (gathered_evicted (records_of stands.ghosts) are)
-      (held_alike w evicted stands.ghosts stands.ghosts (now_of y stands.abstract) holders_same (λ n. refl) held)
+      (held_alike w evicted stands.ghosts stands.ghosts (now_of y stands.abstract) refl (λ n. refl) held)
 
   abbrev pub evicted_simulates : SimulatesBut y s evicted anybody
   evicted_simulates = record {

@@ -1,12 +1,13 @@
 -- What is ahead of a thread between two marks fits into its code.
-use Rattle.std.proofs.Common.{◌≡◌, ◌≢◌, inl, inr, refl, ℕ, zero, suc, ◌+◌, ◌-◌, ◌*◌, ◌<◌, ◌≤◌, List, [], ◌∷◌, length, sym, ◌∙◌, ap, arith, subst, cond, Bool}
-use Rattle.std.proofs.Common.{Option, Some, None}
+use Rattle.std.proofs.lemmas.Bool.Decides.{nat_tests}
+use Rattle.std.proofs.Common.{◌≡◌, ◌≢◌, inl, inr, ℕ, zero, suc, ◌+◌, ◌-◌, ◌*◌, ◌<◌, ◌≤◌, List, [], ◌∷◌, length, sym, ◌∙◌, ap, arith, subst, cond, Bool}
+use Rattle.std.proofs.Common.{Some}
 use Rattle.std.proofs.lemmas.Bool.{cases_lt, cases_eq}
 use Rattle.std.proofs.lemmas.Option.{same_Some}
 use Rattle.std.specs.Prelude.{slice_get}
-use Rattle.flow_graph.specs.Nodes.{Action, Store, Lock, End, Node, Graph}
+use Rattle.flow_graph.specs.Nodes.{Action, End, Node, Graph}
 use Rattle.flow_graph.specs.Liveness.{NodeAt}
-use Rattle.code_runs.specs.CodeTraces.{Program, Observation, Mark, marked}
+use Rattle.code_runs.specs.CodeTraces.{Program, Mark, marked}
 use Rattle.thread_code.specs.Plans.{Plan, Thread, IsThread, IsNodeOf, IsPlan}
 use Rattle.thread_code.specs.NodeCodeEffects.{Places}
 use Rattle.thread_code.specs.Programs.{IsThreadCode, IsNodeCode, IsCalling, IsCallWithin, mark_of}
@@ -18,31 +19,16 @@ use Rattle.thread_runs.proofs.Public.{any_at}
 
 pub weight_is : (by : Action → (words : ℕ) → ℕ) (p : Plan) (c : Places) (node : ℕ) (is : Node) → NodeAt p.graph node is →
     weight_at by p c node ≡ by is.action (c.words node)
-weight_is by p c node is at = ap (λ (o : Option Node). elim o [
-  | None ↦ 0
-  | Some x ↦ by x.action (c.words node)
-]) at
+weight_is by p c node is at = grind (arith, nat_tests)
 
 -- ---- Words
 
-mark_or_none : (Mark ∷ []) ≡ [] → ⊥
-mark_or_none e = let long : 1 ≡ 0 = ap (λ (s : List Observation). length s) e in absurd (omega (arith, long))
-
 apart : (nodes : List ℕ) (core call words : ℕ) → call ≡ core + 4 * words → marked nodes core ≡ Mark ∷ [] → marked nodes call ≡ [] → 1 ≤ words
-apart nodes core call zero is there none =
-    let same : core ≡ call = omega (arith, is) in
-    absurd (mark_or_none (sym there ∙ (ap (λ (x : ℕ). marked nodes x) same ∙ none)))
-apart nodes core call (suc k) is there none = omega arith
+apart nodes core call words is there none = grind (arith, nat_tests)
 
 module _ (p : Plan) (t : Thread) (own : Program) (code : IsThreadCode p t own) where
-  abbrev c : Places
-  c = code.places
-
-  abbrev first : ℕ
-  first = t.part.first
-
-  abbrev end : ℕ
-  end = t.part.end
+  open code use {places as c}
+  open t.part use {first, end}
 
   -- addresses rise
   persists : (n k : ℕ) → first ≤ n → n + k ≤ end → c.entry n ≤ c.entry (n + k)
@@ -66,16 +52,10 @@ module _ (p : Plan) (t : Thread) (own : Program) (code : IsThreadCode p t own) w
     within : c.entry n + 4 * c.words n ≤ own.start + 4 * length own.code
 
   room : (n : ℕ) → IsNodeOf t n → Room n
-  room n of =
-      let start : c.program.start ≡ own.start = ap (λ (x : Program). x.start) code.of_program in
-      let from : c.entry first ≤ c.entry n = up_to first n (omega arith) of.from_first (omega arith) in
-      let to : c.entry (n + 1) ≤ c.entry end = up_to (n + 1) end (omega arith) (omega arith) (omega arith) in
-      record { above = omega (arith, code.begins, from); within = omega (arith, to, code.follows n of, code.ends) }
+  room n of = grind (arith, up_to)
 
   after : (n m : ℕ) → IsNodeOf t n → IsNodeOf t m → n < m → c.entry n + 4 * c.words n ≤ c.entry m
-  after n m of there less =
-      let to : c.entry (n + 1) ≤ c.entry m = up_to (n + 1) m (omega arith) (omega (arith, less)) (omega arith) in
-      omega (arith, to, code.follows n of)
+  after n m of there less = grind (arith, up_to)
 
   two_fit : (n m : ℕ) → IsNodeOf t n → IsNodeOf t m → n < m → c.words n + c.words m ≤ length own.code
   two_fit n m of there less =
@@ -111,9 +91,7 @@ module _ (p : Plan) (t : Thread) (own : Program) (code : IsThreadCode p t own) w
     last = ending p.flat t.number t.part (subst (λ (g : Graph). slice_get g.threads t.number ≡ Some t.part) plan.lowered thread.nodes)
 
     last_own : (n : ℕ) → IsNodeOf t n → IsNodeOf t last.number
-    last_own n of =
-        let is = last.last in
-        record { from_first = omega (arith, is); below_end = omega (arith, is) }
+    last_own n of = grind (arith)
 
     last_at : NodeAt p.graph last.number last.is
     last_at = subst (λ (g : Graph). NodeAt g last.number last.is) (sym plan.lowered) last.at
@@ -125,11 +103,7 @@ module _ (p : Plan) (t : Thread) (own : Program) (code : IsThreadCode p t own) w
     last_words n of = ending_words last.number last.is (last_own n of) last_at last.ends
 
     below_last : (n : ℕ) → IsNodeOf t n → n ≢ last.number → n < last.number
-    below_last n of other =
-        elim (cases_lt n last.number) [
-          | inl less ↦ less
-          | inr more ↦ absurd (other (omega (arith, last.last, more)))
-        ]
+    below_last n of other = grind (arith, nat_tests)
 
     -- a node alone
     pub alone_fits : (n : ℕ) → IsNodeOf t n → c.words n ≤ L
@@ -159,29 +133,4 @@ module _ (p : Plan) (t : Thread) (own : Program) (code : IsThreadCode p t own) w
     -- a node that isn't the end, and what is ahead at the entry of another
     pub fits : (n m : ℕ) (is : Node) → IsNodeOf t n → IsNodeOf t m → n ≢ last.number → NodeAt p.graph m is →
         ((action : Action) → is.action ≡ action → weight action 1 ≢ 0 → n ≢ m) → 2 * c.words n + entry_ahead p c m + 4 ≤ 2 * L
-    fits n m is of there other at apart_they = by is.action refl
-      where
-        light : (action : Action) → is.action ≡ action → weight action (c.words m) ≡ 0 → 2 * c.words n + entry_ahead p c m + 4 ≤ 2 * L
-        light action e none =
-            let zero_ahead : entry_ahead p c m ≡ 0 = weight_is weight p c m is at ∙ (ap (λ (a : Action). weight a (c.words m)) e ∙ none) in
-            omega (arith, one_fits n of other, zero_ahead)
-
-        not_last : (action : Action) → is.action ≡ action → weight action 1 ≢ 0 → m ≢ last.number
-        not_last action e some same =
-            let here : NodeAt p.graph last.number is = subst (λ (k : ℕ). NodeAt p.graph k is) same at in
-            let one : is ≡ last.is = same_Some is last.is (sym here ∙ last_at) in
-            some (ap (λ (a : Action). weight a 1) (sym e ∙ (ap (λ (x : Node). x.action) one ∙ last.ends)))
-
-        heavy : (action : Action) → is.action ≡ action → weight action 1 ≢ 0 → weight action (c.words m) ≡ 2 * c.words m →
-            2 * c.words n + entry_ahead p c m + 4 ≤ 2 * L
-        heavy action e some whole =
-            let all : entry_ahead p c m ≡ 2 * c.words m = weight_is weight p c m is at ∙ (ap (λ (a : Action). weight a (c.words m)) e ∙ whole) in
-            omega (arith, both_fit n m of there other (not_last action e some) (apart_they action e some), all)
-
-        two_some : (k : ℕ) → k ≡ 2 → k ≢ 0
-        two_some k e z = omega (arith, e, z)
-
-        by : (action : Action) → is.action ≡ action → 2 * c.words n + entry_ahead p c m + 4 ≤ 2 * L
-        by (Store variable kind next) e = heavy _ e (two_some (2 * 1) refl) refl
-        by (Lock mutex next) e = heavy _ e (two_some (2 * 1) refl) refl
-        by action e = light _ e refl
+    fits n m is of there other at apart_they = grind (arith, same_Some, both_fit, last_at, one_fits, weight_is)

@@ -1,5 +1,6 @@
 -- A hart at the code of a node that makes its thread's pending store.
-use Rattle.std.proofs.Common.{◌≡◌, ◌≢◌, ◌⊎◌, inl, inr, refl, ℕ, zero, suc, ◌<◌, List, [], ◌∷◌, ◌++◌, length, ap, sym, ◌∙◌, subst, arith, Option, Some, None}
+use Rattle.std.proofs.lemmas.Bool.Decides.{nat_tests}
+use Rattle.std.proofs.Common.{◌≡◌, ◌≢◌, ◌⊎◌, inl, inr, refl, ℕ, ◌<◌, List, [], ◌∷◌, length, ap, sym, ◌∙◌, subst, arith, Option, Some}
 use Rattle.std.proofs.Common.{Bool, true, false}
 use Rattle.std.proofs.lemmas.Bool.{true≢false, ne_eqb}
 use Rattle.std.proofs.lemmas.Option.{none-some, same_Some, slice_get-map}
@@ -8,7 +9,7 @@ use Rattle.std.specs.List.{AllZip}
 use Rattle.std.specs.Option.{option_map}
 use Rattle.ido_base.specs.Words as words
 use Rattle.ido_base.specs.Words.{Word}
-use Rattle.ido_base.specs.Layout.{variable_at, byte_number, word_number, point_at}
+use Rattle.ido_base.specs.Layout.{variable_at, byte_number}
 use Rattle.ido_ints.specs.declared.kinds.Kind.{Kind}
 use Rattle.ido_ints.specs.Kinds.{bytes_of}
 use Rattle.ido_ints.specs.TypedNumbers.{typed, register_form_of}
@@ -22,9 +23,8 @@ use Rattle.c_ranges.proofs.Public.{zip_at}
 use Rattle.source_machine.proofs.Public.{held_found}
 use Rattle.rv64_isa.specs.Rows as r
 use Rattle.rv64_isa.specs.Rows.{Effect}
-use Rattle.rv64_isa.specs.Machine.{Hart, World}
+use Rattle.rv64_isa.specs.Machine.{World}
 use Rattle.rv64_isa.specs.Schedule.{is_point_store}
-use Rattle.memory_layout.specs.Roles.{pending_value}
 use Rattle.code_runs.specs.CodeTraces.{MarkedEnvironment}
 use Rattle.variable_words.proofs.Public.{addresses_reach, variables_apart}
 use Rattle.flow_graph.specs.Nodes.{Node, Action, Store}
@@ -32,8 +32,7 @@ use Rattle.flow_graph.specs.Lowering.{lowered}
 use Rattle.flow_graph.specs.Liveness.{NodeAt}
 use Rattle.flow_graph.specs.Actions.{GraphThread, effect_of}
 use Rattle.flow_graph.specs.Actions as a
-use Rattle.flow_graph.proofs.Public.{contains_none}
-use Rattle.hart_runs.specs.RunSteps.{Contents, Changes, is_clean}
+use Rattle.hart_runs.specs.RunSteps.{is_clean}
 use Rattle.recovery_semantics.specs.ElementHistories.{Memory, IsStored, IsOther, history_at}
 use Rattle.recovery_semantics.specs.Attempts.{WritesAt, Writes, store_ahead}
 use Rattle.recovery_semantics.specs.Configs.{now, attempt_of}
@@ -43,21 +42,20 @@ use Rattle.recovery_semantics.proofs.Public.{memory_stored, stored_is_since, sin
 use Rattle.region_attempts.specs.PendingCleans.{line_of, Cleans}
 use Rattle.region_attempts.specs.AttemptsInRegion.{HasCome}
 use Rattle.region_attempts.proofs.Public.{is_there}
-use Rattle.log_states.specs.Logs.{log_word}
 use Rattle.log_states.specs.Machines.{IsNext}
 use Rattle.log_states.proofs.Public.{stores_to_variable, variables_are_apart}
 use Rattle.recovered_threads.proofs.Public.{same_or_other}
 use Rattle.thread_code.specs.RegistersAtNodes.{IsAnswered, source_of}
 use Rattle.thread_code.specs.NodeCodeEffects.{kind_at}
-use Rattle.thread_runs.specs.CodeFragments.{MayDo, cleans_of, effects_of}
+use Rattle.thread_runs.specs.CodeFragments.{MayDo, cleans_of}
 use Rattle.thread_runs.specs.Laws.{MarksPass}
 use Rattle.crash_simulation.specs.Systems.{System, IsSystem, flat_of, shapes_of, places_of}
 use Rattle.crash_simulation.specs.AbstractRuns.{AbstractRun, kept_of, now_of, attempts_of}
 use Rattle.crash_simulation.specs.ThreadGhosts.{ThreadGhost, IsFlushed, IsComing, is_ahead}
 use Rattle.crash_simulation.specs.InstructionSteps.{MayStore, element}
-use Rattle.crash_simulation.proofs.ConfigAfterBegin.{one_longer, attempted, done_longer, wrote, alone_ahead}
-use Rattle.crash_simulation.proofs.GraphAfterBegin.{after_effect, matches_now, follows_on, not_come, boundary_after_is}
-use Rattle.crash_simulation.proofs.MarksAtNodes.{MarkIn, AtMark, Passes, environment_of, graph_step_is, at_some_mark}
+use Rattle.crash_simulation.proofs.ConfigAfterBegin.{one_longer, attempted, done_longer, alone_ahead}
+use Rattle.crash_simulation.proofs.GraphAfterBegin.{matches_now, follows_on, not_come, boundary_after_is}
+use Rattle.crash_simulation.proofs.MarksAtNodes.{Doing, MarkIn, AtMark, Passes, environment, in_graph, at_some_mark}
 use Rattle.crash_simulation.proofs.LoadFreeEnvironment.{bare_answers, bare_reads}
 use Rattle.crash_simulation.proofs.StatesMatchSource.{resumed, now_orderly, now_good}
 use Rattle.crash_simulation.proofs.Boundaries.{store_is}
@@ -66,10 +64,9 @@ use Rattle.crash_simulation.proofs.DisjointElements.{variables_end, element_belo
 use Rattle.crash_simulation.proofs.NodeEffects.{ahead_is}
 use Rattle.crash_simulation.proofs.NodeEnvironments.{element_access}
 use Rattle.crash_simulation.proofs.OwnHartSteps.{view, StepOf, AtNode}
-use Rattle.crash_simulation.proofs.PendingFlushes.{flushed_still, still_reached, as_before}
+use Rattle.crash_simulation.proofs.PendingFlushes.{as_before}
 use Rattle.crash_simulation.proofs.WriteBackSteps.{mark_step}
-use Rattle.crash_simulation.proofs.StepsAfterMarks.{passed_soon}
-use Rattle.crash_simulation.proofs.MarkSteps.{passed_step, is_next, reaches_on}
+use Rattle.crash_simulation.proofs.MarkSteps.{flushed_passed, passed_step, is_next}
 use Rattle.crash_simulation.proofs.MarkSteps as passing
 
 -- memory takes of a value the bytes that a store writes
@@ -80,13 +77,8 @@ stored_low ws number count v w same = rw same refl
 same_tail : (x z : Effect) (xs zs : List Effect) → x ∷ xs ≡ z ∷ zs → zs ≡ xs
 same_tail x z xs zs e = cc
 
-clean_first : (address : ℕ) (effect : Effect) (c : Contains (r.Cleans address ∷ []) effect) → is_clean effect ≡ true
-clean_first address effect (zero, below, is) = ap is_clean (sym is)
-clean_first address effect (suc k, below, is) = absurd (omega (arith, below))
-
 clean_if : (b : Bool) (address : ℕ) (effect : Effect) → Contains (if b then r.Cleans address ∷ [] else []) effect → is_clean effect ≡ true
-clean_if true address effect has = clean_first address effect has
-clean_if false address effect has = absurd (contains_none effect has)
+clean_if b address effect has = grind (arith, nat_tests)
 
 -- a node that makes the thread's pending store
 pub record MakesStore (node : Node) (graph_thread : GraphThread) : Type 0 where
@@ -102,24 +94,24 @@ module _ {y : System} {s : IsSystem y} {w : World} {h : ℕ} (site : AtNode y s 
   open view site.hart use {b, code, c, t, n, v, places, graph_thread, seen}
   open makes use {store, pending}
 
-  abbrev here : MarkedEnvironment
-  here = environment_of site (λ address bytes. false)
-
   abbrev e : a.Effect
   e = a.Makes store makes.next
 
-  does : effect_of node.action seen ≡ Some e
-  does =
-      ap (λ (z : Action). effect_of z seen) makes.action
-      ∙ ap (λ (p : Option Pending). let o : Option a.Effect = elim p [ Some q ↦ Some (a.Makes q makes.next) | None ↦ None ] in o) pending
+  pub does : effect_of node.action seen ≡ Some e
+  does = grind (arith, nat_tests)
+
+  abbrev doing : Doing site
+  doing = record { node = node; at = at; effect = e; free = refl; does = does; reads = λ address bytes. false }
+
+  abbrev here : MarkedEnvironment
+  here = environment site doing
 
   -- ---- The store
 
   formed : ranges.IsStoreInRange (flat_of y).variables store
   formed = store_is y.plan code s.plan (now_of y b) (now_good y s b) graph_thread t.walks store pending
 
-  abbrev k : Kind
-  k = formed.it.kind
+  open formed.it use {kind as k}
 
   abbrev address : ℕ
   address = variable_at (shapes_of y) store.variable store.element
@@ -131,27 +123,19 @@ module _ {y : System} {s : IsSystem y} {w : World} {h : ℕ} (site : AtNode y s 
   in_variables = element_below (flat_of y).variables (room y s) store.variable store.element formed.it formed.found formed.element
 
   may_do : MayDo y.plan code.thread places w.log (length w.harts) here e
-  may_do = (
-    k,
-    kind_is,
-    record {
-      access = element_access w.log (flat_of y).variables (length w.harts) store.variable store.element formed.it (room y s) formed.found formed.element;
-      apart = λ at count value answer. absurd (none-some value answer);
-    },
-  )
+  may_do = grind (arith, element_access, none-some, room, formed, kind_is)
 
-  pub mark : MarkIn site here e
-  mark = at_some_mark site node at e refl does (λ address bytes. false)
-      (bare_reads y s w h site.hart.below)
+  pub mark : MarkIn site doing
+  mark = at_some_mark site doing (bare_reads y s w h site.hart.below)
       (subst (λ (z : Action). IsAnswered (source_of y.plan code.thread seen) here.around.loads z) (sym makes.action) tt) may_do
 
   abbrev at_mark : AtMark site
-  at_mark = record { environment = here; effect = e; mark = mark }
+  at_mark = record { doing = doing; mark = mark }
 
   -- ---- The source
 
   ahead : store_ahead (now b.config) n ≡ Some store
-  ahead = ahead_is (flat_of y) s.plan.formed (now_of y b) (now b.config) n (matches_now y s b) graph_thread t.walks node at ∙ pending
+  ahead = ahead_is (in_graph site doing) ∙ pending
 
   abbrev memory : Memory
   memory = memory_in (places_of y) v.words
@@ -198,26 +182,16 @@ module _ {y : System} {s : IsSystem y} {w : World} {h : ℕ} (site : AtNode y s 
     effect_is = (p.made k kind_is).is
 
     later_is : p.later ≡ cleans
-    later_is =
-        let all : r.Stores address (bytes_of k) (r.read site.core.registers pending_value) ∷ cleans ≡ r.Stores address (bytes_of k) value ∷ p.later =
-        sym (mark.seen_are k kind_is) ∙ p.effects_are ∙ ap (λ (z : Effect). effects_of z ++ p.later) effect_is in
-        same_tail _ _ cleans p.later all
+    later_is = grind (arith, effect_is, kind_is, mark, same_tail)
 
     may : MayStore y b n p.forward.effect
     may = subst (λ (z : Effect). MayStore y b n z) (sym effect_is) (element store.variable store.element value formed.it formed.found formed.element guards)
 
     no_point : is_point_store w.log n p.forward.effect ≡ false
-    no_point =
-        ap (is_point_store w.log n) effect_is
-        ∙ ne_eqb (word_number address) (word_number (point_at w.log n)) (λ same. variables_are_apart w.log n address 0 in_variables
-        (let zero : word_number (point_at w.log n) ≡ log_word w.log n 0 = omega arith in same ∙ zero))
+    no_point = grind (arith, ne_eqb, variables_are_apart, effect_is, in_variables)
 
     words_are : v.words ≡ words.stored w.words (byte_number address) (bytes_of k) (register_form_of (typed k store.number))
-    words_are =
-        let changes : Changes (record { words = w.words; queue = mark.at.on.hart.queue }) (r.Stores address (bytes_of k) value) p.forward.contents =
-        subst (λ (z : Effect). Changes (record { words = w.words; queue = mark.at.on.hart.queue }) z p.forward.contents) effect_is p.forward.changes in
-        ap (λ (z : World). z.words) p.forward.world
-        ∙ (ap (λ (x : Contents). x.words) changes ∙ stored_low w.words (byte_number address) (bytes_of k) value _ (p.made k kind_is).low)
+    words_are = grind (arith, effect_is, kind_is, mark, stored_low)
 
     stored : IsStored b.config.memory memory store.variable store.element store.number
     stored =
@@ -252,7 +226,6 @@ module _ {y : System} {s : IsSystem y} {w : World} {h : ℕ} (site : AtNode y s 
       mark = at_mark;
       passes = p;
       plain = refl;
-      marks = refl;
       cleans = cleans;
       later = later_is;
       clean = clean_if (places.cleans graph_thread.at) address;
@@ -264,12 +237,11 @@ module _ {y : System} {s : IsSystem y} {w : World} {h : ℕ} (site : AtNode y s 
       memory = memory;
       memory_is = refl;
       happened = happened;
+      leads = follows_on y s b _ happened refl;
       by_it = refl;
       none_kept = refl;
       minded = minded;
       is_step = refl;
-      soon = passed_soon y s h site.hart.below w site.hart.stands here graph_thread.at seen site.core.side site.core.registers node e site.core.core.own at
-          does mark p;
     }
 
     abbrev next : AbstractRun y
@@ -278,13 +250,10 @@ module _ {y : System} {s : IsSystem y} {w : World} {h : ℕ} (site : AtNode y s 
     abbrev new : ThreadGhost
     new = passing.new site passed
 
-    state : now_of y next ≡ after_effect (now_of y b) n graph_thread e
-    state = same_Some _ _ (sym (follows_on y s b _ happened refl) ∙ graph_step_is site node at e refl does)
-
     -- what this step cleans is coming
-    comes_now : (other : Hart) (line : ℕ) → Cleans (attempts_of y b) n (attempt_of b.config n).done line →
-        (u i position : ℕ) → line_of (shapes_of y) u i ≡ line → IsComing y v next code new other u i position
-    comes_now other line cleaned u i position in_line =
+    comes_now : (line : ℕ) → Cleans (attempts_of y b) n (attempt_of b.config n).done line →
+        (u i position : ℕ) → line_of (shapes_of y) u i ≡ line → IsComing y v next code new p.on.on.hart u i position
+    comes_now line cleaned u i position in_line =
         let is = written cleaned.variable cleaned.element cleaned.stores in
         let at_node : cleaned.node ≡ graph_thread.at =
         same_Some _ _ (sym cleaned.at ∙ boundary_after_is y s b n graph_thread site.core.goes.goes.going t.walks) in
@@ -302,65 +271,48 @@ module _ {y : System} {s : IsSystem y} {w : World} {h : ℕ} (site : AtNode y s 
         there true is never =
             subst (λ (z : Bool). Contains (if z then r.Cleans address ∷ [] else []) (r.Cleans address)) (sym is) (0, omega arith, refl)
 
-    flushed : (other : Hart) → p.on.on.hart ≡ other → (u i : ℕ) → Writes next.config.kept n (attempt_of next.config n).done u i →
-        IsFlushed y v next code new other u i
-    flushed other is u i writes = by (same_or_other u store.variable) (same_or_other i store.element)
+    newest : IsFlushed y v next code new p.on.on.hart store.variable store.element
+    newest =
+        let r = (resumed y s b).resumed in
+        let longer = done_longer b.config n in
+        record {
+          before = (attempt_of b.config n).done;
+          within = omega (arith, longer);
+          writes = record {
+            store = store;
+            is = alone_ahead (flat_of y) b.config r.invariant n site.core.goes.goes.going ∙ ahead;
+            variable_is = refl;
+            element_is = refl;
+          };
+          position = length (history_at b.config.memory store.variable store.element).values;
+          since = stored_is_since b.config.memory memory store.variable store.element store.number stored;
+          comes = λ cleaned.
+              let same : cleaned.last ≡ (attempt_of b.config n).done = omega (arith, longer) in
+              let line : ℕ = line_of (shapes_of y) store.variable store.element in
+              comes_now line
+              (subst (λ (j : ℕ). Cleans (attempts_of y b) n j line) same (as_before (passing.passage site passed) cleaned.last line cleaned.at))
+              store.variable store.element _ refl;
+          fenced = λ un. absurd (true≢false un);
+        }
+
+    flushed : (u i : ℕ) → Writes next.config.kept n (attempt_of next.config n).done u i → IsFlushed y v next code new p.on.on.hart u i
+    flushed u i writes = by (same_or_other u store.variable) (same_or_other i store.element)
       where
-        longer : (attempt_of next.config n).done ≡ suc (attempt_of b.config n).done
-        longer = done_longer b.config n
-
-        newest : IsFlushed y v next code new other store.variable store.element
-        newest =
-            let r = (resumed y s b).resumed in
-            record {
-              before = (attempt_of b.config n).done;
-              within = (let l = longer in omega (arith, l));
-              writes = record {
-                store = store;
-                is = alone_ahead (flat_of y) b.config r.invariant n site.core.goes.goes.going ∙ ahead;
-                variable_is = refl;
-                element_is = refl;
-              };
-              position = length (history_at b.config.memory store.variable store.element).values;
-              since = stored_is_since b.config.memory memory store.variable store.element store.number stored;
-              comes = λ cleaned.
-                  let l = longer in
-                  let same : cleaned.last ≡ (attempt_of b.config n).done = omega (arith, l) in
-                  let line : ℕ = line_of (shapes_of y) store.variable store.element in
-                  comes_now other line
-                  (subst (λ (j : ℕ). Cleans (attempts_of y b) n j line) same
-                  (as_before (passing.passage site passed other) cleaned.last line cleaned.at))
-                  store.variable store.element _ refl;
-              fenced = λ un. absurd (true≢false un);
-            }
-
-        older : IsOther store.variable store.element u i → IsFlushed y v next code new other u i
-        older apart = from (wrote b.config.kept n (attempt_of b.config n).done u i
-            (subst (λ (j : ℕ). Writes b.config.kept n j u i) longer writes))
-          where
-            from : Writes b.config.kept n (attempt_of b.config n).done u i ⊎ WritesAt b.config.kept n (attempt_of b.config n).done u i →
-                IsFlushed y v next code new other u i
-            from (inr at_once) = let same = written u i at_once in absurd (apart same.0 same.1)
-            from (inl old) =
-                let l = longer in
-                let step = passing.passage site passed other in
-                flushed_still step (still_reached step site.core.goes.cleans (reaches_on site at_mark p other is)) u i
-                (λ position since. since_stays b.config.memory memory store.variable store.element store.number stored u i position apart since)
-                (t.flushed u i old) (λ un. absurd (true≢false un)) (omega (arith, l)) (omega (arith, l)) (λ now line cleaned. comes_now other line cleaned)
+        older : IsOther store.variable store.element u i → IsFlushed y v next code new p.on.on.hart u i
+        older apart = flushed_passed site passed u i (λ at_once. let same = written u i at_once in apart same.0 same.1)
+            (λ position since. since_stays b.config.memory memory store.variable store.element store.number stored u i position apart since)
+            (λ now line cleaned. comes_now line cleaned) writes
 
         by : (u ≡ store.variable) ⊎ (u ≢ store.variable) → (i ≡ store.element) ⊎ (i ≢ store.element) →
-            IsFlushed y v next code new other u i
+            IsFlushed y v next code new p.on.on.hart u i
         by (inr apart) other_element = older (λ same same_element. apart same)
         by (inl same) (inr apart) = older (λ also same_element. apart same_element)
         by (inl same) (inl same_element) =
-            subst (λ (j : ℕ). IsFlushed y v next code new other j i) (sym same)
-            (subst (λ (j : ℕ). IsFlushed y v next code new other store.variable j) (sym same_element) newest)
+            subst (λ (j : ℕ). IsFlushed y v next code new p.on.on.hart j i) (sym same)
+            (subst (λ (j : ℕ). IsFlushed y v next code new p.on.on.hart store.variable j) (sym same_element) newest)
 
     store_passes : StepOf site.hart n
-    store_passes =
-        passed_step site passed state
-        (bare_answers y s w h site.hart.below next new)
-        flushed
+    store_passes = passed_step site passed (bare_answers y s w h site.hart.below next new) flushed
 
   pub store_step : MarksPass → StepOf site.hart n
   store_step marks = mark_step site at_mark marks store_passes

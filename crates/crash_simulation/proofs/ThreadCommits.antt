@@ -1,33 +1,41 @@
--- A thread's begun steps are kept: what that is to it, and to the others.
-use Rattle.std.proofs.Common.{◌≡◌, ◌≢◌, refl, ℕ, zero, suc, ◌<◌, ◌≤◌, List, [], ◌∷◌, ◌++◌, replicate, sym, ◌∙◌, ap, subst, arith, slice_set}
+-- A thread's begun steps are kept: what that is to it and to the others, and that their invariants still hold.
+use Rattle.std.proofs.Common.{◌≡◌, ◌≢◌, refl, ℕ, zero, suc, ◌<◌, ◌≤◌, List, [], ◌∷◌, ◌++◌, replicate, sym, ◌∙◌, ap, subst, arith, slice_set, Option, Some, None}
+use Rattle.std.proofs.Common.{true, false, ⊎_elim}
 use Rattle.std.specs.Prelude.{slice_get}
 use Rattle.std.specs.Option.{option_map}
 use Rattle.std.proofs.lemmas.List.{get_or-set_other}
-use Rattle.c_tree.specs.Flats as f
 use Rattle.c_tree.specs.Source as m
 use Rattle.source_machine.specs.Mutexes.{locks, unlocks, held_by}
-use Rattle.source_machine.specs.Discipline.{StateKeeps}
+use Rattle.source_machine.specs.Discipline.{StateKeeps, Guards}
 use Rattle.source_machine.specs.StepExchanges.{IsSameTo}
 use Rattle.source_machine.proofs.Public.{run_keeps, locks_same, unlocks_same, solo as solo_law}
-use Rattle.flow_graph.specs.Actions.{GraphThread, FlowState}
+use Rattle.flow_graph.specs.Actions.{GraphThread, FlowState, seen_by}
 use Rattle.flow_graph.specs.Lockstep.{Matches}
 use Rattle.recovery_semantics.specs.Attempts.{Attempt, attempt_at, no_attempt, IsAttempted, IsInner, solo, WritesAt}
-use Rattle.recovery_semantics.specs.Configs.{Config, Invariant, now, attempt_of}
+use Rattle.recovery_semantics.specs.Configs.{Invariant, now, attempt_of}
 use Rattle.recovery_semantics.specs.Events.{IsGoing, commits, settled_by, IsSettled, steps_begun}
 use Rattle.recovery_semantics.specs.Executions.{then}
 use Rattle.recovery_semantics.specs.Laws.{IsKeptBy, HasLocked, HasUnlocked, LastUnlocks}
-use Rattle.recovery_semantics.proofs.Public.{inner_along, writes_at_same, none_left, none_of_other, others_left, rest_after, same_other, path}
-use Rattle.recovery_semantics.proofs.Public.{last_after, last_alone, last_stays}
+use Rattle.recovery_semantics.proofs.Public.{inner_along, writes_at_same, none_left, none_of_other, others_left, rest_after, same_other, path, last_after}
+use Rattle.recovery_semantics.proofs.Public.{last_alone, last_stays, unlocked_is_last}
 use Rattle.region_attempts.specs.GraphStates.{flow_solo, node_after}
 use Rattle.region_attempts.specs.AttemptsInRegion.{SettlesThere}
-use Rattle.region_attempts.specs.Laws.{MatchesSource, GraphThreadsSettle}
-use Rattle.region_attempts.proofs.Public.{step_lockstep, matched_run, inner_runs, own_step, graph_stands, graph_follows, graph_settles}
+use Rattle.region_attempts.specs.Laws.{GraphThreadsSettle}
+use Rattle.region_attempts.proofs.Public.{step_lockstep, matched_run, inner_runs, own_step, graph_follows, graph_settles}
 use Rattle.log_states.specs.Logs.{Record}
 use Rattle.recovered_threads.specs.RecordDescriptions.{Code, Describes}
 use Rattle.recovered_threads.proofs.Public.{others_describe}
 use Rattle.crash_simulation.specs.Systems.{System, IsSystem, flat_of}
 use Rattle.crash_simulation.specs.AbstractRuns.{AbstractRun, kept_of, now_of}
-use Rattle.crash_simulation.proofs.StatesMatchSource.{resumed, kept_matches}
+use Rattle.crash_simulation.proofs.StatesMatchSource.{resumed, kept_matches, as_source}
+use Rattle.std.proofs.lemmas.Bool.{true≢false, cases_Bool}
+use Rattle.rv64_isa.specs.declared.phase.Phase.{Phase}
+use Rattle.rv64_isa.specs.Machine.{Hart, World}
+use Rattle.thread_runs.specs.CodeFragments.{ExitPoint, IsOnFragment, on_machine}
+use Rattle.crash_simulation.specs.ThreadGhosts.{ThreadGhost, IsBounded, ExitInv, InFragment, on_fragment, InPhase, ThreadInv, committed, record_kept}
+use Rattle.crash_simulation.proofs.PendingReleases.{IsAtBoundary, at_keeps, at_took, at_gives, under_way, bounded_of}
+use Rattle.crash_simulation.proofs.KeptThreads.{answers_kept, moves_nowhere, IsKept, IsLeftAlone, stands_kept}
+use Rattle.c_tree.specs.Source.{State}
 
 -- ---- Attempts
 
@@ -49,20 +57,14 @@ pub record MaySettle (y : System) (b : AbstractRun y) (thread : ℕ) : Type 0 wh
   pub there : SettlesThere (flat_of y) y.plan.boundaries (kept_of y b) b.config thread
 
 module _ (y : System) (s : IsSystem y) (b : AbstractRun y) where
-  abbrev old : Config
-  old = b.config
-
-  abbrev x : f.Flat
-  x = flat_of y
+  open b use {config as old}
+  open y.plan use {flat as x}
 
   pub invariant : Invariant x old
   invariant = (resumed y s b).resumed.invariant
 
   pub kept_by : IsKeptBy b.origin.source old.kept b.schedule
   kept_by = (resumed y s b).resumed.kept
-
-  stands : MatchesSource x old (kept_of y b)
-  stands = graph_stands x b.origin old b.schedule s.plan.formed invariant kept_by
 
   -- a thread with no step begun: a record that describes it now describes what is kept
   pub none_describes : (code : Code y.plan) (r : Record) → steps_begun old code.thread.number ≡ 0 → Describes y.plan code (now_of y b) r →
@@ -71,11 +73,11 @@ module _ (y : System) (s : IsSystem y) (b : AbstractRun y) where
       let u = code.thread.number in
       let i = invariant in
       let graph_thread : slice_get (now_of y b).graph_threads u ≡ slice_get (kept_of y b).graph_threads u =
-      stands.alone u ∙ ap (λ (k : ℕ). slice_get (flow_solo x (kept_of y b) u k).graph_threads u) none in
+      (as_source y s b).alone u ∙ ap (λ (k : ℕ). slice_get (flow_solo x (kept_of y b) u k).graph_threads u) none in
       let same : IsSameTo x (now old) old.kept u =
       subst (λ (k : ℕ). IsSameTo x (now old) (solo old.kept u k) u) none (solo_law x old.kept old.uncommitted u i.keeps i.runs i.hands).same in
       others_describe y.plan code (now_of y b) (kept_of y b) r describes (sym graph_thread)
-      (ap (held_by u) stands.kept_matches.holders ∙ (sym same.held ∙ ap (held_by u) (sym stands.now_matches.holders)))
+      (ap (held_by u) (as_source y s b).kept_matches.holders ∙ (sym same.held ∙ ap (held_by u) (sym (as_source y s b).now_matches.holders)))
 
   -- ---- Thread t's are kept
 
@@ -92,8 +94,7 @@ module _ (y : System) (s : IsSystem y) (b : AbstractRun y) where
       respects = (b.respects, may.there);
     }
 
-    abbrev K' : m.State
-    K' = (settled_by old t attempts).kept
+    open settled_by old t attempts use {kept as K'}
 
     -- all states now are as they were
     pub now_same : now_of y committed_run ≡ now_of y b
@@ -120,7 +121,7 @@ module _ (y : System) (s : IsSystem y) (b : AbstractRun y) where
         let i = invariant in
         let held : held_by t (kept_of y committed_run).holders ≡ held_by t (now_of y b).holders =
         ap (held_by t) (kept_matches y s committed_run).holders
-        ∙ (sym (solo_law x old.kept old.uncommitted t i.keeps i.runs i.hands).same.held ∙ ap (held_by t) (sym stands.now_matches.holders)) in
+        ∙ (sym (solo_law x old.kept old.uncommitted t i.keeps i.runs i.hands).same.held ∙ ap (held_by t) (sym (as_source y s b).now_matches.holders)) in
         others_describe y.plan code (now_of y b) (kept_of y committed_run) r describes
         (subst (λ (k : ℕ). slice_get (kept_of y committed_run).graph_threads k ≡ slice_get (now_of y b).graph_threads k) (sym number) graph_threads.own)
         (subst (λ (k : ℕ). held_by k (kept_of y committed_run).holders ≡ held_by k (now_of y b).holders) (sym number) held)
@@ -141,8 +142,7 @@ module _ (y : System) (s : IsSystem y) (b : AbstractRun y) where
       unlock_stays mutex l =
           last_stays b.origin.source b.schedule (replicate (steps_begun old t) t) u mutex (none_of_other t u (steps_begun old t) apart) l
 
-      abbrev longest : ℕ
-      longest = (attempt_of old u).longest
+      open attempt_of old u use {done, longest}
 
       pub attempt_same : attempt_of committed_run.config u ≡ attempt_of old u
       attempt_same = may.settled.attempt.others u apart
@@ -158,9 +158,6 @@ module _ (y : System) (s : IsSystem y) (b : AbstractRun y) where
 
       source_path : (k : ℕ) → k ≤ longest → IsSameTo x (solo K' u k) (solo old.kept u k) u
       source_path k l = path x old t invariant u k apart l
-
-      abbrev done : ℕ
-      done = (attempt_of old u).done
 
       pub locked_on : (mutex : ℕ) → HasLocked old u mutex → HasLocked committed_run.config u mutex
       locked_on mutex h = record {
@@ -230,3 +227,126 @@ module _ (y : System) (s : IsSystem y) (b : AbstractRun y) where
           others_describe y.plan code (kept_of y b) (kept_of y committed_run) r describes
           (subst (λ (k : ℕ). slice_get (kept_of y committed_run).graph_threads k ≡ slice_get (kept_of y b).graph_threads k) (sym number) graph_thread_same)
           (subst (λ (k : ℕ). held_by k (kept_of y committed_run).holders ≡ held_by k (kept_of y b).holders) (sym number) held)
+
+-- ---- Invariants where steps are kept
+
+-- the ghost state, with its boundary taken as committed
+abbrev pub taken : ThreadGhost → ThreadGhost
+taken c = record c { committed = true }
+
+-- ---- The thread itself, whose boundary is committed: none of its steps is begun
+
+module _ (y : System) (w : World) (b next : AbstractRun y) (code : Code y.plan) (c : ThreadGhost) (states : now_of y next ≡ now_of y b)
+    (sources : now next.config ≡ now b.config) where
+  fragment_stays : (hart : Hart) (graph_thread : GraphThread) (o : InFragment y w b code c hart graph_thread) →
+      ExitInv y next code (taken c) graph_thread o.exit → InFragment y w next code (taken c) hart graph_thread
+  fragment_stays hart graph_thread o fits = record {
+    environment = o.environment;
+    answers = answers_kept b next code c (taken c)
+        (λ v e g. subst (λ (z : m.State). Guards (flat_of y) z code.thread.number v e) (sym sources) g) o.environment o.answers;
+    exit = o.exit;
+    side = o.side;
+    at_side = o.at_side;
+    steps = o.steps;
+    fragment = subst (λ (z : FlowState). IsOnFragment y.plan code.thread code.is.places (on_machine y.runs.program w code.thread.number o.environment)
+        (record { exit = o.exit; node = graph_thread.at; seen = seen_by z graph_thread; side = o.side }) o.steps (c.cleans ++ c.rest)) (sym states) o.fragment;
+    fits = fits;
+    soon = o.soon;
+  }
+
+  module _ (t : ThreadInv y w b code c) (not_yet : c.committed ≡ false) (sooner : committed y w b code c t.log.hart ≡ true)
+      (begun : steps_begun next.config code.thread.number ≡ 0) (done : (attempt_of next.config code.thread.number).done ≡ 0)
+      (describes : Describes y.plan code (now_of y b) c.new → Describes y.plan code (kept_of y next) c.new)
+      (unlocks : (mutex : ℕ) → HasUnlocked b.config code.thread.number mutex →
+      LastUnlocks next.origin.source next.schedule code.thread.number mutex) where
+    bounded : {Before After : Type 0} (giving : Option ℕ) → IsBounded y b code c t.graph_thread giving Before →
+        IsBounded y next code (taken c) t.graph_thread giving After
+    bounded giving h = record {
+      execution = h.execution;
+      cleans = h.cleans;
+      gives = h.gives;
+      before = λ un. absurd (true≢false un);
+      after = λ e. begun;
+    }
+
+    own_fits : (exit : ExitPoint) → IsAtBoundary exit → ExitInv y b code c t.graph_thread exit → ExitInv y next code (taken c) t.graph_thread exit
+    own_fits _ at_keeps h = (h.0, begun ∙ sym done, bounded None h.2)
+    own_fits _ (at_took from) h = bounded None h
+    own_fits _ (at_gives from mutex) h = bounded (Some mutex) h
+
+    pub own_stands : ThreadInv y w next code (taken c)
+    own_stands =
+        let u = under_way y w b code c t not_yet in
+        record {
+          log = t.log;
+          no_sooner = λ e. sooner;
+          describes = describes (t.will_describe not_yet);
+          will_describe = λ un. absurd (true≢false un);
+          unlocked = λ mutex gives over. unlocks mutex ((bounded_of y w b code c mutex gives t).before not_yet);
+          cleans = t.cleans;
+          graph_thread = t.graph_thread;
+          walks = ap (λ (z : FlowState). slice_get z.graph_threads code.thread.number) states ∙ t.walks;
+          phase = subst (λ (p : Phase). InPhase y w next code (taken c) t.log.hart t.graph_thread p) (sym u.runs)
+              (on_fragment (fragment_stays t.log.hart t.graph_thread u.on (own_fits u.on.exit u.exit u.on.fits)));
+          flushed = λ v e writes. let within = writes.within in absurd (omega (arith, within, done));
+        }
+
+-- ---- Another thread
+
+-- where nothing happens to the machine
+left_as_it_is : (y : System) (w : World) (b : AbstractRun y) (code : Code y.plan) (c : ThreadGhost) → IsLeftAlone y w w b code c
+left_as_it_is y w b code c = record {
+  log = refl;
+  here = λ hart there. there;
+  moves = λ hart there. moves_nowhere w w code.thread.number hart hart c.rest refl refl;
+  fragments = λ z answers stage steps o. o;
+  cores = λ at seen side registers o. o;
+  reach = λ queue j position r. r;
+}
+
+module _ (y : System) (s : IsSystem y) (b : AbstractRun y) (k : ℕ) (may : MaySettle y b k) (code : Code y.plan) (apart : code.thread.number ≢ k)
+    (c : ThreadGhost) where
+  abbrev kept_then : AbstractRun y
+  kept_then = committed_run y s b k may
+
+  open code.thread use {number as u}
+
+  longest_within : (j : ℕ) → j < (attempt_of b.config u).done → j ≤ (attempt_of b.config u).longest
+  longest_within j within = let inside = ((invariant y s b).tried u).within in omega (arith, within, inside)
+
+  other_kept : IsKept y b kept_then code c
+  other_kept = record {
+    begun = begun_same y s b k may u apart;
+    done = done_same y s b k may u apart;
+    locked = locked_on y s b k may u apart;
+    unlocked = unlocked_on y s b k may u apart;
+    guards = λ v e g. subst (λ (z : m.State). Guards (flat_of y) z u v e) (sym (source_same y s b k may)) g;
+    graph_thread = ap (λ (z : FlowState). slice_get z.graph_threads u) (now_same y s b k may);
+    holds = ap (λ (z : FlowState). held_by u z.holders) (now_same y s b k may);
+    describes = λ d. describes_on y s b k may u apart code (record_kept c) refl d;
+    last = λ mutex l. unlock_stays y s b k may u apart mutex l;
+    nodes = λ j within. node_same y s b k may u apart j (longest_within j within);
+    writes_back = λ j v e within written. writes_at_before y s b k may u apart j v e (longest_within j within) written;
+    writes_on = λ j v e within written. writes_on y s b k may u apart j v e (longest_within j within) written;
+    since = λ v e position written i. i;
+    durable = λ v e. omega arith;
+  }
+
+  pub other_stands : (w : World) → ThreadInv y w b code c → ThreadInv y w kept_then code c
+  other_stands w t = stands_kept y b kept_then code c other_kept w w (left_as_it_is y w b code c) t
+
+-- ---- A mutex that a thread has still to give back is unlocked by its last step of all that are begun
+
+module _ (y : System) (s : IsSystem y) (w : World) (b : AbstractRun y) (code : Code y.plan) (c : ThreadGhost) (t : ThreadInv y w b code c) (mutex : ℕ)
+    (gives : c.giving ≡ Some mutex) where
+  pub unlocked_last : LastUnlocks b.origin.source (b.schedule ++ b.config.uncommitted) code.thread.number mutex
+  unlocked_last =
+      let n = code.thread.number in
+      let bounded = bounded_of y w b code c mutex gives t in
+      let kept = kept_by y s b in
+      ⊎_elim
+      (λ yes. last_stays b.origin.source b.schedule b.config.uncommitted n mutex (bounded.after yes) (t.unlocked mutex gives yes))
+      (λ no. last_after b.origin.source b.schedule b.config.uncommitted n mutex kept.runs
+      (subst (λ (z : State). LastUnlocks z b.config.uncommitted n mutex) (sym kept.is)
+      (unlocked_is_last (flat_of y) b.config n mutex (invariant y s b) (bounded.before no))))
+      (cases_Bool c.committed)

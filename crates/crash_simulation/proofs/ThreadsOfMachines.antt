@@ -20,7 +20,7 @@ use Rattle.crash_simulation.proofs.LocksAfterStep.{own_ghost, other_ghost}
 
 -- ---- The machine
 
-mutexes_stay : (program : List (List Slot)) (w : World) (event : Event) → IsWellFormedWorld w →
+pub mutexes_stay : (program : List (List Slot)) (w : World) (event : Event) → IsWellFormedWorld w →
     length (after_event program w event).holders ≡ length w.holders
 mutexes_stay program w (Step h) sound = (steps_touch program w h sound).locks
 mutexes_stay program w (Evict line mask) sound = ap (λ (v : World). length v.holders) (evictions_touch program w line mask).1

@@ -1,43 +1,40 @@
 -- A hart at its node's code that writes an entry of its queue back stays there.
-use Rattle.std.proofs.Common.{◌≡◌, ⊎_elim, refl, ℕ, suc, ◌+◌, List, [], ◌∷◌, length, ap, sym, ◌∙◌, subst, arith, Some, Bool, true, false}
+use Rattle.std.proofs.lemmas.Bool.Decides.{nat_tests}
+use Rattle.std.proofs.Common.{◌≡◌, ⊎_elim, refl, ℕ, suc, ◌+◌, List, [], ◌∷◌, length, ap, sym, ◌∙◌, subst, arith, Bool, true, false}
 use Rattle.std.proofs.lemmas.Bool.{true≢false}
 use Rattle.std.proofs.lemmas.Option.{none-some}
-use Rattle.std.specs.Prelude.{slice_get, Contains, not, ◌-◌}
+use Rattle.std.specs.Prelude.{Contains, not, ◌-◌}
 use Rattle.ido_base.specs.Words.{Entry}
 use Rattle.ido_base.specs.Growth.{AreEntries, PersistsThrough}
 use Rattle.ido_base.specs.Growth as growth
 use Rattle.ido_base.proofs.Public.{write_backs_raise}
-use Rattle.rv64_isa.specs.declared.phase.Phase.{Phase}
 use Rattle.rv64_isa.specs.Rows.{Effect}
-use Rattle.rv64_isa.specs.Machine.{Hart, World}
+use Rattle.rv64_isa.specs.Machine.{World}
 use Rattle.rv64_isa.specs.Schedule.{is_running}
 use Rattle.flow_graph.proofs.Public.{contains_none}
-use Rattle.hart_runs.specs.RunSteps.{Drains, is_clean}
+use Rattle.hart_runs.specs.RunSteps.{is_clean}
 use Rattle.hart_runs.proofs.Public.{drains_reach}
 use Rattle.recovery_semantics.specs.ElementHistories as histories
 use Rattle.recovery_semantics.specs.ElementHistories.{Memory}
-use Rattle.recovery_semantics.specs.Attempts.{Writes}
-use Rattle.recovery_semantics.specs.Configs.{attempt_of}
 use Rattle.recovery_semantics.specs.Events.{persists}
 use Rattle.recovery_semantics.specs.VariableSpots.{memory_in}
 use Rattle.recovery_semantics.proofs.Public.{memory_persisted, since_is_persisted}
 use Rattle.log_states.specs.Stages.{is_store}
 use Rattle.log_states.specs.Machines.{IsNext}
 use Rattle.log_states.proofs.Public.{stores_nothing, one_effect}
-use Rattle.recovered_threads.proofs.Public.{same_there}
 use Rattle.thread_runs.specs.Laws as laws
 use Rattle.thread_runs.specs.Laws.{run_at}
 use Rattle.thread_runs.proofs.Public.{stays_are_at_core}
-use Rattle.crash_simulation.specs.ThreadGhosts.{ThreadGhost, IsInAttempt, at_core, InPhase, IsFlushed, ThreadInv}
+use Rattle.crash_simulation.specs.ThreadGhosts.{ThreadGhost, IsInAttempt, InPhase, ThreadInv}
 use Rattle.crash_simulation.specs.InstructionSteps.{is_nearer, goes, MayStore, nothing, is_bound, nothing_released}
 use Rattle.crash_simulation.specs.Systems.{System, IsSystem, places_of}
 use Rattle.crash_simulation.specs.AbstractRuns.{AbstractRun}
 use Rattle.crash_simulation.specs.StepsToMark.{core_ahead, IsSoon}
 use Rattle.crash_simulation.proofs.LastReleases.{holders_stay_none, none_leaving, and_none}
 use Rattle.crash_simulation.proofs.PendingFlushes.{Passage, run_after, still_reached, flushed_same}
-use Rattle.crash_simulation.proofs.OwnHartSteps.{step_to, going, view, StepOf, goes_on, held_still, thread_going, AtNode}
-use Rattle.crash_simulation.proofs.MarksAtNodes.{AtMark, stage_then, Passes, WritesBack, old_hart}
-use Rattle.crash_simulation.proofs.StepsAfterMarks.{one_less}
+use Rattle.crash_simulation.proofs.OwnHartSteps.{step_to, going, view, StepOf, held_still, thread_going, AtNode}
+use Rattle.crash_simulation.proofs.MarksAtNodes.{AtMark, environment, stage_then, Passes, WritesBack, old_hart}
+use Rattle.crash_simulation.proofs.LocksAfterStep.{GoneOn}
 use Rattle.crash_simulation.proofs.UncommittedSteps.{leads_on}
 use Rattle.crash_simulation.proofs.FragmentSteps.{held_up_stores_none}
 
@@ -52,15 +49,9 @@ module _ {y : System} {s : IsSystem y} {w : World} {h : ℕ} (site : AtNode y s 
   open view site.hart use {b, code, c, t, n, v, places, graph_thread, seen}
   open site.hart.stands use {memory as memory_is}
   open site.hart.stands.machine use {sound}
-
-  abbrev hart : Hart
-  hart = m.mark.at.on.hart
-
-  abbrev later_hart : Hart
-  later_hart = stays.still.on.hart
-
-  abbrev d : Drains y.runs.program w n (run_at y.plan code.thread places m.mark.at)
-  d = stays.drains
+  open m.mark.at.on use {hart}
+  open stays.still.on use {hart as later_hart}
+  open stays use {drains as d}
 
   is_next : IsNext y.runs.program w n hart d.effect
   is_next = record { here = m.mark.at.on.here; runs = ap is_running m.mark.at.on.runs; is = d.effect_is }
@@ -82,11 +73,11 @@ module _ {y : System} {s : IsSystem y} {w : World} {h : ℕ} (site : AtNode y s 
   abbrev new : ThreadGhost
   new = going c [] (c.before_mark - 1)
 
-  abbrev passage : Hart → Passage y code
-  passage other = step_to site.hart v b.config.uncommitted memory b.config.attempts (leads_on y b _ (persists memory memory_persists) refl tt) new other
+  abbrev passage : Passage y code
+  passage = step_to site.hart v b.config.uncommitted memory b.config.attempts (leads_on y b _ (persists memory memory_persists) refl tt) new later_hart
 
   abbrev next : AbstractRun y
-  next = run_after (passage later_hart)
+  next = run_after passage
 
   goes_here : IsInAttempt y b code c
   goes_here = site.core.goes.goes
@@ -94,57 +85,31 @@ module _ {y : System} {s : IsSystem y} {w : World} {h : ℕ} (site : AtNode y s 
   holders_stay : v.holders ≡ w.holders
   holders_stay = ap (λ (z : World). z.holders) d.world
 
-  same_here : (other : Hart) → slice_get v.harts n ≡ Some other → later_hart ≡ other
-  same_here other there = same_there (slice_get v.harts n) later_hart other stays.still.on.here there
-
   -- the queue is one entry shorter
   nearer : (c.before_mark ≡ suc (c.before_mark - 1)) × IsSoon y n (c.before_mark - 1) (length later_hart.queue + core_ahead y.plan places graph_thread.at)
-  nearer =
-      let old : length t.log.hart.queue ≡ length hart.queue = ap (λ (x : Hart). length x.queue) (sym (old_hart site m)) in
-      let whole : length hart.queue ≡ suc (length d.rest) = ap (λ (q : List Entry). length q) d.queue_is in
-      one_less y n c.before_mark _ _ site.core.soon (omega (arith, old, whole, ap (λ (x : Hart). length x.queue) (stays.same ∙ d.same)))
+  nearer = grind (arith, nat_tests)
 
-  phase : (other : Hart) → slice_get v.harts n ≡ Some other → InPhase y v next code new other graph_thread other.phase
-  phase other there =
-      subst (λ (x : Hart). InPhase y v next code new x graph_thread x.phase) (same_here other there)
-      (subst (λ (p : Phase). InPhase y v next code new later_hart graph_thread p) (sym stays.still.on.runs)
-      (at_core (record {
-        side = site.core.side;
-        at_side = site.core.at_side;
-        registers = site.core.registers;
-        core = stays_are_at_core y.plan code.thread places y.runs.program w n m.environment m.effect (stage_then site m) m.mark.steps m.mark.effects
-            m.mark.at stays graph_thread.at seen site.core.side site.core.registers site.core.core;
-        goes = record {
-          goes = record { going = goes_here.going; rest = refl; giving = refl; committed = refl };
-          cleans = refl;
-          execution = site.core.goes.execution;
-        };
-        fresh = site.core.fresh;
-        soon = nearer.1;
-      })))
+  phase : InPhase y v next code new later_hart graph_thread later_hart.phase
+  phase = grind (arith, environment, going, stage_then, stays_are_at_core, goes_here, nearer)
 
-  flushed : (other : Hart) → slice_get v.harts n ≡ Some other → (u i : ℕ) → Writes next.config.kept n (attempt_of next.config n).done u i →
-      IsFlushed y v next code new other u i
-  flushed other there u i writes = flushed_same (passage other)
-      (still_reached (passage other) site.core.goes.cleans (λ j position r.
-      subst (λ (x : Hart). PersistsThrough v.words x.queue j position) (sym stays.same ∙ same_here other there)
-      (drains_reach y.runs.program w n (run_at y.plan code.thread places m.mark.at) d j position
-      (subst (λ (x : Hart). PersistsThrough w.words x.queue j position) (sym (old_hart site m)) r)))) u i
-      (λ p since. since_is_persisted b.config.memory memory u i p memory_persists since) (t.flushed u i writes) (λ un. absurd (true≢false un)) refl
+  reaches : (j position : ℕ) → PersistsThrough w.words t.log.hart.queue j position → PersistsThrough v.words later_hart.queue j position
+  reaches j position r = grind (arith, drains_reach, old_hart)
 
-  own : ThreadInv y v next code new
-  own = thread_going site.hart next refl goes_here [] (c.before_mark - 1) none_clean
-      (stores_nothing y.runs.program w n n hart d.effect is_next no_store) graph_thread t.walks phase flushed
+  abbrev own : ThreadInv y v next code new
+  own = thread_going site next refl [] (c.before_mark - 1) none_clean (stores_nothing y.runs.program w n n hart d.effect is_next no_store)
+      graph_thread t.walks later_hart stays.still.on.here phase (λ u i writes. flushed_same passage
+      (still_reached passage site.core.goes.cleans reaches) u i (λ p since. since_is_persisted b.config.memory memory u i p memory_persists since)
+      (t.flushed u i writes) (λ un. absurd (true≢false un)) refl)
 
   stays_step : StepOf site.hart n
   stays_step = record {
     next = next;
-    led = goes _ (persists memory memory_persists) tt (passage later_hart).leads.0 (passage later_hart).leads.1;
+    led = goes _ (persists memory memory_persists) tt passage.leads.0 passage.leads.1;
     memory = refl;
     stores_own = λ other effect is. subst (MayStore y b n) (one_effect y.runs.program w n hart other d.effect effect is_next is) (nothing d.effect no_store);
     new = new;
     own = own;
-    gone = goes_on site.hart later_hart stays.still.on.here stays.still.on.runs own.log.hart own.log.here;
+    gone = subst GoneOn (sym stays.still.on.runs) tt;
     held = held_still site.hart next new holders_stay refl refl (sym goes_here.giving);
     counted = record {
       marks = stays.no_mark y.runs.marks;
@@ -162,5 +127,5 @@ pub mark_step : {y : System} {s : IsSystem y} {w : World} {h : ℕ} (site : AtNo
 mark_step {y} {s} {w} {h} site m marks passes =
     let c = view site.hart in
     ⊎_elim passes (stays_step site m)
-    (marks y.plan c.code.thread c.places y.runs.program w c.n m.environment m.effect (stage_then site m) m.mark.steps m.mark.effects
-    site.hart.stands.machine.sound m.mark.at)
+    (marks y.plan c.code.thread c.places y.runs.program w c.n (environment site m.doing) m.doing.effect (stage_then site m.doing) m.mark.steps
+    m.mark.effects site.hart.stands.machine.sound m.mark.at)

@@ -5,7 +5,7 @@ use Rattle.ido_base.specs.Words.{last_position}
 use Rattle.c_tree.specs.Source.{State, start}
 use Rattle.rv64_isa.specs.Executables.{first_world}
 use Rattle.rv64_isa.specs.Machine.{World, after_events}
-use Rattle.rv64_isa.specs.Schedule.{HartSteps, Steps, hart_steps, first_steps, steps_along, released_count}
+use Rattle.rv64_isa.specs.Schedule.{HartSteps, Steps, only_life, hart_steps, first_steps, steps_along, released_count}
 use Rattle.recovery_semantics.specs.Events.{steps_begun}
 use Rattle.log_states.specs.Logs.{point_in}
 use Rattle.crash_simulation.specs.Systems.{System, IsSystem, flat_of, thread_count}
@@ -21,14 +21,15 @@ pub record IsCountedOf (y : System) (w : World) (b : AbstractRun y) (thread : �
   pub bound : is_bound c ≡ true → (steps.free ≡ 0)
       × (steps.bound ≡ record { position = last_position (point_in w.log w.words thread); steps = steps_begun b.config thread } ∷ [])
 
--- what an account goes on from: the state in which the abstract run began, and steps that were kept before
+-- what an account goes on from: the state in which this life's execution began, the lives before it, and this life's steps that were kept before
 pub record Beginning : Type 0 where
   pub from : State
+  pub earlier : List (List ℕ)
   pub kept : List ℕ
 
 -- the source's start, and none
 abbrev pub first_beginning : System → Beginning
-first_beginning y = record { from = start (flat_of y); kept = [] }
+first_beginning y = record { from = start (flat_of y); earlier = []; kept = [] }
 
 -- of a thread: its steps are counted, and the sections that its hart has left by a release
 pub record IsAccountedOf (y : System) (w : World) (b : AbstractRun y) (thread : ℕ) (c : ThreadGhost) (steps : HartSteps) (releases : ℕ) : Type 0 where
@@ -38,6 +39,7 @@ pub record IsAccountedOf (y : System) (w : World) (b : AbstractRun y) (thread : 
 -- the steps of all threads are counted, and their releases
 pub record AreCounted (y : System) (g : Beginning) (w : World) (b : AbstractRun y) (ghosts : ℕ → ThreadGhost) (steps : Steps) (releases : ℕ → ℕ) : Type 0 where
   pub begins : b.origin.source ≡ g.from
+  pub earlier : steps.earlier ≡ g.earlier
   pub kept : steps.kept ≡ g.kept ++ b.schedule
   pub pending : steps.pending ≡ b.config.uncommitted
   pub count : length steps.harts ≡ thread_count y
@@ -54,5 +56,5 @@ pub record SimulatesCounted (y : System) (s : IsSystem y) (g : Beginning) (w : W
 abbrev pub MachinesResume : Type 0
 MachinesResume = (y : System) (s : IsSystem y) (events : List Event) →
     SimulatesCounted y s (first_beginning y) (after_events y.runs.program (first_world y.runs) events)
-    (steps_along y.runs.marks y.runs.program (first_world y.runs) events (first_steps (length y.runs.program) []))
+    (steps_along y.runs.marks y.runs.program (first_world y.runs) events (first_steps (length y.runs.program) (only_life [])))
     (released_count y.runs.program (first_world y.runs) events)

@@ -4,7 +4,7 @@ use Rattle.ido_base.specs.declared.event.Event.{Event}
 use Rattle.ido_base.specs.Layout.{word_count}
 use Rattle.ido_base.specs.Words.{word_of}
 use Rattle.rv64_isa.specs.Machine.{World, after_crash_of, after_events}
-use Rattle.rv64_isa.specs.Schedule.{first_steps, steps_along, released_count}
+use Rattle.rv64_isa.specs.Schedule.{LifeSchedules, first_steps, steps_along, released_count}
 use Rattle.variable_words.specs.Variables.{durable_variables}
 use Rattle.region_attempts.specs.Origins.{Origin}
 use Rattle.recovered_threads.specs.Machines.{RecoversTo}
@@ -27,10 +27,11 @@ abbrev pub RecoveredWordsSimulate : Type 0
 RecoveredWordsSimulate = (y : System) (s : IsSystem y) (o : Origin (flat_of y)) (words : List ℕ) → IsRecoveredFrom y s o words →
     SimulatesFrom y s o (after_crash_of y.runs.log y.runs.program y.runs.mutexes words)
 
--- the account of its steps goes on from there, after steps that were kept before
+-- the account of its steps goes on from there, after schedules that were kept before
 abbrev pub RecoveredAreCounted : Type 0
-RecoveredAreCounted = (y : System) (s : IsSystem y) (o : Origin (flat_of y)) (words kept : List ℕ) → IsRecoveredFrom y s o words → (events : List Event) →
-    SimulatesCounted y s (record { from = o.source; kept = kept })
+RecoveredAreCounted = (y : System) (s : IsSystem y) (o : Origin (flat_of y)) (words : List ℕ) (kept : LifeSchedules) → IsRecoveredFrom y s o words →
+    (events : List Event) →
+    SimulatesCounted y s (record { from = o.source; earlier = kept.earlier; kept = kept.schedule })
     (after_events y.runs.program (after_crash_of y.runs.log y.runs.program y.runs.mutexes words) events)
     (steps_along y.runs.marks y.runs.program (after_crash_of y.runs.log y.runs.program y.runs.mutexes words) events (first_steps (length y.runs.program) kept))
     (released_count y.runs.program (after_crash_of y.runs.log y.runs.program y.runs.mutexes words) events)

@@ -5,7 +5,7 @@ use Rattle.c_tree.specs.Source.{start, ended_from}
 use Rattle.rv64_isa.specs.declared.phase.Phase.TheVariants.{Done}
 use Rattle.rv64_isa.specs.Executables.{first_world}
 use Rattle.rv64_isa.specs.Machine.{World}
-use Rattle.rv64_isa.specs.Schedule.{first_steps, steps_along, released_count}
+use Rattle.rv64_isa.specs.Schedule.{only_life, first_steps, steps_along, released_count}
 use Rattle.hart_runs.specs.Calls.{IsInPhase}
 use Rattle.crash_simulation.specs.Systems.{System, IsSystem, flat_of}
 use Rattle.crash_simulation.specs.AbstractRuns.{AbstractRun}
@@ -27,7 +27,8 @@ pub data IsReleasedOf (y : System) (w : World) (b : AbstractRun y) (thread : ℕ
 -- the sections that have ended for the source, and for the machine
 abbrev pub ended_in_source : (y : System) → List Event → (thread : ℕ) → ℕ
 ended_in_source y events thread =
-    ended_from (start (flat_of y)) (steps_along y.runs.marks y.runs.program (first_world y.runs) events (first_steps (length y.runs.program) [])).kept thread
+    ended_from (start (flat_of y))
+    (steps_along y.runs.marks y.runs.program (first_world y.runs) events (first_steps (length y.runs.program) (only_life []))).kept thread
 
 abbrev pub ended_in_machine : (y : System) → List Event → (hart : ℕ) → ℕ
 ended_in_machine y events hart = released_count y.runs.program (first_world y.runs) events hart

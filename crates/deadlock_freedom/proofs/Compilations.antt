@@ -1,5 +1,5 @@
 -- Compilations whose sources keep the order of locks never deadlock.
-use Rattle.std.proofs.Common.{◌≡◌, inl, refl, ℕ, ◌<◌, List, ◌∷◌, ◌++◌, length, get_or, ap, ap₂, sym, ◌∙◌, subst, arith}
+use Rattle.std.proofs.Common.{◌≡◌, inl, refl, ℕ, ◌<◌, List, [], ◌∷◌, ◌++◌, length, get_or, ap, ap₂, sym, ◌∙◌, subst, arith}
 use Rattle.std.proofs.Common.{true, false, Option, Some, None}
 use Rattle.std.specs.Prelude.{slice_get, not}
 use Rattle.std.proofs.lemmas.Option.{slice_get_within, slice_get-get_or}
@@ -8,7 +8,10 @@ use Rattle.ido_base.specs.declared.event.Event.TheVariants.{Step, Crash}
 use Rattle.ido_base.specs.declared.event.Reply.{Reply}
 use Rattle.ido_base.specs.declared.event.Reply.TheVariants.{Moved}
 use Rattle.ido_base.specs.Cores.{is_idle, is_enabled, least_enabled}
-use Rattle.rv64_isa.specs.Executables.{Executable}
+use Rattle.rv64_isa.specs.Executables.{Executable, first_world}
+use Rattle.rv64_isa.specs.Schedule.{all_lives, first_steps, only_life}
+use Rattle.rv64_isa.proofs.Public.{along_earlier}
+use Rattle.source_machine.specs.Discipline.{IsReachedState}
 use Rattle.rv64_isa.specs.declared.phase.Phase.TheVariants.{Take}
 use Rattle.rv64_isa.specs.Machine.{Hart, World, Outcome, reply_to}
 use Rattle.hart_runs.specs.HartsOnRuns.{instr_of}
@@ -37,13 +40,21 @@ module _ (ascend : LocksAscend) (c : Translation) (is : IsCompilation c) (order 
     in_order = order;
   }
 
+  -- no life came before this one
+  reached : IsReachedState c.flat (source c (all_lives (now c events)))
+  reached = record {
+    schedule = (now c events).schedule;
+    is = ap (λ (earlier : List (List ℕ)). source c (earlier ++ (now c events).schedule ∷ []))
+        (along_earlier c.runs.marks c.runs.program events (first_world c.runs) (first_steps (length c.runs.program) (only_life [])));
+  }
+
   -- a hart that waits for a lock holds lesser ones
   ascends : (h lock held : ℕ) → WaitsFor c.runs.program w h lock → slice_get w.holders held ≡ Some (Some h) → held < lock
   ascends h lock held x owns =
       let agree : HoldsAsThread c w (now c events) h = (((is.records events).each h x.hart x.here).locks_agree) (inl x.runs) in
       let call : IsAtCall c.runs.program w h 1 = record { hart = x.hart; here = x.here; runs = x.runs; calls = ap instr_of x.calls; asks = x.asks } in
       let below : held < lock_asked x.hart =
-      ascend c.flat (source c (now c events)) h (lock_asked x.hart) held ordered (record { schedule = now c events; is = refl }) (agree.taking call)
+      ascend c.flat (source c (all_lives (now c events))) h (lock_asked x.hart) held ordered reached (agree.taking call)
       (agree.holds_only call held owns) in
       subst (λ (n : ℕ). held < n) x.lock_is below
 

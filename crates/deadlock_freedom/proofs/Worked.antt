@@ -11,6 +11,7 @@ use Rattle.rv64_isa.specs.declared.phase.Phase.TheVariants.{Run, Done, Ended}
 use Rattle.rv64_isa.specs.Programs.{code_start}
 use Rattle.rv64_isa.specs.Rows.{row}
 use Rattle.rv64_isa.specs.Machine.{Hart, happens}
+use Rattle.rv64_isa.specs.Schedule.{only_life}
 use Rattle.run_tracker.specs.ObjectLives.{LifeConfig, living}
 
 -- two harts, each at a call
@@ -32,7 +33,7 @@ config : (holders : List (Option ℕ)) → List Hart → LifeConfig
 unfolding program
 config holders harts = record {
   runs = record { log = V1; program = program; marks = []; resumes = []; initial = []; mutexes = 2 };
-  kept_before = [];
+  kept_before = only_life [];
   world = record { log = V1; words = []; harts = harts; holders = holders; recovering = true };
 }
 

@@ -1,5 +1,5 @@
 -- Seats with the numbers that were dealt, in order.
-use Rattle.std.proofs.Common.{◌≡◌, ℕ, zero, suc, ◌+◌, ◌<◌, List, [], ◌∷◌, length, get_or, sym, ap, subst, ◌∙◌, arith}
+use Rattle.std.proofs.Common.{◌≡◌, ℕ, ◌<◌, List, length, sym, ap, subst, ◌∙◌, arith}
 use Rattle.std.proofs.lemmas.List.{length-map}
 use Rattle.std.proofs.lemmas.Bool.Decides.{nat_tests}
 use Rattle.hart_board.specs.declared.board.Board.{Board}
@@ -18,14 +18,3 @@ module _ {C L : Type 0} where
     each = λ n inside. subst (Has n) (sym is) (has_below n (seats_of board) inside);
     once = sym (length-map seats number) ∙ (ap length is ∙ count_from 0 (seats_of board));
   }
-
-  from_at : (at count i : ℕ) (seats : List (Seat C L)) (d : Seat C L) → numbers_of seats ≡ numbers_from at count → i < count →
-      number (get_or seats i d) ≡ at + i
-  from_at at zero i seats d is inside = absurd (omega arith)
-  from_at at (suc count) i [] d is inside = absurd (cc is)
-  from_at at (suc count) zero (s ∷ ss) d is inside = let same : number s ≡ at = cc is in omega (arith, same)
-  from_at at (suc count) (suc i) (s ∷ ss) d is inside = let rest = from_at (at + 1) count i ss d (cc is) (omega arith) in omega (arith, rest)
-
-  -- each has the number of its place
-  pub dealt_at : (count i : ℕ) (seats : List (Seat C L)) (d : Seat C L) → numbers_of seats ≡ numbers_from 0 count → i < count → number (get_or seats i d) ≡ i
-  dealt_at count i seats d is inside = let same = from_at 0 count i seats d is inside in omega (arith, same)

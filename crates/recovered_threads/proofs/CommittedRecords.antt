@@ -1,6 +1,6 @@
 -- What a committed boundary's record describes, and what the others' go on to describe.
-use Rattle.std.proofs.Common.{◌≡◌, ◌≢◌, inl, inr, ℕ, ◌+◌, ◌%◌, ◌^◌, List, [], refl, ap, arith, sym, ◌∙◌, subst}
-use Rattle.std.proofs.lemmas.Bool.{cond-true, cases_Bool}
+use Rattle.std.proofs.Common.{◌≡◌, ◌≢◌, inl, inr, ℕ, List, [], refl, ap, sym, ◌∙◌, subst}
+use Rattle.std.proofs.lemmas.Bool.{cases_Bool}
 use Rattle.ido_base.specs.Locks.{holds_none}
 use Rattle.c_tree.specs.LockDiscipline.{Held}
 use Rattle.source_machine.specs.Mutexes.{held_by}

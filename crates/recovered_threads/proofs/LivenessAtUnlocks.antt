@@ -38,7 +38,7 @@ both [] ms a b = b
 both (n ∷ ns) ms a b = (a.0, both ns ms a.1 b)
 
 assign_assigns : (place : Place) (target : e.Lvalue) (value : e.Placed) (first next : ℕ) → AllAssign (assign_nodes place target value first next)
-assign_assigns place (e.ToLocal local kind) value first next = (tt, tt)
+assign_assigns place (e.ToLocal name local kind) value first next = (tt, tt)
 assign_assigns place (e.ToVariable name variable kind) value first next = (tt, (tt, tt))
 assign_assigns place (e.ToElement name variable kind index) value first next = (tt, (tt, tt))
 
@@ -53,8 +53,8 @@ mutual
   one_assigns (f.While place condition body) first next = (tt, all_assign body (suc first) first)
   one_assigns (f.Do place body condition) first next =
       both (statements_nodes body first (first + statements_count body)) _ (all_assign body first (first + statements_count body)) (tt, tt)
-  one_assigns (f.Lock place mutex) first next = (tt, tt)
-  one_assigns (f.Unlock place mutex) first next = (refl, tt)
+  one_assigns (f.Lock place name) first next = (tt, tt)
+  one_assigns (f.Unlock place name) first next = (refl, tt)
 
   all_assign : (xs : f.Statements) (first next : ℕ) → AllAssign (statements_nodes xs first next)
   all_assign f.no_statement first next = tt

@@ -22,7 +22,7 @@ left_of s = s.left
 
 assign_left : (place : Place) (target : e.Lvalue) (value : e.Placed) (rest : List f.Statement) →
     map left_of (assign_standings place target value rest) ≡ assign_lefts place target value rest
-assign_left place (e.ToLocal local kind) value rest = refl
+assign_left place (e.ToLocal name local kind) value rest = refl
 assign_left place (e.ToVariable name variable kind) value rest = refl
 assign_left place (e.ToElement name variable kind index) value rest = refl
 
@@ -37,8 +37,8 @@ mutual
   left_in (f.Do place body condition) rest =
       map-append left_of (all_standings body (f.While place condition body ∷ rest)) (free (f.While place condition body ∷ rest) ∷ [])
       ∙ ap (λ (ls : List (List f.Statement)). ls ++ (f.While place condition body ∷ rest) ∷ []) (left_in_all body (f.While place condition body ∷ rest))
-  left_in (f.Lock place mutex) rest = refl
-  left_in (f.Unlock place mutex) rest = refl
+  left_in (f.Lock place name) rest = refl
+  left_in (f.Unlock place name) rest = refl
 
   left_in_all : (xs : f.Statements) (rest : List f.Statement) → map left_of (all_standings xs rest) ≡ lefts_in_all xs rest
   left_in_all f.no_statement rest = refl
@@ -68,7 +68,7 @@ left_at t step s h =
 
 count_assign : (target : e.Lvalue) (place : Place) (value : e.Placed) (rest : List f.Statement) →
     length (assign_standings place target value rest) ≡ assign_count target
-count_assign (e.ToLocal local kind) place value rest = refl
+count_assign (e.ToLocal name local kind) place value rest = refl
 count_assign (e.ToVariable name variable kind) place value rest = refl
 count_assign (e.ToElement name variable kind index) place value rest = refl
 
@@ -83,8 +83,8 @@ mutual
       let more = count_in_all body (f.While place condition body ∷ rest) in
       let both = length-append (all_standings body (f.While place condition body ∷ rest)) (free (f.While place condition body ∷ rest) ∷ []) in
       omega (arith, more, both)
-  count_in (f.Lock place mutex) rest = refl
-  count_in (f.Unlock place mutex) rest = refl
+  count_in (f.Lock place name) rest = refl
+  count_in (f.Unlock place name) rest = refl
 
   count_in_all : (xs : f.Statements) (rest : List f.Statement) → length (all_standings xs rest) ≡ statements_count xs
   count_in_all f.no_statement rest = refl

@@ -1,5 +1,5 @@
 -- A hart that is resumed goes on where its record says.
-use Rattle.std.proofs.Common.{◌≡◌, ℕ, ◌+◌, ◌*◌, ◌<◌, List, [], refl, ap, arith, sym, ◌∙◌, subst}
+use Rattle.std.proofs.Common.{◌≡◌, ℕ, List, [], refl, ap, sym, ◌∙◌, subst}
 use Rattle.std.specs.List.{Contains}
 use Rattle.ido_base.specs.declared.log.Log.{Log}
 use Rattle.rv64_isa.specs.declared.object.Slot.{Slot}

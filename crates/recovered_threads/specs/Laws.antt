@@ -23,7 +23,7 @@ use Rattle.log_states.specs.Machines.{config_of}
 use Rattle.log_states.specs.Laws.{recorded_by, IsRecoverable}
 use Rattle.log_states.specs.LogInvariant.{LogInv}
 use Rattle.hart_runs.specs.Calls.{IsInPhase}
-use Rattle.thread_code.specs.Plans.{Plan, IsPlan, IsNodeOf, locks_before}
+use Rattle.thread_code.specs.Plans.{Plan, IsPlan, IsNodeOf, locks_before, IsKept}
 use Rattle.thread_code.specs.RegistersAtNodes.{Enters}
 use Rattle.thread_code.specs.NodeCodeEffects.{keeping}
 use Rattle.recovered_threads.specs.RecordDescriptions.{Code, Codes, IsOrderly, ResumesAt, Describes, AllDescribe, locks_of}
@@ -132,11 +132,11 @@ pub record AtBoundary (p : Plan) (code : Code p) (s : FlowState) (side resume : 
   pub own : IsNodeOf code.thread graph_thread.at
   pub resumes : locks_before p code.thread graph_thread.at ≢ [] → ResumesAt p code graph_thread.at resume
   pub enters : Enters p code.thread graph_thread.at (seen_by s graph_thread) side x
-  -- an instruction's address, and registers of 64 bits
+  -- an instruction's address, and 64 bits in each register that the boundary keeps
   pub aligned : resume % 4 ≡ 0
   pub somewhere : 0 < resume
   pub below : resume < 2 ^ 64
-  pub registers : (register : ℕ) → read x register < 2 ^ 64
+  pub registers : (register : ℕ) → IsKept p code.thread graph_thread.at register → read x register < 2 ^ 64
 
 -- the boundary before the node, as its thread's places give it
 abbrev pub boundary_at : (p : Plan) → (code : Code p) → (node : ℕ) → Boundary

@@ -8,6 +8,7 @@ mod DurableWords
 mod Events
 mod PointPositions
 mod KeptStepBounds
+mod KeptSchedules
 mod LifeAfterEvent
 mod LifeOpenings
 mod StepsStayOpen

@@ -10,7 +10,7 @@ use Rattle.rv64_isa.specs.Executables.{node_marks}
 use Rattle.rv64_isa.specs.Frames.{IsWellFormedWorld}
 use Rattle.rv64_isa.proofs.Public.{queues_stand}
 use Rattle.rv64_isa.specs.Machine.{World, IsValidEvent, after_event}
-use Rattle.rv64_isa.specs.Schedule.{Steps, steps_after, stores_point, finishes_fence}
+use Rattle.rv64_isa.specs.Schedule.{Steps, only_life, steps_after, stores_point, finishes_fence}
 use Rattle.ido_machine.specs.declared.machine.Machine.{Machine}
 use Rattle.ido_machine.specs.Machines.{RepresentsMachine, log_by, program_in, events_of}
 use Rattle.run_tracker.specs.declared.account.Account.{Account}
@@ -73,7 +73,7 @@ module _ (life : Inside) (stands : LifeInv life) where
     course_is =
         let at : List (List Slot) → Log → List Event → Course = λ p l j. record {
           runs = executable_by l p life;
-          kept_before = life.before.items;
+          kept_before = only_life life.before.items;
           opening = opening_by l p life.mutexes life.initial.items life.left;
           journal = j;
           cap = life.cap;

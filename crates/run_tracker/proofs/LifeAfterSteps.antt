@@ -12,7 +12,7 @@ use Rattle.rv64_isa.specs.declared.phase.Phase.TheVariants.{Run}
 use Rattle.rv64_isa.specs.Executables.{node_marks}
 use Rattle.rv64_isa.specs.Frames.{IsWellFormedWorld}
 use Rattle.rv64_isa.specs.Machine.{Hart, World, with_hart}
-use Rattle.rv64_isa.specs.Schedule.{Steps}
+use Rattle.rv64_isa.specs.Schedule.{Steps, only_life}
 use Rattle.hart_core.specs.declared.local.LocalState.{LocalState}
 use Rattle.hart_core.specs.LocalSteps.{placed_code, local_run}
 use Rattle.ido_machine.specs.declared.machine.Machine.{Machine}
@@ -54,7 +54,7 @@ module _ (life : Inside) (stands : LifeInv life) (h made passed : ℕ) (hart : H
   course_steps =
       let at : List (List Slot) → Log → List Event → Course = λ p l j. record {
         runs = executable_by l p life;
-        kept_before = life.before.items;
+        kept_before = only_life life.before.items;
         opening = opening_by l p life.mutexes life.initial.items life.left;
         journal = j;
         cap = life.cap;

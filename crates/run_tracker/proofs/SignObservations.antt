@@ -79,12 +79,7 @@ module _ (code : PlacedCode) (pc : ℕ) (slot : Slot) (there : fetched_in code p
           (leb-true code.start pc parts.0, eqb-true (pc % 4) 0 parts.1, sym (fetched_if true e) ∙ there)
 
   module _ (table : SignTable) (addresses : List ℕ) (is : IsTableOf table code.start code.slots addresses) where
-    -- the word has a sign
-    pub word_signed : (table.start ≤ pc) × ((pc - table.start) / 4 < length table.signs.items)
-    word_signed =
-        let within = in_length code.slots ((pc - code.start) / 4) slot word_place.2 in
-        (rw is.starts word_place.0, rw (is.starts, is.size) within)
-
+    -- the sign of the word
     sign_is : sign_at table pc ≡ sign_in table.signs.items ((pc - code.start) / 4)
     sign_is = ap (λ (start : ℕ). sign_in table.signs.items ((pc - start) / 4)) is.starts
 
@@ -103,9 +98,6 @@ module _ (code : PlacedCode) (pc : ℕ) (slot : Slot) (there : fetched_in code p
 -- where a word of a thread's code stands
 module _ (program : List (List Slot)) (h pc : ℕ) (slot : Slot) (there : fetched program h pc ≡ Some slot) (table : SignTable) (addresses : List ℕ)
     (is : IsTableOf table (code_start program h) (code_of program h) addresses) where
-  pub has_sign : (table.start ≤ pc) × ((pc - table.start) / 4 < length table.signs.items)
-  has_sign = word_signed (placed_code program h) pc slot there table addresses is
-
   pub mark_tells : (sign_at table pc).mark ≡ list_any (λ m. m == pc) addresses
   mark_tells = word_mark (placed_code program h) pc slot there table addresses is
 

@@ -24,7 +24,7 @@ use Rattle.run_tracker.proofs.DurableWordsStay.{undrained}
 use Rattle.run_tracker.proofs.Events.{noted, noted_is}
 use Rattle.run_tracker.proofs.PointPositions.{differs, grown}
 use Rattle.run_tracker.proofs.StepsStayOpen.{all_kept_none, open-noted}
-use Rattle.run_tracker.proofs.SignObservations.{completes_none, completes_one, fence_is, fence_tells, has_sign, mark_tells, store_tells, stores_none}
+use Rattle.run_tracker.proofs.SignObservations.{completes_none, completes_one, fence_is, fence_tells, mark_tells, store_tells, stores_none}
 use Rattle.run_tracker.proofs.SignObservations.{moved_fetched, none_moved, none_running, one_moved, passes_none, passes_one}
 
 module _ (program : List (List Slot)) (tables : List SignTable) (marks : List (List ℕ)) (machine : Machine) (h : ℕ) (observation : Observation)
@@ -125,9 +125,6 @@ module _ (program : List (List Slot)) (tables : List SignTable) (marks : List (L
     module _ (table : SignTable) (found : slice_get tables h ≡ Some table) where
       table_is : IsTableOf table (code_start program h) (code_of program h) (slice_index_or marks h [])
       table_is = stepped.tables_are.each h table found
-
-      pub in_table : (table.start ≤ observation.pc) × ((observation.pc - table.start) / 4 < length table.signs.items)
-      in_table = has_sign program h observation.pc some_slot.0 there table (slice_index_or marks h []) table_is
 
       pub mark_is : (sign_at table observation.pc).mark ≡ passes_mark marks program w h
       mark_is =

@@ -33,7 +33,7 @@ kept_none log words h s above =
     let it = hart_steps s h in
     let none : durable_steps d it.bound ≡ 0 = none_durable d (d + 1) it.bound (omega arith) above in
     let all : later d it.bound ≡ it.bound = all_later d (d + 1) it.bound (omega arith) above in
-    let made : List ℕ → List ℕ → List HartSteps → Steps = λ k p hs. record { begun = s.begun; kept = k; pending = p; harts = hs } in
+    let made : List ℕ → List ℕ → List HartSteps → Steps = λ k p hs. record { begun = s.begun; earlier = s.earlier; kept = k; pending = p; harts = hs } in
     let set : List Bound → List HartSteps = λ bs. slice_set s.harts h (record { free = it.free; bound = bs }) in
     ap (λ (n : ℕ). made (s.kept ++ replicate n h) (without h n s.pending) (set (later d it.bound))) none
     ∙ ap (λ (k : List ℕ). made k (without h 0 s.pending) (set (later d it.bound))) (append-nil s.kept)

@@ -11,15 +11,15 @@ use Rattle.rv64_isa.specs.declared.phase.Phase.{Phase}
 use Rattle.rv64_isa.specs.declared.phase.Phase.TheVariants.{Take, Wait, Resume, Run, Done, Ended}
 use Rattle.rv64_isa.specs.Executables.{Executable, executable_of}
 use Rattle.rv64_isa.specs.Machine.{World, after_event, after_events, reply_to, machine_start, machine_from, durable_point}
-use Rattle.rv64_isa.specs.Schedule.{Steps, stores_point, finishes_fence, first_steps, steps_along}
+use Rattle.rv64_isa.specs.Schedule.{Steps, LifeSchedules, only_life, stores_point, finishes_fence, first_steps, steps_along}
 
 -- ---- What a life is
 
 pub record Course : Type 0 where
   -- what its machine runs
   pub runs : Executable
-  -- the schedule that was kept before the first event
-  pub kept_before : List ℕ
+  -- the schedules that were kept before the first event
+  pub kept_before : LifeSchedules
   -- the world before the first event
   pub opening : World
   -- the events so far
@@ -39,8 +39,8 @@ world_of life = after_events life.runs.program life.opening life.journal
 abbrev pub steps_in : Course → Steps
 steps_in life = steps_along life.runs.marks life.runs.program life.opening life.journal (first_steps (length life.runs.program) life.kept_before)
 
--- the life of an object before any event, which begins at this world with this schedule kept
-abbrev pub life_at : Object → Marks → World → (kept : List ℕ) → (cap : ℕ) → Course
+-- the life of an object before any event, which begins at this world with these schedules kept
+abbrev pub life_at : Object → Marks → World → (kept : LifeSchedules) → (cap : ℕ) → Course
 life_at object marks world kept cap = record {
   runs = executable_of object marks;
   kept_before = kept;
@@ -51,10 +51,10 @@ life_at object marks world kept cap = record {
 
 -- the life that begins at the object's start
 abbrev pub new_life : Object → Marks → (cap : ℕ) → Course
-new_life object marks cap = life_at object marks (machine_start object) [] cap
+new_life object marks cap = life_at object marks (machine_start object) (only_life []) cap
 
--- the life that begins as after a crash that left these words of its variables and logs, with this schedule kept
-abbrev pub life_from : Object → Marks → (words kept : List ℕ) → (cap : ℕ) → Course
+-- the life that begins as after a crash that left these words of its variables and logs, with these schedules kept
+abbrev pub life_from : Object → Marks → (words : List ℕ) → (kept : LifeSchedules) → (cap : ℕ) → Course
 life_from object marks words kept cap = life_at object marks (machine_from object words []) kept cap
 
 -- the life with an event more
@@ -67,10 +67,10 @@ left_words variable_words words = take variable_words (map durable_value words) 
 
 -- ---- A life as a core
 
--- what a machine runs with the world that it is at, and the schedule that was kept before, which no event changes
+-- what a machine runs with the world that it is at, and the schedules that were kept before, which no event changes
 pub record LifeConfig : Type 0 where
   pub runs : Executable
-  pub kept_before : List ℕ
+  pub kept_before : LifeSchedules
   pub world : World
 
 -- the hart has ended, or its recovery is done

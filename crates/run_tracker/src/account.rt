@@ -3,7 +3,7 @@ ghost use Rattle.std.specs.Prelude.{◌≡◌, ◌+◌, ◌<◌, ◌≤◌, ◌+
 ghost use Rattle.std.specs.Vec.{vec_capacity, vec_len};
 ghost use Rattle.ido_base.specs.declared.log.Log.{Log};
 ghost use Rattle.ido_base.specs.Words.{Word, word_at};
-ghost use Rattle.rv64_isa.specs.Schedule.{Steps, first_steps, no_steps, with_begun, with_bound, with_kept, durable_steps};
+ghost use Rattle.rv64_isa.specs.Schedule.{Steps, first_steps, only_life, no_steps, with_begun, with_bound, with_kept, durable_steps};
 ghost use Rattle.run_tracker.specs.links.AccountRepresentation.{AccountInv, IsAscending, open_at, bound_in, bound_at, total, point_word, without_open};
 ghost use Rattle.run_tracker.specs.links.LocalRepresentation.{with_more_begun};
 
@@ -85,7 +85,7 @@ impl Account {
     /// Before any step, with a schedule that is kept already and room for so many steps more.
     pub fn new(alloc: Global, harts: u32, before: &[u32], cap: u64) -> Result<Account, OutOfMemory>
         requires few { length before.now + cap < 2 ^ 63 }
-        ensures stands { IfOk result (λ account. AccountInv account (first_steps harts before.now)) }
+        ensures stands { IfOk result (λ account. AccountInv account (first_steps harts (only_life before.now))) }
         ensures kept { IfOk result (λ account. vec_capacity account.kept ≡ length before.now + cap) }
         ensures reserved { IfOk result (λ account. vec_capacity account.stores ≡ cap) }
         ensures stores { IfOk result (λ account. vec_len account.stores ≡ 0) }

@@ -1,5 +1,6 @@
 //! A life: a machine that runs a compiled object, with the journal of its events and the kept schedule.
-ghost use Rattle.std.specs.Prelude.{◌≡◌, [], ◌+◌, ◌-◌, ◌*◌, ◌/◌, ◌<◌, ◌≤◌, ◌^◌, ◌++◌, ℕ, Some, length, map, not, slice_get, if◌then◌else◌, IfOk, IsTrue, ◌↔◌};
+ghost use Rattle.std.specs.Prelude.{◌≡◌, [], ◌∷◌, ◌+◌, ◌-◌, ◌*◌, ◌/◌, ◌<◌, ◌≤◌, ◌^◌, ◌++◌, ℕ, Some, length, map, not, slice_get};
+ghost use Rattle.std.specs.Prelude.{if◌then◌else◌, IfOk, IsTrue, ◌↔◌};
 ghost use Rattle.std.specs.Bool.{OnTrue};
 ghost use Rattle.std.specs.Vec.{vec_capacity, vec_len};
 ghost use Rattle.ido_base.specs.Words.{word_at, live_value, durable_value};
@@ -9,7 +10,7 @@ ghost use Rattle.rv64_isa.specs.Machine.{Hart, World, IsValidEvent, reply_to, nu
 ghost use Rattle.ido_machine.specs.Machines.{RepresentsMachine, program_in, log_by, events_of};
 ghost use Rattle.rv64_isa.specs.Programs.{program_of};
 ghost use Rattle.rv64_isa.specs.Frames.{IsWellFormedWorld};
-ghost use Rattle.rv64_isa.specs.Schedule.{is_settled, is_settled_hart};
+ghost use Rattle.rv64_isa.specs.Schedule.{is_settled, is_settled_hart, only_life, schedules};
 ghost use Rattle.hart_core.specs.Objects.{IsWithinLimits};
 ghost use Rattle.run_tracker.specs.ObjectLives.{Course, new_life, life_at, life_from, with_event, world_of, steps_in, left_words, variable_words_in};
 ghost use Rattle.run_tracker.specs.ObjectLives.{LifeConfig, ended_sections, is_stopped, is_stopped_phase, living, opening_of};
@@ -168,7 +169,7 @@ impl Life {
         requires marks { length marks.now.threads.items ≡ length object.now.code.items }
         requires count { length words.now ≡ length object.now.initial.items / 8 + log_words object.now.log * length object.now.code.items }
         requires cap { length schedule.now + cap < 2 ^ 63 }
-        ensures { IfOk result (λ life. life ≡ life_from object.now marks.now words.now schedule.now cap) }
+        ensures { IfOk result (λ life. life ≡ life_from object.now marks.now words.now (only_life schedule.now) cap) }
     {
         let machine = Machine::of_words(alloc, object, words)?;
         let left = Some(words.to_vec(alloc)?);
@@ -194,7 +195,8 @@ impl Life {
         requires sound { IsWellFormedWorld (opening_by object.now.log (program_of object.now) object.now.mutexes object.now.initial.items left) }
         requires cap { length before.now + cap < 2 ^ 63 }
         ensures { IfOk result (λ life. life ≡
-            life_at object.now marks.now (opening_by object.now.log (program_of object.now) object.now.mutexes object.now.initial.items left) before.now cap) }
+            life_at object.now marks.now (opening_by object.now.log (program_of object.now) object.now.mutexes object.now.initial.items left)
+            (only_life before.now) cap) }
     {
         let harts = machine.harts();
         let sections = Sections::new(alloc, &machine)?;
@@ -242,9 +244,10 @@ impl Life {
         self.journal.events(alloc)
     }
 
-    /// The kept schedule: a number of a hart for each step of the source that is kept.
+    /// The kept schedule: a number of a hart for each step of the source that is kept. It is the only one: no other life came before.
     pub fn schedule(&self) -> &[u32]
-        ensures { result.now ≡ (steps_in self.now).kept }
+        ensures kept { result.now ≡ (steps_in self.now).kept }
+        ensures only { schedules (steps_in self.now) ≡ result.now ∷ [] }
     {
         &self.account.kept
     }

@@ -7,3 +7,4 @@ mod EncodeThenDecode
 mod DecodeThenEncode
 mod Words
 mod Frames
+mod EarlierLives

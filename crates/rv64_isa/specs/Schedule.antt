@@ -101,13 +101,36 @@ pub record HartSteps : Type 0 where
   -- the oldest first
   pub bound : List Bound
 
+-- a schedule for each life: those of the lives before, and one of the life that goes on
+pub record LifeSchedules : Type 0 where
+  pub earlier : List (List ℕ)
+  pub schedule : List ℕ
+
+-- all of them, the first life's first
+abbrev pub all_lives : LifeSchedules → List (List ℕ)
+all_lives lives = lives.earlier ++ lives.schedule ∷ []
+
+-- of a life with none before it
+abbrev pub only_life : (schedule : List ℕ) → LifeSchedules
+only_life schedule = record { earlier = []; schedule = schedule }
+
 pub record Steps : Type 0 where
-  -- a number of a hart for each mark passed
+  -- a number of a hart for each mark passed in this life
   pub begun : List ℕ
+  -- the kept schedules of the lives before this one, which no event changes
+  pub earlier : List (List ℕ)
+  -- this life's
   pub kept : List ℕ
-  -- the steps begun since the start or the last crash and not kept, in their order
+  -- the steps begun since this life's start or the last crash and not kept, in their order
   pub pending : List ℕ
   pub harts : List HartSteps
+
+-- the schedules that are kept, this life's so far
+abbrev pub kept_lives : Steps → LifeSchedules
+kept_lives s = record { earlier = s.earlier; schedule = s.kept }
+
+abbrev pub schedules : Steps → List (List ℕ)
+schedules s = all_lives (kept_lives s)
 
 abbrev pub no_steps : HartSteps
 no_steps = record { free = 0; bound = [] }
@@ -182,9 +205,9 @@ abbrev pub steps_along : List (List ℕ) → List (List Slot) → World → List
 steps_along marks program w [] s = s
 steps_along marks program w (event ∷ events) s = steps_along marks program (after_event program w event) events (steps_after marks program w event s)
 
--- the steps before any event, with a schedule that is kept already
-abbrev pub first_steps : (threads : ℕ) → (kept : List ℕ) → Steps
-first_steps threads kept = record { begun = []; kept = kept; pending = []; harts = replicate threads no_steps }
+-- the steps before any event, with schedules that are kept already
+abbrev pub first_steps : (threads : ℕ) → (kept : LifeSchedules) → Steps
+first_steps threads kept = record { begun = []; earlier = kept.earlier; kept = kept.schedule; pending = []; harts = replicate threads no_steps }
 
 -- ---- Settled states, and releases
 

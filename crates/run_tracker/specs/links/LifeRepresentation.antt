@@ -10,6 +10,7 @@ use Rattle.rv64_isa.specs.declared.object.Slot.{Slot}
 use Rattle.rv64_isa.specs.Executables.{Executable, node_marks, resume_marks}
 use Rattle.rv64_isa.specs.Machine.{World, start_of, after_crash_of}
 use Rattle.rv64_isa.specs.Frames.{IsWellFormedWorld}
+use Rattle.rv64_isa.specs.Schedule.{only_life}
 use Rattle.ido_machine.specs.Machines.{RepresentsMachine, program_in, log_by, events_of}
 use Rattle.run_tracker.specs.declared.life.Life.TheInside.{Inside}
 use Rattle.run_tracker.specs.links.AccountRepresentation.{AccountInv, AreOpen, AreOrdered, weight}
@@ -36,7 +37,7 @@ executable_by log program life = record {
 abbrev pub course_of : Inside → Course
 course_of life = record {
   runs = executable_by (log_by life.machine) (program_in life.machine) life;
-  kept_before = life.before.items;
+  kept_before = only_life life.before.items;
   opening = opening_by (log_by life.machine) (program_in life.machine) life.mutexes life.initial.items life.left;
   journal = life.journal.events;
   cap = life.cap;

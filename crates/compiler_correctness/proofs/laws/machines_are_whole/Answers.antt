@@ -1,4 +1,4 @@
-use Rattle.compiler_correctness.proofs.NoPointBetweenSections.{machines_are_whole}
+use Rattle.compiler_correctness.proofs.Records.{machines_are_whole}
 use Rattle.compiler_correctness.proofs.laws.machines_are_whole.Goals as goal
 
 pub returns : goal.returns

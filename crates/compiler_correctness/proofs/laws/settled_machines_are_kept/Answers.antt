@@ -1,4 +1,4 @@
-use Rattle.compiler_correctness.proofs.SettledMachines.{settled_machines_are_kept}
+use Rattle.compiler_correctness.proofs.AbstractRunAccount.{settled_machines_are_kept}
 use Rattle.compiler_correctness.proofs.laws.settled_machines_are_kept.Goals as goal
 
 pub returns : goal.returns

@@ -1,4 +1,4 @@
-use Rattle.compiler_correctness.proofs.PaddingUnwritten.{words_between_stay}
+use Rattle.compiler_correctness.proofs.ImageWords.{words_between_stay}
 use Rattle.compiler_correctness.proofs.laws.words_between_stay.Goals as goal
 
 pub returns : goal.returns

@@ -1,4 +1,4 @@
-use Rattle.crash_simulation.proofs.SimulationAfterCrash.{crash_simulates}
+use Rattle.crash_simulation.proofs.SimulationAtStart.{crash_simulates}
 use Rattle.crash_simulation.proofs.laws.crashes_simulate.Goals as goal
 
 pub returns : goal.returns

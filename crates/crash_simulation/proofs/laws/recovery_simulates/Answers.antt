@@ -1,5 +1,4 @@
-use Rattle.crash_simulation.proofs.SimulationInRecovery.{takes_stand, waits_stand, stopped_stand}
-use Rattle.crash_simulation.proofs.SimulationAfterResume.{resumes_stand}
+use Rattle.crash_simulation.proofs.SimulationInRecovery.{takes_stand, waits_stand, stopped_stand, resumes_stand}
 use Rattle.crash_simulation.proofs.laws.recovery_simulates.Goals as goal
 
 pub returns-clause-takes : goal.returns-clause-takes

@@ -6,7 +6,7 @@ use Rattle.rv64_isa.specs.Executables.{node_marks}
 use Rattle.rv64_isa.specs.Frames.{IsWellFormedWorld}
 use Rattle.rv64_isa.specs.Programs.{program_of, slot_of}
 use Rattle.rv64_isa.specs.Machine.{World}
-use Rattle.rv64_isa.specs.Schedule.{first_steps, no_steps}
+use Rattle.rv64_isa.specs.Schedule.{first_steps, only_life, no_steps}
 use Rattle.ido_base.specs.Cores.{point_stores, finished_fences}
 use Rattle.ido_machine.specs.Machines.{RepresentsMachine, program_in}
 use Rattle.run_tracker.specs.links.Journals.{Recorded}
@@ -35,7 +35,7 @@ invariant_of-result c =
     let journal = c.in_ok-new-2.field-0 in
     let opening : List (List Slot) → World = λ p. opening_by object.log p object.mutexes object.initial.items c.args.left in
     let before = c.args.before.now in
-    let start : Course = life_at object marks (opening (program_of object)) before c.args.cap in
+    let start : Course = life_at object marks (opening (program_of object)) (only_life before) c.args.cap in
     let is : start ≡ course_of (record {
       initial = c.in_ok-to_vec.field-0;
       mutexes = object.mutexes;
@@ -53,8 +53,8 @@ invariant_of-result c =
     let program_is : program_in machine ≡ program_of object = c.requires.program in
     let count : c.harts-harts.result ≡ length (program_of object) = c.harts-harts.ensures ∙ ap length program_is in
     let none_yet : length journal.events ≡ 0 = ap (λ (j : Recorded). length j.events) c.in_ok-new-2.ensures in
-    let stands : AccountInv account (first_steps (length (program_of object)) before) =
-    subst (λ (n : ℕ). AccountInv account (first_steps n before)) count c.in_ok-new.ensures.stands in
+    let stands : AccountInv account (first_steps (length (program_of object)) (only_life before)) =
+    subst (λ (n : ℕ). AccountInv account (first_steps n (only_life before))) count c.in_ok-new.ensures.stands in
     let same_before : length c.in_ok-to_vec-2.field-0.items ≡ length before = search rules in
     let same_bytes : c.in_ok-to_vec.field-0.items ≡ object.initial.items = search rules in
     let counts = c.in_ok-new-3.field-0 in
@@ -79,12 +79,12 @@ invariant_of-result c =
       harts = sym stands.count ∙ length-replicate (length (program_of object)) no_steps ∙ ap length (sym program_is);
       ordered =
           subst (λ (x : Course). AreOrdered (world_of x).log (world_of x).words (steps_in x)) is
-          (ordered-none (opening (program_of object)).log (opening (program_of object)).words (first_steps (length (program_of object)) before)
-          (length (program_of object)) refl);
+          (ordered-none (opening (program_of object)).log (opening (program_of object)).words
+          (first_steps (length (program_of object)) (only_life before)) (length (program_of object)) refl);
       are_open =
           subst (λ (x : Course). AreOpen (world_of x).log (world_of x).words (steps_in x)) is
-          (open-none (opening (program_of object)).log (opening (program_of object)).words (first_steps (length (program_of object)) before)
-          (length (program_of object)) refl);
+          (open-none (opening (program_of object)).log (opening (program_of object)).words
+          (first_steps (length (program_of object)) (only_life before)) (length (program_of object)) refl);
       light =
           subst (λ (x : Course). weight (steps_in x) ≤ length c.in_ok-to_vec-2.field-0.items + length journal.events) is
           (omega (arith, same_before, weightless (length (program_of object))));
