@@ -34,6 +34,7 @@ use Rattle.ido_cli.specs.links.CountedSections.{CountsSections}
 use Rattle.ido_cli.specs.links.CrashPoints.{HasLivedTo, HasPoint, IsOutcomeAt, lines_in, translation_at}
 use Rattle.ido_cli.proofs.PlayedRuns.{HasPlayed, as_many_threads, counts_sections, harts_of_life, run_by}
 use Rattle.ido_cli.proofs.SweptTables.{told_again}
+use Rattle.rv64_isa.specs.Schedule.{schedules}
 
 -- ---- The life
 
@@ -93,7 +94,7 @@ module _ (points : CrashPoints) (k : ℕ) (life : Course) (h : HasLivedTo points
       can.compilation (as_many_threads flat y.object y.marks y.cuts can.translated_is)
 
   pub outcome_of : HasPoint points k → (status : ℕ) (settled : Bool) (output : List ℕ) →
-      IsReport (machine_state (flat_of points.flat) (world_of life) (steps_in life).kept) status output → settled ≡ (status == 0) →
+      IsReport (machine_state (flat_of points.flat) (world_of life) (schedules (steps_in life))) status output → settled ≡ (status == 0) →
       IsOutcomeAt points k (record { settled = settled; report = output })
   outcome_of can status settled output told zero =
       let y = points.translated in
@@ -104,8 +105,8 @@ module _ (points : CrashPoints) (k : ℕ) (life : Course) (h : HasLivedTo points
         told =
             run_by flat y.object y.marks y.cuts life (take k (events_by (translation_at points) (lines_in points.script)) ++ Crash ∷ h.rounds) lived
             can.compilation (status_of settled) output
-            (subst (λ (s : ℕ). IsReport (machine_state flat (world_of life) (steps_in life).kept) s output)
-            (told_again (machine_state flat (world_of life) (steps_in life).kept).unsettled status settled told.status_is zero) told);
+            (subst (λ (s : ℕ). IsReport (machine_state flat (world_of life) (schedules (steps_in life))) s output)
+            (told_again (machine_state flat (world_of life) (schedules (steps_in life))).unsettled status settled told.status_is zero) told);
       }
 
 -- ---- How many events

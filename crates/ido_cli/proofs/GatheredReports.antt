@@ -138,7 +138,8 @@ pub reported_is : SizesStay → (x : f.Flat) (schedule unsettled ended : List �
     variables ≡ taken x.variables (flat_map (λ ns. ns) (m.after_from (m.start x) schedule).variables) →
     ended ≡ counted (λ t. 0 + m.ended_from (m.start x) schedule t) (length (m.after_from (m.start x) schedule).threads) →
     length schedule ≤ 2 ^ 64 - 1 →
-    (let s : r.ReportedState = record { unsettled = unsettled; variables = variables; ended = ended; schedule = schedule } in s) ≡ run_state x schedule
+    (let s : r.ReportedState = record { unsettled = unsettled; variables = variables; ended = ended; schedules = schedule ∷ [] } in s)
+    ≡ run_state x (schedule ∷ [])
 unfolding run_state
 reported_is stay x schedule unsettled ended variables u v e short =
     let after = m.after_from (m.start x) schedule in
@@ -149,10 +150,11 @@ reported_is stay x schedule unsettled ended variables u v e short =
     let counts = counted_is (λ t. m.ended_from (m.start x) schedule t) 0 (length x.threads) (λ t. let h = ended_few (m.start x) schedule t in
     omega (arith, h, short)) in
     let ended_are = e ∙ plain (length after.threads) ∙ ap (λ (n : ℕ). counted (λ t. m.ended_from (m.start x) schedule t) n) threads ∙ counts in
-    ap₂ (λ (us : List ℕ) (vs : List r.Variable). let s : r.ReportedState = record { unsettled = us; variables = vs; ended = ended; schedule = schedule } in
+    ap₂ (λ (us : List ℕ) (vs : List r.Variable). let s : r.ReportedState =
+    record { unsettled = us; variables = vs; ended = ended; schedules = schedule ∷ [] } in
     s) u variables_are
     ∙ ap (λ (es : List ℕ). let s : r.ReportedState =
-    record { unsettled = unsettled_threads after; variables = named x.variables after.variables; ended = es; schedule = schedule } in s) ended_are
+    record { unsettled = unsettled_threads after; variables = named x.variables after.variables; ended = es; schedules = schedule ∷ [] } in s) ended_are
   where
     plain_from : (at n : ℕ) → map (λ t. min (0 + m.ended_from (m.start x) schedule t) (2 ^ 64 - 1)) (numbers_from at n)
         ≡ map (λ t. min (m.ended_from (m.start x) schedule t) (2 ^ 64 - 1)) (numbers_from at n)

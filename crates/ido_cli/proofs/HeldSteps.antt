@@ -1,10 +1,9 @@
 -- Before each node of a thread its set of held mutexes is known.
 use Rattle.std.proofs.Common.{◌≡◌, refl, ℕ, ◌<◌, List, length, map, Some, ap, sym, subst, ◌∙◌, arith}
-use Rattle.std.specs.Prelude.{slice_get, slice_index}
+use Rattle.std.specs.Prelude.{slice_get}
 use Rattle.std.proofs.lemmas.Option.{slice_get_within}
 use Rattle.c_tree.specs.Flats as f
 use Rattle.c_tree.specs.LockDiscipline.{Held}
-use Rattle.memory_layout.specs.declared.roles.TheConstants.{LOCALS}
 use Rattle.lock_discipline.specs.HeldSetsByStep.{AreAllSetsOf}
 use Rattle.rv64_isa.specs.declared.object.Object.{Object}
 use Rattle.rv64_isa.specs.declared.object.Marks.{Marks}
@@ -13,7 +12,7 @@ use Rattle.flow_graph.specs.declared.graph.Part.{Part}
 use Rattle.flow_graph.specs.Lowering.{lowered}
 use Rattle.flow_graph.specs.Nodes.{Graph}
 use Rattle.flow_graph.proofs.Public.{found_in, lowered_threads}
-use Rattle.thread_code.specs.Plans.{Plan, IsPlan, Thread, IsThread}
+use Rattle.thread_code.specs.Plans.{Plan, IsPlan, Thread, IsThread, home_of_colour}
 use Rattle.rv64_codegen.proofs.Public.{few_nodes, held_sets, held_there}
 use Rattle.flat_compile.specs.TranslatedForms.{IsTranslated}
 use Rattle.ido_cli.specs.links.Regions.{HasSets, HaveSets}
@@ -33,7 +32,7 @@ module _ (p : Plan) (plan : IsPlan p) (thread : ℕ) (part : Part) (at : slice_g
   colours = found_in p.colours thread (omega (arith, below, plan.registers.threads))
 
   abbrev own : Thread
-  own = record { number = thread; part = part; kinds = text.0.locals; registers = map (λ (colour : ℕ). slice_index LOCALS colour) colours.0 }
+  own = record { number = thread; part = part; kinds = text.0.locals; locals = map home_of_colour colours.0 }
 
   is_own : IsThread p own
   is_own = record {
@@ -43,7 +42,7 @@ module _ (p : Plan) (plan : IsPlan p) (thread : ℕ) (part : Part) (at : slice_g
     kinds = refl;
     colours = colours.0;
     of_colours = colours.1;
-    registers = refl;
+    locals = refl;
   }
 
   sets_there : HasSets p.held thread part

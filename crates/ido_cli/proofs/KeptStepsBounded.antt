@@ -7,7 +7,7 @@ use Rattle.ido_base.specs.declared.event.Event.TheVariants.{Step, Evict, Crash}
 use Rattle.ido_base.specs.Words.{Word, last_position, word_at}
 use Rattle.rv64_isa.specs.declared.object.Slot.{Slot}
 use Rattle.rv64_isa.specs.Machine.{World, after_event}
-use Rattle.rv64_isa.specs.Schedule.{HartSteps, Steps, first_steps, hart_steps, passes_mark, steps_after}
+use Rattle.rv64_isa.specs.Schedule.{HartSteps, Steps, first_steps, hart_steps, passes_mark, steps_after, LifeSchedules}
 use Rattle.rv64_isa.specs.Schedule.{steps_along, stores_point}
 use Rattle.run_tracker.specs.links.AccountRepresentation.{point_word, weight}
 use Rattle.run_tracker.proofs.Public.{begun_if, harts-noted, noted, weight-after, weightless, weight-all_kept}
@@ -67,6 +67,6 @@ module _ (marks : List (List ℕ)) (program : List (List Slot)) where
   all_events w (e ∷ es) s =
       omega (arith, all_events (after_event program w e) es (steps_after marks program w e s), one_event w e s)
 
-  pub kept_few : (w : World) (events : List Event) (threads : ℕ) (kept : List ℕ) →
-      length (steps_along marks program w events (first_steps threads kept)).kept ≤ length kept + length events
+  pub kept_few : (w : World) (events : List Event) (threads : ℕ) (kept : LifeSchedules) →
+      length (steps_along marks program w events (first_steps threads kept)).kept ≤ length kept.schedule + length events
   kept_few w events threads kept = omega (arith, all_events w events (first_steps threads kept), weightless threads)

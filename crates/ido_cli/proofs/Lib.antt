@@ -23,6 +23,7 @@ mod PlayedRuns
 mod KeptStepsBounded
 mod RunImages
 mod LegEvents
+mod LegRooms
 mod LegRuns
 mod RoundRuns
 mod Sums

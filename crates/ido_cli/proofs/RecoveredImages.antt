@@ -1,5 +1,5 @@
 -- What `recover` says of the image of a run.
-use Rattle.std.proofs.Common.{◌≡◌, ℕ, ◌≤◌, List, [], length, ap₂, sym, subst, arith, Result, Ok, Err, Some}
+use Rattle.std.proofs.Common.{◌≡◌, ◌∙◌, ℕ, ◌≤◌, List, [], length, ap, ap₂, sym, subst, arith, Result, Ok, Err, Some}
 use Rattle.std.proofs.lemmas.Option.{none-some}
 use Rattle.ido_base.specs.declared.event.Event.{Event}
 use Rattle.ido_base.specs.declared.limits.TheConstants.{MOST_EVENTS, MOST_STEPS}
@@ -23,6 +23,8 @@ use Rattle.ido_cli.specs.Images.{IsImageAfter}
 use Rattle.ido_cli.specs.Laws.{RunsAreRecovered}
 use Rattle.ido_cli.specs.Recoveries.{IsRecovery, IsRecoveredRun, recovered, refused}
 use Rattle.ido_cli.specs.Refusals.{image_line}
+use Rattle.rv64_isa.specs.Schedule.{LifeSchedules, first_steps, only_life}
+use Rattle.rv64_isa.proofs.Public.{along_earlier}
 use Rattle.ido_cli.proofs.KeptStepsBounded.{kept_few}
 
 module _ (law : RunImagesAreRead) (source image : List ℕ) (flat : Flat) (object : Object) (marks : Marks) (cuts : Cuts) (before : List Event)
@@ -34,8 +36,13 @@ module _ (law : RunImagesAreRead) (source image : List ℕ) (flat : Flat) (objec
   abbrev Recovered : Type 0
   Recovered = IsRecoveredRun source c before turns answer output
 
-  few : length (left_by c before).kept ≤ MOST_STEPS
-  few = let kept = kept_few c.runs.marks c.runs.program (first_world c.runs) before (length c.runs.program) [] in omega (arith, kept, short)
+  few : length (left_by c before).kept.schedule ≤ MOST_STEPS
+  few = let kept = kept_few c.runs.marks c.runs.program (first_world c.runs) before (length c.runs.program) (only_life []) in omega (arith, kept, short)
+
+  one_life : only_life (left_by c before).kept.schedule ≡ (left_by c before).kept
+  one_life =
+      let none = along_earlier c.runs.marks c.runs.program before (first_world c.runs) (first_steps (length c.runs.program) (only_life [])) in
+      ap (λ (earlier : List (List ℕ)). let z : LifeSchedules = record { earlier = earlier; schedule = (left_by c before).kept.schedule } in z) (sym none)
 
   read : (result : Result Image ImageError) → IsImageAnswer image result → IsReadAgain source c (left_by c before) result
   read result told = law source image flat object marks cuts before result accepted t few written.read_as told
@@ -48,7 +55,7 @@ module _ (law : RunImagesAreRead) (source image : List ℕ) (flat : Flat) (objec
       IsReadAgain source c (left_by c before) (Ok found) → Recovered
   is_read found recovery (again x is words schedule) =
       let file_is : file_in x ≡ left_by c before =
-      ap₂ (λ (ws ks : List ℕ). let z : left.Image = record { words = ws; kept = ks } in z) words schedule in
+      ap₂ (λ (ws : List ℕ) (lives : LifeSchedules). let z : left.Image = record { words = ws; kept = lives } in z) words (ap only_life schedule ∙ one_life) in
       recovered x.compiled is (subst (λ (z : left.Image). IsRecovery (translation_in x.compiled) z turns answer output) file_is recovery)
 
   by : RecoverAnswer turns image answer output → Recovered

@@ -1,6 +1,7 @@
 -- A run that goes on from an image's file.
-use Rattle.std.proofs.Common.{◌≡◌, ℕ, ◌+◌, ◌-◌, ◌*◌, ◌/◌, ◌≤◌, List, [], ◌∷◌, ◌++◌, length, map, take, drop}
+use Rattle.std.proofs.Common.{◌≡◌, ℕ, ◌+◌, ◌-◌, ◌*◌, ◌/◌, ◌≤◌, List, [], ◌∷◌, ◌++◌, length, map, take, drop, ◌<◌, min, inl, inr, ◌⊎◌}
 use Rattle.std.proofs.Common.{replicate, ap, ap₂, sym, subst, ◌∙◌, arith, length-append, length-drop, length-take, Option, None, Ok}
+use Rattle.std.proofs.lemmas.Bool.{cases_lt}
 use Rattle.std.proofs.lemmas.List.{length-map, length-replicate}
 use Rattle.ido_base.specs.Layout.{log_words}
 use Rattle.ido_base.specs.declared.log.Log.TheVariants.{V1}
@@ -8,6 +9,7 @@ use Rattle.ido_base.specs.declared.log.Log.{Log}
 use Rattle.ido_base.specs.declared.limits.TheConstants.{VARIABLE_WORDS}
 use Rattle.ido_base.specs.declared.event.Event.{Event}
 use Rattle.ido_base.specs.declared.event.Event.TheVariants.{Crash}
+use Rattle.ido_base.specs.Cores.{played}
 use Rattle.ido_base.specs.Layout.{spread_words, word_count}
 use Rattle.c_tree.specs.Flats as f
 use Rattle.rv64_isa.specs.declared.object.Object.{Object}
@@ -15,7 +17,7 @@ use Rattle.rv64_isa.specs.declared.object.Marks.{Marks}
 use Rattle.rv64_isa.specs.Frames.{IsWellFormedWorld}
 use Rattle.rv64_isa.specs.Machine.{World, after_events, machine_from}
 use Rattle.rv64_isa.specs.Programs.{program_of, slot_of}
-use Rattle.rv64_isa.specs.Schedule.{Steps, first_steps, steps_along}
+use Rattle.rv64_isa.specs.Schedule.{Steps, first_steps, only_life, steps_along, LifeSchedules, all_lives, schedules}
 use Rattle.rv64_isa.proofs.Public.{crashes_simulate}
 use Rattle.flow_graph.specs.declared.cuts.Cuts.{Cuts}
 use Rattle.flat_compile.specs.TranslatedForms.{IsTranslated}
@@ -33,13 +35,14 @@ use Rattle.ido_compile.specs.CompileAnswers.{IsCompiled, translation_in}
 use Rattle.image_runs.specs.Laws.{AcceptedRunOn}
 use Rattle.ido_compile.specs.Files.{FilesBegin}
 use Rattle.run_scripts.specs.declared.evictor.Evictor.{Evictor}
-use Rattle.run_tracker.specs.ObjectLives.{Course, LifeConfig, life_from, opening_of, steps_in, world_of}
+use Rattle.run_tracker.specs.ObjectLives.{Course, LifeConfig, life_from, living, opening_of, steps_in, world_of}
 use Rattle.ido_cli.specs.Plays.{IsRunBy}
 use Rattle.ido_cli.specs.Recoveries.{IsRecovery, recovering}
 use Rattle.ido_cli.specs.Reports.{machine_state}
 use Rattle.ido_cli.specs.Runs.{IsReport}
 use Rattle.ido_cli.specs.ThreadedRuns.{leg_after, moment_after, most_leg_events}
 use Rattle.ido_cli.specs.links.LegRuns.{leg_from}
+use Rattle.ido_cli.proofs.LegRooms.{in_more_room}
 use Rattle.ido_cli.proofs.LegRuns.{IsLifeDriven, is_leg_after}
 use Rattle.ido_cli.proofs.PlayedRuns.{sound_along}
 use Rattle.ido_cli.proofs.SettledReports.{run_of}
@@ -47,16 +50,18 @@ use Rattle.ido_cli.proofs.SettledReports.{run_of}
 -- ---- A run from a file of the same translation
 
 after_crash : ImagesAreCrashes → (c : Translation) → IsCompilation c → (file : Image) (journal : List Event) (status : ℕ) (output : List ℕ) →
-    IsReport (machine_state c.flat (world_from c (image_in c file) journal) (steps_from c (image_in c file) journal).kept) status output →
+    IsReport (machine_state c.flat (world_from c (image_in c file) journal) (schedules (steps_from c (image_in c file) journal))) status output →
     (before : List Event) → file ≡ file_of c (image_of c before) → IsRunBy c (before ++ Crash ∷ journal) status output
 after_crash crashes c is file journal status output told before left =
     let here : image_in c file ≡ image_of c before = ap (image_in c) left ∙ (is.in_file before).is_all in
     let crashed = crashes c before journal in
-    let of_image = subst (λ (i : Image). IsReport (machine_state c.flat (world_from c i journal) (steps_from c i journal).kept) status output) here told in
-    let of_world = subst (λ (w : World). IsReport (machine_state c.flat w (steps_from c (image_of c before) journal).kept) status output)
+    let of_image = subst (λ (i : Image). IsReport (machine_state c.flat (world_from c i journal) (schedules (steps_from c i journal))) status output)
+    here told in
+    let of_world = subst (λ (w : World). IsReport (machine_state c.flat w (schedules (steps_from c (image_of c before) journal))) status output)
     crashed.world_is of_image in
     run_of c is (before ++ Crash ∷ journal) status output
-    (subst (λ (ks : List ℕ). IsReport (machine_state c.flat (world c (before ++ Crash ∷ journal)) ks) status output) crashed.kept_is of_world)
+    (subst (λ (lives : LifeSchedules). IsReport (machine_state c.flat (world c (before ++ Crash ∷ journal)) (all_lives lives)) status output)
+    crashed.kept_is of_world)
 
 -- ---- A life that begins with a file's words
 
@@ -90,6 +95,29 @@ module _ (flat : f.Flat) (object : Object) (marks : Marks) (cuts : Cuts) (t : Is
 
   pub room_left : cap ≤ length begun.journal + (begun.cap - length begun.journal)
   room_left = omega (arith, ap (λ (x : Course). x.cap) is, ap length none_made)
+
+  as_many_harts : length begun.runs.program ≡ length object.code.items
+  as_many_harts = ap (λ (x : Course). length x.runs.program) is ∙ length-map object.code.items (λ code. map slot_of code.items)
+
+  -- a leg with room for all turns is one with all the room that there may be
+  whole_leg : (turns moment : ℕ) → moment ≡ min most_leg_events (length object.code.items * turns + 1) → (events : List Event) →
+      IsLeg (leg_from turns moment begun None) events → IsLeg (leg_from turns most_leg_events begun None) events
+  whole_leg turns moment room events leg = by (cases_lt (length object.code.items * turns + 1) most_leg_events)
+    where
+      none : length begun.journal ≡ 0
+      none = ap length none_made
+
+      all : length begun.runs.program * turns ≡ length object.code.items * turns
+      all = ap (λ (n : ℕ). n * turns) as_many_harts
+
+      by : (length object.code.items * turns + 1 < most_leg_events) ⊎ (most_leg_events ≤ length object.code.items * turns + 1) →
+          IsLeg (leg_from turns most_leg_events begun None) events
+      by (inl less) =
+          in_more_room living (played living (opening_of begun) begun.journal) (length begun.runs.program) turns (moment - length begun.journal)
+          (most_leg_events - length begun.journal) (omega (arith, room, none, all, less)) (omega (arith, none, all, less)) events leg
+      by (inr greater) =
+          let same : moment ≡ most_leg_events = omega (arith, room, greater) in
+          subst (λ (n : ℕ). IsLeg (leg_from turns n begun None) events) same leg
 
   pub few_harts : length begun.runs.program ≤ 8
   few_harts =
@@ -136,14 +164,15 @@ module _ (flat : f.Flat) (object : Object) (marks : Marks) (cuts : Cuts) (t : Is
       same_steps =
           ap (λ (m : LifeConfig). steps_along m.runs.marks m.runs.program m.world life.journal (first_steps (length m.runs.program) m.kept_before)) opens
 
-      pub recovery : ImagesAreCrashes → IsCompilation made → (turns status : ℕ) (output : List ℕ) (stops : List Stop) (evict : Option Evictor) →
-          IsLifeDriven begun turns most_leg_events None life stops evict →
-          IsReport (machine_state flat (world_of life) (steps_in life).kept) status output → IsRecovery made file turns status output
-      recovery crashes compilation turns status output stops evict d told =
+      pub recovery : ImagesAreCrashes → IsCompilation made → (turns moment status : ℕ) (output : List ℕ) (stops : List Stop) (evict : Option Evictor) →
+          moment ≡ min most_leg_events (length object.code.items * turns + 1) → IsLifeDriven begun turns moment None life stops evict →
+          IsReport (machine_state flat (world_of life) (schedules (steps_in life))) status output → IsRecovery made file turns status output
+      recovery crashes compilation turns moment status output stops evict room d told =
           let journal_is = d.plays.events_are ∙ ap (λ (es : List Event). es ++ d.journal) none_made in
-          let leg = subst (λ (es : List Event). IsLeg (leg_from turns most_leg_events begun None) es) (sym journal_is) d.leg in
-          let of_world = subst (λ (w : World). IsReport (machine_state flat w (steps_in life).kept) status output) same_world told in
-          let reported = subst (λ (s : Steps). IsReport (machine_state flat (world_from made (image_in made file) life.journal) s.kept) status output)
+          let driven = subst (λ (es : List Event). IsLeg (leg_from turns moment begun None) es) (sym journal_is) d.leg in
+          let leg = whole_leg turns moment room life.journal driven in
+          let of_world = subst (λ (w : World). IsReport (machine_state flat w (schedules (steps_in life))) status output) same_world told in
+          let reported = subst (λ (s : Steps). IsReport (machine_state flat (world_from made (image_in made file) life.journal) (schedules s)) status output)
           same_steps of_world in
           record {
             journal = life.journal;
@@ -170,5 +199,5 @@ accepted_runs_on run bytes image (whole read is) =
     let on = run (f.flat_of c.flat) t.object t.marks t.cuts t.resumes.items state is.is.source.compiled.resumable is.is.fits is.sound in
     let count : length state.variables ≡ length t.object.initial.items / 8 = omega (arith, is.is.fits.variables) in
     let spread = ap₂ (λ (n : ℕ) (ws : List ℕ). spread_words n ws) count (sym is.words) in
-    let same = ap₂ (λ (ws kept : List ℕ). let x : Image = record { words = ws; kept = kept } in x) spread (sym is.schedule) in
+    let same = ap₂ (λ (ws kept : List ℕ). let x : Image = record { words = ws; kept = only_life kept } in x) spread (sym is.schedule) in
     subst (λ (x : Image). RunsOn (translation_in c) x) same on

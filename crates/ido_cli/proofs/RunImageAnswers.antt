@@ -59,7 +59,7 @@ module _ (flat : Flat) (object : Object) (marks : Marks) (cuts : Cuts) (t : IsTr
 
 module _ (one_flat : OneFlat) (not_both : NotBoth) (no_fault : RunsLeaveNoFault) (source bytes : List ℕ) (flat : Flat) (object : Object) (marks : Marks)
     (cuts : Cuts) (events : List Event) (accepted : IsAccepted source flat) (t : IsTranslated flat object marks cuts)
-    (most : length (left_by (translation_to flat object marks cuts) events).kept ≤ MOST_STEPS)
+    (most : length (left_by (translation_to flat object marks cuts) events).kept.schedule ≤ MOST_STEPS)
     (spelled : IsReadAs (file_contents source (translation_to flat object marks cuts) (left_by (translation_to flat object marks cuts) events)) bytes)
     (is_whole : IsWhole flat (length object.code.items) (length object.initial.items)
     (file_state (translation_to flat object marks cuts) (left_by (translation_to flat object marks cuts) events))) where
@@ -146,7 +146,7 @@ module _ (one_flat : OneFlat) (not_both : NotBoth) (no_fault : RunsLeaveNoFault)
       let same : is.state ≡ state = state_is image.compiled is.state is.is in
       again image (compiled image.compiled is.is.source)
       (is.words ∙ ap (λ (x : State). x.variables ++ x.logs) same ∙ take-append-drop (variable_words c) file.words)
-      (is.schedule ∙ ap (λ (x : State). schedule_of x.runs) same ∙ each_step file.kept)
+      (is.schedule ∙ ap (λ (x : State). schedule_of x.runs) same ∙ each_step file.kept.schedule)
 
   not_here : (fault : Fault) (answer : Result Image ImageError) → source_at bytes ≡ Err fault → Read answer
   not_here fault answer e = absurd (not_both_ways (source_at bytes) (source, begun.rest) fault begun.begins e)
@@ -161,8 +161,8 @@ module _ (one_flat : OneFlat) (not_both : NotBoth) (no_fault : RunsLeaveNoFault)
     none : translation_in d ≡ c → (error : ImageError) → ¬ (IsStateFault (flat_of d.flat) d.translated.resumes.items state error)
     none same error fault =
         let x = d.translated in
-        let few : length (left_by (translation_in d) events).kept ≤ MOST_STEPS =
-        subst (λ (z : Translation). length (left_by z events).kept ≤ MOST_STEPS) (sym same) most in
+        let few : length (left_by (translation_in d) events).kept.schedule ≤ MOST_STEPS =
+        subst (λ (z : Translation). length (left_by z events).kept.schedule ≤ MOST_STEPS) (sym same) most in
         let sound = no_fault (flat_of d.flat) x.object x.marks x.cuts x.resumes.items events is.resumable few in
         none_if_sound (flat_of d.flat) x.resumes.items (file_state (translation_in d) (left_by (translation_in d) events)) error sound
         (subst (λ (z : Translation). IsStateFault (flat_of d.flat) x.resumes.items (file_state z (left_by z events)) error) (sym same) fault)

@@ -1,4 +1,4 @@
--- Where a machine is settled, its report is that of the source's own run of its kept schedule.
+-- Where a machine is settled, its report is that of the source's own run of its kept schedules.
 use Rattle.std.proofs.Common.{◌≡◌, ◌⊎◌, inl, inr, refl, ℕ, zero, suc, ◌+◌, ◌<◌, ◌≤◌, List, [], ◌∷◌, length}
 use Rattle.std.proofs.Common.{map, filter, not, Bool, true, false, sym, ap, ap₂, ◌∙◌, subst, ℤ, arith}
 use Rattle.std.proofs.lemmas.Bool.{cases_lt}
@@ -6,7 +6,8 @@ use Rattle.ido_base.specs.declared.event.Event.{Event}
 use Rattle.c_tree.specs.Flats as f
 use Rattle.c_tree.specs.Source as m
 use Rattle.rv64_isa.specs.Machine.{World, numbers_from}
-use Rattle.rv64_isa.specs.Schedule.{is_settled, is_settled_hart, are_settled}
+use Rattle.rv64_isa.specs.Schedule.{is_settled, is_settled_hart, are_settled, schedules}
+use Rattle.source_machine.specs.Lives.{after_lives, ended_lives}
 use Rattle.variable_words.specs.Variables.{durable_variables}
 use Rattle.compiler_correctness.specs.Translations.{Translation, world, steps, source}
 use Rattle.compiler_correctness.specs.Compilations.{IsCompilation}
@@ -57,21 +58,22 @@ none_by_status (h ∷ hs) status e settled = absurd (omega (arith, e, settled))
 
 -- ---- The report
 
-pub same_state : (x : f.Flat) (w : World) (kept : List ℕ) → unsettled_harts w ≡ [] → unsettled_threads (m.after_from (m.start x) kept) ≡ []
-    → durable_variables w.words x.variables ≡ (m.after_from (m.start x) kept).variables → machine_state x w kept ≡ run_state x kept
+pub same_state : (x : f.Flat) (w : World) (kept : List (List ℕ)) → unsettled_harts w ≡ [] → unsettled_threads (after_lives x (m.start x) kept) ≡ []
+    → durable_variables w.words x.variables ≡ (after_lives x (m.start x) kept).variables → machine_state x w kept ≡ run_state x kept
 unfolding machine_state run_state
 same_state x w kept none between same =
     ap₂ (λ (us : List ℕ) (numbers : List (List ℤ)). let s : r.ReportedState =
     record {
       unsettled = us;
       variables = named x.variables numbers;
-      ended = map (m.ended_from (m.start x) kept) (numbers_from 0 (length x.threads));
-      schedule = kept;
+      ended = map (ended_lives x (m.start x) kept) (numbers_from 0 (length x.threads));
+      schedules = kept;
     } in s)
     (none ∙ sym between) same
 
 pub settled_run : (c : Translation) → IsCompilation c → (events : List Event) (status : ℕ) (output : List ℕ) →
-    IsReport (machine_state c.flat (world c events) (steps c events).kept) status output → status ≡ 0 → IsSourceRun c.flat (steps c events).kept output
+    IsReport (machine_state c.flat (world c events) (schedules (steps c events))) status output → status ≡ 0 →
+    IsSourceRun c.flat (schedules (steps c events)) output
 unfolding machine_state
 settled_run c is events status output told done =
     let k = is.settled events in
@@ -84,12 +86,12 @@ settled_run c is events status output told done =
       between = between;
       output_is =
           told.output_is ∙ ap report
-          (same_state c.flat w (steps c events).kept none (all_between (source c (steps c events).kept) between) (k.variables settled));
+          (same_state c.flat w (schedules (steps c events)) none (all_between (source c (schedules (steps c events))) between) (k.variables settled));
     }
 
 -- all that is said of a run, of a translation and whatever events
 pub run_of : (c : Translation) → IsCompilation c → (events : List Event) (status : ℕ) (output : List ℕ) →
-    IsReport (machine_state c.flat (world c events) (steps c events).kept) status output → IsRunBy c events status output
+    IsReport (machine_state c.flat (world c events) (schedules (steps c events))) status output → IsRunBy c events status output
 run_of c is events status output told = record {
   reported = told;
   runs = (is.settled events).runs;

@@ -1,6 +1,7 @@
 -- The summary of a run: that of the source's own run, where it is settled.
 use Rattle.std.proofs.Common.{◌≡◌, ℕ, List, [], ap, ◌∙◌}
 use Rattle.ido_base.specs.declared.event.Event.{Event}
+use Rattle.rv64_isa.specs.Schedule.{schedules}
 use Rattle.compiler_correctness.specs.Translations.{Translation, source, steps, world}
 use Rattle.compiler_correctness.specs.Compilations.{IsCompilation}
 use Rattle.run_scripts.specs.Reports as r
@@ -12,15 +13,15 @@ settled_is : (s : r.ReportedState) (output : List ℕ) → s.unsettled ≡ [] �
 settled_is s output none is = is ∙ ap (λ (us : List ℕ). summary_by us s) none
 
 module _ (c : Translation) (is : IsCompilation c) (events : List Event) (status : ℕ) (output : List ℕ) where
-  no_harts : IsSummary (machine_state c.flat (world c events) (steps c events).kept) status output → status ≡ 0 → unsettled_harts (world c events) ≡ []
+  no_harts : IsSummary (machine_state c.flat (world c events) (schedules (steps c events))) status output → status ≡ 0 → unsettled_harts (world c events) ≡ []
   unfolding machine_state
   no_harts told done = none_by_status (unsettled_harts (world c events)) status told.status_is done
 
-  no_unsettled : unsettled_harts (world c events) ≡ [] → (machine_state c.flat (world c events) (steps c events).kept).unsettled ≡ []
+  no_unsettled : unsettled_harts (world c events) ≡ [] → (machine_state c.flat (world c events) (schedules (steps c events))).unsettled ≡ []
   unfolding machine_state
   no_unsettled none = none
 
-  pub summary_of : IsSummary (machine_state c.flat (world c events) (steps c events).kept) status output → IsSummaryOf c events status output
+  pub summary_of : IsSummary (machine_state c.flat (world c events) (schedules (steps c events))) status output → IsSummaryOf c events status output
   summary_of told =
       let k = is.settled events in
       record {
@@ -30,8 +31,8 @@ module _ (c : Translation) (is : IsCompilation c) (events : List Event) (status 
         settled = λ done.
             let none = no_harts told done in
             let settled = settled_by_none (world c events) none in
-            let same = same_state c.flat (world c events) (steps c events).kept none (all_between (source c (steps c events).kept) (k.between settled))
-            (k.variables settled) in
-            settled_is (machine_state c.flat (world c events) (steps c events).kept) output (no_unsettled none) told.output_is ∙ ap settled_summary same;
+            let same = same_state c.flat (world c events) (schedules (steps c events)) none
+            (all_between (source c (schedules (steps c events))) (k.between settled)) (k.variables settled) in
+            settled_is (machine_state c.flat (world c events) (schedules (steps c events))) output (no_unsettled none) told.output_is ∙ ap settled_summary same;
         sections = is.sections events;
       }

@@ -26,6 +26,7 @@ use Rattle.ido_cli.specs.Loads.{IsSummary, settled_summary, summary_by}
 use Rattle.ido_cli.specs.Reports.{machine_state}
 use Rattle.ido_cli.specs.Runs.{named, status_by}
 use Rattle.ido_cli.specs.links.LegRuns.{IsSmall, IsSummable}
+use Rattle.source_machine.specs.Lives.{ended_lives}
 
 -- ---- How great a number is
 
@@ -80,12 +81,12 @@ module _ (words : List Word) (ss : List Shape) where
 
 -- ---- The state of a machine
 
-pub summable : (x : f.Flat) (w : World) (kept : List ℕ) → length x.threads ≤ MOST_THREADS → HaveRoom (map shape_of x.variables) →
+pub summable : (x : f.Flat) (w : World) (kept : List (List ℕ)) → length x.threads ≤ MOST_THREADS → HaveRoom (map shape_of x.variables) →
     IsSummable (machine_state x w kept)
 unfolding machine_state durable_variables
 summable x w kept threads room = record {
   threads =
-      omega (arith, length-map (numbers_from 0 (length x.threads)) (m.ended_from (m.start x) kept), numbers_count 0 (length x.threads), threads);
+      omega (arith, length-map (numbers_from 0 (length x.threads)) (ended_lives x (m.start x) kept), numbers_count 0 (length x.threads), threads);
   few = let all = few_from w.words (map shape_of x.variables) 0 0 x.variables in omega (arith, all, room);
   small = small_from w.words (map shape_of x.variables) 0 x.variables;
 }

@@ -13,7 +13,7 @@ use Rattle.c_tree.specs.Flats as f
 use Rattle.rv64_isa.specs.declared.object.Object.{Object}
 use Rattle.rv64_isa.specs.declared.object.Marks.{Marks}
 use Rattle.rv64_isa.specs.Machine.{IsEviction, World}
-use Rattle.rv64_isa.specs.Schedule.{Steps}
+use Rattle.rv64_isa.specs.Schedule.{Steps, schedules}
 use Rattle.flow_graph.specs.declared.cuts.Cuts.{Cuts}
 use Rattle.compiler_correctness.specs.Translations.{Translation, world, translation_to}
 use Rattle.compiler_correctness.specs.Compilations.{IsCompilation}
@@ -135,8 +135,8 @@ module _ (flat : f.Flat) (object : Object) (marks : Marks) (cuts : Cuts) (begun 
     pub load_played : HasPlayed object marks life life.journal
     load_played = record { begins = same ∙ opens; journal = refl }
 
-    pub is_load : IsCompilation loaded_by → (status : ℕ) (output : List ℕ) → IsSummary (machine_state flat (world_of life) (steps_in life).kept) status output →
-        IsLoad loaded_by status output
+    pub is_load : IsCompilation loaded_by → (status : ℕ) (output : List ℕ) →
+        IsSummary (machine_state flat (world_of life) (schedules (steps_in life))) status output → IsLoad loaded_by status output
     is_load compilation status output told = record {
       events = life.journal;
       run = record {
@@ -150,8 +150,8 @@ module _ (flat : f.Flat) (object : Object) (marks : Marks) (cuts : Cuts) (begun 
           let world_is = same_world flat object marks cuts life life.journal load_played in
           let steps_are = same_steps flat object marks cuts life life.journal load_played in
           summary_of loaded_by compilation life.journal status output
-          (subst (λ (s : Steps). IsSummary (machine_state flat (world loaded_by life.journal) s.kept) status output) steps_are
-          (subst (λ (w : World). IsSummary (machine_state flat w (steps_in life).kept) status output) world_is told));
+          (subst (λ (s : Steps). IsSummary (machine_state flat (world loaded_by life.journal) (schedules s)) status output) steps_are
+          (subst (λ (w : World). IsSummary (machine_state flat w (schedules (steps_in life))) status output) world_is told));
     }
 
 pub load_refused : (rounds seed : ℕ) (found : CompileError) → IsCompileAnswer (generated_source rounds seed) (Err found) → (status : ℕ) (output : List ℕ) →

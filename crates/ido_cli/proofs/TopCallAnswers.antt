@@ -130,7 +130,7 @@ by_unsettled [] status e h = not_four_or_seven status 0 e (inl (omega arith)) h
 by_unsettled (t ∷ ts) status e h = not_four_or_seven status 3 e (inl (omega arith)) h
 
 of_run : (x : f.Flat) (schedule : List ℕ) (status : ℕ) (output : List ℕ) → RunAnswer x schedule status output → (status ≡ 4) ⊎ (status ≡ 7) → ⊥
-of_run x schedule status output (ran runs reported) h = by_unsettled (run_state x schedule).unsettled status reported.status_is h
+of_run x schedule status output (ran runs reported) h = by_unsettled (run_state x (schedule ∷ [])).unsettled status reported.status_is h
 of_run x schedule status output (stopped stop is e out) h = not_four_or_seven status 6 e (inr refl) h
 
 of_source : (input : List ℕ) (status : ℕ) (output : List ℕ) → SourceAnswer input status output → (status ≡ 4) ⊎ (status ≡ 7) → ⊥

@@ -38,7 +38,7 @@ four_sections = record {
   unsettled = [];
   variables = record { name = codes "x"; elements = pos 10 ∷ pos 20 ∷ [] } ∷ record { name = codes "y"; elements = neg_ℤ (pos 7) ∷ [] } ∷ [];
   ended = 3 ∷ 1 ∷ [];
-  schedule = 0 ∷ 1 ∷ [];
+  schedules = (0 ∷ 1 ∷ []) ∷ [];
 }
 
 sums_of_sections : settled_summary four_sections ≡ codes "ended 4\ntotal 23\n"

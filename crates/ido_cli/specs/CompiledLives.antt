@@ -25,7 +25,7 @@ abbrev pub LivesAreCompiled : Type 0
 LivesAreCompiled = (text : List ℕ) (c : Compiled) (cap : ℕ) (life : Course) → IsCompiled text c →
     opening_of life ≡ opening_of (new_life c.translated.object c.translated.marks cap) → IsLifeOf (translation_in c) life
 
--- whatever events one makes that began with these as after a crash which left a file's words, with the schedule of the file
+-- whatever events one makes that began with these as after a crash which left a file's words, with the schedules of the file
 abbrev pub LivesOfFilesAreCompiled : Type 0
 LivesOfFilesAreCompiled = (text : List ℕ) (c : Compiled) (file : Image) (cap : ℕ) (life : Course) → IsCompiled text c →
     opening_of life ≡ opening_of (life_from c.translated.object c.translated.marks file.words file.kept cap) → IsLifeFrom (translation_in c) file life

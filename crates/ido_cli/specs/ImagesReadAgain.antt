@@ -23,7 +23,7 @@ use Rattle.ido_cli.specs.CompiledImages.{IsImageAnswer}
 -- where bytes spell the file of a run of the translation
 pub data IsReadAgain (source : List ℕ) (c : Translation) (file : left.Image) : Result Image ImageError → Type 0 where
   -- the source is compiled again, and the words and the schedule are the file's
-  again : (image : Image) → IsCompiled source image.compiled → image.words.items ≡ file.words → image.schedule.items ≡ file.kept →
+  again : (image : Image) → IsCompiled source image.compiled → image.words.items ≡ file.words → image.schedule.items ≡ file.kept.schedule →
       IsReadAgain source c file (Ok image)
   -- the source is compiled to another translation, and a thread can't be resumed by its places
   elsewhere : (d : Compiled) (error : ImageError) → IsCompiled source d → translation_in d ≢ c →
@@ -35,5 +35,5 @@ pub data IsReadAgain (source : List ℕ) (c : Translation) (file : left.Image) :
 abbrev pub RunImagesAreRead : Type 0
 RunImagesAreRead = (source bytes : List ℕ) (flat : Flat) (object : Object) (marks : Marks) (cuts : Cuts) (events : List Event)
     (answer : Result Image ImageError) → IsAccepted source flat → IsTranslated flat object marks cuts → let c = translation_to flat object marks cuts in
-    length (left_by c events).kept ≤ MOST_STEPS → IsReadAs (file_contents source c (left_by c events)) bytes → IsImageAnswer bytes answer →
+    length (left_by c events).kept.schedule ≤ MOST_STEPS → IsReadAs (file_contents source c (left_by c events)) bytes → IsImageAnswer bytes answer →
     IsReadAgain source c (left_by c events) answer

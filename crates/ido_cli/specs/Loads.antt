@@ -2,7 +2,9 @@
 use Rattle.std.specs.Prelude.{◌≡◌, ℕ, List, [], ◌∷◌, ◌++◌, sum, true, ℤ, pos, ◌+ℤ◌, codes, decimal, flat_map}
 use Rattle.std.specs.Fmt.{signed_decimal}
 use Rattle.ido_base.specs.declared.event.Event.{Event}
-use Rattle.c_tree.specs.Source.{start, after_from, is_between, runs_from}
+use Rattle.c_tree.specs.Source.{start, is_between}
+use Rattle.source_machine.specs.Lives.{after_lives, runs_lives}
+use Rattle.rv64_isa.specs.Schedule.{schedules}
 use Rattle.compiler_correctness.specs.Translations.{Translation, world, steps}
 use Rattle.compiler_correctness.specs.Compilation.{AreSectionsKept}
 use Rattle.run_scripts.specs.Reports.{ReportedState, line, unsettled_line}
@@ -33,11 +35,11 @@ pub record IsSummary (s : ReportedState) (status : ℕ) (output : List ℕ) : Ty
 
 -- The summary of the machine after the events, whatever they are: status 0, and the sums of its ended sections and durable elements, exactly where each hart
 -- is settled, else status 3 and the harts that aren't.
--- At status 0 they are the sums of the source's own run of the kept schedule. Settled or not, the source can be stepped by the whole of the kept schedule,
--- and it holds each section that a hart has left.
+-- At status 0 they are the sums of the source's own run of the kept schedules. Settled or not, the source can be stepped by the whole of the kept schedules,
+-- and they hold each section that a hart has left.
 pub record IsSummaryOf (c : Translation) (events : List Event) (status : ℕ) (output : List ℕ) : Type 0 where
-  pub summed : IsSummary (machine_state c.flat (world c events) (steps c events).kept) status output
-  pub runs : runs_from (start c.flat) (steps c events).kept ≡ true
-  pub between : status ≡ 0 → (thread : ℕ) → is_between (after_from (start c.flat) (steps c events).kept) thread ≡ true
-  pub settled : status ≡ 0 → output ≡ settled_summary (run_state c.flat (steps c events).kept)
+  pub summed : IsSummary (machine_state c.flat (world c events) (schedules (steps c events))) status output
+  pub runs : runs_lives c.flat (start c.flat) (schedules (steps c events)) ≡ true
+  pub between : status ≡ 0 → (thread : ℕ) → is_between (after_lives c.flat (start c.flat) (schedules (steps c events))) thread ≡ true
+  pub settled : status ≡ 0 → output ≡ settled_summary (run_state c.flat (schedules (steps c events)))
   pub sections : AreSectionsKept c events

@@ -3,10 +3,12 @@ use Rattle.std.specs.Prelude.{◌≡◌, ℕ, ◌+◌, ◌<◌, ◌≤◌, List,
 use Rattle.ido_base.specs.declared.event.Event.{Event}
 use Rattle.ido_base.specs.declared.limits.TheConstants.{MOST_EVENTS}
 use Rattle.c_tree.specs.Flats as f
-use Rattle.c_tree.specs.Source.{start, after_from, is_between, runs_from}
+use Rattle.c_tree.specs.Source.{start, is_between}
+use Rattle.source_machine.specs.Lives.{after_lives, runs_lives}
 use Rattle.rv64_isa.specs.declared.object.Object.{Object}
 use Rattle.rv64_isa.specs.declared.object.Marks.{Marks}
 use Rattle.rv64_isa.specs.Executables.{first_world}
+use Rattle.rv64_isa.specs.Schedule.{only_life, schedules}
 use Rattle.flow_graph.specs.declared.cuts.Cuts.{Cuts}
 use Rattle.flat_compile.specs.TranslatedForms.{IsTranslated}
 use Rattle.compiler_correctness.specs.Translations.{Translation, world, steps, translation_to}
@@ -33,7 +35,7 @@ pub record IsTranslationOf (flat : f.Flat) (c : Translation) : Type 0 where
 abbrev pub beginning : Translation → LifeConfig
 beginning c = record {
   runs = c.runs;
-  kept_before = [];
+  kept_before = only_life [];
   world = first_world c.runs;
 }
 
@@ -41,20 +43,21 @@ beginning c = record {
 abbrev pub events_by : Translation → List Line → List Event
 events_by c lines = script_events living (length c.runs.program) (beginning c) lines
 
--- the source runs by the schedule, from its start and with no crash, until every thread stands between sections; the output is the report of that run
-pub record IsSourceRun (flat : f.Flat) (schedule : List ℕ) (output : List ℕ) : Type 0 where
-  pub runs : runs_from (start flat) schedule ≡ true
-  pub between : (thread : ℕ) → is_between (after_from (start flat) schedule) thread ≡ true
-  pub output_is : output ≡ report (run_state flat schedule)
+-- the source runs by the schedules one after another, from its start and with no crash, its threads begun anew at each, until every thread stands between
+-- sections; the output is the report of that run
+pub record IsSourceRun (flat : f.Flat) (schedules : List (List ℕ)) (output : List ℕ) : Type 0 where
+  pub runs : runs_lives flat (start flat) schedules ≡ true
+  pub between : (thread : ℕ) → is_between (after_lives flat (start flat) schedules) thread ≡ true
+  pub output_is : output ≡ report (run_state flat schedules)
 
 -- The report of the machine after the events, whatever steps, evictions and crashes they are: status 0, and its durable variables, the ended sections and
--- the kept schedule, exactly where each hart is settled, else status 3 and the harts that aren't.
--- At status 0 the output is that of the source's own run of the very schedule that is printed. Settled or not, the source can be stepped by the whole of the
--- kept schedule, and it holds each section that a hart has left, before whatever crash.
+-- the kept schedules, one for each life, exactly where each hart is settled, else status 3 and the harts that aren't.
+-- At status 0 the output is that of the source's own run of the very schedules that are printed. Settled or not, the source can be stepped by the whole of the
+-- kept schedules, and they hold each section that a hart has left, before whatever crash.
 pub record IsRunBy (c : Translation) (events : List Event) (status : ℕ) (output : List ℕ) : Type 0 where
-  pub reported : IsReport (machine_state c.flat (world c events) (steps c events).kept) status output
-  pub runs : runs_from (start c.flat) (steps c events).kept ≡ true
-  pub settled : status ≡ 0 → IsSourceRun c.flat (steps c events).kept output
+  pub reported : IsReport (machine_state c.flat (world c events) (schedules (steps c events))) status output
+  pub runs : runs_lives c.flat (start c.flat) (schedules (steps c events)) ≡ true
+  pub settled : status ≡ 0 → IsSourceRun c.flat (schedules (steps c events)) output
   pub sections : AreSectionsKept c events
 
 -- a script that begins at a place of an input

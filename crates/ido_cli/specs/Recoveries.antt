@@ -10,6 +10,7 @@ use Rattle.ido_compile.specs.CompileAnswers.{IsCompiled, translation_in}
 use Rattle.image_checks.specs.declared.error.ImageError.{ImageError}
 use Rattle.image_checks.specs.Checks.{IsThreadFault}
 use Rattle.image_checks.specs.RunImages.{file_state, left_by}
+use Rattle.rv64_isa.specs.Schedule.{schedules}
 use Rattle.run_tracker.specs.ObjectLives.{LifeConfig}
 use Rattle.hart_driver.specs.Legs.{IsLeg}
 use Rattle.ido_cli.specs.Plays.{IsRunBy}
@@ -26,14 +27,14 @@ recovering c file = record {
   world = first_from c (image_in c file);
 }
 
--- A leg, and then the report of the machine: status 0, and its durable variables, the ended sections and the kept schedule, exactly where each hart is
--- settled, else status 3 and the harts that aren't. The kept schedule begins with that of the file.
+-- A leg, and then the report of the machine: status 0, and its durable variables, the ended sections and the kept schedules, exactly where each hart is
+-- settled, else status 3 and the harts that aren't. Each of the kept schedules begins with that of its life in the file.
 pub record IsRecovery (c : Translation) (file : Image) (turns status : ℕ) (output : List ℕ) : Type 0 where
   pub journal : List Event
   pub leg : IsLeg (leg_after (recovering c file) turns None [] None) journal
-  pub reported : IsReport (machine_state c.flat (world_from c (image_in c file) journal) (steps_from c (image_in c file) journal).kept) status output
+  pub reported : IsReport (machine_state c.flat (world_from c (image_in c file) journal) (schedules (steps_from c (image_in c file) journal))) status output
   -- Where the file is what a crash leaves after events of the same translation, this is what `play` says of these events, a crash, and the leg; so at
-  -- status 0 the output is that of the source's own run of the schedule that is printed.
+  -- status 0 the output is that of the source's own run of the schedules that are printed.
   pub goes_on : (before : List Event) → file ≡ file_of c (image_of c before) → IsRunBy c (before ++ Crash ∷ journal) status output
 
 -- ---- The image of a run

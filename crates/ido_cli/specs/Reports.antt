@@ -2,7 +2,8 @@
 use Rattle.std.specs.Prelude.{ℕ, ◌+◌, ◌*◌, List, length, map, filter, not, ℤ}
 use Rattle.c_tree.specs.Flats as f
 use Rattle.c_tree.specs.Programs as p
-use Rattle.c_tree.specs.Source.{start, ended_from}
+use Rattle.c_tree.specs.Source.{start}
+use Rattle.source_machine.specs.Lives.{ended_lives}
 use Rattle.c_tree.specs.WellFormed.{elements_in}
 use Rattle.ido_base.specs.Words.{Word, durable_value}
 use Rattle.ido_ints.specs.Kinds.{bytes_of}
@@ -16,13 +17,13 @@ use Rattle.ido_cli.specs.Runs.{named}
 abbrev pub unsettled_harts : World → List ℕ
 unsettled_harts w = filter (λ h. not (is_settled_hart w h)) (numbers_from 0 (length w.harts))
 
--- the variables as a crash would leave them, the ended sections by the kept schedule, and that schedule
-unfoldable pub machine_state : f.Flat → World → (kept : List ℕ) → r.ReportedState
+-- the variables as a crash would leave them, the ended sections by the kept schedules, and these
+unfoldable pub machine_state : f.Flat → World → (kept : List (List ℕ)) → r.ReportedState
 machine_state x w kept = record {
   unsettled = unsettled_harts w;
   variables = named x.variables (durable_variables w.words x.variables);
-  ended = map (ended_from (start x) kept) (numbers_from 0 (length x.threads));
-  schedule = kept;
+  ended = map (ended_lives x (start x) kept) (numbers_from 0 (length x.threads));
+  schedules = kept;
 }
 
 -- ---- As the code finds it

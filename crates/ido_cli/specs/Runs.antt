@@ -3,7 +3,8 @@ use Rattle.std.specs.Prelude.{◌≡◌, ℕ, ◌-◌, ◌^◌, List, [], ◌∷
 use Rattle.rv64_isa.specs.Machine.{numbers_from}
 use Rattle.c_tree.specs.Flats as f
 use Rattle.c_tree.specs.Programs as p
-use Rattle.c_tree.specs.Source.{State, start, after_from, ended_from, is_between, runs_from}
+use Rattle.c_tree.specs.Source.{State, start, is_between}
+use Rattle.source_machine.specs.Lives.{after_lives, ended_lives, runs_lives}
 use Rattle.run_scripts.specs.Reports as r
 use Rattle.run_scripts.specs.Reports.{report}
 use Rattle.source_machine.specs.declared.answers.Refused.{Refused}
@@ -24,13 +25,13 @@ named (v ∷ vs) (n ∷ ns) = variable_with v n ∷ named vs ns
 abbrev pub unsettled_threads : State → List ℕ
 unsettled_threads s = filter (λ t. not (is_between s t)) (numbers_from 0 (length s.threads))
 
--- what is reported of the state after a schedule
-unfoldable pub run_state : f.Flat → (schedule : List ℕ) → r.ReportedState
-run_state x schedule = record {
-  unsettled = unsettled_threads (after_from (start x) schedule);
-  variables = named x.variables (after_from (start x) schedule).variables;
-  ended = map (ended_from (start x) schedule) (numbers_from 0 (length x.threads));
-  schedule = schedule;
+-- what is reported of the state after lives, a schedule for each
+unfoldable pub run_state : f.Flat → (schedules : List (List ℕ)) → r.ReportedState
+run_state x schedules = record {
+  unsettled = unsettled_threads (after_lives x (start x) schedules);
+  variables = named x.variables (after_lives x (start x) schedules).variables;
+  ended = map (ended_lives x (start x) schedules) (numbers_from 0 (length x.threads));
+  schedules = schedules;
 }
 
 -- the report of a state, with the status that says whether it is settled
@@ -42,9 +43,9 @@ pub record IsReport (s : r.ReportedState) (status : ℕ) (output : List ℕ) : T
   pub status_is : status ≡ status_by s.unsettled
   pub output_is : output ≡ report s
 
--- what is said of a schedule: the report of its run, or the first step that can't be made
+-- what is said of the schedule of one life: the report of its run, or the first step that can't be made
 pub data RunAnswer (x : f.Flat) (schedule : List ℕ) (status : ℕ) (output : List ℕ) : Type 0 where
-  ran : runs_from (start x) schedule ≡ true → IsReport (run_state x schedule) status output → RunAnswer x schedule status output
+  ran : runs_lives x (start x) (schedule ∷ []) ≡ true → IsReport (run_state x (schedule ∷ [])) status output → RunAnswer x schedule status output
   stopped : (stop : Refused) → IsRefusedSchedule stop (start x) schedule → status ≡ 6 → output ≡ line_at_step (stop_code stop.kind) stop.step →
       RunAnswer x schedule status output
 

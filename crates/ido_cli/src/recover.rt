@@ -1,6 +1,6 @@
 //! The command `recover`: a run that goes on from what a crash has left.
 ghost use Rattle.ido_base.specs.declared.log.Log.TheVariants.{V1};
-ghost use Rattle.std.specs.Prelude.{◌≡◌, ◌+◌, ◌*◌, ◌/◌, ◌≤◌, length, IfOk, Some};
+ghost use Rattle.std.specs.Prelude.{◌≡◌, ◌+◌, ◌*◌, ◌/◌, ◌≤◌, length, min, IfOk, Some};
 ghost use Rattle.ido_base.specs.declared.limits.TheConstants.{MOST_INPUT_BYTES};
 ghost use Rattle.ido_base.specs.Layout.{log_words};
 ghost use Rattle.c_tree.specs.Flats.{flat_of};
@@ -9,6 +9,7 @@ ghost use Rattle.flat_compile.specs.TranslatedForms.{IsTranslated};
 ghost use Rattle.ido_cli.specs.Answers.{RecoverAnswer, file_in};
 ghost use Rattle.ido_cli.specs.Recoveries.{IsRecovery};
 ghost use Rattle.ido_cli.specs.Refusals.{image_line};
+ghost use Rattle.ido_cli.specs.ThreadedRuns.{most_leg_events};
 ghost use Rattle.ido_compile.specs.CompileAnswers.{translation_in};
 
 use crate::compiled_image::{Image, read_image};
@@ -59,6 +60,16 @@ fn image_refused(alloc: Global, error: ImageError) -> Result<Said, OutOfMemory>
     }
 }
 
+/// One event more than so many turns of each hart, or as many as a leg may have where that is less.
+fn leg_room(harts: u64, turns: u32) -> u64
+    ensures { result ≡ min most_leg_events (harts * turns + 1) }
+{
+    harts
+        .saturating_mul(u64::from(turns))
+        .saturating_add(1)
+        .min(MOST_LEG_EVENTS)
+}
+
 /// What is said of a run that goes on from an image, on threads, by so many turns of each hart.
 fn recovered<R: Threads + Wait + Sync, G: Gate + Sync>(
     rt: &R,
@@ -77,24 +88,17 @@ fn recovered<R: Threads + Wait + Sync, G: Gate + Sync>(
     images_are_crashes();
     files_begin();
     let compiled = &image.compiled;
+    let most = leg_room(compiled.translated.object.code.len() as u64, turns);
     let life = Life::of_words(
         alloc,
         &compiled.translated.object,
         &compiled.translated.marks,
         &image.words,
         &image.schedule,
-        MOST_LEG_EVENTS,
+        most,
     )?;
     let none: Option<Evictor> = None;
-    let driven = drive(
-        rt,
-        alloc,
-        life,
-        u64::from(turns),
-        MOST_LEG_EVENTS,
-        none,
-        gate,
-    )?;
+    let driven = drive(rt, alloc, life, u64::from(turns), most, none, gate)?;
     say_by_source(alloc, &compiled.flat, &driven.core)
 }
 

@@ -9,6 +9,8 @@ ghost use Rattle.run_tracker.specs.ObjectLives.{ended_sections, world_of, steps_
 ghost use Rattle.c_tree.specs.WellFormed.{shape_of};
 ghost use Rattle.memory_layout.specs.Variables.{HaveRoom};
 ghost use Rattle.ido_cli.specs.Reports.{machine_state, unsettled_harts};
+ghost use Rattle.rv64_isa.specs.Schedule.{schedules};
+ghost use Rattle.source_machine.specs.Lives.{ended_lives};
 ghost use Rattle.ido_cli.specs.Runs.{IsReport};
 ghost use Rattle.ido_cli.specs.links.CountedSections.{CountsSections};
 
@@ -71,8 +73,8 @@ fn gathered(
     requires room { HaveRoom (map shape_of (flat_of flat.now).variables) }
     requires harts { length (world_of life.now).harts ≡ length life.now.runs.program }
     requires ended { let x = flat_of flat.now in
-        ended.items ≡ map (m.ended_from (m.start x) (steps_in life.now).kept) (numbers_from 0 (length x.threads)) }
-    ensures { IfOk result (λ state. views.state_of state ≡ machine_state (flat_of flat.now) (world_of life.now) (steps_in life.now).kept) }
+        ended.items ≡ map (ended_lives x (m.start x) (schedules (steps_in life.now))) (numbers_from 0 (length x.threads)) }
+    ensures { IfOk result (λ state. views.state_of state ≡ machine_state (flat_of flat.now) (world_of life.now) (schedules (steps_in life.now))) }
 {
     let unsettled = unsettled(alloc, life)?;
     let variables = durable(alloc, life, &flat.variables)?;
@@ -91,7 +93,7 @@ pub fn reported(alloc: Global, flat: &Flat, life: &Life) -> Result<Reported, Out
     requires room { HaveRoom (map shape_of (flat_of flat.now).variables) }
     requires harts { length (world_of life.now).harts ≡ length life.now.runs.program }
     requires counted { CountsSections (flat_of flat.now) life.now }
-    ensures { IfOk result (λ state. views.state_of state ≡ machine_state (flat_of flat.now) (world_of life.now) (steps_in life.now).kept) }
+    ensures { IfOk result (λ state. views.state_of state ≡ machine_state (flat_of flat.now) (world_of life.now) (schedules (steps_in life.now))) }
 {
     let ended = counted(alloc, life)?;
     gathered(alloc, flat, life, ended)
@@ -102,7 +104,7 @@ fn reported_by_source(alloc: Global, flat: &Flat, life: &Life) -> Result<Reporte
     requires few { length flat.now.threads.items ≤ MOST_THREADS }
     requires room { HaveRoom (map shape_of (flat_of flat.now).variables) }
     requires harts { length (world_of life.now).harts ≡ length life.now.runs.program }
-    ensures { IfOk result (λ state. views.state_of state ≡ machine_state (flat_of flat.now) (world_of life.now) (steps_in life.now).kept) }
+    ensures { IfOk result (λ state. views.state_of state ≡ machine_state (flat_of flat.now) (world_of life.now) (schedules (steps_in life.now))) }
 {
     let kept = life.schedule();
     let ended = ended_by(alloc, flat, kept)?;
@@ -123,7 +125,8 @@ pub fn say(alloc: Global, flat: &Flat, life: &Life) -> Result<Said, OutOfMemory>
     requires room { HaveRoom (map shape_of (flat_of flat.now).variables) }
     requires harts { length (world_of life.now).harts ≡ length life.now.runs.program }
     requires counted { CountsSections (flat_of flat.now) life.now }
-    ensures { IfOk result (λ said. IsReport (machine_state (flat_of flat.now) (world_of life.now) (steps_in life.now).kept) said.status said.output.items) }
+    ensures { IfOk result (λ said.
+        IsReport (machine_state (flat_of flat.now) (world_of life.now) (schedules (steps_in life.now))) said.status said.output.items) }
 {
     let state = reported(alloc, flat, life)?;
     say_reported(alloc, &state)
@@ -134,7 +137,8 @@ pub fn say_by_source(alloc: Global, flat: &Flat, life: &Life) -> Result<Said, Ou
     requires few { length flat.now.threads.items ≤ MOST_THREADS }
     requires room { HaveRoom (map shape_of (flat_of flat.now).variables) }
     requires harts { length (world_of life.now).harts ≡ length life.now.runs.program }
-    ensures { IfOk result (λ said. IsReport (machine_state (flat_of flat.now) (world_of life.now) (steps_in life.now).kept) said.status said.output.items) }
+    ensures { IfOk result (λ said.
+        IsReport (machine_state (flat_of flat.now) (world_of life.now) (schedules (steps_in life.now))) said.status said.output.items) }
 {
     let state = reported_by_source(alloc, flat, life)?;
     say_reported(alloc, &state)

@@ -1,5 +1,5 @@
 //! The command `source`: the source's own run.
-ghost use Rattle.std.specs.Prelude.{◌≡◌, ◌+◌, ◌-◌, ◌<◌, ◌≤◌, ◌^◌, ℕ, length, map, take, drop, IfOk, IfSome, IsSome};
+ghost use Rattle.std.specs.Prelude.{◌≡◌, [], ◌∷◌, ◌+◌, ◌-◌, ◌<◌, ◌≤◌, ◌^◌, ℕ, length, map, take, drop, IfOk, IfSome, IsSome};
 ghost use Rattle.ido_base.specs.declared.limits.TheConstants.{MOST_INPUT_BYTES, MOST_SOURCE_BYTES, MOST_THREADS};
 ghost use Rattle.flow_graph.specs.Refusals.{IsAccepted};
 ghost use Rattle.c_tree.specs.Flats.{flat_of};
@@ -102,7 +102,7 @@ fn reported(
     requires few { length flat.now.threads.items ≤ MOST_THREADS }
     requires stands { RepresentsState state.now (m.after_from (m.start (flat_of flat.now)) schedule.items)
         (λ thread. 0 + m.ended_from (m.start (flat_of flat.now)) schedule.items thread) }
-    ensures { IfOk result (λ x. views.state_of x ≡ run_state (flat_of flat.now) schedule.items) }
+    ensures { IfOk result (λ x. views.state_of x ≡ run_state (flat_of flat.now) (schedule.items ∷ [])) }
 {
     sizes_stay();
     let unsettled = unsettled(alloc, state)?;
@@ -126,7 +126,7 @@ fn say_run(
     requires few { length flat.now.threads.items ≤ MOST_THREADS }
     requires stands { RepresentsState state.now (m.after_from (m.start (flat_of flat.now)) schedule.items)
         (λ thread. 0 + m.ended_from (m.start (flat_of flat.now)) schedule.items thread) }
-    ensures { IfOk result (λ said. IsReport (run_state (flat_of flat.now) schedule.items) said.status said.output.items) }
+    ensures { IfOk result (λ said. IsReport (run_state (flat_of flat.now) (schedule.items ∷ [])) said.status said.output.items) }
 {
     let state = reported(alloc, flat, state, schedule)?;
     say_reported(alloc, &state)

@@ -117,6 +117,9 @@ fn is_shared<P: Sync>(_it: &P)
 fn are_shared(points: &CrashPoints)
     ensures { IsSync the_row }
 {
+    is_shared(&points.flat);
+    is_shared(&points.translated);
+    is_shared(&points.script);
     is_shared(points)
 }
 

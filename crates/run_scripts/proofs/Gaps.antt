@@ -1,14 +1,26 @@
 -- Gaps and pieces of a text.
 use Rattle.std.proofs.Common.{◌≡◌, ℕ, suc, ◌+◌, ◌-◌, ◌<◌, ◌≤◌, List, [], ◌∷◌, length, take, drop}
 use Rattle.std.proofs.Common.{get_or, Bool, true, false, refl, sym, ◌∙◌, ap, arith, length-drop}
+use Rattle.std.proofs.lemmas.Bool.{ne_eqb}
 use Rattle.std.proofs.lemmas.Grind.{common_steps}
 use Rattle.std.proofs.lemmas.List.{at_drop_more}
-use Rattle.run_scripts.specs.Pieces.{with_byte, pieces_at}
+use Rattle.run_scripts.specs.Pieces.{begins_gap, begins_line_end, with_byte, pieces_at}
 use Rattle.run_scripts.specs.links.Lengths.{gap_length, piece_length}
 
 -- what stands after n elements, up to the end
 pub up_to_end : {A : Type 0} (xs : List A) (n : ℕ) → take (length xs - n) (drop n xs) ≡ drop n xs
 up_to_end xs n = grind (arith, common_steps)
+
+-- ---- Bytes above those of a gap
+
+pub above_line_end : (c : ℕ) (cs : List ℕ) → 13 < c → begins_line_end (c ∷ cs) ≡ false
+above_line_end c [] above = ne_eqb c 10 (λ e. omega (arith, e, above))
+above_line_end c (d ∷ ds) above = rw (ne_eqb c 10 (λ e. omega (arith, e, above)), ne_eqb c 13 (λ e. omega (arith, e, above))) refl
+
+pub above_blank : (c : ℕ) (cs : List ℕ) → 32 < c → begins_gap (c ∷ cs) ≡ false
+above_blank c [] above = rw (ne_eqb c 32 (λ e. omega (arith, e, above)), ne_eqb c 10 (λ e. omega (arith, e, above))) refl
+above_blank c (d ∷ ds) above =
+    rw (ne_eqb c 32 (λ e. omega (arith, e, above)), ne_eqb c 10 (λ e. omega (arith, e, above)), ne_eqb c 13 (λ e. omega (arith, e, above))) refl
 
 -- ---- One byte more
 

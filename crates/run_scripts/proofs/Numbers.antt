@@ -1,10 +1,11 @@
 -- The number that digits spell, up to a limit.
-use Rattle.std.proofs.Common.{◌≡◌, ℕ, ◌+◌, ◌-◌, ◌*◌, ◌<◌, ◌≤◌, List, length, take, get_or, Bool, true, false, nat_lt, min, refl, ◌∙◌, arith}
+use Rattle.std.proofs.Common.{◌≡◌, ℕ, ◌+◌, ◌-◌, ◌*◌, ◌<◌, ◌≤◌, List, length, take, drop, get_or, Bool, true, false, nat_lt, min, refl, ◌∙◌, arith}
 use Rattle.std.proofs.lemmas.Bool.{ltb-true, lt-ltb}
 use Rattle.std.specs.Char.{digit_value}
-use Rattle.std.specs.List.{list_all}
+use Rattle.std.specs.List.{list_all, prefix_len}
 use Rattle.std.specs.Str.Parse.{digits_value}
 use Rattle.std.proofs.lemmas.Int.Digits.{digits_value_more}
+use Rattle.std.proofs.lemmas.List.Sums.{prefix_len-drop_yes}
 use Rattle.std.proofs.lemmas.List.Folds.{list_all_more}
 use Rattle.run_scripts.specs.Schedules.{is_digit}
 
@@ -24,6 +25,11 @@ is_digit_of c low high = rw (is_digit, lt-ltb 47 c (omega (arith, low)), lt-ltb 
 pub all_more : (text : List ℕ) (i : ℕ) → i < length text → list_all is_digit (take i text) ≡ true → 48 ≤ get_or text i 0 → get_or text i 0 < 58 →
     list_all is_digit (take (i + 1) text) ≡ true
 all_more text i within all low high = list_all_more is_digit text i 0 within ∙ rw (all, is_digit_of (get_or text i 0) low high) refl
+
+-- one digit more at the front of a text
+pub digit_more : (text : List ℕ) (i : ℕ) → i < length text → 48 ≤ get_or text i 0 → get_or text i 0 < 58 →
+    prefix_len is_digit (drop i text) ≡ 1 + prefix_len is_digit (drop (i + 1) text)
+digit_more text i within low high = prefix_len-drop_yes is_digit text i 0 within (is_digit_of (get_or text i 0) low high)
 
 pub value_more : (text : List ℕ) (i n : ℕ) → i < length text → 48 ≤ get_or text i 0 → get_or text i 0 < 58 → n ≡ min (digits_value 10 (take i text)) 4294967296
     → min (n * 10 + (get_or text i 0 - 48)) 4294967296 ≡ min (digits_value 10 (take (i + 1) text)) 4294967296

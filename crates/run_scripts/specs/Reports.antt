@@ -10,12 +10,12 @@ pub record Variable : Type 0 where
   pub elements : List ℤ
 
 -- a state: the harts or threads that aren't settled, ascending; the variables in order of declaration; of each thread how many
--- sections have ended; a schedule
+-- sections have ended; a schedule for each life
 pub record ReportedState : Type 0 where
   pub unsettled : List ℕ
   pub variables : List Variable
   pub ended : List ℕ
-  pub schedule : List ℕ
+  pub schedules : List (List ℕ)
 
 abbrev pub line : List ℕ → List ℕ
 line bytes = bytes ++ line_feed ∷ []
@@ -60,7 +60,7 @@ unfoldable pub unsettled_line : (harts : List ℕ) → List ℕ
 unsettled_line harts = line (codes "unsettled" ++ flat_map hart_text harts)
 
 unfoldable pub settled_report : ReportedState → List ℕ
-settled_report s = flat_map variable_line s.variables ++ ended_lines 0 s.ended ++ schedule_line s.schedule
+settled_report s = flat_map variable_line s.variables ++ ended_lines 0 s.ended ++ flat_map schedule_line s.schedules
 
 -- where a hart isn't settled, nothing is said but which
 abbrev pub report_by : (unsettled : List ℕ) → ReportedState → List ℕ

@@ -1,5 +1,6 @@
 //! Decimal numbers.
-ghost use Rattle.std.specs.Prelude.{◌≡◌, ◌+◌, ◌-◌, ◌*◌, ◌≤◌, min, true, false, IfSome, IfNone, IsTrue};
+ghost use Rattle.std.specs.Prelude.{◌≡◌, ◌+◌, ◌-◌, ◌*◌, ◌≤◌, length, min, take, true, false, IfSome, IfNone, IsTrue};
+ghost use Rattle.std.specs.List.{prefix_len};
 ghost use Rattle.std.specs.Str.Parse.{digits_value};
 ghost use Rattle.run_scripts.specs.Schedules.{is_digit, is_numeral};
 
@@ -13,6 +14,21 @@ fn with_digit(number: u64, digit: u8) -> u64
     ensures { result ≡ min (number * 10 + (digit - 48)) 4294967296 }
 {
     (number * 10 + u64::from(digit - b'0')).min(NUMBER_LIMIT)
+}
+
+/// The number that the digits at the front of a text spell, or the limit where it is no less, and how many digits these are.
+pub(crate) fn leading_number(text: &[u8]) -> (u64, usize)
+    ensures number { result.0 ≡ min (digits_value 10 (take result.1 text.now)) 4294967296 }
+    ensures digits { result.1 ≡ prefix_len is_digit text.now }
+    ensures bound { result.1 ≤ length text.now }
+{
+    let mut number = 0;
+    let mut digits = 0;
+    while digits < text.len() && text[digits].is_ascii_digit() {
+        number = with_digit(number, text[digits]);
+        digits += 1;
+    }
+    (number, digits)
 }
 
 /// The number that a text spells, or the limit where it is no less; none where it spells none.

@@ -1,5 +1,5 @@
 //! Pieces of a text between gaps, as words between blanks and lines between line ends.
-ghost use Rattle.std.specs.Prelude.{◌≡◌, ◌+◌, ◌<◌, ◌≤◌, ◌∷◌, length, drop, false};
+ghost use Rattle.std.specs.Prelude.{◌≡◌, ◌+◌, ◌<◌, ◌≤◌, ◌∷◌, ℕ, List, length, drop, false};
 ghost use Rattle.run_scripts.specs.Pieces.{pieces_at};
 ghost use Rattle.run_scripts.specs.links.Lengths.{is_gap, gap_length, piece_length};
 
@@ -12,11 +12,22 @@ pub(crate) enum Gap {
     LineEnd,
 }
 
+/// The greatest byte of a gap. Most bytes of a text are above it.
+fn greatest_byte(gap: Gap) -> u8
+    ensures { (byte : ℕ) (rest : List ℕ) → result < byte → is_gap gap (byte ∷ rest) ≡ false }
+{
+    match gap {
+        Gap::Blank => b' ',
+        Gap::LineEnd => b'\r',
+    }
+}
+
 /// A byte of a gap comes next, or nothing.
 fn begins_gap(gap: Gap, text: &[u8]) -> bool
     ensures { result ≡ is_gap gap text.now }
 {
     match text {
+        [byte, ..] if *byte > greatest_byte(gap) => false,
         [] | [b'\n', ..] | [b'\r', b'\n', ..] => true,
         [b' ', ..] => matches!(gap, Gap::Blank),
         _ => false,

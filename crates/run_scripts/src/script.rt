@@ -1,8 +1,6 @@
 //! Scripts, as they are written.
 ghost use Rattle.std.specs.Prelude.{◌≡◌, ◌+◌, ◌<◌, ◌≤◌, ◌^◌, ℕ, List, All, drop, length, map, min, option_map, OnOk, IfOk, IfErr, IfSome, ◌++◌, ◌∷◌, []};
-ghost use Rattle.std.specs.List.{prefix_len};
 ghost use Rattle.ido_base.specs.declared.limits.TheConstants.{MOST_INPUT_BYTES};
-ghost use Rattle.run_scripts.specs.Schedules.{is_digit};
 ghost use Rattle.run_scripts.specs.Scripts.{LineRead, Says, Fails, number_then, argument_then, end_then, steps_line, point_line};
 ghost use Rattle.run_scripts.specs.Scripts.{fence_line, enabled_line, evict_line, line_of, read, Lines, Refused, IsDoable, IsEviction};
 ghost use Rattle.run_scripts.specs.declared.script.Command.{Command};
@@ -10,7 +8,7 @@ ghost use Rattle.run_scripts.specs.declared.script.Command.TheVariants as c;
 ghost use Rattle.run_scripts.specs.links.ScriptViews as views;
 ghost use Rattle.run_scripts.specs.links.ScriptViews.{ending};
 
-use crate::number::{NUMBER_LIMIT, numeral};
+use crate::number::{NUMBER_LIMIT, leading_number};
 use crate::piece::{Gap, next_piece, piece_at};
 use ido_base::limits::VARIABLE_LINES;
 use ido_base::log::Log;
@@ -136,15 +134,8 @@ struct Taken {
     end: usize,
 }
 
-/// How many digits stand at the front.
-fn digit_count(text: &[u8]) -> usize
-    ensures value { result ≡ prefix_len is_digit text.now }
-    ensures bound { result ≤ length text.now }
-{
-    text.iter().take_while(|c| c.is_ascii_digit()).count()
-}
-
 /// The number that comes next in a line that stands at a place, where the rule doesn't refuse it.
+#[inline(always)]
 fn number(line: &[u8], place: u32, at: usize, rule: Rule) -> Result<Taken, ScriptFault>
     requires within { at ≤ length line.now }
     requires short { place + length line.now < 2 ^ 32 }
@@ -155,11 +146,10 @@ fn number(line: &[u8], place: u32, at: usize, rule: Rule) -> Result<Taken, Scrip
         (after : ℕ → ℕ → List ℕ → LineRead) → number_then (views.rule_of rule) (place + at) (drop at line.now) after ≡ Fails (views.fault_of e)) }
 {
     let here = Place(place + at as u32);
-    let rest = &line[at..];
-    let digits = digit_count(rest);
-    let Some(number) = numeral(&rest[..digits]) else {
+    let (number, digits) = leading_number(&line[at..]);
+    if digits == 0 {
         return Err(ScriptFault::Word(here));
-    };
+    }
     match refused(rule, here, number) {
         Some(fault) => Err(fault),
         None => Ok(Taken {
@@ -170,6 +160,7 @@ fn number(line: &[u8], place: u32, at: usize, rule: Rule) -> Result<Taken, Scrip
 }
 
 /// The number that comes next after a space, where the rule doesn't refuse it.
+#[inline(always)]
 fn argument(line: &[u8], place: u32, at: usize, rule: Rule) -> Result<Taken, ScriptFault>
     requires within { at ≤ length line.now }
     requires short { place + length line.now < 2 ^ 32 }
@@ -201,6 +192,7 @@ fn end(line: &[u8], place: u32, at: usize) -> Result<(), ScriptFault>
 }
 
 /// The number that comes next after a space, and with which the line ends.
+#[inline(always)]
 fn last_argument(line: &[u8], place: u32, at: usize, rule: Rule) -> Result<u32, ScriptFault>
     requires within { at ≤ length line.now }
     requires short { place + length line.now < 2 ^ 32 }
@@ -215,6 +207,7 @@ fn last_argument(line: &[u8], place: u32, at: usize, rule: Rule) -> Result<u32, 
 }
 
 /// The two numbers after the letter of a line, each after a space, and with which the line ends.
+#[inline(always)]
 fn two_arguments(
     line: &[u8],
     place: u32,

@@ -13,6 +13,7 @@ use Rattle.run_scripts.specs.declared.evictor.Evictor.{Evictor}
 use Rattle.run_scripts.specs.Reports.{ReportedState}
 use Rattle.run_scripts.specs.links.Evictors.{evictions_of}
 use Rattle.run_scripts.specs.Journals.{journal_text}
+use Rattle.rv64_isa.specs.Schedule.{schedules}
 use Rattle.run_tracker.specs.ObjectLives.{Course, LifeConfig, living, opening_of, steps_in, world_of}
 use Rattle.ido_cli.specs.declared.live.Run.{Run}
 use Rattle.ido_cli.specs.Answers.{IsTold}
@@ -88,7 +89,7 @@ pub data IsQuiet (opening : LifeConfig) (before : List Event) (below : ℕ) (aft
 
 -- what is said of a life: its report, or an input of `play` that makes its events again
 abbrev pub IsSaidOf : (journal : Bool) → (source : List ℕ) → Flat → Course → (status : ℕ) → (output : List ℕ) → Type 0
-IsSaidOf false source flat life status output = IsReport (machine_state flat (world_of life) (steps_in life).kept) status output
+IsSaidOf false source flat life status output = IsReport (machine_state flat (world_of life) (schedules (steps_in life))) status output
 IsSaidOf true source flat life status output = (status ≡ 0) × (output ≡ journal_text source life.journal)
 
 -- what is said of a run of a translation on threads

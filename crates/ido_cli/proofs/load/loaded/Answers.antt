@@ -9,6 +9,7 @@ use Rattle.ido_cli.proofs.PlayedRuns.{as_many_threads, counts_sections, has_room
 use Rattle.ido_cli.proofs.Sums.{summable}
 use Rattle.ido_cli.proofs.ThreadedAnswers.{is_load, load_played}
 use Rattle.ido_cli.proofs.load.loaded.Goals as goal
+use Rattle.rv64_isa.specs.Schedule.{schedules}
 
 pub reported-requires-clause-counted : goal.reported-requires-clause-counted
 reported-requires-clause-counted g c =
@@ -31,7 +32,7 @@ say_summed-requires g c =
     let life = c.rounds.new.life in
     let threads = as_many_threads flat y.object y.marks y.cuts t in
     subst IsSummable (sym c.in_ok-state.ensures)
-    (summable flat (world_of life) (steps_in life).kept (omega (arith, threads, t.limits.threads)) (has_room flat y.object y.marks y.cuts t))
+    (summable flat (world_of life) (schedules (steps_in life)) (omega (arith, threads, t.limits.threads)) (has_room flat y.object y.marks y.cuts t))
 
 pub returns : goal.returns
 returns g c =

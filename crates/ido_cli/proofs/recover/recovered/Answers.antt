@@ -1,9 +1,11 @@
-use Rattle.std.proofs.Common.{◌≡◌, ◌+◌, ◌-◌, ◌≤◌, ap, ap₂, List, ℕ, None, arith, length, ◌∙◌, subst}
+use Rattle.std.proofs.Common.{◌≡◌, ◌+◌, ◌*◌, ◌-◌, ◌≤◌, min, ap, ap₂, List, ℕ, None, arith, length, ◌∙◌, subst}
 use Rattle.std.proofs.lemmas.List.{length-map}
 use Rattle.std.proofs.lemmas.Result.{IfOk-weaker}
 use Rattle.c_tree.specs.Flats.{flat_of, thread_of}
+use Rattle.rv64_isa.specs.Schedule.{only_life}
 use Rattle.run_tracker.specs.ObjectLives.{life_from}
 use Rattle.ido_cli.specs.Answers.{file_in}
+use Rattle.ido_cli.specs.ThreadedRuns.{most_leg_events}
 use Rattle.ido_cli.proofs.LegRuns.{IsLifeDriven}
 use Rattle.ido_cli.proofs.PlayedRuns.{as_many_threads, has_room}
 use Rattle.ido_cli.proofs.RecoveredRuns.{few_harts, harts_after, none_made, recovery, room_left}
@@ -13,21 +15,27 @@ pub drive-requires-clause-harts : goal.drive-requires-clause-harts
 drive-requires-clause-harts g c =
     let x = c.args.image.now.compiled in
     let y = x.translated in
-    let begun : c.in_ok-life.life ≡ life_from y.object y.marks c.args.image.now.words.items c.args.image.now.schedule.items 3999000 =
-    c.in_ok-life.ensures ∙ ap₂ (λ (ws ks : List ℕ). life_from y.object y.marks ws ks 3999000) c.deref.ensures.value c.deref-2.ensures.value in
-    let few = few_harts (flat_of x.flat) y.object y.marks y.cuts c.requires.translated (file_in c.args.image.now) 3999000 c.in_ok-life.life begun in
+    let begun : c.in_ok-life.life ≡ life_from y.object y.marks c.args.image.now.words.items (only_life c.args.image.now.schedule.items) c.leg_room-most.result =
+    c.in_ok-life.ensures ∙ ap₂ (λ (ws ks : List ℕ). life_from y.object y.marks ws (only_life ks) c.leg_room-most.result) c.deref.ensures.value
+    c.deref-2.ensures.value in
+    let few = few_harts (flat_of x.flat) y.object y.marks y.cuts c.requires.translated (file_in c.args.image.now) c.leg_room-most.result
+    c.in_ok-life.life begun in
     omega (arith, few)
 
 pub drive-requires-clause-moment : goal.drive-requires-clause-moment
 drive-requires-clause-moment g c κs within =
     let x = c.args.image.now.compiled in
     let y = x.translated in
-    let begun : c.in_ok-life.life ≡ life_from y.object y.marks c.args.image.now.words.items c.args.image.now.schedule.items 3999000 =
-    c.in_ok-life.ensures ∙ ap₂ (λ (ws ks : List ℕ). life_from y.object y.marks ws ks 3999000) c.deref.ensures.value c.deref-2.ensures.value in
-    let none = none_made (flat_of x.flat) y.object y.marks y.cuts c.requires.translated (file_in c.args.image.now) 3999000 c.in_ok-life.life begun in
-    let room = room_left (flat_of x.flat) y.object y.marks y.cuts c.requires.translated (file_in c.args.image.now) 3999000 c.in_ok-life.life begun in
+    let begun : c.in_ok-life.life ≡ life_from y.object y.marks c.args.image.now.words.items (only_life c.args.image.now.schedule.items) c.leg_room-most.result =
+    c.in_ok-life.ensures ∙ ap₂ (λ (ws ks : List ℕ). life_from y.object y.marks ws (only_life ks) c.leg_room-most.result) c.deref.ensures.value
+    c.deref-2.ensures.value in
+    let none = none_made (flat_of x.flat) y.object y.marks y.cuts c.requires.translated (file_in c.args.image.now) c.leg_room-most.result
+    c.in_ok-life.life begun in
+    let room = room_left (flat_of x.flat) y.object y.marks y.cuts c.requires.translated (file_in c.args.image.now) c.leg_room-most.result
+    c.in_ok-life.life begun in
     let life = c.in_ok-life.life in
-    let both : (length life.journal ≤ 3999000) × (3999000 ≤ length life.journal + (life.cap - length life.journal)) = (omega (arith, ap length none), room) in
+    let most = c.leg_room-most.result in
+    let both : (length life.journal ≤ most) × (most ≤ length life.journal + (life.cap - length life.journal)) = (omega (arith, ap length none), room) in
     both
 
 pub say_by_source-requires-clause-few : goal.say_by_source-requires-clause-few
@@ -47,21 +55,29 @@ pub say_by_source-requires-clause-harts : goal.say_by_source-requires-clause-har
 say_by_source-requires-clause-harts g c =
     let x = c.args.image.now.compiled in
     let y = x.translated in
-    let begun : c.in_ok-life.life ≡ life_from y.object y.marks c.args.image.now.words.items c.args.image.now.schedule.items 3999000 =
-    c.in_ok-life.ensures ∙ ap₂ (λ (ws ks : List ℕ). life_from y.object y.marks ws ks 3999000) c.deref.ensures.value c.deref-2.ensures.value in
-    harts_after (flat_of x.flat) y.object y.marks y.cuts c.requires.translated (file_in c.args.image.now) 3999000 c.in_ok-life.life begun
+    let begun : c.in_ok-life.life ≡ life_from y.object y.marks c.args.image.now.words.items (only_life c.args.image.now.schedule.items) c.leg_room-most.result =
+    c.in_ok-life.ensures ∙ ap₂ (λ (ws ks : List ℕ). life_from y.object y.marks ws (only_life ks) c.leg_room-most.result) c.deref.ensures.value
+    c.deref-2.ensures.value in
+    harts_after (flat_of x.flat) y.object y.marks y.cuts c.requires.translated (file_in c.args.image.now) c.leg_room-most.result c.in_ok-life.life begun
     c.in_ok-driven.driven.core c.in_ok-driven.ensures.plays.opens c.requires.words
 
 pub returns : goal.returns
 returns g c =
     let x = c.args.image.now.compiled in
     let y = x.translated in
-    let begun : c.in_ok-life.life ≡ life_from y.object y.marks c.args.image.now.words.items c.args.image.now.schedule.items 3999000 =
-    c.in_ok-life.ensures ∙ ap₂ (λ (ws ks : List ℕ). life_from y.object y.marks ws ks 3999000) c.deref.ensures.value c.deref-2.ensures.value in
+    let begun : c.in_ok-life.life ≡ life_from y.object y.marks c.args.image.now.words.items (only_life c.args.image.now.schedule.items) c.leg_room-most.result =
+    c.in_ok-life.ensures ∙ ap₂ (λ (ws ks : List ℕ). life_from y.object y.marks ws (only_life ks) c.leg_room-most.result) c.deref.ensures.value
+    c.deref-2.ensures.value in
     let left = c.in_ok-driven.driven in
-    let d = subst (λ (n : ℕ). IsLifeDriven c.in_ok-life.life n 3999000 None left.core left.stops.items left.evict) c.from.ensures c.in_ok-driven.ensures in
+    let threads : c.len.result ≡ length y.object.code.items = omega arith in
+    let room : c.leg_room-most.result ≡ min most_leg_events (length y.object.code.items * c.args.turns + 1) =
+    c.leg_room-most.ensures ∙ ap (λ (n : ℕ). min most_leg_events (n * c.args.turns + 1)) threads in
+    let d = subst (λ (n : ℕ). IsLifeDriven c.in_ok-life.life n c.leg_room-most.result None left.core left.stops.items left.evict) c.from.ensures
+    c.in_ok-driven.ensures in
     IfOk-weaker c.say_by_source.result _ _
     (λ said told.
-    recovery (flat_of x.flat) y.object y.marks y.cuts c.requires.translated (file_in c.args.image.now) 3999000 c.in_ok-life.life begun left.core d.plays.opens
-    c.files_begin.ensures c.images_are_crashes.ensures c.requires.compilation c.args.turns said.status said.output.items left.stops.items left.evict d told)
+    recovery (flat_of x.flat) y.object y.marks y.cuts c.requires.translated (file_in c.args.image.now) c.leg_room-most.result c.in_ok-life.life begun
+    left.core d.plays.opens
+    c.files_begin.ensures c.images_are_crashes.ensures c.requires.compilation c.args.turns c.leg_room-most.result said.status said.output.items left.stops.items
+    left.evict room d told)
     c.say_by_source.ensures

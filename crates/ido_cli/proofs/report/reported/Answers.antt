@@ -2,6 +2,8 @@ use Rattle.std.proofs.Common.{ℕ, arith, ap, length, map, ◌∙◌}
 use Rattle.c_tree.specs.Flats.{flat_of}
 use Rattle.c_tree.specs.Source as m
 use Rattle.rv64_isa.specs.Machine.{numbers_from}
+use Rattle.rv64_isa.specs.Schedule.{schedules}
+use Rattle.source_machine.specs.Lives.{ended_lives}
 use Rattle.run_tracker.specs.ObjectLives.{ended_sections, steps_in}
 use Rattle.ido_cli.proofs.GatheredReports.{same_map}
 use Rattle.ido_cli.proofs.report.reported.Goals as goal
@@ -12,6 +14,6 @@ gathered-requires-clause-ended c =
     let x = flat_of c.args.flat.now in
     let counts = c.requires.counted in
     c.in_ok-ended.ensures
-    ∙ (same_map (ended_sections life) (m.ended_from (m.start x) (steps_in life).kept) 0 (length life.runs.program)
+    ∙ (same_map (ended_sections life) (ended_lives x (m.start x) (schedules (steps_in life))) 0 (length life.runs.program)
     (λ h from below. counts.each h (omega (arith, below)))
-    ∙ ap (λ (n : ℕ). map (m.ended_from (m.start x) (steps_in life).kept) (numbers_from 0 n)) counts.harts)
+    ∙ ap (λ (n : ℕ). map (ended_lives x (m.start x) (schedules (steps_in life))) (numbers_from 0 n)) counts.harts)
