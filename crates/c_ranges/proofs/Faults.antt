@@ -4,9 +4,14 @@ use Rattle.std.proofs.Common.{take, Option, Some, None, true, false, cond, leb, 
 use Rattle.std.proofs.lemmas.List.{append-nil, take_more}
 use Rattle.std.proofs.lemmas.Bool.{cases_lt}
 use Rattle.c_tree.specs.Programs as p
-use Rattle.c_tree.specs.Ranges.{Index}
-use Rattle.c_ranges.specs.links.FirstUnfitIndex.{earlier, fault_of, first_fault}
+use Rattle.ido_base.specs.declared.place.Place.{Place}
+use Rattle.c_tree.specs.Exprs as e
+use Rattle.c_tree.specs.Ranges.{Index, Indexed}
+use Rattle.c_ranges.specs.links.FirstUnfitIndex.{earlier, elements_for, fault_at, fault_of, first_fault}
 use Rattle.c_ranges.specs.declared.indexes.IndexError.{IndexError}
+
+abbrev pub index_of : Indexed → Place → e.Expr → Index
+index_of of place expr = record { of = of; place = place; expr = expr }
 
 -- ---- Of two answers
 
@@ -43,25 +48,26 @@ earlier_assoc (Some a) (Some b) (Some c) = earlier_some a b c
 
 -- ---- Of a list
 
-pub first_fault_more : (vs : List p.Variable) (i : Index) (rest : List Index) → first_fault vs (i ∷ rest) ≡ earlier (fault_of vs i) (first_fault vs rest)
+pub first_fault_more : (z : p.Program) (i : Index) (rest : List Index) → first_fault z (i ∷ rest) ≡ earlier (fault_of z i) (first_fault z rest)
 unfolding first_fault
-first_fault_more vs i rest = refl
+first_fault_more z i rest = refl
 
-pub first_fault_append : (vs : List p.Variable) (xs ys : List Index) → first_fault vs (xs ++ ys) ≡ earlier (first_fault vs xs) (first_fault vs ys)
+pub first_fault_append : (z : p.Program) (xs ys : List Index) → first_fault z (xs ++ ys) ≡ earlier (first_fault z xs) (first_fault z ys)
 unfolding first_fault
-first_fault_append vs [] ys = refl
-first_fault_append vs (i ∷ rest) ys =
-    ap (earlier (fault_of vs i)) (first_fault_append vs rest ys) ∙ sym (earlier_assoc (fault_of vs i) (first_fault vs rest) (first_fault vs ys))
+first_fault_append z [] ys = refl
+first_fault_append z (i ∷ rest) ys =
+    ap (earlier (fault_of z i)) (first_fault_append z rest ys) ∙ sym (earlier_assoc (fault_of z i) (first_fault z rest) (first_fault z ys))
 
 -- what is found in one list and then in another
-pub joined : (vs : List p.Variable) (r a b : Option IndexError) (xs ys : List Index) → r ≡ earlier a b → a ≡ first_fault vs xs → b ≡ first_fault vs ys →
-    r ≡ first_fault vs (xs ++ ys)
-joined vs r a b xs ys h p q = h ∙ (λ i. earlier (p i) (q i)) ∙ sym (first_fault_append vs xs ys)
+pub joined : (z : p.Program) (r a b : Option IndexError) (xs ys : List Index) → r ≡ earlier a b → a ≡ first_fault z xs → b ≡ first_fault z ys →
+    r ≡ first_fault z (xs ++ ys)
+joined z r a b xs ys h p q = h ∙ (λ i. earlier (p i) (q i)) ∙ sym (first_fault_append z xs ys)
 
--- what is found of one index and then in a list
-pub headed : (vs : List p.Variable) (r a b : Option IndexError) (i : Index) (rest : List Index) → r ≡ earlier a b → a ≡ fault_of vs i →
-    b ≡ first_fault vs rest → r ≡ first_fault vs (i ∷ rest)
-headed vs r a b i rest h p q = h ∙ (λ t. earlier (p t) (q t)) ∙ sym (first_fault_more vs i rest)
+-- what is found of one index, into as many elements as there are for it, and then in a list
+pub headed : (z : p.Program) (r a b : Option IndexError) (i : Index) (rest : List Index) (n : ℕ) → r ≡ earlier a b → n ≡ elements_for z i →
+    a ≡ fault_at n i.place i.expr → b ≡ first_fault z rest → r ≡ first_fault z (i ∷ rest)
+headed z r a b i rest n h k p q =
+    h ∙ (λ t. earlier ((p ∙ ap (λ (m : ℕ). fault_at m i.place i.expr) k) t) (q t)) ∙ sym (first_fault_more z i rest)
 
 -- ---- A loop over what has indexes
 
@@ -73,18 +79,18 @@ gathered g G none more (y ∷ rest) x =
     ∙ ap (λ ys. ys ++ g x) (sym (more y rest))
 
 -- what was found before, and in one more
-pub one_more : {A : Type 0} (vs : List p.Variable) (g : A → List Index) (G : List A → List Index) → G [] ≡ [] →
+pub one_more : {A : Type 0} (z : p.Program) (g : A → List Index) (G : List A → List Index) → G [] ≡ [] →
     ((x : A) (rest : List A) → G (x ∷ rest) ≡ g x ++ G rest) → (xs : List A) (i : ℕ) (x : A) (r a b : Option IndexError) → i < length xs → x ≡ get_or xs i x →
-    r ≡ earlier a b → a ≡ first_fault vs (G (take i xs)) → b ≡ first_fault vs (g x) → r ≡ first_fault vs (G (take (i + 1) xs))
-one_more vs g G none more xs i x r a b h is e p q =
+    r ≡ earlier a b → a ≡ first_fault z (G (take i xs)) → b ≡ first_fault z (g x) → r ≡ first_fault z (G (take (i + 1) xs))
+one_more z g G none more xs i x r a b h is e p q =
     let taken : take (i + 1) xs ≡ take i xs ++ x ∷ [] = take_more xs i x h ∙ ap (λ y. take i xs ++ y ∷ []) (sym is) in
-    joined vs r a b (G (take i xs)) (g x) e p q ∙ ap (first_fault vs) (sym (ap G taken ∙ gathered g G none more (take i xs) x))
+    joined z r a b (G (take i xs)) (g x) e p q ∙ ap (first_fault z) (sym (ap G taken ∙ gathered g G none more (take i xs) x))
 
 -- what was found before, and in two parts of one more
-pub two_more : {A : Type 0} (vs : List p.Variable) (g h : A → List Index) (G : List A → List Index) → G [] ≡ [] →
+pub two_more : {A : Type 0} (z : p.Program) (g h : A → List Index) (G : List A → List Index) → G [] ≡ [] →
     ((x : A) (rest : List A) → G (x ∷ rest) ≡ (g x ++ h x) ++ G rest) → (xs : List A) (i : ℕ) (x : A) (r a b c d : Option IndexError) → i < length xs →
-    x ≡ get_or xs i x → r ≡ earlier d c → d ≡ earlier a b → a ≡ first_fault vs (G (take i xs)) → b ≡ first_fault vs (g x) → c ≡ first_fault vs (h x) →
-    r ≡ first_fault vs (G (take (i + 1) xs))
-two_more vs g h G none more xs i x r a b c d l is e f p q s =
-    one_more vs (λ x. g x ++ h x) G none more xs i x r a (earlier b c) l is (e ∙ ap (λ y. earlier y c) f ∙ earlier_assoc a b c) p
-    (joined vs (earlier b c) b c (g x) (h x) refl q s)
+    x ≡ get_or xs i x → r ≡ earlier d c → d ≡ earlier a b → a ≡ first_fault z (G (take i xs)) → b ≡ first_fault z (g x) → c ≡ first_fault z (h x) →
+    r ≡ first_fault z (G (take (i + 1) xs))
+two_more z g h G none more xs i x r a b c d l is e f p q s =
+    one_more z (λ x. g x ++ h x) G none more xs i x r a (earlier b c) l is (e ∙ ap (λ y. earlier y c) f ∙ earlier_assoc a b c) p
+    (joined z (earlier b c) b c (g x) (h x) refl q s)

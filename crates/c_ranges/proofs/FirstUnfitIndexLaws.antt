@@ -8,7 +8,7 @@ use Rattle.c_tree.specs.Programs as p
 use Rattle.c_tree.specs.Ranges.{Index, index_fits, program_indexes, AllFit, IsFirstUnfit}
 use Rattle.c_ranges.specs.Bounds.{interval_of}
 use Rattle.c_ranges.specs.Faults.{IsFaultOf}
-use Rattle.c_ranges.specs.links.FirstUnfitIndex.{error_of, earlier, first_fault}
+use Rattle.c_ranges.specs.links.FirstUnfitIndex.{error_at, elements_for, earlier, first_fault}
 use Rattle.c_ranges.specs.declared.indexes.IndexError.{IndexError}
 use Rattle.c_ranges.proofs.Faults.{earlier_first, earlier_second}
 
@@ -102,18 +102,24 @@ module _ (fits : Index → Bool) (error : Index → IndexError) (at : (i : Index
       ] in
       by (fits x) refl
 
-abbrev FindsFirstOf : List p.Variable → List Index → Option IndexError → Type 0
-FindsFirstOf vs = FindsFirst (index_fits vs) (error_of vs) (λ i. refl)
+abbrev fits_in : p.Program → Index → Bool
+fits_in z = index_fits z.variables z.mutexes
 
-tells : (vs : List p.Variable) (xs : List Index) → FindsFirstOf vs xs (first_fault vs xs)
+abbrev error_of : p.Program → Index → IndexError
+error_of z i = error_at (elements_for z i) i.place i.expr
+
+abbrev FindsFirstOf : p.Program → List Index → Option IndexError → Type 0
+FindsFirstOf z = FindsFirst (fits_in z) (error_of z) (λ i. refl)
+
+tells : (z : p.Program) (xs : List Index) → FindsFirstOf z xs (first_fault z xs)
 unfolding first_fault
-tells vs [] = λ i c. absurd (none_in i c)
-tells vs (x ∷ rest) = one_before (index_fits vs) (error_of vs) (λ i. refl) x rest (first_fault vs rest) (tells vs rest)
+tells z [] = λ i c. absurd (none_in i c)
+tells z (x ∷ rest) = one_before (fits_in z) (error_of z) (λ i. refl) x rest (first_fault z rest) (tells z rest)
 
 -- ---- Of a program
 
-pub all_fit : (x : p.Program) → first_fault x.variables (program_indexes x) ≡ None → AllFit x
-all_fit x e = subst (FindsFirstOf x.variables (program_indexes x)) e (tells x.variables (program_indexes x))
+pub all_fit : (x : p.Program) → first_fault x (program_indexes x) ≡ None → AllFit x
+all_fit x e = subst (FindsFirstOf x (program_indexes x)) e (tells x (program_indexes x))
 
 same_place : (a b : Place) → a.0 ≡ b.0 → a ≡ b
 same_place a b e = λ t. record { 0 = e t }
@@ -121,10 +127,9 @@ same_place a b e = λ t. record { 0 = e t }
 in_order : (a b : Place) → a.0 ≤ b.0 → (a.0 < b.0) ⊎ (a ≡ b)
 in_order a b h = ⊎_elim (λ l. inl l) (λ g. inr (same_place a b (omega arith))) (cases_lt a.0 b.0)
 
-pub first_unfit : (x : p.Program) (e : IndexError) → first_fault x.variables (program_indexes x) ≡ Some e → IsFaultOf x e
+pub first_unfit : (x : p.Program) (e : IndexError) → first_fault x (program_indexes x) ≡ Some e → IsFaultOf x e
 first_unfit x e h =
-    let f : FirstIn (index_fits x.variables) (error_of x.variables) (λ i. refl) (program_indexes x) e =
-    subst (FindsFirstOf x.variables (program_indexes x)) h (tells x.variables (program_indexes x)) in
+    let f : FirstIn (fits_in x) (error_of x) (λ i. refl) (program_indexes x) e = subst (FindsFirstOf x (program_indexes x)) h (tells x (program_indexes x)) in
     let unfit : IsFirstUnfit x f.index = record { found = f.found; unfit = f.unfit; first = λ j c u. in_order f.index.place j.place (f.first j c u) } in
     record {
       index = f.index;

@@ -13,9 +13,10 @@ use Rattle.ido_ints.proofs.Public.{Holds-reduced}
 use Rattle.c_tree.specs.Exprs as e
 use Rattle.c_tree.specs.Programs.{Variable}
 use Rattle.c_tree.specs.Flats as f
+use Rattle.c_tree.specs.Ranges.{elements_of}
 use Rattle.c_tree.specs.Source as m
 use Rattle.c_tree.specs.Source.{source_step, opened_all}
-use Rattle.c_tree.specs.Values.{element_at}
+use Rattle.c_tree.specs.Values.{element_at, lock_number}
 use Rattle.c_tree.specs.WellFormed.{IsVariable, IsFlatTarget, AreFlatStatements, IsWellFormed}
 use Rattle.c_ranges.specs.RunInvariants.{AreNumbersOf, IsStoreInRange, IsStatementLeft, IsThreadOf, IsStateOf}
 use Rattle.c_ranges.proofs.ValuesInRanges.{fits_element}
@@ -125,7 +126,7 @@ module _ (x : f.Flat) (s : m.State) (t : ℕ) (is : IsStateOf x s) (ft : f.Threa
     assigned (e.ToElement place variable kind index) y rest h k =
         let number = (m.value_in s thread y.expr).number in
         let d = h.0.0 in
-        let named = fits_element x.variables (record { variable = variable; place = index.place; expr = index.expr }) h.1.0 thread.locals s.variables
+        let named = fits_element (elements_of x.variables variable) index.expr h.1.0 thread.locals s.variables
         (all_held x.variables ft.locals thread.locals s.variables own.locals is.variables index.expr h.0.1) in record {
           left = k;
           locals = own.locals;
@@ -141,16 +142,18 @@ module _ (x : f.Flat) (s : m.State) (t : ℕ) (is : IsStateOf x s) (ft : f.Threa
 
     module _ (next : m.State) (rest : List f.Statement) where
       -- a mutex is taken, if it is free
-      by_lock : (place : Place) (name : e.LockName) (o : Option (Option ℕ)) → slice_get s.holders name.mutex ≡ o →
+      by_lock : (place : Place) (name : e.LockName) (o : Option (Option ℕ)) → slice_get s.holders (lock_number thread.locals name) ≡ o →
           AllByRecursion (IsStatementLeft x ft.locals) rest →
           m.statement_step s t thread (f.Lock place name) rest ≡ Some next → IsStateOf x next
       by_lock place name None e k h = let no : m.statement_step s t thread (f.Lock place name) rest ≡ None = rw (m.statement_step, e) refl in cc
       by_lock place name (Some (Some u)) e k h = let no : m.statement_step s t thread (f.Lock place name) rest ≡ None = rw (m.statement_step, e) refl in cc
       by_lock place name (Some None) e k h =
           let to : m.Thread = record thread { left = rest } in
-          let yes : m.statement_step s t thread (f.Lock place name) rest ≡ Some (m.with_thread (m.with_holder s name.mutex (Some t)) t to) = rw
+          let yes : m.statement_step s t thread (f.Lock place name) rest ≡ Some
+          (m.with_thread (m.with_holder s (lock_number thread.locals name) (Some t)) t to) = rw
           (m.statement_step, e) refl in
-          by (m.with_thread (m.with_holder s name.mutex (Some t)) t to) next (with_holder name.mutex (Some t) to (leaves rest k)) (sym yes ∙ h)
+          by (m.with_thread (m.with_holder s (lock_number thread.locals name) (Some t)) t to) next
+          (with_holder (lock_number thread.locals name) (Some t) to (leaves rest k)) (sym yes ∙ h)
 
       by_statement : (y : f.Statement) → AllByRecursion (IsStatementLeft x ft.locals) (y ∷ rest) → m.statement_step s t thread y rest ≡ Some next →
           IsStateOf x next
@@ -170,10 +173,10 @@ module _ (x : f.Flat) (s : m.State) (t : ℕ) (is : IsStateOf x s) (ft : f.Threa
           by (m.with_thread s t (record thread { left = left })) next
           (becomes (record thread { left = left }) (leaves left (left_while x ft.locals b place condition body rest k))) h
       by_statement (f.Do place body condition) k h = absurd k.0.0
-      by_statement (f.Lock place name) k h = by_lock place name (slice_get s.holders name.mutex) refl k.1 h
+      by_statement (f.Lock place name) k h = by_lock place name (slice_get s.holders (lock_number thread.locals name)) refl k.1 h
       by_statement (f.Unlock place name) k h =
-          by (m.with_thread (m.with_holder s name.mutex None) t (record thread { left = rest })) next
-          (with_holder name.mutex None (record thread { left = rest }) (leaves rest k.1)) h
+          by (m.with_thread (m.with_holder s (lock_number thread.locals name) None) t (record thread { left = rest })) next
+          (with_holder (lock_number thread.locals name) None (record thread { left = rest }) (leaves rest k.1)) h
 
     by_end : (next : m.State) (ended : Bool) →
         (let o : Option m.State = if ended then None else Some (m.with_thread s t (record thread { ended = true })) in o ≡ Some next) → IsStateOf x next

@@ -8,10 +8,13 @@ use Rattle.ido_ints.specs.declared.kinds.Kind.{Kind}
 use Rattle.ido_ints.specs.Kinds.{Holds}
 use Rattle.c_tree.specs.Exprs as e
 use Rattle.c_tree.specs.Flats as f
-use Rattle.c_tree.specs.Ranges.{expr_indexes}
+use Rattle.c_tree.specs.Ranges.{elements_of, expr_indexes, lock_indexes}
+use Rattle.c_tree.specs.Temporaries.{key_exprs}
 use Rattle.c_tree.specs.Source as m
 use Rattle.c_tree.specs.Source.{source_step}
-use Rattle.c_tree.specs.WellFormed.{IsExpr, Fits, IsFlatPlaced, IsFlatStatement}
+use Rattle.c_tree.specs.WellFormed.{IsExpr, Fits, IsFlatPlaced, IsFlatStatement, IsLockName}
+use Rattle.c_tree.specs.Values.{lock_number}
+use Rattle.c_tree.proofs.Public.{plain_lock}
 use Rattle.c_ranges.specs.Laws.{IsForeseen}
 use Rattle.c_ranges.specs.RunInvariants.{AreNumbersOf, IsStatementLeft, IsThreadOf, IsStateOf, IsElement}
 use Rattle.c_ranges.specs.RunInvariants.{IsNext, IsOver, IsAtHeldLock, step_exprs, step_indexes}
@@ -22,6 +25,13 @@ use Rattle.c_ranges.proofs.RunsKeepInvariants.{step_is}
 -- ---- What is evaluated
 
 module _ (x : f.Flat) (ks : List Kind) (ls : List ℤ) (ns : List (List ℤ)) (locals : AllZip Holds ks ls) (variables : AllZip AreNumbersOf x.variables ns) where
+  -- a name without a key evaluates nothing
+  no_key_seen : (name : e.LockName) → name.key ≡ None → AllByRecursion (λ (z : e.Placed). IsForeseen ls ns z.expr) (key_exprs name)
+  no_key_seen name none = rw none tt
+
+  no_key_indexed : (name : e.LockName) → name.key ≡ None → AllByRecursion (IsElement x.variables x.mutexes ls ns) (lock_indexes name)
+  no_key_indexed name none = rw none tt
+
   seen : (z : e.Placed) → IsFlatPlaced x ks z → IsForeseen ls ns z.expr
   seen z h = foreseen ls ns z.expr (all_held x.variables ks ls ns locals variables z.expr h.0)
 
@@ -33,43 +43,43 @@ module _ (x : f.Flat) (ks : List Kind) (ls : List ℤ) (ns : List (List ℤ)) (l
   all_seen (f.If place (f.arm_and condition body arms) otherwise) h = (seen condition h.1.0, tt)
   all_seen (f.While place condition body) h = (seen condition h.0, tt)
   all_seen (f.Do place body condition) h = tt
-  all_seen (f.Lock place name) h = tt
-  all_seen (f.Unlock place name) h = tt
+  all_seen (f.Lock place name) h = no_key_seen name h.1
+  all_seen (f.Unlock place name) h = no_key_seen name h.1
 
-  elements : (z : e.Expr) → IsExpr x.variables ks z → Fits x.variables z → AllByRecursion (IsElement x.variables ls ns) (expr_indexes z)
+  elements : (z : e.Expr) → IsExpr x.variables ks z → Fits x.variables z → AllByRecursion (IsElement x.variables x.mutexes ls ns) (expr_indexes z)
   elements (e.Constant value) h g = tt
   elements (e.Local local kind) h g = tt
   elements (e.Variable place variable kind) h g = tt
   elements (e.Element place variable kind index_place index) h g = (
-    fits_element x.variables (record { variable = variable; place = index_place; expr = index }) g.0 ls ns
+    fits_element (elements_of x.variables variable) index g.0 ls ns
         (all_held x.variables ks ls ns locals variables index h.1),
     elements index h.1 g.1,
   )
   elements (e.Unary op operand) h g = elements operand h g
   elements (e.Cast kind operand) h g = elements operand h g
   elements (e.Converted kind operand) h g = elements operand h g
-  elements (e.Binary op left right) h g = all_append (IsElement x.variables ls ns) (expr_indexes left) (expr_indexes right) (elements left h.0 g.0)
+  elements (e.Binary op left right) h g = all_append (IsElement x.variables x.mutexes ls ns) (expr_indexes left) (expr_indexes right) (elements left h.0 g.0)
       (elements right h.1 g.1)
   elements (e.Conditional kind condition chosen otherwise) h g =
-      all_append (IsElement x.variables ls ns) (expr_indexes condition ++ expr_indexes chosen) (expr_indexes otherwise)
-      (all_append (IsElement x.variables ls ns) (expr_indexes condition) (expr_indexes chosen) (elements condition h.0 g.0) (elements chosen h.1 g.1))
+      all_append (IsElement x.variables x.mutexes ls ns) (expr_indexes condition ++ expr_indexes chosen) (expr_indexes otherwise)
+      (all_append (IsElement x.variables x.mutexes ls ns) (expr_indexes condition) (expr_indexes chosen) (elements condition h.0 g.0) (elements chosen h.1 g.1))
       (elements otherwise h.2 g.2)
 
-  all_elements : (y : f.Statement) → IsFlatStatement x ks y → AllByRecursion (IsElement x.variables ls ns) (step_indexes y)
+  all_elements : (y : f.Statement) → IsFlatStatement x ks y → AllByRecursion (IsElement x.variables x.mutexes ls ns) (step_indexes y)
   all_elements (f.Assign place (e.ToLocal name local kind) value) h = elements value.expr h.1.0 h.1.1
   all_elements (f.Assign place (e.ToVariable at variable kind) value) h = elements value.expr h.1.0 h.1.1
   all_elements (f.Assign place (e.ToElement at variable kind index) value) h = (
-    fits_element x.variables (record { variable = variable; place = index.place; expr = index.expr }) h.0.1.0 ls ns
+    fits_element (elements_of x.variables variable) index.expr h.0.1.0 ls ns
         (all_held x.variables ks ls ns locals variables index.expr h.0.0.1),
-    all_append (IsElement x.variables ls ns) (expr_indexes index.expr) (expr_indexes value.expr) (elements index.expr h.0.0.1 h.0.1.1)
+    all_append (IsElement x.variables x.mutexes ls ns) (expr_indexes index.expr) (expr_indexes value.expr) (elements index.expr h.0.0.1 h.0.1.1)
         (elements value.expr h.1.0 h.1.1),
   )
   all_elements (f.If place f.no_arm otherwise) h = tt
   all_elements (f.If place (f.arm_and condition body arms) otherwise) h = elements condition.expr h.1.0.0 h.1.0.1
   all_elements (f.While place condition body) h = elements condition.expr h.0.0 h.0.1
   all_elements (f.Do place body condition) h = tt
-  all_elements (f.Lock place name) h = tt
-  all_elements (f.Unlock place name) h = tt
+  all_elements (f.Lock place name) h = no_key_indexed name h.1
+  all_elements (f.Unlock place name) h = no_key_indexed name h.1
 
 module _ (x : f.Flat) (s : m.State) (t : ℕ) (it : m.Thread) (is : IsStateOf x s) where
   abbrev Own : Type 0
@@ -90,7 +100,7 @@ module _ (x : f.Flat) (s : m.State) (t : ℕ) (it : m.Thread) (is : IsStateOf x 
       all_seen x own.it.locals it.locals s.variables own.related.locals is.variables y kept.0.1
 
   pub indexes_in_range : (y : f.Statement) (rest : List f.Statement) → IsNext s t it y rest →
-      AllByRecursion (IsElement x.variables it.locals s.variables) (step_indexes y)
+      AllByRecursion (IsElement x.variables x.mutexes it.locals s.variables) (step_indexes y)
   indexes_in_range y rest n =
       let own = own_of n.found in
       let kept = next_of y rest own n.first in
@@ -107,16 +117,27 @@ module _ (x : f.Flat) (s : m.State) (t : ℕ) (it : m.Thread) (is : IsStateOf x 
     at_end true e done h = inl (record { idle = idle; done = done; ended = e })
     at_end false e done h = absurd (none-some _ (sym h))
 
-    at_lock : (place : Place) (name : e.LockName) (rest : List f.Statement) (o : Option (Option ℕ)) → slice_get s.holders name.mutex ≡ o →
-        it.left ≡ f.Lock place name ∷ rest → name.mutex < length x.mutexes → m.statement_step s t it (f.Lock place name) rest ≡ None → Stops
-    at_lock place name rest None e first below h = let there = slice_get-get_or s.holders name.mutex None (omega (arith, below, is.holders)) in absurd
-        (none-some _ (sym e ∙ there))
+    at_lock : (place : Place) (name : e.LockName) (rest : List f.Statement) (o : Option (Option ℕ)) → slice_get s.holders (lock_number it.locals name) ≡ o →
+        it.left ≡ f.Lock place name ∷ rest → IsLockName (length x.mutexes) name → m.statement_step s t it (f.Lock place name) rest ≡ None → Stops
+    at_lock place name rest None e first below h =
+        let low : lock_number it.locals name < length s.holders = omega (arith, below.0, is.holders, plain_lock it.locals name below.1) in
+        absurd (none-some _ (sym e ∙ slice_get-get_or s.holders (lock_number it.locals name) None low))
     at_lock place name rest (Some None) e first below h =
         let yes : m.statement_step s t it (f.Lock place name) rest ≡ Some
-        (m.with_thread (m.with_holder s name.mutex (Some t)) t (record it { left = rest })) = rw (m.statement_step, e) refl in
+        (m.with_thread (m.with_holder s (lock_number it.locals name) (Some t)) t (record it { left = rest })) = rw (m.statement_step, e) refl in
         absurd (none-some _ (sym h ∙ yes))
-    at_lock place name rest (Some (Some u)) e first below h = inr
-        (name.mutex, record { place = place; key = name.key; rest = rest; next = record { found = found; idle = idle; first = first }; holder = u; held = e })
+    at_lock place name rest (Some (Some u)) e first below h = inr (
+      lock_number it.locals name,
+      record {
+        place = place;
+        name = name;
+        rest = rest;
+        next = record { found = found; idle = idle; first = first };
+        number = refl;
+        holder = u;
+        held = e;
+      },
+    )
 
     at_statement : (own : Own) (y : f.Statement) (rest : List f.Statement) → it.left ≡ y ∷ rest → AllByRecursion (IsStatementLeft x own.it.locals) (y ∷ rest) →
         m.statement_step s t it y rest ≡ None → Stops
@@ -125,7 +146,7 @@ module _ (x : f.Flat) (s : m.State) (t : ℕ) (it : m.Thread) (is : IsStateOf x 
     at_statement own (f.If place (f.arm_and condition body arms) otherwise) rest first k h = absurd (none-some _ (sym h))
     at_statement own (f.While place condition body) rest first k h = absurd (none-some _ (sym h))
     at_statement own (f.Do place body condition) rest first k h = absurd k.0.0
-    at_statement own (f.Lock place name) rest first k h = at_lock place name rest (slice_get s.holders name.mutex) refl first k.0.1.0 h
+    at_statement own (f.Lock place name) rest first k h = at_lock place name rest (slice_get s.holders (lock_number it.locals name)) refl first k.0.1 h
     at_statement own (f.Unlock place name) rest first k h = absurd (none-some _ (sym h))
 
     at_left : (own : Own) (left : List f.Statement) → it.left ≡ left → m.left_step s t it left ≡ None → Stops

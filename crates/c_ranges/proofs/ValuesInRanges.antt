@@ -17,9 +17,8 @@ use Rattle.c_tree.specs.Programs as p
 use Rattle.c_tree.specs.Values.{value}
 use Rattle.c_tree.specs.Elaboration.{kind_of}
 use Rattle.c_tree.specs.Ranges.{Interval, interval, Within, full, fitted, hull, sum, difference, product, unary_range}
-use Rattle.c_tree.specs.Ranges.{binary_range, range_of, Index, elements_of, program_indexes, AllFit, index_fits, lies_in}
+use Rattle.c_tree.specs.Ranges.{binary_range, range_of, Index, indexed, program_indexes, AllFit, is_below, lies_in}
 use Rattle.c_ranges.specs.Laws.{AllHeld, IsForeseen, NamesElement}
-use Rattle.c_ranges.specs.RunInvariants.{IsElement}
 use Rattle.c_ranges.proofs.Multiples.{Within_product}
 use Rattle.c_ranges.proofs.Operations.{Within_sum, Within_difference, Within_negative, Within_quotient, Within_remainder, Within_and, Within_shifted}
 use Rattle.c_ranges.proofs.Reductions.{Within_full, Within_fitted, Within_truth, Inside_fitted}
@@ -150,18 +149,16 @@ lies_in-true i j h = record { low = grind (arith, ints); high = grind (arith, in
 element_below : (z : ℤ) (n : ℕ) → pos 0 ≤ℤ z → z ≤ℤ (pos n -ℤ pos 1) → unsigned_abs z < n
 element_below z n h k = omega (arith, ints)
 
--- an index that fits
-pub fits_element : (vs : List p.Variable) (i : Index) → index_fits vs i ≡ true → (ls : List ℤ) (ns : List (List ℤ)) → AllHeld ls ns i.expr →
-    IsElement vs ls ns i
-fits_element vs i fit ls ns h =
-    let n = elements_of vs i.variable in
-    let r = range_of i.expr in
-    let z = (value ls ns i.expr).number in
+-- an index that fits among so many elements
+pub fits_element : (n : ℕ) (x : e.Expr) → is_below x n ≡ true → (ls : List ℤ) (ns : List (List ℤ)) → AllHeld ls ns x → NamesElement n ls ns x
+fits_element n x fit ls ns h =
+    let r = range_of x in
+    let z = (value ls ns x).number in
     let b = lies_in-true r (interval (pos 0) (pos n -ℤ pos 1)) fit in
-    let w = (foreseen ls ns i.expr h).within in
+    let w = (foreseen ls ns x h).within in
     let low = le_trans (pos 0) r.lo z b.low w.from_low in
     record { from_zero = low; below = element_below z n low (le_trans z r.hi _ w.to_high b.high) }
 
 pub names_element : (x : p.Program) → AllFit x → (i : Index) → Contains (program_indexes x) i → (ls : List ℤ) (vs : List (List ℤ)) → AllHeld ls vs i.expr →
-    NamesElement x ls vs i
-names_element x fit i c ls vs h = let n = fits_element x.variables i (fit i c) ls vs h in record { from_zero = n.from_zero; below = n.below }
+    NamesElement (indexed x.variables x.mutexes i.of) ls vs i.expr
+names_element x fit i c ls vs h = fits_element (indexed x.variables x.mutexes i.of) i.expr (fit i c) ls vs h

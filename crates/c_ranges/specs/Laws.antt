@@ -1,11 +1,11 @@
 -- What ranges are for: values lie in them, and an index that fits names an element.
-use Rattle.std.specs.Prelude.{◌≡◌, ◌<◌, List, Contains, slice_index_or, ℤ, pos, ◌≤ℤ◌}
+use Rattle.std.specs.Prelude.{◌≡◌, ℕ, ◌<◌, List, Contains, slice_index_or, ℤ, pos, ◌≤ℤ◌}
 use Rattle.ido_ints.specs.Kinds.{Holds}
 use Rattle.c_tree.specs.Exprs as e
 use Rattle.c_tree.specs.Programs as p
 use Rattle.c_tree.specs.Values.{value, element_number, element_at}
 use Rattle.c_tree.specs.Elaboration.{kind_of}
-use Rattle.c_tree.specs.Ranges.{Within, Index, range_of, program_indexes, elements_of, AllFit}
+use Rattle.c_tree.specs.Ranges.{Within, Index, range_of, program_indexes, indexed, AllFit}
 
 -- each local, variable and element that the expression names has a number that its kind holds
 abbrev pub AllHeld : (locals : List ℤ) (variables : List (List ℤ)) → e.Expr → Type 0
@@ -28,13 +28,13 @@ pub record IsForeseen (ls : List ℤ) (vs : List (List ℤ)) (x : e.Expr) : Type
 abbrev pub RangesHold : Type 0
 RangesHold = (ls : List ℤ) (vs : List (List ℤ)) (x : e.Expr) → AllHeld ls vs x → IsForeseen ls vs x
 
--- the index's value is the number of an element
-pub record NamesElement (x : p.Program) (ls : List ℤ) (vs : List (List ℤ)) (i : Index) : Type 0 where
-  pub from_zero : pos 0 ≤ℤ (value ls vs i.expr).number
-  pub below : element_at (value ls vs i.expr) < elements_of x.variables i.variable
+-- the index's value is the number of one of so many elements
+pub record NamesElement (elements : ℕ) (ls : List ℤ) (vs : List (List ℤ)) (x : e.Expr) : Type 0 where
+  pub from_zero : pos 0 ≤ℤ (value ls vs x).number
+  pub below : element_at (value ls vs x) < elements
 
 -- where all indexes of a program fit, each names an element, whatever locals and variables hold
 abbrev pub IndexesNameElements : Type 0
 IndexesNameElements =
     (x : p.Program) → AllFit x → (i : Index) → Contains (program_indexes x) i → (ls : List ℤ) (vs : List (List ℤ)) → AllHeld ls vs i.expr →
-    NamesElement x ls vs i
+    NamesElement (indexed x.variables x.mutexes i.of) ls vs i.expr

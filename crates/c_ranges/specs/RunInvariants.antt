@@ -1,19 +1,19 @@
 -- What every run of a well formed flat form keeps: numbers of their kinds, elements that are there, and what stops a thread.
-use Rattle.std.specs.Prelude.{◌≡◌, ◌⊎◌, ℕ, ◌<◌, List, [], ◌∷◌, ◌++◌, length, slice_get, Option, Some, None, true, ℤ, pos, ◌≤ℤ◌}
+use Rattle.std.specs.Prelude.{◌≡◌, ◌⊎◌, ℕ, ◌<◌, List, [], ◌∷◌, ◌++◌, length, slice_get, Some, None, true, ℤ}
 use Rattle.std.specs.List.{AllByRecursion, AllZip}
 use Rattle.ido_base.specs.declared.place.Place.{Place}
 use Rattle.ido_ints.specs.declared.kinds.Kind.{Kind}
 use Rattle.ido_ints.specs.Kinds.{Holds}
 use Rattle.c_tree.specs.Exprs as e
-use Rattle.c_tree.specs.Programs.{Variable}
+use Rattle.c_tree.specs.Programs.{Mutex, Variable}
 use Rattle.c_tree.specs.Flats as f
-use Rattle.c_tree.specs.Ranges.{Index, elements_of, target_indexes, placed_indexes}
+use Rattle.c_tree.specs.Ranges.{Index, indexed, target_indexes, placed_indexes, lock_indexes}
 use Rattle.c_tree.specs.Source as m
 use Rattle.c_tree.specs.Source.{State, source_step, start, after_from}
-use Rattle.c_tree.specs.Temporaries.{assign_exprs}
-use Rattle.c_tree.specs.Values.{value, element_at}
+use Rattle.c_tree.specs.Temporaries.{assign_exprs, key_exprs}
+use Rattle.c_tree.specs.Values.{lock_number}
 use Rattle.c_tree.specs.WellFormed.{elements_in, IsFlatStatement, IsWellFormed}
-use Rattle.c_ranges.specs.Laws.{IsForeseen}
+use Rattle.c_ranges.specs.Laws.{IsForeseen, NamesElement}
 
 -- ---- States
 
@@ -66,19 +66,22 @@ abbrev pub step_exprs : f.Statement → List e.Placed
 step_exprs (f.Assign place target x) = assign_exprs target x
 step_exprs (f.If place (f.arm_and condition body arms) otherwise) = condition ∷ []
 step_exprs (f.While place condition body) = condition ∷ []
+step_exprs (f.Lock place lock) = key_exprs lock
+step_exprs (f.Unlock place lock) = key_exprs lock
 step_exprs _ = []
 
--- the indexes of the statement's own step: those of its expressions, and that of its target
+-- the indexes of the statement's own step: those of its expressions, that of its target, and its key
 abbrev pub step_indexes : f.Statement → List Index
 step_indexes (f.Assign place target x) = target_indexes target ++ placed_indexes x
 step_indexes (f.If place (f.arm_and condition body arms) otherwise) = placed_indexes condition
 step_indexes (f.While place condition body) = placed_indexes condition
+step_indexes (f.Lock place lock) = lock_indexes lock
+step_indexes (f.Unlock place lock) = lock_indexes lock
 step_indexes _ = []
 
 -- the index's value is the number of an element
-pub record IsElement (vs : List Variable) (ls : List ℤ) (ns : List (List ℤ)) (i : Index) : Type 0 where
-  pub from_zero : pos 0 ≤ℤ (value ls ns i.expr).number
-  pub below : element_at (value ls ns i.expr) < elements_of vs i.variable
+abbrev pub IsElement : List Variable → List Mutex → (locals : List ℤ) → (variables : List (List ℤ)) → Index → Type 0
+IsElement vs ms ls ns i = NamesElement (indexed vs ms i.of) ls ns i.expr
 
 -- the statement is the next that the thread does
 pub record IsNext (s : State) (thread : ℕ) (it : m.Thread) (y : f.Statement) (rest : List f.Statement) : Type 0 where
@@ -94,7 +97,7 @@ ValuesForeseen = (x : f.Flat) (s : State) (thread : ℕ) (it : m.Thread) (y : f.
 -- every index that a step evaluates names an element
 abbrev pub IndexesInRange : Type 0
 IndexesInRange = (x : f.Flat) (s : State) (thread : ℕ) (it : m.Thread) (y : f.Statement) (rest : List f.Statement) → IsStateOf x s → IsNext s thread it y rest →
-    AllByRecursion (IsElement x.variables it.locals s.variables) (step_indexes y)
+    AllByRecursion (IsElement x.variables x.mutexes it.locals s.variables) (step_indexes y)
 
 -- ---- A thread that has no step
 
@@ -107,9 +110,10 @@ pub record IsOver (it : m.Thread) : Type 0 where
 -- the thread stands at the lock of a mutex that a thread holds
 pub record IsAtHeldLock (s : State) (thread : ℕ) (it : m.Thread) (mutex : ℕ) : Type 0 where
   pub place : Place
-  pub key : Option e.Placed
+  pub name : e.LockName
   pub rest : List f.Statement
-  pub next : IsNext s thread it (f.Lock place (record { mutex = mutex; key = key })) rest
+  pub next : IsNext s thread it (f.Lock place name) rest
+  pub number : lock_number it.locals name ≡ mutex
   pub holder : ℕ
   pub held : slice_get s.holders mutex ≡ Some (Some holder)
 

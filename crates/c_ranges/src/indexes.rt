@@ -1,17 +1,17 @@
 //! The check of a program's indexes.
 ghost use Rattle.std.specs.Prelude.{◌≡◌, map, flat_map, MatchResult};
 ghost use Rattle.std.specs.Option.{option_map};
-ghost use Rattle.c_tree.specs.Exprs.{expr_of, placed_of, lvalue_of};
+ghost use Rattle.c_tree.specs.Exprs.{expr_of, placed_of, lvalue_of, lock_name_of};
 ghost use Rattle.c_tree.specs.Programs.{program_of, statement_of, statements_of, arms_list_of, returned_of};
-ghost use Rattle.c_tree.specs.Ranges.{elements_of, expr_indexes, placed_indexes, target_indexes, statement_indexes};
-ghost use Rattle.c_tree.specs.Ranges.{statements_indexes, arms_indexes, result_indexes, returned_indexes, AllFit};
+ghost use Rattle.c_tree.specs.Ranges.{elements_of, mutexes_of, expr_indexes, placed_indexes, target_indexes, lock_indexes};
+ghost use Rattle.c_tree.specs.Ranges.{statement_indexes, statements_indexes, arms_indexes, result_indexes, returned_indexes, AllFit};
 ghost use Rattle.c_ranges.specs.Faults.{IsFaultOf};
-ghost use Rattle.c_ranges.specs.links.FirstUnfitIndex.{functions_indexes, threads_indexes, variables_of, index_of, fault_of, earlier, first_fault};
+ghost use Rattle.c_ranges.specs.links.FirstUnfitIndex.{functions_indexes, threads_indexes, fault_at, earlier, first_fault};
 
 use crate::expression::range;
 use crate::interval::Interval;
-use c_tree::expr::{Expr, Lvalue, Placed};
-use c_tree::program::{Arm, Function, Program, Returned, Statement, Thread, Variable};
+use c_tree::expr::{Expr, LockName, Lvalue, Placed};
+use c_tree::program::{Arm, Function, Program, Returned, Statement, Thread};
 use ido_base::place::Place;
 use thiserror::Error;
 
@@ -32,8 +32,8 @@ pub struct IndexError {
 pub fn check(program: &Program) -> Result<(), IndexError>
     ensures { MatchResult result (λ _. AllFit (program_of program.now)) (λ e. IsFaultOf (program_of program.now) e) }
 {
-    let functions = of_functions(&program.variables, &program.functions);
-    let threads = of_threads(&program.variables, &program.threads);
+    let functions = of_functions(program, &program.functions);
+    let threads = of_threads(program, &program.threads);
     match earlier(functions, threads) {
         None => Ok(()),
         Some(error) => Err(error),
@@ -58,132 +58,136 @@ fn earlier(first: Option<IndexError>, second: Option<IndexError>) -> Option<Inde
 }
 
 /// The first fault of functions.
-fn of_functions(variables: &[Variable], functions: &[Function]) -> Option<IndexError>
-    ensures { result ≡ first_fault (variables_of variables.now) (functions_indexes functions.now) }
+fn of_functions(program: &Program, functions: &[Function]) -> Option<IndexError>
+    ensures { result ≡ first_fault (program_of program.now) (functions_indexes functions.now) }
 {
     let mut first = None;
     for function in functions {
-        first = earlier(first, of_statements(variables, &function.body));
-        first = earlier(first, of_returned(variables, &function.result));
+        first = earlier(first, of_statements(program, &function.body));
+        first = earlier(first, of_returned(program, &function.result));
     }
     first
 }
 
 /// The first fault of a function's result.
-fn of_returned(variables: &[Variable], returned: &Option<Returned>) -> Option<IndexError>
-    ensures { result ≡ first_fault (variables_of variables.now) (returned_indexes (option_map returned_of returned.now)) }
+fn of_returned(program: &Program, returned: &Option<Returned>) -> Option<IndexError>
+    ensures { result ≡ first_fault (program_of program.now) (returned_indexes (option_map returned_of returned.now)) }
 {
     match returned {
-        Some(returned) => of_placed(variables, &returned.value),
+        Some(returned) => of_placed(program, &returned.value),
         None => None,
     }
 }
 
 /// The first fault of threads.
-fn of_threads(variables: &[Variable], threads: &[Thread]) -> Option<IndexError>
-    ensures { result ≡ first_fault (variables_of variables.now) (threads_indexes threads.now) }
+fn of_threads(program: &Program, threads: &[Thread]) -> Option<IndexError>
+    ensures { result ≡ first_fault (program_of program.now) (threads_indexes threads.now) }
 {
     let mut first = None;
     for thread in threads {
-        first = earlier(first, of_statements(variables, &thread.body));
+        first = earlier(first, of_statements(program, &thread.body));
     }
     first
 }
 
 /// The first fault of statements.
 #[cycle(statements)]
-fn of_statements(variables: &[Variable], statements: &[Statement]) -> Option<IndexError>
-    ensures { result ≡ first_fault (variables_of variables.now) (statements_indexes (statements_of statements.now)) }
+fn of_statements(program: &Program, statements: &[Statement]) -> Option<IndexError>
+    ensures { result ≡ first_fault (program_of program.now) (statements_indexes (statements_of statements.now)) }
 {
     let mut first = None;
     for statement in statements {
-        first = earlier(first, of_statement(variables, statement));
+        first = earlier(first, of_statement(program, statement));
     }
     first
 }
 
 /// The first fault of a statement.
 #[cycle(statements)]
-fn of_statement(variables: &[Variable], statement: &Statement) -> Option<IndexError>
-    ensures { result ≡ first_fault (variables_of variables.now) (statement_indexes (statement_of statement.now)) }
+fn of_statement(program: &Program, statement: &Statement) -> Option<IndexError>
+    ensures { result ≡ first_fault (program_of program.now) (statement_indexes (statement_of statement.now)) }
 {
     match statement {
         Statement::Assign { target, value, .. } => {
-            earlier(of_target(variables, target), of_placed(variables, value))
+            earlier(of_target(program, target), of_placed(program, value))
         }
         Statement::Call {
             arguments,
             result: assigned,
             ..
         } => earlier(
-            of_arguments(variables, arguments),
-            of_assigned(variables, assigned),
+            of_arguments(program, arguments),
+            of_assigned(program, assigned),
         ),
         Statement::If {
             arms,
             otherwise,
             ..
-        } => earlier(
-            of_arms(variables, arms),
-            of_statements(variables, otherwise),
-        ),
+        } => earlier(of_arms(program, arms), of_statements(program, otherwise)),
         Statement::While {
             condition,
             body,
             ..
-        } => earlier(
-            of_placed(variables, condition),
-            of_statements(variables, body),
-        ),
+        } => earlier(of_placed(program, condition), of_statements(program, body)),
         Statement::Do {
             body,
             condition,
             ..
-        } => earlier(
-            of_statements(variables, body),
-            of_placed(variables, condition),
-        ),
-        Statement::Lock { .. } | Statement::Unlock { .. } => None,
+        } => earlier(of_statements(program, body), of_placed(program, condition)),
+        Statement::Lock { lock, .. } | Statement::Unlock { lock, .. } => of_lock(program, lock),
     }
 }
 
 /// The first fault of arms.
 #[cycle(statements)]
-fn of_arms(variables: &[Variable], arms: &[Arm]) -> Option<IndexError>
-    ensures { result ≡ first_fault (variables_of variables.now) (arms_indexes (arms_list_of arms.now)) }
+fn of_arms(program: &Program, arms: &[Arm]) -> Option<IndexError>
+    ensures { result ≡ first_fault (program_of program.now) (arms_indexes (arms_list_of arms.now)) }
 {
     let mut first = None;
     for arm in arms {
-        first = earlier(first, of_placed(variables, &arm.condition));
-        first = earlier(first, of_statements(variables, &arm.body));
+        first = earlier(first, of_placed(program, &arm.condition));
+        first = earlier(first, of_statements(program, &arm.body));
     }
     first
 }
 
 /// The first fault of a call's arguments.
-fn of_arguments(variables: &[Variable], arguments: &[Placed]) -> Option<IndexError>
-    ensures { result ≡ first_fault (variables_of variables.now) (flat_map placed_indexes (map placed_of arguments.now)) }
+fn of_arguments(program: &Program, arguments: &[Placed]) -> Option<IndexError>
+    ensures { result ≡ first_fault (program_of program.now) (flat_map placed_indexes (map placed_of arguments.now)) }
 {
     let mut first = None;
     for argument in arguments {
-        first = earlier(first, of_placed(variables, argument));
+        first = earlier(first, of_placed(program, argument));
     }
     first
 }
 
 /// The first fault of the target of a call's result.
-fn of_assigned(variables: &[Variable], target: &Option<Lvalue>) -> Option<IndexError>
-    ensures { result ≡ first_fault (variables_of variables.now) (result_indexes (option_map lvalue_of target.now)) }
+fn of_assigned(program: &Program, target: &Option<Lvalue>) -> Option<IndexError>
+    ensures { result ≡ first_fault (program_of program.now) (result_indexes (option_map lvalue_of target.now)) }
 {
     match target {
-        Some(target) => of_target(variables, target),
+        Some(target) => of_target(program, target),
         None => None,
     }
 }
 
+/// The first fault of a lock's name.
+fn of_lock(program: &Program, lock: &LockName) -> Option<IndexError>
+    ensures { result ≡ first_fault (program_of program.now) (lock_indexes (lock_name_of lock.now)) }
+{
+    match &lock.key {
+        None => None,
+        Some(key) => {
+            let all = mutexes(program, lock.mutex);
+            earlier(of_index(all, key.place, &key.expr), of_placed(program, key))
+        }
+    }
+}
+
 /// The first fault of a target.
-fn of_target(variables: &[Variable], target: &Lvalue) -> Option<IndexError>
-    ensures { result ≡ first_fault (variables_of variables.now) (target_indexes (lvalue_of target.now)) }
+fn of_target(program: &Program, target: &Lvalue) -> Option<IndexError>
+    ensures { result ≡ first_fault (program_of program.now) (target_indexes (lvalue_of target.now)) }
 {
     match target {
         Lvalue::Local { .. } | Lvalue::Variable { .. } => None,
@@ -192,22 +196,22 @@ fn of_target(variables: &[Variable], target: &Lvalue) -> Option<IndexError>
             index,
             ..
         } => earlier(
-            of_index(variables, *variable, index.place, &index.expr),
-            of_placed(variables, index),
+            of_index(elements(program, *variable), index.place, &index.expr),
+            of_placed(program, index),
         ),
     }
 }
 
 /// The first fault of an expression with its place.
-fn of_placed(variables: &[Variable], placed: &Placed) -> Option<IndexError>
-    ensures { result ≡ first_fault (variables_of variables.now) (placed_indexes (placed_of placed.now)) }
+fn of_placed(program: &Program, placed: &Placed) -> Option<IndexError>
+    ensures { result ≡ first_fault (program_of program.now) (placed_indexes (placed_of placed.now)) }
 {
-    of_expr(variables, &placed.expr)
+    of_expr(program, &placed.expr)
 }
 
 /// The first fault of an expression.
-fn of_expr(variables: &[Variable], expr: &Expr) -> Option<IndexError>
-    ensures { result ≡ first_fault (variables_of variables.now) (expr_indexes (expr_of expr.now)) }
+fn of_expr(program: &Program, expr: &Expr) -> Option<IndexError>
+    ensures { result ≡ first_fault (program_of program.now) (expr_indexes (expr_of expr.now)) }
 {
     match expr {
         Expr::Constant { .. } | Expr::Local { .. } | Expr::Variable { .. } => None,
@@ -217,14 +221,14 @@ fn of_expr(variables: &[Variable], expr: &Expr) -> Option<IndexError>
             index,
             ..
         } => earlier(
-            of_index(variables, *variable, *index_place, index),
-            of_expr(variables, index),
+            of_index(elements(program, *variable), *index_place, index),
+            of_expr(program, index),
         ),
         Expr::Unary { operand, .. }
         | Expr::Cast { operand, .. }
-        | Expr::Converted { operand, .. } => of_expr(variables, operand),
+        | Expr::Converted { operand, .. } => of_expr(program, operand),
         Expr::Binary { left, right, .. } => {
-            earlier(of_expr(variables, left), of_expr(variables, right))
+            earlier(of_expr(program, left), of_expr(program, right))
         }
         Expr::Conditional {
             condition,
@@ -232,18 +236,17 @@ fn of_expr(variables: &[Variable], expr: &Expr) -> Option<IndexError>
             otherwise,
             ..
         } => {
-            let first = earlier(of_expr(variables, condition), of_expr(variables, then));
-            earlier(first, of_expr(variables, otherwise))
+            let first = earlier(of_expr(program, condition), of_expr(program, then));
+            earlier(first, of_expr(program, otherwise))
         }
     }
 }
 
-/// The fault of an index, if it has one.
-fn of_index(variables: &[Variable], variable: u32, place: Place, index: &Expr) -> Option<IndexError>
-    ensures { result ≡ fault_of (variables_of variables.now) (index_of variable place (expr_of index.now)) }
+/// The fault of an index into so many elements, if it has one.
+fn of_index(length: u32, place: Place, index: &Expr) -> Option<IndexError>
+    ensures { result ≡ fault_at length place (expr_of index.now) }
 {
     let range = range(index);
-    let length = elements(variables, variable);
     let all = Interval {
         lo: 0,
         hi: i128::from(length) - 1,
@@ -260,11 +263,21 @@ fn of_index(variables: &[Variable], variable: u32, place: Place, index: &Expr) -
 }
 
 /// How many elements a variable has for an index.
-fn elements(variables: &[Variable], variable: u32) -> u32
-    ensures { result ≡ elements_of (variables_of variables.now) variable }
+fn elements(program: &Program, variable: u32) -> u32
+    ensures { result ≡ elements_of (program_of program.now).variables variable }
 {
-    match variables.get(variable as usize) {
+    match program.variables.get(variable as usize) {
         Some(variable) => variable.length.unwrap_or(0),
+        None => 0,
+    }
+}
+
+/// How many mutexes the array has that begins with the one of that number.
+fn mutexes(program: &Program, first: u32) -> u32
+    ensures { result ≡ mutexes_of (program_of program.now).mutexes first }
+{
+    match program.mutexes.get(first as usize) {
+        Some(mutex) => mutex.length.unwrap_or(0),
         None => 0,
     }
 }

@@ -1,11 +1,11 @@
 //! The check of what expressions need.
 ghost use Rattle.std.specs.Prelude.{◌≡◌, ◌∷◌, [], map, MatchResult, None, Some};
-ghost use Rattle.c_tree.specs.Exprs.{placed_of, lvalue_of};
+ghost use Rattle.c_tree.specs.Exprs.{placed_of, lvalue_of, lock_name_of};
 ghost use Rattle.c_tree.specs.Flats.{flat_of, thread_of, statement_of, statements_of, arms_list_of};
-ghost use Rattle.c_tree.specs.Temporaries.{assign_exprs, statement_exprs, statements_exprs, arms_exprs, temporaries_fault};
+ghost use Rattle.c_tree.specs.Temporaries.{assign_exprs, key_exprs, statement_exprs, statements_exprs, arms_exprs, temporaries_fault};
 ghost use Rattle.c_temporaries.specs.links.FirstDeepExpression.{first_deep, threads_exprs};
 
-use c_tree::expr::{Lvalue, Placed};
+use c_tree::expr::{LockName, Lvalue, Placed};
 use c_tree::flat::{Arm, Flat, Statement, Thread};
 use c_tree::price::need;
 use ido_base::limits::MOST_TEMPORARIES;
@@ -52,6 +52,16 @@ fn of_assigned(target: &Lvalue, value: &Placed) -> Option<Place>
     }
 }
 
+/// The place of a lock's key, if it needs too many temporaries.
+fn of_lock(lock: &LockName) -> Option<Place>
+    ensures { result ≡ first_deep (key_exprs (lock_name_of lock.now)) }
+{
+    match &lock.key {
+        None => None,
+        Some(key) => of_placed(key),
+    }
+}
+
 /// The place of the first expression that needs too many temporaries, of a condition and of what is done where it holds.
 #[cycle(statements)]
 fn of_tested(condition: &Placed, body: &[Statement]) -> Option<Place>
@@ -82,7 +92,7 @@ fn of_statement(statement: &Statement) -> Option<Place>
             condition,
             ..
         } => of_statements(body).or(of_placed(condition)),
-        Statement::Lock { .. } | Statement::Unlock { .. } => None,
+        Statement::Lock { lock, .. } | Statement::Unlock { lock, .. } => of_lock(lock),
     }
 }
 

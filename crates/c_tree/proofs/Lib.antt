@@ -2,6 +2,8 @@ pub mod Public
 mod TreeRows
 mod ProgramRows
 mod FlatRows
+mod PlainNames
+mod SameNames
 mod Samples
 mod WorkedReading
 mod WorkedValues
@@ -10,4 +12,6 @@ mod WorkedRanges
 mod WorkedInlining
 mod WorkedSource
 mod WorkedLocking
+mod WorkedKeys
+mod WorkedArrays
 mod WorkedWellFormed

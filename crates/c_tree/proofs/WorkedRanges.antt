@@ -77,7 +77,7 @@ abbrev places : List t.Item → List ℕ
 places xs = map (λ (x : Index). x.place.0) (program_indexes (typed_program xs))
 
 abbrev fits : List t.Item → List Bool
-fits xs = let q = typed_program xs in map (index_fits q.variables) (program_indexes q)
+fits xs = let q = typed_program xs in map (index_fits q.variables q.mutexes) (program_indexes q)
 
 place_of_nine : places index_of_nine ≡ 68 ∷ []
 unfolding typed_program

@@ -13,6 +13,7 @@ use Rattle.c_tree.specs.LexicalScan.{Fault}
 use Rattle.c_tree.specs.Exprs as e
 use Rattle.c_tree.specs.Programs as p
 use Rattle.c_tree.specs.Elaboration.{typed_program}
+use Rattle.c_tree.specs.declared.language.Language.TheVariants.{Plain}
 use Rattle.c_tree.specs.TypeRules.{past, type_faults}
 use Rattle.c_tree.proofs.Samples.{at, int, name, operators, calls, scopes, too_long, unknown, declared_twice, wrong_sorts, wrong_counts, wrong_returns}
 
@@ -21,43 +22,43 @@ at_rule found place = record { rule = found; place = at place }
 
 -- ---- Faults
 
-well_typed : type_faults operators ≡ []
+well_typed : type_faults Plain operators ≡ []
 unfolding type_faults
 well_typed = refl
 
-well_typed_calls : type_faults calls ≡ []
+well_typed_calls : type_faults Plain calls ≡ []
 unfolding type_faults
 well_typed_calls = refl
 
-well_typed_scopes : type_faults scopes ≡ []
+well_typed_scopes : type_faults Plain scopes ≡ []
 unfolding type_faults
 well_typed_scopes = refl
 
-is_unknown : type_faults unknown ≡ at_rule rule.Unknown 20 ∷ []
+is_unknown : type_faults Plain unknown ≡ at_rule rule.Unknown 20 ∷ []
 unfolding type_faults
 is_unknown = refl
 
 -- parameters and the body are one scope
-is_twice : type_faults declared_twice ≡ at_rule rule.Twice 14 ∷ at_rule rule.Twice 27 ∷ at_rule rule.Twice 36 ∷ []
+is_twice : type_faults Plain declared_twice ≡ at_rule rule.Twice 14 ∷ at_rule rule.Twice 27 ∷ at_rule rule.Twice 36 ∷ []
 unfolding type_faults
 is_twice = refl
 
 -- an array without braces, an index of a scalar, an array without one, a mutex as target, a variable as mutex, a result of a `void`
 -- function, a result that isn't assigned, a call of a thread
-is_of_wrong_sort : map (λ (x : Fault). x.place.0) (type_faults wrong_sorts) ≡ 61 ∷ 111 ∷ 121 ∷ 128 ∷ 140 ∷ 148 ∷ 153 ∷ 158 ∷ []
+is_of_wrong_sort : map (λ (x : Fault). x.place.0) (type_faults Plain wrong_sorts) ≡ 61 ∷ 111 ∷ 121 ∷ 128 ∷ 140 ∷ 148 ∷ 153 ∷ 158 ∷ []
 unfolding type_faults
 is_of_wrong_sort = refl
 
 -- a scalar may have one number in braces
-counts : type_faults wrong_counts ≡ at_rule rule.Count 35 ∷ at_rule rule.Count 71 ∷ at_rule rule.Count 104 ∷ at_rule rule.Count 109 ∷ []
+counts : type_faults Plain wrong_counts ≡ at_rule rule.Count 35 ∷ at_rule rule.Count 71 ∷ at_rule rule.Count 104 ∷ at_rule rule.Count 109 ∷ []
 unfolding type_faults
 counts = refl
 
-returns : type_faults wrong_returns ≡ at_rule rule.Return 4 ∷ at_rule rule.Return 17 ∷ at_rule rule.Return 39 ∷ []
+returns : type_faults Plain wrong_returns ≡ at_rule rule.Return 4 ∷ at_rule rule.Return 17 ∷ at_rule rule.Return 39 ∷ []
 unfolding type_faults
 returns = refl
 
-has_length : type_faults too_long ≡ at_rule rule.Length 30 ∷ []
+has_length : type_faults Plain too_long ≡ at_rule rule.Length 30 ∷ []
 unfolding type_faults
 has_length = refl
 

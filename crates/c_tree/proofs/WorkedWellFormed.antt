@@ -33,6 +33,7 @@ masked_formed = record {
     );
     bytes = omega arith;
   };
+  single = (refl, tt);
   threads = (
     (
       ((refl, tt), (tt, tt)),

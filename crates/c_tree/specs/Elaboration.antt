@@ -1,5 +1,5 @@
 -- The program that a tree is: its names resolved, its kinds fixed, its initialisers converted.
-use Rattle.std.specs.Prelude.{ℕ, ◌-◌, List, [], ◌∷◌, ◌++◌, length, map, take, replicate, Option, Some, None, ℤ, pos, unsigned_abs, if◌then◌else◌}
+use Rattle.std.specs.Prelude.{ℕ, ◌-◌, List, [], ◌∷◌, ◌++◌, length, map, take, replicate, Option, Some, None, ℤ, pos, if◌then◌else◌}
 use Rattle.std.specs.Option.{option_map}
 use Rattle.ido_base.specs.declared.place.Place.{Place}
 use Rattle.ido_ints.specs.declared.kinds.Kind.{Kind}
@@ -14,6 +14,7 @@ use Rattle.c_tree.specs.Trees as t
 use Rattle.c_tree.specs.Exprs as e
 use Rattle.c_tree.specs.Programs as p
 use Rattle.c_tree.specs.Names as n
+use Rattle.c_tree.specs.Names.{element_count, length_number}
 
 -- ---- Expressions
 
@@ -81,14 +82,6 @@ abbrev pub numbers_of : Option t.Initialiser → List ℤ
 numbers_of None = []
 numbers_of (Some (t.Single x)) = signed_number x ∷ []
 numbers_of (Some (t.InBraces place xs)) = map signed_number xs
-
-abbrev pub length_number : t.Length → ℕ
-length_number x = unsigned_abs x.value.number
-
--- how many elements a variable has
-abbrev pub element_count : Option t.Length → ℕ
-element_count None = 1
-element_count (Some x) = length_number x
 
 -- the first `count` numbers, with zeros after the last one given
 abbrev pub filled : ℕ → List ℤ → List ℤ
@@ -193,12 +186,12 @@ module _ (gs : List n.Global) where
 
   abbrev pub mutex_number : n.Scope → t.Name → ℕ
   mutex_number s x = elim (n.meaning gs s x.text) [
-    | n.IsGlobal (n.Mutex number) ↦ number
+    | n.IsGlobal (n.Mutex number count) ↦ number
     | _ ↦ 0
   ]
 
-  abbrev pub lock_name : n.Scope → t.Name → e.LockName
-  lock_name s x = record { mutex = mutex_number s x; key = None }
+  abbrev pub lock_name : n.Scope → t.Name → (key : Option t.Expression) → e.LockName
+  lock_name s x key = record { mutex = mutex_number s x; key = option_map (placed s) key }
 
   abbrev mutual
     pub statement : n.Scope → t.Statement → Made p.Statements
@@ -221,8 +214,8 @@ module _ (gs : List n.Global) where
           made = statements_and f.made (one (p.While place (condition_at place f.scope x) (statements_and m.made (last_at place f.scope last))));
           scope = n.left s m.scope;
         }
-    statement s (t.Lock place mutex) = record { made = one (p.Lock place (lock_name s mutex)); scope = s }
-    statement s (t.Unlock place mutex) = record { made = one (p.Unlock place (lock_name s mutex)); scope = s }
+    statement s (t.Lock place mutex key) = record { made = one (p.Lock place (lock_name s mutex key)); scope = s }
+    statement s (t.Unlock place mutex key) = record { made = one (p.Unlock place (lock_name s mutex key)); scope = s }
 
     -- a block has a scope of its own
     pub inside : n.Scope → t.Block → Made p.Statements
@@ -264,10 +257,13 @@ module _ (gs : List n.Global) where
 
   -- ---- Variables
 
+  abbrev pub guard : t.Guard → p.Guard
+  guard x = let number = mutex_number n.no_locals x.mutex in if x.each then p.Each number else p.By number
+
   abbrev pub variable : t.Persistent → p.Variable
   variable x = record {
     name = x.name;
-    guard = p.By (mutex_number n.no_locals x.guard);
+    guard = guard x.guard;
     kind = x.kind;
     length = option_map length_number x.length;
     initial = filled (element_count x.length) (map (reduced x.kind) (numbers_of x.initialiser));
@@ -275,8 +271,12 @@ module _ (gs : List n.Global) where
 
   -- ---- Programs
 
+  -- a mutex, or those of an array
+  abbrev pub mutexes : t.Name → (count : Option t.Length) → List p.Mutex
+  mutexes x count = replicate (element_count count) (record { name = x; length = option_map length_number count })
+
   abbrev pub with_item : t.Item → p.Program → p.Program
-  with_item (t.MutexItem x) q = record q { mutexes = record { name = x; length = None } ∷ q.mutexes }
+  with_item (t.MutexItem x count) q = record q { mutexes = mutexes x count ++ q.mutexes }
   with_item (t.PersistentItem x) q = record q { variables = variable x ∷ q.variables }
   with_item (t.FunctionItem x) q = record q { functions = function x ∷ q.functions }
   with_item (t.ThreadItem x) q = record q { threads = thread x ∷ q.threads }

@@ -37,7 +37,7 @@ pub record LockName : Type 0 where
   pub mutex : ℕ
   pub key : Option Placed
 
--- what is assigned; places are those of names, of a local that is declared that of the declaration
+-- what is assigned; places are those of names, of a local that is declared that of the declaration, of a parameter that of the call
 pub data Lvalue : Type 0 where
   ToLocal : (place : Place) → (local : ℕ) → Kind → Lvalue
   ToVariable : (place : Place) → (variable : ℕ) → Kind → Lvalue

@@ -6,6 +6,8 @@ use Rattle.ido_ints.specs.declared.operators.Unary.{Unary}
 use Rattle.ido_ints.specs.declared.operators.Unary.TheVariants as unary
 use Rattle.ido_ints.specs.declared.operators.Binary.{Binary}
 use Rattle.ido_ints.specs.declared.operators.Binary.TheVariants as binary
+use Rattle.c_tree.specs.declared.language.Language.{Language}
+use Rattle.c_tree.specs.declared.language.Language.TheVariants.{Plain, Full}
 use Rattle.c_tree.specs.Tokens.{Token}
 use Rattle.c_tree.specs.declared.token.Keyword.{Keyword}
 use Rattle.c_tree.specs.declared.token.Keyword.TheVariants as k
@@ -14,6 +16,13 @@ use Rattle.c_tree.specs.declared.token.Punctuator.TheVariants as p
 use Rattle.c_tree.specs.Trees as t
 use Rattle.c_tree.specs.Languages.{empty, never, provided, ◌⋅◌, ◌or◌, starting_at, word, word_at, mark, mark_at}
 use Rattle.c_tree.specs.Languages.{number, number_at, name, words, all_of, some_of, list_of, maybe}
+
+-- ---- Languages
+
+-- what only the full language has
+abbrev pub in_full : Language → (List Token → Type 0) → List Token → Type 0
+in_full Plain P = never
+in_full Full P = P
 
 -- ---- Types
 
@@ -127,50 +136,53 @@ first (t.Assigned x) = assignment x
 abbrev pub condition : t.Expression → List Token → Type 0
 condition x = mark p.OpenParenthesis ⋅ expression x ⋅ mark p.CloseParenthesis
 
-abbrev mutual
-  pub statement : t.Statement → List Token → Type 0
-  statement (t.BlockOf x) = block x
-  statement (t.Empty place) = mark_at place p.Semicolon
-  statement (t.Declare x) = declaration x ⋅ mark p.Semicolon
-  statement (t.Assign x) = assignment x ⋅ mark p.Semicolon
-  statement (t.AssignResult x c) = target x ⋅ mark p.Assign ⋅ call c ⋅ mark p.Semicolon
-  statement (t.CallOnly c) = call c ⋅ mark p.Semicolon
-  statement (t.If place arms otherwise) = starting_at place (arms_of arms) ⋅ otherwise_of otherwise
-  statement (t.While place x inside) = word_at place k.While ⋅ condition x ⋅ block inside
-  statement (t.Do place inside x) = word_at place k.Do ⋅ block inside ⋅ word k.While ⋅ condition x ⋅ mark p.Semicolon
-  statement (t.For place start x last inside) =
-      word_at place k.For ⋅ mark p.OpenParenthesis ⋅ first start ⋅ mark p.Semicolon ⋅ maybe expression x ⋅ mark p.Semicolon ⋅ maybe assignment last
-      ⋅ mark p.CloseParenthesis ⋅ block inside
-  statement (t.Lock place mutex) = word_at place k.Lock ⋅ mark p.OpenParenthesis ⋅ name mutex ⋅ mark p.CloseParenthesis ⋅ mark p.Semicolon
-  statement (t.Unlock place mutex) = word_at place k.Unlock ⋅ mark p.OpenParenthesis ⋅ name mutex ⋅ mark p.CloseParenthesis ⋅ mark p.Semicolon
+-- the key of a lock's name
+abbrev pub key : Language → Option t.Expression → List Token → Type 0
+key l None = empty
+key l (Some x) = in_full l (mark p.OpenBracket ⋅ expression x ⋅ mark p.CloseBracket)
 
-  pub block : t.Block → List Token → Type 0
-  block (t.Braced opening inside closing) = mark_at opening p.OpenBrace ⋅ statements inside ⋅ mark_at closing p.CloseBrace
+module _ (l : Language) where
+  abbrev mutual
+    pub statement : t.Statement → List Token → Type 0
+    statement (t.BlockOf x) = block x
+    statement (t.Empty place) = mark_at place p.Semicolon
+    statement (t.Declare x) = declaration x ⋅ mark p.Semicolon
+    statement (t.Assign x) = assignment x ⋅ mark p.Semicolon
+    statement (t.AssignResult x c) = target x ⋅ mark p.Assign ⋅ call c ⋅ mark p.Semicolon
+    statement (t.CallOnly c) = call c ⋅ mark p.Semicolon
+    statement (t.If place arms otherwise) = starting_at place (arms_of arms) ⋅ otherwise_of otherwise
+    statement (t.While place x inside) = word_at place k.While ⋅ condition x ⋅ block inside
+    statement (t.Do place inside x) = word_at place k.Do ⋅ block inside ⋅ word k.While ⋅ condition x ⋅ mark p.Semicolon
+    statement (t.For place start x last inside) =
+        word_at place k.For ⋅ mark p.OpenParenthesis ⋅ first start ⋅ mark p.Semicolon ⋅ maybe expression x ⋅ mark p.Semicolon ⋅ maybe assignment last
+        ⋅ mark p.CloseParenthesis ⋅ block inside
+    statement (t.Lock place mutex x) = word_at place k.Lock ⋅ mark p.OpenParenthesis ⋅ name mutex ⋅ key l x ⋅ mark p.CloseParenthesis ⋅ mark p.Semicolon
+    statement (t.Unlock place mutex x) = word_at place k.Unlock ⋅ mark p.OpenParenthesis ⋅ name mutex ⋅ key l x ⋅ mark p.CloseParenthesis ⋅ mark p.Semicolon
 
-  pub statements : t.Statements → List Token → Type 0
-  statements t.no_statement = empty
-  statements (t.statement_and x rest) = statement x ⋅ statements rest
+    pub block : t.Block → List Token → Type 0
+    block (t.Braced opening inside closing) = mark_at opening p.OpenBrace ⋅ statements inside ⋅ mark_at closing p.CloseBrace
 
-  -- `if`, and then `else if` (C11 6.8.4.1)
-  pub arms_of : t.Arms → List Token → Type 0
-  arms_of t.no_arm = never
-  arms_of (t.arm_and x inside rest) = word k.If ⋅ condition x ⋅ block inside ⋅ more_arms_of rest
+    pub statements : t.Statements → List Token → Type 0
+    statements t.no_statement = empty
+    statements (t.statement_and x rest) = statement x ⋅ statements rest
 
-  pub more_arms_of : t.Arms → List Token → Type 0
-  more_arms_of t.no_arm = empty
-  more_arms_of (t.arm_and x inside rest) = word k.Else ⋅ word k.If ⋅ condition x ⋅ block inside ⋅ more_arms_of rest
+    -- `if`, and then `else if` (C11 6.8.4.1)
+    pub arms_of : t.Arms → List Token → Type 0
+    arms_of t.no_arm = never
+    arms_of (t.arm_and x inside rest) = word k.If ⋅ condition x ⋅ block inside ⋅ more_arms_of rest
 
-  pub otherwise_of : t.Otherwise → List Token → Type 0
-  otherwise_of t.Nothing = empty
-  otherwise_of (t.Else inside) = word k.Else ⋅ block inside
+    pub more_arms_of : t.Arms → List Token → Type 0
+    more_arms_of t.no_arm = empty
+    more_arms_of (t.arm_and x inside rest) = word k.Else ⋅ word k.If ⋅ condition x ⋅ block inside ⋅ more_arms_of rest
+
+    pub otherwise_of : t.Otherwise → List Token → Type 0
+    otherwise_of t.Nothing = empty
+    otherwise_of (t.Else inside) = word k.Else ⋅ block inside
 
 -- ---- Items: functions (C11 6.9.1), variables and their initialisers (6.7.9), threads and mutexes
 
 abbrev pub returned : t.Return → List Token → Type 0
 returned x = word_at x.place k.Return ⋅ maybe expression x.value ⋅ mark p.Semicolon
-
-abbrev pub body : t.Body → List Token → Type 0
-body x = mark_at x.opening p.OpenBrace ⋅ statements x.statements ⋅ maybe returned x.returned ⋅ mark_at x.closing p.CloseBrace
 
 abbrev pub parameter : t.Parameter → List Token → Type 0
 parameter x = type x.kind ⋅ name x.name
@@ -183,9 +195,6 @@ parameters (x ∷ xs) = some_of parameter (x ∷ xs)
 abbrev pub result : Option Kind → List Token → Type 0
 result None = word k.Void
 result (Some x) = type x
-
-abbrev pub function : t.Function → List Token → Type 0
-function x = result x.kind ⋅ name x.name ⋅ mark p.OpenParenthesis ⋅ parameters x.parameters ⋅ mark p.CloseParenthesis ⋅ body x.body
 
 abbrev pub sign : (negative : Bool) → List Token → Type 0
 sign true = mark (p.Binary binary.Sub)
@@ -204,17 +213,35 @@ length_of x = mark p.OpenBracket ⋅ number_at x.place x.value ⋅ mark p.CloseB
 abbrev pub assigned : t.Initialiser → List Token → Type 0
 assigned x = mark p.Assign ⋅ initialiser x
 
-abbrev pub persistent : t.Persistent → List Token → Type 0
-persistent x = word k.Persistent ⋅ mark p.OpenParenthesis ⋅ name x.guard ⋅ mark p.CloseParenthesis ⋅ type x.kind ⋅ name x.name ⋅ maybe length_of x.length
-    ⋅ maybe assigned x.initialiser ⋅ mark p.Semicolon
+-- the brackets of a guard whose mutexes each guard one element
+abbrev pub brackets : Language → (each : Bool) → List Token → Type 0
+brackets l false = empty
+brackets l true = in_full l (mark p.OpenBracket ⋅ mark p.CloseBracket)
 
-abbrev pub item : t.Item → List Token → Type 0
-item (t.MutexItem x) = word k.Mutex ⋅ name x ⋅ mark p.Semicolon
-item (t.PersistentItem x) = persistent x
-item (t.ThreadItem x) = word k.Thread ⋅ name x.name ⋅ block x.block
-item (t.FunctionItem x) = function x
+abbrev pub mutex_length : Language → Option t.Length → List Token → Type 0
+mutex_length l None = empty
+mutex_length l (Some x) = in_full l (length_of x)
 
--- a whole program: one item at least
-abbrev pub program : List t.Item → List Token → Type 0
-program [] = never
-program (x ∷ xs) = item x ⋅ all_of item xs
+module _ (l : Language) where
+  abbrev pub body : t.Body → List Token → Type 0
+  body x = mark_at x.opening p.OpenBrace ⋅ statements l x.statements ⋅ maybe returned x.returned ⋅ mark_at x.closing p.CloseBrace
+
+  abbrev pub function : t.Function → List Token → Type 0
+  function x = result x.kind ⋅ name x.name ⋅ mark p.OpenParenthesis ⋅ parameters x.parameters ⋅ mark p.CloseParenthesis ⋅ body x.body
+
+  abbrev pub persistent : t.Persistent → List Token → Type 0
+  persistent x =
+      word k.Persistent ⋅ mark p.OpenParenthesis ⋅ name x.guard.mutex ⋅ brackets l x.guard.each ⋅ mark p.CloseParenthesis ⋅ type x.kind ⋅ name x.name
+      ⋅ maybe length_of x.length
+      ⋅ maybe assigned x.initialiser ⋅ mark p.Semicolon
+
+  abbrev pub item : t.Item → List Token → Type 0
+  item (t.MutexItem x length) = word k.Mutex ⋅ name x ⋅ mutex_length l length ⋅ mark p.Semicolon
+  item (t.PersistentItem x) = persistent x
+  item (t.ThreadItem x) = word k.Thread ⋅ name x.name ⋅ block l x.block
+  item (t.FunctionItem x) = function x
+
+  -- a whole program: one item at least
+  abbrev pub program : List t.Item → List Token → Type 0
+  program [] = never
+  program (x ∷ xs) = item x ⋅ all_of item xs

@@ -9,6 +9,7 @@ pub mod Exprs
 pub mod Values
 pub mod Programs
 pub mod Flats
+pub mod LockNames
 pub mod Source
 pub mod Prices
 pub mod Names

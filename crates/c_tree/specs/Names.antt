@@ -1,5 +1,6 @@
 -- What a name means where it stands: scopes of identifiers (C11 6.2.1).
-use Rattle.std.specs.Prelude.{ℕ, ◌+◌, List, [], ◌∷◌, ◌++◌, length, map, find, Option, Some, None, Bool, nat_eq, is_some}
+use Rattle.std.specs.Prelude.{ℕ, ◌+◌, List, [], ◌∷◌, ◌++◌, length, map, find, Option, Some, None, Bool, nat_eq, is_some, unsigned_abs}
+use Rattle.std.specs.Option.{option_map}
 use Rattle.std.specs.Cmp.Lexicographic.{pointwise}
 use Rattle.ido_ints.specs.declared.kinds.Kind.{Kind}
 use Rattle.c_tree.specs.Trees as t
@@ -11,7 +12,8 @@ same_name = pointwise nat_eq
 
 -- what such a name stands for, with its number among those of its sort
 pub data Sort : Type 0 where
-  Mutex : (number : ℕ) → Sort
+  -- the number of an array of mutexes is that of its first one
+  Mutex : (number : ℕ) → (length : Option ℕ) → Sort
   Variable : (number : ℕ) → Kind → (is_array : Bool) → Sort
   Function : (number : ℕ) → (result : Option Kind) → (parameters : List Kind) → Sort
   Thread : Sort
@@ -19,6 +21,14 @@ pub data Sort : Type 0 where
 pub record Global : Type 0 where
   pub name : t.Name
   pub sort : Sort
+
+abbrev pub length_number : t.Length → ℕ
+length_number x = unsigned_abs x.value.number
+
+-- how many elements there are; one that is no array has one
+abbrev pub element_count : Option t.Length → ℕ
+element_count None = 1
+element_count (Some x) = length_number x
 
 -- how many of a sort were declared before
 pub record Counts : Type 0 where
@@ -30,13 +40,13 @@ abbrev pub none_yet : Counts
 none_yet = record { mutexes = 0; variables = 0; functions = 0 }
 
 abbrev pub global_of : Counts → t.Item → Global
-global_of n (t.MutexItem x) = record { name = x; sort = Mutex n.mutexes }
+global_of n (t.MutexItem x length) = record { name = x; sort = Mutex n.mutexes (option_map length_number length) }
 global_of n (t.PersistentItem x) = record { name = x.name; sort = Variable n.variables x.kind (is_some x.length) }
 global_of n (t.ThreadItem x) = record { name = x.name; sort = Thread }
 global_of n (t.FunctionItem x) = record { name = x.name; sort = Function n.functions x.kind (map (λ (y : t.Parameter). y.kind) x.parameters) }
 
 abbrev pub counted : Counts → t.Item → Counts
-counted n (t.MutexItem x) = record n { mutexes = n.mutexes + 1 }
+counted n (t.MutexItem x length) = record n { mutexes = n.mutexes + element_count length }
 counted n (t.PersistentItem x) = record n { variables = n.variables + 1 }
 counted n (t.ThreadItem x) = n
 counted n (t.FunctionItem x) = record n { functions = n.functions + 1 }

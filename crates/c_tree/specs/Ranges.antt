@@ -134,8 +134,13 @@ range_of (e.Conditional kind condition chosen otherwise) = hull (fitted kind (ra
 
 -- ---- The indexes of a program
 
+-- what is indexed: a variable, or an array of mutexes, by the number of its first one
+pub data Indexed : Type 0 where
+  OfVariable : (variable : ℕ) → Indexed
+  OfMutexes : (first : ℕ) → Indexed
+
 pub record Index : Type 0 where
-  pub variable : ℕ
+  pub of : Indexed
   -- the place of its first token
   pub place : Place
   pub expr : e.Expr
@@ -144,7 +149,7 @@ abbrev pub expr_indexes : e.Expr → List Index
 expr_indexes (e.Constant value) = []
 expr_indexes (e.Local local kind) = []
 expr_indexes (e.Variable place variable kind) = []
-expr_indexes (e.Element place variable kind index_place index) = record { variable = variable; place = index_place; expr = index } ∷ expr_indexes index
+expr_indexes (e.Element place variable kind index_place index) = record { of = OfVariable variable; place = index_place; expr = index } ∷ expr_indexes index
 expr_indexes (e.Unary operator operand) = expr_indexes operand
 expr_indexes (e.Cast kind operand) = expr_indexes operand
 expr_indexes (e.Converted kind operand) = expr_indexes operand
@@ -157,7 +162,14 @@ placed_indexes x = expr_indexes x.expr
 abbrev pub target_indexes : e.Lvalue → List Index
 target_indexes (e.ToLocal place local kind) = []
 target_indexes (e.ToVariable place variable kind) = []
-target_indexes (e.ToElement place variable kind index) = record { variable = variable; place = index.place; expr = index.expr } ∷ placed_indexes index
+target_indexes (e.ToElement place variable kind index) = record { of = OfVariable variable; place = index.place; expr = index.expr } ∷ placed_indexes index
+
+-- a key is an index of its array of mutexes
+abbrev pub lock_indexes : e.LockName → List Index
+lock_indexes x = elim x.key [
+  | None ↦ []
+  | Some key ↦ record { of = OfMutexes x.mutex; place = key.place; expr = key.expr } ∷ placed_indexes key
+]
 
 abbrev pub result_indexes : Option e.Lvalue → List Index
 result_indexes None = []
@@ -170,8 +182,8 @@ abbrev mutual
   statement_indexes (p.If place arms otherwise) = arms_indexes arms ++ statements_indexes otherwise
   statement_indexes (p.While place condition body) = placed_indexes condition ++ statements_indexes body
   statement_indexes (p.Do place body condition) = statements_indexes body ++ placed_indexes condition
-  statement_indexes (p.Lock place lock) = []
-  statement_indexes (p.Unlock place lock) = []
+  statement_indexes (p.Lock place lock) = lock_indexes lock
+  statement_indexes (p.Unlock place lock) = lock_indexes lock
 
   pub statements_indexes : p.Statements → List Index
   statements_indexes p.no_statement = []
@@ -197,16 +209,31 @@ elements_of vs variable = elim (slice_get vs variable) [
   | None ↦ 0
 ]
 
+abbrev pub mutexes_of : List p.Mutex → (first : ℕ) → ℕ
+mutexes_of ms first = elim (slice_get ms first) [
+  | Some m ↦ elim m.length [ Some n ↦ n | None ↦ 0 ]
+  | None ↦ 0
+]
+
+-- how many elements there are for an index
+abbrev pub indexed : List p.Variable → List p.Mutex → Indexed → ℕ
+indexed vs ms (OfVariable variable) = elements_of vs variable
+indexed vs ms (OfMutexes first) = mutexes_of ms first
+
+-- the expression's value is a number below that one, whatever it is
+abbrev pub is_below : e.Expr → ℕ → Bool
+is_below x n = lies_in (range_of x) (interval (pos 0) (pos n -ℤ pos 1))
+
 -- the index names an element whatever its value is
-abbrev pub index_fits : List p.Variable → Index → Bool
-index_fits vs i = lies_in (range_of i.expr) (interval (pos 0) (pos (elements_of vs i.variable) -ℤ pos 1))
+abbrev pub index_fits : List p.Variable → List p.Mutex → Index → Bool
+index_fits vs ms i = is_below i.expr (indexed vs ms i.of)
 
 -- all indexes fit
 abbrev pub AllFit : p.Program → Type 0
-AllFit x = (i : Index) → Contains (program_indexes x) i → index_fits x.variables i ≡ true
+AllFit x = (i : Index) → Contains (program_indexes x) i → index_fits x.variables x.mutexes i ≡ true
 
 -- the first index that doesn't fit
 pub record IsFirstUnfit (x : p.Program) (i : Index) : Type 0 where
   pub found : Contains (program_indexes x) i
-  pub unfit : index_fits x.variables i ≡ false
-  pub first : (j : Index) → Contains (program_indexes x) j → index_fits x.variables j ≡ false → (i.place.0 < j.place.0) ⊎ (i.place ≡ j.place)
+  pub unfit : index_fits x.variables x.mutexes i ≡ false
+  pub first : (j : Index) → Contains (program_indexes x) j → index_fits x.variables x.mutexes j ≡ false → (i.place.0 < j.place.0) ⊎ (i.place ≡ j.place)

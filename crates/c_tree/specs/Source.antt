@@ -7,7 +7,7 @@ use Rattle.ido_ints.specs.TypedNumbers.{Typed}
 use Rattle.ido_ints.specs.Operators.{is_zero}
 use Rattle.ido_ints.specs.Reduction.{reduced}
 use Rattle.c_tree.specs.Exprs.{Expr, Placed, Lvalue, ToLocal, ToVariable, ToElement}
-use Rattle.c_tree.specs.Values.{element_at, value}
+use Rattle.c_tree.specs.Values.{element_at, value, lock_number}
 use Rattle.c_tree.specs.Flats as f
 use Rattle.c_tree.specs.Programs.{Variable}
 
@@ -111,11 +111,12 @@ statement_step s t thread (f.If place (f.arm_and condition body arms) otherwise)
 statement_step s t thread (f.While place condition body) rest =
     Some (with_thread s t (record thread { left = if is_true s thread condition then opened_all body ++ (f.While place condition body ∷ rest) else rest }))
 statement_step s t thread (f.Do place body condition) rest = None
-statement_step s t thread (f.Lock place lock) rest = elim (slice_get s.holders lock.mutex) [
-  | Some None ↦ Some (with_thread (with_holder s lock.mutex (Some t)) t (record thread { left = rest }))
+statement_step s t thread (f.Lock place lock) rest = elim (slice_get s.holders (lock_number thread.locals lock)) [
+  | Some None ↦ Some (with_thread (with_holder s (lock_number thread.locals lock) (Some t)) t (record thread { left = rest }))
   | _ ↦ None
 ]
-statement_step s t thread (f.Unlock place lock) rest = Some (with_thread (with_holder s lock.mutex None) t (record thread { left = rest }))
+statement_step s t thread (f.Unlock place lock) rest =
+    Some (with_thread (with_holder s (lock_number thread.locals lock) None) t (record thread { left = rest }))
 
 -- after the last statement stands one more step, the end
 abbrev pub left_step : State → ℕ → Thread → List f.Statement → Option State

@@ -1,5 +1,5 @@
 -- Expressions that need too many temporaries.
-use Rattle.std.specs.Prelude.{ℕ, List, [], ◌∷◌, ◌++◌, find, flat_map, Option, nat_lt}
+use Rattle.std.specs.Prelude.{List, [], ◌∷◌, ◌++◌, find, flat_map, Option, Some, None, nat_lt}
 use Rattle.std.specs.Option.{option_map}
 use Rattle.ido_base.specs.declared.place.Place.{Place}
 use Rattle.ido_base.specs.declared.limits.TheConstants.{MOST_TEMPORARIES, MOST_PRICE}
@@ -13,6 +13,9 @@ assign_exprs (e.ToLocal place local kind) value = value ∷ []
 assign_exprs (e.ToVariable place variable kind) value = value ∷ []
 assign_exprs (e.ToElement place variable kind index) value = index ∷ value ∷ []
 
+abbrev pub key_exprs : e.LockName → List e.Placed
+key_exprs x = elim x.key [ None ↦ [] | Some key ↦ key ∷ [] ]
+
 -- the expressions of the steps, in order
 abbrev mutual
   pub statement_exprs : f.Statement → List e.Placed
@@ -20,8 +23,8 @@ abbrev mutual
   statement_exprs (f.If place arms otherwise) = arms_exprs arms ++ statements_exprs otherwise
   statement_exprs (f.While place condition body) = condition ∷ statements_exprs body
   statement_exprs (f.Do place body condition) = statements_exprs body ++ condition ∷ []
-  statement_exprs (f.Lock place lock) = []
-  statement_exprs (f.Unlock place lock) = []
+  statement_exprs (f.Lock place lock) = key_exprs lock
+  statement_exprs (f.Unlock place lock) = key_exprs lock
 
   pub statements_exprs : f.Statements → List e.Placed
   statements_exprs f.no_statement = []

@@ -6,6 +6,7 @@ use Rattle.c_tree.specs.declared.token.Punctuator as pn
 use Rattle.c_tree.specs.declared.token.Punctuator.TheVariants as p
 use Rattle.c_tree.specs.declared.rule.Rule as r
 use Rattle.c_tree.specs.declared.rule.Rule.TheVariants as rule
+use Rattle.c_tree.specs.declared.language.Language.{Language}
 use Rattle.c_tree.specs.Trees.{Item}
 use Rattle.c_tree.specs.Tokens.{Lexeme, Name, Keyword, Number, Punctuator, Token}
 use Rattle.c_tree.specs.Grammar.{program}
@@ -14,12 +15,12 @@ use Rattle.c_tree.specs.LexicalScan.{scanned}
 -- ---- Prefixes of programs
 
 -- the tokens begin a program: more may follow them
-abbrev pub BeginsProgram : List Token → Type 0
-BeginsProgram ts = (more : List Token) × (xs : List Item) × program xs (ts ++ more)
+abbrev pub BeginsProgram : Language → List Token → Type 0
+BeginsProgram l ts = (more : List Token) × (xs : List Item) × program l xs (ts ++ more)
 
 -- the tokens spell a whole program
-abbrev pub IsWhole : List Token → Type 0
-IsWhole ts = (xs : List Item) × program xs ts
+abbrev pub IsWhole : Language → List Token → Type 0
+IsWhole l ts = (xs : List Item) × program l xs ts
 
 -- ---- Nesting
 
@@ -70,28 +71,29 @@ nests_high ts = is_high_from outside ts
 -- ---- The first rule that a text breaks
 
 -- a token that the tokens before it can't go on with
-pub record IsWrong (before : List Token) (t : Token) : Type 0 where
-  pub begun : BeginsProgram before
-  pub wrong : BeginsProgram (before ++ t ∷ []) → ⊥
+pub record IsWrong (l : Language) (before : List Token) (t : Token) : Type 0 where
+  pub begun : BeginsProgram l before
+  pub wrong : BeginsProgram l (before ++ t ∷ []) → ⊥
 
 -- the text is refused by the rule at the place: no rule is broken at an earlier one
-pub data IsRefused (text : List ℕ) (found : r.Rule) (place : Place) : Type 0 where
+pub data IsRefused (l : Language) (text : List ℕ) (found : r.Rule) (place : Place) : Type 0 where
   -- no token begins there
-  no_token : (scanned text).fault ≡ Some (record { rule = found; place = place }) → BeginsProgram (scanned text).tokens →
+  no_token : (scanned text).fault ≡ Some (record { rule = found; place = place }) → BeginsProgram l (scanned text).tokens →
       nests_high (scanned text).tokens ≡ false
-      → IsRefused text found place
+      → IsRefused l text found place
   -- the token there is wrong
   wrong_token : (before : List Token) (t : Token) (after : List Token) → (scanned text).tokens ≡ before ++ t ∷ after → nests_high before ≡ false
-      → IsWrong before t → t.place ≡ place → found ≡ rule.Syntax → IsRefused text found place
+      → IsWrong l before t → t.place ≡ place → found ≡ rule.Syntax → IsRefused l text found place
   -- the token there isn't wrong, but nests too high
   too_high : (before : List Token) (t : Token) (after : List Token) → (scanned text).tokens ≡ before ++ t ∷ after → nests_high before ≡ false
-      → BeginsProgram (before ++ t ∷ []) → nests_high (before ++ t ∷ []) ≡ true → t.place ≡ place → found ≡ rule.High → IsRefused text found place
+      → BeginsProgram l (before ++ t ∷ []) → nests_high (before ++ t ∷ []) ≡ true → t.place ≡ place → found ≡ rule.High → IsRefused l text found place
   -- the text ends too early
-  wrong_end : (scanned text).fault ≡ None → nests_high (scanned text).tokens ≡ false → BeginsProgram (scanned text).tokens → (IsWhole (scanned text).tokens → ⊥)
-      → place ≡ record { 0 = length text } → found ≡ rule.Syntax → IsRefused text found place
+  wrong_end : (scanned text).fault ≡ None → nests_high (scanned text).tokens ≡ false → BeginsProgram l (scanned text).tokens →
+      (IsWhole l (scanned text).tokens → ⊥)
+      → place ≡ record { 0 = length text } → found ≡ rule.Syntax → IsRefused l text found place
 
 -- the text is these items
-pub record IsRead (text : List ℕ) (xs : List Item) : Type 0 where
+pub record IsRead (l : Language) (text : List ℕ) (xs : List Item) : Type 0 where
   pub scanned_whole : (scanned text).fault ≡ None
   pub low : nests_high (scanned text).tokens ≡ false
-  pub spelled : program xs (scanned text).tokens
+  pub spelled : program l xs (scanned text).tokens

@@ -87,8 +87,9 @@ mutual
     While : (place : Place) → (condition : Expression) → Block → Statement
     Do : (place : Place) → Block → (condition : Expression) → Statement
     For : (place : Place) → First → (condition : Option Expression) → (last : Option Assignment) → Block → Statement
-    Lock : (place : Place) → (mutex : Name) → Statement
-    Unlock : (place : Place) → (mutex : Name) → Statement
+    -- `lock(mutex);` or `lock(mutex[key]);`
+    Lock : (place : Place) → (mutex : Name) → (key : Option Expression) → Statement
+    Unlock : (place : Place) → (mutex : Name) → (key : Option Expression) → Statement
 
   -- statements in braces, and the places of these
   pub data Block : Type 0 where
@@ -149,9 +150,14 @@ pub record Length : Type 0 where
   pub place : Place
   pub value : Typed
 
+-- what guards a variable: a mutex, or each mutex of an array one element, as `mutex[]`
+pub record Guard : Type 0 where
+  pub mutex : Name
+  pub each : Bool
+
 -- `persistent(guard) kind name[length] = initialiser;`
 pub record Persistent : Type 0 where
-  pub guard : Name
+  pub guard : Guard
   pub kind : Kind
   pub name : Name
   pub length : Option Length
@@ -162,7 +168,8 @@ pub record Thread : Type 0 where
   pub block : Block
 
 pub data Item : Type 0 where
-  MutexItem : Name → Item
+  -- `mutex name;` or `mutex name[length];`
+  MutexItem : Name → (length : Option Length) → Item
   PersistentItem : Persistent → Item
   ThreadItem : Thread → Item
   FunctionItem : Function → Item

@@ -5,12 +5,15 @@ use Rattle.std.specs.List.{list_any}
 use Rattle.ido_base.specs.declared.place.Place.{Place}
 use Rattle.ido_base.specs.Layout.{aligned_up}
 use Rattle.ido_base.specs.declared.limits.TheConstants.{MOST_THREADS, MOST_MUTEXES, MOST_VARIABLE_BYTES, MOST_ELEMENTS}
+use Rattle.c_tree.specs.declared.language.Language.{Language}
+use Rattle.c_tree.specs.declared.language.Language.TheVariants.{Plain, Full}
 use Rattle.ido_ints.specs.Kinds.{bytes_of}
 use Rattle.c_tree.specs.declared.rule.Rule as r
 use Rattle.c_tree.specs.declared.rule.Rule.TheVariants as rule
 use Rattle.c_tree.specs.LexicalScan.{Fault}
 use Rattle.c_tree.specs.Trees as t
 use Rattle.c_tree.specs.Names as n
+use Rattle.c_tree.specs.Names.{element_count, length_number}
 use Rattle.c_tree.specs.Elaboration as made
 
 abbrev pub broken : r.Rule → Place → List Fault
@@ -38,19 +41,31 @@ past found (suc most) (x ∷ xs) = past found most xs
 abbrev pub thread_names : List t.Item → List t.Name
 thread_names xs = flat_map (λ x. elim x [ t.ThreadItem y ↦ y.name ∷ [] | _ ↦ [] ]) xs
 
-abbrev pub mutex_names : List t.Item → List t.Name
-mutex_names xs = flat_map (λ x. elim x [ t.MutexItem y ↦ y ∷ [] | _ ↦ [] ]) xs
+-- how many mutexes there may be, with those of arrays
+abbrev pub most_mutexes : Language → ℕ
+most_mutexes Plain = MOST_MUTEXES
+most_mutexes Full = 1024
+
+-- the first name by which there are more, after n of them
+abbrev pub too_many_mutexes : (most n : ℕ) → List t.Item → List Fault
+too_many_mutexes most n [] = []
+too_many_mutexes most n (t.MutexItem x count ∷ xs) =
+    let more = n + element_count count in
+    if nat_lt most more then broken rule.Mutexes x.place else too_many_mutexes most more xs
+too_many_mutexes most n (t.PersistentItem x ∷ xs) = too_many_mutexes most n xs
+too_many_mutexes most n (t.ThreadItem x ∷ xs) = too_many_mutexes most n xs
+too_many_mutexes most n (t.FunctionItem x ∷ xs) = too_many_mutexes most n xs
 
 -- where a variable ends, if the one before it ends at n
 abbrev pub end_after : (n : ℕ) → t.Persistent → ℕ
-end_after n x = aligned_up n (bytes_of x.kind) + bytes_of x.kind * made.element_count x.length
+end_after n x = aligned_up n (bytes_of x.kind) + bytes_of x.kind * element_count x.length
 
 -- the first variable that ends too late
 abbrev pub too_many_bytes : (n : ℕ) → List t.Item → List Fault
 too_many_bytes n [] = []
 too_many_bytes n (t.PersistentItem x ∷ xs) =
     if nat_lt MOST_VARIABLE_BYTES (end_after n x) then broken rule.Bytes x.name.place else too_many_bytes (end_after n x) xs
-too_many_bytes n (t.MutexItem x ∷ xs) = too_many_bytes n xs
+too_many_bytes n (t.MutexItem x count ∷ xs) = too_many_bytes n xs
 too_many_bytes n (t.ThreadItem x ∷ xs) = too_many_bytes n xs
 too_many_bytes n (t.FunctionItem x ∷ xs) = too_many_bytes n xs
 
@@ -58,7 +73,7 @@ too_many_bytes n (t.FunctionItem x ∷ xs) = too_many_bytes n xs
 
 abbrev pub length_faults : Option t.Length → List Fault
 length_faults None = []
-length_faults (Some x) = let elements = made.length_number x in broken_if (elements == 0 || nat_lt MOST_ELEMENTS elements) rule.Length x.place
+length_faults (Some x) = let elements = length_number x in broken_if (elements == 0 || nat_lt MOST_ELEMENTS elements) rule.Length x.place
 
 -- the first number after so many
 abbrev pub numbers_past : (count : ℕ) → List t.Signed → List Fault
@@ -70,7 +85,7 @@ numbers_past (suc count) (x ∷ xs) = numbers_past count xs
 abbrev pub initialiser_faults : Option t.Length → Option t.Initialiser → List Fault
 initialiser_faults size None = []
 initialiser_faults size (Some (t.Single x)) = broken_if (is_some size) rule.WrongSort x.place
-initialiser_faults size (Some (t.InBraces place xs)) = numbers_past (made.element_count size) xs
+initialiser_faults size (Some (t.InBraces place xs)) = numbers_past (element_count size) xs
 
 module _ (gs : List n.Global) where
   -- ---- Uses of names
@@ -84,11 +99,19 @@ module _ (gs : List n.Global) where
     | _ ↦ broken rule.WrongSort x.place
   ]
 
-  abbrev pub mutex_faults : n.Scope → t.Name → List Fault
-  mutex_faults s x = elim (n.meaning gs s x.text) [
+  -- a mutex, with a key or brackets exactly where it is an array
+  abbrev pub mutex_faults : n.Scope → t.Name → (keyed : Bool) → List Fault
+  mutex_faults s x keyed = elim (n.meaning gs s x.text) [
     | n.IsUnknown ↦ broken rule.Unknown x.place
-    | n.IsGlobal (n.Mutex number) ↦ []
+    | n.IsGlobal (n.Mutex number count) ↦ broken_if (if is_some count then not keyed else keyed) rule.WrongSort x.place
     | _ ↦ broken rule.WrongSort x.place
+  ]
+
+  -- a persistent variable, of which a key may have none
+  abbrev pub persistent_faults : n.Scope → t.Name → List Fault
+  persistent_faults s x = elim (n.meaning gs s x.text) [
+    | n.IsGlobal (n.Variable number kind is_array) ↦ broken rule.WrongSort x.place
+    | _ ↦ []
   ]
 
   abbrev pub expression_faults : n.Scope → t.Expression → List Fault
@@ -100,6 +123,25 @@ module _ (gs : List n.Global) where
   expression_faults s (t.Cast place kind operand) = expression_faults s operand
   expression_faults s (t.Binary operator left right) = expression_faults s left ++ expression_faults s right
   expression_faults s (t.Conditional condition chosen otherwise) = expression_faults s condition ++ expression_faults s chosen ++ expression_faults s otherwise
+
+  -- the persistent variables in an expression
+  abbrev pub shared_faults : n.Scope → t.Expression → List Fault
+  shared_faults s (t.Number place value) = []
+  shared_faults s (t.Named x) = persistent_faults s x
+  shared_faults s (t.Element array index) = persistent_faults s array ++ shared_faults s index
+  shared_faults s (t.Parenthesised place inner) = shared_faults s inner
+  shared_faults s (t.Unary place operator operand) = shared_faults s operand
+  shared_faults s (t.Cast place kind operand) = shared_faults s operand
+  shared_faults s (t.Binary operator left right) = shared_faults s left ++ shared_faults s right
+  shared_faults s (t.Conditional condition chosen otherwise) = shared_faults s condition ++ shared_faults s chosen ++ shared_faults s otherwise
+
+  -- a key names locals alone
+  abbrev pub key_faults : n.Scope → Option t.Expression → List Fault
+  key_faults s None = []
+  key_faults s (Some x) = expression_faults s x ++ shared_faults s x
+
+  abbrev pub lock_faults : n.Scope → t.Name → Option t.Expression → List Fault
+  lock_faults s x key = mutex_faults s x (is_some key) ++ key_faults s key
 
   abbrev pub maybe_faults : n.Scope → Option t.Expression → List Fault
   maybe_faults s None = []
@@ -166,8 +208,8 @@ module _ (gs : List n.Global) where
     statement_faults s (t.For place start x last body) =
         first_faults (n.entered s) start ++ (let f = (made.first_at gs place (n.entered s) start).scope in
         maybe_faults f x ++ last_faults f last ++ block_faults f body)
-    statement_faults s (t.Lock place mutex) = mutex_faults s mutex
-    statement_faults s (t.Unlock place mutex) = mutex_faults s mutex
+    statement_faults s (t.Lock place mutex key) = lock_faults s mutex key
+    statement_faults s (t.Unlock place mutex key) = lock_faults s mutex key
 
     pub block_faults : n.Scope → t.Block → List Fault
     block_faults s (t.Braced opening xs closing) = statements_faults (n.entered s) xs
@@ -202,9 +244,29 @@ module _ (gs : List n.Global) where
   returned_faults s None = []
   returned_faults s (Some x) = maybe_faults s x.value
 
+  -- how many mutexes an array of them has, where the name is that of one
+  abbrev pub mutexes_of : t.Name → Option ℕ
+  mutexes_of x = elim (n.meaning gs n.no_locals x.text) [
+    | n.IsGlobal (n.Mutex number count) ↦ count
+    | _ ↦ None
+  ]
+
+  -- as many elements as mutexes
+  abbrev pub count_faults : (mutexes : Option ℕ) → t.Length → List Fault
+  count_faults None length = []
+  count_faults (Some count) length = broken_if (not (length_number length == count)) rule.Count length.place
+
+  -- each mutex of an array guards an element of an array as long as that
+  abbrev pub each_faults : t.Persistent → List Fault
+  each_faults x = if not x.guard.each then [] else elim x.length [
+    | None ↦ broken rule.WrongSort x.name.place
+    | Some length ↦ count_faults (mutexes_of x.guard.mutex) length
+  ]
+
   abbrev pub item_faults : t.Item → List Fault
-  item_faults (t.MutexItem x) = []
-  item_faults (t.PersistentItem x) = mutex_faults n.no_locals x.guard ++ length_faults x.length ++ initialiser_faults x.length x.initialiser
+  item_faults (t.MutexItem x count) = length_faults count
+  item_faults (t.PersistentItem x) =
+      mutex_faults n.no_locals x.guard.mutex x.guard.each ++ each_faults x ++ length_faults x.length ++ initialiser_faults x.length x.initialiser
   item_faults (t.ThreadItem x) = statements_faults n.no_locals (made.body_of x.block)
   item_faults (t.FunctionItem x) =
       let s = made.with_parameters n.no_locals x.parameters in
@@ -214,9 +276,9 @@ module _ (gs : List n.Global) where
 -- ---- The first rule that a tree breaks
 
 -- all places where a rule of names and kinds is broken
-unfoldable pub type_faults : List t.Item → List Fault
-type_faults xs =
-    twice_from [] (n.globals_of xs) ++ past rule.Threads MOST_THREADS (thread_names xs) ++ past rule.Mutexes MOST_MUTEXES (mutex_names xs)
+unfoldable pub type_faults : Language → List t.Item → List Fault
+type_faults l xs =
+    twice_from [] (n.globals_of xs) ++ past rule.Threads MOST_THREADS (thread_names xs) ++ too_many_mutexes (most_mutexes l) 0 xs
     ++ too_many_bytes 0 xs
     ++ flat_map (item_faults (n.globals_of xs)) xs
 

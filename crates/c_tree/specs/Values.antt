@@ -1,5 +1,5 @@
 -- The value of an expression (C11 6.5), from the numbers of locals and variables.
-use Rattle.std.specs.Prelude.{ℕ, ◌+◌, List, [], slice_index_or, Option, Some, None, if◌then◌else◌, ℤ, pos, unsigned_abs}
+use Rattle.std.specs.Prelude.{ℕ, ◌+◌, List, [], slice_index_or, Some, None, if◌then◌else◌, ℤ, pos, unsigned_abs}
 use Rattle.ido_ints.specs.TypedNumbers.{Typed, typed, converted}
 use Rattle.ido_ints.specs.Operators.{is_zero, unary_of, binary_of}
 use Rattle.c_tree.specs.Exprs as e

@@ -26,6 +26,7 @@ use Rattle.c_tree.specs.declared.tree.Signed.{Signed}
 use Rattle.c_tree.specs.declared.tree.Initialiser.{Initialiser}
 use Rattle.c_tree.specs.declared.tree.Initialiser.TheVariants as initialiser
 use Rattle.c_tree.specs.declared.tree.Length.{Length}
+use Rattle.c_tree.specs.declared.tree.Guard.{Guard}
 use Rattle.c_tree.specs.declared.tree.Persistent.{Persistent}
 use Rattle.c_tree.specs.declared.tree.Thread.{Thread}
 use Rattle.c_tree.specs.declared.tree.Item.{Item}
@@ -89,8 +90,8 @@ abbrev mutual
       let head = box_value x in
       t.For place (first_of head.first) (option_map expression_of head.condition) (option_map assignment_of head.last)
       (t.Braced opening (row_of inside) closing)
-  statement_of (s.Lock place mutex) = t.Lock place (name_of mutex)
-  statement_of (s.Unlock place mutex) = t.Unlock place (name_of mutex)
+  statement_of (s.Lock place mutex key) = t.Lock place (name_of mutex) (option_map (λ x. expression_of (box_value x)) key)
+  statement_of (s.Unlock place mutex key) = t.Unlock place (name_of mutex) (option_map (λ x. expression_of (box_value x)) key)
 
   pub row_of : {m : _} → s.Row_of-Statement m → t.Statements
   row_of s.end_of-Statement = t.no_statement
@@ -137,9 +138,12 @@ initialiser_of (initialiser.Braced place xs) = t.InBraces place (map signed_of x
 abbrev pub length_of : Length → t.Length
 length_of x = record { place = x.place; value = x.value }
 
+abbrev pub guard_of : Guard → t.Guard
+guard_of x = record { mutex = name_of x.mutex; each = x.each }
+
 abbrev pub persistent_of : Persistent → t.Persistent
 persistent_of x = record {
-  guard = name_of x.guard;
+  guard = guard_of x.guard;
   kind = x.kind;
   name = name_of x.name;
   length = option_map length_of x.length;
@@ -150,7 +154,7 @@ abbrev pub thread_of : Thread → t.Thread
 thread_of x = record { name = name_of x.name; block = block_of x.block }
 
 abbrev pub item_of : Item → t.Item
-item_of (item.Mutex x) = t.MutexItem (name_of x)
+item_of (item.Mutex x) = t.MutexItem (name_of x.name) (option_map length_of x.length)
 item_of (item.Persistent x) = t.PersistentItem (persistent_of x)
 item_of (item.Thread x) = t.ThreadItem (thread_of x)
 item_of (item.Function x) = t.FunctionItem (function_of x)

@@ -10,7 +10,7 @@ use Rattle.ido_ints.specs.Kinds.{bytes_of, Holds}
 use Rattle.c_tree.specs.Exprs as e
 use Rattle.c_tree.specs.Programs as p
 use Rattle.c_tree.specs.Flats as f
-use Rattle.c_tree.specs.Ranges.{index_fits}
+use Rattle.c_tree.specs.Ranges.{is_below, elements_of}
 
 -- ---- Variables
 
@@ -18,6 +18,10 @@ use Rattle.c_tree.specs.Ranges.{index_fits}
 abbrev pub elements_in : (length : Option ℕ) → ℕ
 elements_in None = 1
 elements_in (Some n) = n
+
+-- a mutex that is in no array
+abbrev pub IsSingle : p.Mutex → Type 0
+IsSingle m = m.length ≡ None
 
 -- what guards a variable is a mutex that is there
 abbrev pub IsGuard : (mutexes : ℕ) → p.Variable → Type 0
@@ -82,7 +86,7 @@ module _ (vs : List p.Variable) (ks : List Kind) where
 module _ (vs : List p.Variable) where
   -- the index names an element, whatever its value is
   abbrev pub IndexFits : (variable : ℕ) → Place → e.Expr → Type 0
-  IndexFits variable place index = index_fits vs (record { variable = variable; place = place; expr = index }) ≡ true
+  IndexFits variable place index = is_below index (elements_of vs variable) ≡ true
 
   -- each index does
   abbrev pub Fits : e.Expr → Type 0
@@ -156,6 +160,7 @@ pub record IsFunction (x : p.Program) (g : p.Function) : Type 0 where
 
 pub record IsProgram (x : p.Program) : Type 0 where
   pub shared : AreShared (length x.mutexes) (length x.threads) x.variables
+  pub single : AllByRecursion IsSingle x.mutexes
   pub functions : AllByRecursion (IsFunction x) x.functions
   pub threads : AllByRecursion (λ (t : p.Thread). AreStatements x t.locals t.body) x.threads
 
@@ -191,4 +196,5 @@ module _ (x : f.Flat) (ks : List Kind) where
 
 pub record IsWellFormed (x : f.Flat) : Type 0 where
   pub shared : AreShared (length x.mutexes) (length x.threads) x.variables
+  pub single : AllByRecursion IsSingle x.mutexes
   pub threads : AllByRecursion (λ (t : f.Thread). AreFlatStatements x t.locals t.body) x.threads

@@ -104,7 +104,7 @@ pub struct LockName {
 /// What is assigned.
 #[derive(Drop)]
 pub enum Lvalue {
-    /// A local, by its number; the place is that of its name, or that of its declaration.
+    /// A local, by its number; the place is that of its name, of a declared one that of the declaration, of a parameter that of the call.
     Local {
         place: Place,
         local: u32,

@@ -3,6 +3,7 @@
 
 pub mod expr;
 pub mod flat;
+pub mod language;
 pub mod price;
 pub mod program;
 pub mod refusal;

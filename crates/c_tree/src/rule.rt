@@ -23,7 +23,7 @@ pub enum Rule {
     Return,
     /// A ninth thread.
     Threads,
-    /// A 65th mutex.
+    /// More mutexes than there may be.
     Mutexes,
     /// Variables past 65,536 bytes.
     Bytes,
@@ -45,6 +45,8 @@ pub enum Rule {
     Join,
     /// A thread that ends with a mutex held.
     EndHeld,
+    /// A local that a key names is assigned while the mutex of that key is held.
+    Frozen,
     /// More locals alive at once than there are registers for them.
     Locals,
     /// An expression that needs too many temporaries.

@@ -177,13 +177,16 @@ pub enum Statement {
         head: Box<Head>,
         block: Block,
     },
+    /// `lock(mutex[key]);`
     Lock {
         place: Place,
         mutex: Name,
+        key: Option<Box<Expression>>,
     },
     Unlock {
         place: Place,
         mutex: Name,
+        key: Option<Box<Expression>>,
     },
 }
 
@@ -243,10 +246,24 @@ pub struct Length {
     pub value: Value,
 }
 
+/// What guards a variable: a mutex, or each mutex of an array one element, as `mutex[]`.
+#[derive(Drop)]
+pub struct Guard {
+    pub mutex: Name,
+    pub each: bool,
+}
+
+/// `mutex name[length];`
+#[derive(Drop)]
+pub struct Mutex {
+    pub name: Name,
+    pub length: Option<Length>,
+}
+
 /// `persistent(guard) kind name[length] = initialiser;`
 #[derive(Drop)]
 pub struct Persistent {
-    pub guard: Name,
+    pub guard: Guard,
     pub kind: Kind,
     pub name: Name,
     pub length: Option<Length>,
@@ -263,8 +280,7 @@ pub struct Thread {
 /// A part of a program.
 #[derive(Drop)]
 pub enum Item {
-    /// `mutex name;`
-    Mutex(Name),
+    Mutex(Mutex),
     Persistent(Persistent),
     Thread(Thread),
     Function(Function),

@@ -81,7 +81,7 @@ module _ (vs : List Variable) (ks : List Kind) (ls : List ℤ) (ns : List (List 
   lies_element variable kind place index d w fit =
       let held = all_held vs ks ls ns locals variables index w in
       let range = (foreseen ls ns index held).within in
-      let named = fits_element vs (record { variable = variable; place = place; expr = index }) fit ls ns held in
+      let named = fits_element (elements_of vs variable) index fit ls ns held in
       let count : elements_of vs variable ≡ elements_in d.it.length = elements_is vs variable d.it d.found d.array in
       let most = bounded variable d.it d.found in
       record {

@@ -1,6 +1,6 @@
 -- The answers of the graph's run, in lockstep with the source's.
 use Rattle.std.proofs.Common.{◌≡◌, inl, inr, refl, ℕ, List, sym, ◌∙◌, ap, arith, true, false, Option, Some, None}
-use Rattle.std.specs.Prelude.{slice_get, is_some}
+use Rattle.std.specs.Prelude.{slice_get, is_some, ℤ}
 use Rattle.std.proofs.lemmas.Option.{slice_get_within, slice_get_past}
 use Rattle.c_tree.specs.Flats as f
 use Rattle.c_tree.specs.Source as m
@@ -23,36 +23,37 @@ stopped_is : (o : Option ℕ) → stopped o ≡ (elim o [ Some mutex ↦ Waits m
 stopped_is None = refl
 stopped_is (Some mutex) = refl
 
-abbrev ahead_of : Option Pending → List f.Statement → Option ℕ
-ahead_of p left = elim p [
+abbrev ahead_of : (locals : List ℤ) → Option Pending → List f.Statement → Option ℕ
+ahead_of ls p left = elim p [
   | Some store ↦ None
-  | None ↦ first_lock left
+  | None ↦ first_lock ls left
 ]
 
 not_owing : (left rest : List f.Statement) → (let s : Standing = record { left = left; owes = true } in s ≡ free rest) → ⊥
 not_owing left rest h = let b : true ≡ false = ap (λ (s : Standing). s.owes) h in cc
 
-left_is : (left rest : List f.Statement) → free left ≡ free rest → first_lock left ≡ first_lock rest
-left_is left rest h = ap (λ (s : Standing). first_lock s.left) h
+left_is : (ls : List ℤ) (left rest : List f.Statement) → free left ≡ free rest → first_lock ls left ≡ first_lock ls rest
+left_is ls left rest h = ap (λ (s : Standing). first_lock ls s.left) h
 
 -- a node takes the mutex that the first statement locks
-ahead : (all : List Standing) (a : Action) (p : Option Pending) (left : List f.Statement) → ActionLeads all a (record { left = left; owes = is_some p }) →
-    taken_by a ≡ ahead_of p left
-ahead all (Eval target value next) (Some p) left d = refl
-ahead all (Eval target value next) None left d = sym (left_is left _ d.is)
-ahead all (Store variable kind next) (Some p) left d = refl
-ahead all (Store variable kind next) None left d = let b : false ≡ true = ap (λ (s : Standing). s.owes) d.is in cc
-ahead all (Test condition holds fails) (Some p) left d = refl
-ahead all (Test condition holds fails) None left d = elim d [
-  | chooses place body arms otherwise rest is h k ↦ sym (left_is left _ is)
-  | repeats place body rest is h k ↦ sym (left_is left _ is)
+ahead : (ls : List ℤ) (all : List Standing) (a : Action) (p : Option Pending) (left : List f.Statement) →
+    ActionLeads all a (record { left = left; owes = is_some p }) →
+    taken_by a ≡ ahead_of ls p left
+ahead ls all (Eval target value next) (Some p) left d = refl
+ahead ls all (Eval target value next) None left d = sym (left_is ls left _ d.is)
+ahead ls all (Store variable kind next) (Some p) left d = refl
+ahead ls all (Store variable kind next) None left d = let b : false ≡ true = ap (λ (s : Standing). s.owes) d.is in cc
+ahead ls all (Test condition holds fails) (Some p) left d = refl
+ahead ls all (Test condition holds fails) None left d = elim d [
+  | chooses place body arms otherwise rest is h k ↦ sym (left_is ls left _ is)
+  | repeats place body rest is h k ↦ sym (left_is ls left _ is)
 ]
-ahead all (Lock mutex next) (Some p) left d = absurd (not_owing left _ d.is)
-ahead all (Lock mutex next) None left d = sym (left_is left _ d.is)
-ahead all (Unlock mutex next) (Some p) left d = refl
-ahead all (Unlock mutex next) None left d = sym (left_is left _ d.is)
-ahead all End (Some p) left d = refl
-ahead all End None left d = sym (left_is left _ d)
+ahead ls all (Lock mutex next) (Some p) left d = absurd (not_owing left _ d.is)
+ahead ls all (Lock mutex next) None left d = sym (left_is ls left _ d.is)
+ahead ls all (Unlock mutex next) (Some p) left d = refl
+ahead ls all (Unlock mutex next) None left d = sym (left_is ls left _ d.is)
+ahead ls all End (Some p) left d = refl
+ahead ls all End None left d = sym (left_is ls left _ d)
 
 lockstep : (x : f.Flat) (o : Option FlowState) (p : Option m.State) (node : Node) (thread : m.Thread) → StepsMatch x o p →
     taken_by node.action ≡ lock_ahead thread →
@@ -83,7 +84,7 @@ answers_agree x flow s t w h = elim (get_cases flow.graph_threads t) [
       ap (λ o. answer_of (lowered x) o (graph_step (lowered x) flow t)) found.1
       ∙ (ap (λ n. answer_at n (graph_step (lowered x) flow t)) here
       ∙ (lockstep x (graph_step (lowered x) flow t) (m.source_step s t) node.0 there.0 (steps_lockstep x flow s t w h)
-      (ahead (threads_standings x.threads) node.0.action there.0.pending there.0.left node.2)
+      (ahead there.0.locals (threads_standings x.threads) node.0.action there.0.pending there.0.left node.2)
       ∙ sym (ap (λ o. source_answer o (m.source_step s t)) there.1)))
 ]
 

@@ -83,15 +83,17 @@ impl GraphThread {
                 Stepped::Did
             }
             Action::Lock { mutex, next } => {
-                if locks::take(holders, mutex, number) {
+                if locks::take(holders, mutex as u128, number) {
                     self.at = next;
                     Stepped::Did
                 } else {
-                    Stepped::Waits { mutex }
+                    Stepped::Waits {
+                        lock: mutex as u128,
+                    }
                 }
             }
             Action::Unlock { mutex, next } => {
-                locks::release(holders, sections, mutex);
+                locks::release(holders, sections, mutex as u128);
                 self.at = next;
                 Stepped::Did
             }

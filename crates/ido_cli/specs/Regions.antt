@@ -3,7 +3,7 @@ use Rattle.std.specs.Prelude.{◌≡◌, ℕ, zero, suc, ◌+◌, ◌-◌, List,
 use Rattle.std.specs.Prelude.{slice_get, Option, Some, None, Bool, true, false, not, ◌&&◌, nat_eq, nat_le, nat_lt, if◌then◌else◌}
 use Rattle.ido_base.specs.Places.{column_of, line_of}
 use Rattle.c_tree.specs.Flats.{Flat, Thread}
-use Rattle.c_tree.specs.LockDiscipline.{Held}
+use Rattle.c_tree.specs.LockNames.{Held}
 use Rattle.lock_discipline.specs.HeldSetsByStep.{AreAllSetsOf}
 use Rattle.lock_discipline.specs.Masks.{mask_of}
 use Rattle.flow_graph.specs.declared.graph.Part.{Part}

@@ -55,6 +55,7 @@ pub fn code_of(rule: Rule) -> &'static str
         Rule::NotHeld => "L3",
         Rule::Join => "L4",
         Rule::EndHeld => "L5",
+        Rule::Frozen => "L6",
     }
 }
 

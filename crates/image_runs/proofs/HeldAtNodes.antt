@@ -1,28 +1,26 @@
 -- What a thread of a plan holds at its nodes, and that something is held where it may be resumed.
-use Rattle.std.proofs.Common.{◌≡◌, ◌≢◌, refl, ℕ, zero, suc, ◌-◌, ◌<◌, List, [], ◌∷◌, length, map, ap, sym, ◌∙◌, subst, arith, Option, Some, None}
-use Rattle.std.proofs.Common.{Bool, true, false}
-use Rattle.std.specs.Prelude.{slice_get, slice_set, slice_index_or, if◌then◌else◌}
+use Rattle.std.proofs.Common.{◌≡◌, ◌≢◌, refl, ℕ, zero, suc, ◌-◌, ◌<◌, List, [], ◌∷◌, length, ap, sym, ◌∙◌, subst, arith, Some, None}
+use Rattle.std.proofs.Common.{true, false}
+use Rattle.std.specs.Prelude.{slice_get, slice_set, slice_index_or}
 use Rattle.std.specs.List.{AllByRecursion, AllZip}
 use Rattle.std.proofs.lemmas.Bool.{true≢false}
 use Rattle.std.proofs.lemmas.List.{get_or-set_same}
 use Rattle.std.proofs.lemmas.Option.{none-some, same_Some, slice_get_within, get_or_from_slice_get}
-use Rattle.ido_base.specs.declared.place.Place.{Place}
 use Rattle.ido_base.specs.Locks.{has_lock}
 use Rattle.ido_ints.specs.declared.kinds.Kind.{Kind}
 use Rattle.c_tree.specs.Exprs as e
 use Rattle.c_tree.specs.Flats as f
-use Rattle.c_tree.specs.Source as m
-use Rattle.c_tree.specs.Programs.{Variable}
-use Rattle.c_tree.specs.LockDiscipline as l
-use Rattle.c_tree.specs.LockDiscipline.{Held, holds, none_held, guard_of, Keeps}
+use Rattle.c_tree.specs.LockNames.{Held, holds, none_held, lock_names, number_in, plain_names}
+use Rattle.c_tree.specs.LockDiscipline.{Use, guard_name, is_guarded}
 use Rattle.c_tree.specs.WellFormed.{AreFlatStatements}
 use Rattle.c_ranges.specs.RunInvariants.{IsStatementLeft}
-use Rattle.source_machine.specs.Mutexes.{held_by}
-use Rattle.source_machine.specs.Discipline.{KeepList, KeepsLeft, ThreadKeeps, StateKeeps}
-use Rattle.source_machine.proofs.Public.{held_is_given}
+use Rattle.c_tree.proofs.Public.{length-plain_names, names_are_plain, plain_number}
+use Rattle.source_machine.specs.ElementLocks.{element_lock}
+use Rattle.source_machine.specs.Discipline.{KeepList, KeepsLeft}
+use Rattle.source_machine.proofs.Public.{keeps_lock, set_is_one}
 use Rattle.lock_discipline.specs.HeldSetsByStep.{AreSetsOf, HeldBefore}
 use Rattle.lock_discipline.specs.links.Flow.{thread_sets}
-use Rattle.lock_discipline.proofs.Public.{held_length, set_left, thread_sets_are}
+use Rattle.lock_discipline.proofs.Public.{element_held, held_length, set_left, thread_sets_are}
 use Rattle.flow_graph.specs.IdempotentCuts.{IsChosen, AreAtWrites}
 use Rattle.flow_graph.specs.Liveness.{NodeAt}
 use Rattle.flow_graph.specs.Lockstep.{Standing, free, thread_standings, threads_standings}
@@ -37,44 +35,6 @@ use Rattle.recovered_threads.proofs.Public.{left_at, standing_at}
 use Rattle.flat_compile.proofs.Public.{node_there}
 use Rattle.image_runs.proofs.LeftStatements.{are_left}
 use Rattle.image_runs.proofs.ResumedLocals.{part_is}
-
--- ---- What is left tells the set before it
-
-module _ (x : f.Flat) where
-  holders_of : Held → List (Option ℕ)
-  holders_of h = map (λ (b : Bool). if b then Some 0 else None) h
-
-  held_again : (h : Held) → held_by 0 (holders_of h) ≡ h
-  unfolding holders_of
-  held_again [] = refl
-  held_again (true ∷ h) = ap (λ (k : Held). true ∷ k) (held_again h)
-  held_again (false ∷ h) = ap (λ (k : Held). false ∷ k) (held_again h)
-
-  -- a thread with that left, alone
-  abbrev alone : Held → List f.Statement → m.State
-  alone h left = record {
-    variables = [];
-    holders = holders_of h;
-    threads = record { left = left; locals = []; pending = None; ended = false } ∷ [];
-  }
-
-  alone_keeps : (h : Held) (left : List f.Statement) → KeepsLeft x h left → StateKeeps x (alone h left)
-  alone_keeps h left k = record { each = by }
-    where
-      by : (number : ℕ) (thread : m.Thread) → slice_get (alone h left).threads number ≡ Some thread → ThreadKeeps x (held_by number (holders_of h)) thread
-      by zero thread there =
-          subst (λ (z : m.Thread). ThreadKeeps x (held_by 0 (holders_of h)) z) (same_Some _ thread there) (record {
-            left = subst (λ (g : Held). KeepsLeft x g left) (sym (held_again h)) k;
-            pending = λ q some. absurd (none-some q some);
-          })
-      by (suc number) thread there = absurd (none-some thread there)
-
-  one_set : (h k : Held) (left : List f.Statement) → KeepsLeft x h left → KeepsLeft x k left → k ≡ h
-  one_set h k left a b = (held_is_given x (alone h left) 0 _ k (alone_keeps h left a) refl).0 b ∙ held_again h
-
-lock_takes : (vs : List Variable) {h after : Held} {place : Place} {name : e.LockName} → Keeps vs h (f.Lock place name) after →
-    after ≡ slice_set h name.mutex true
-lock_takes vs (l.lock place name free) = refl
 
 -- ---- Two lists, one against the other
 
@@ -97,6 +57,19 @@ module _ (p : Plan) (plan : IsPlan p) (t : Thread) (of : IsThread p t) where
   pub sets : AreSetsOf p.flat of.text table.0
   sets = plan.held.sets t.number of.text table.0 of.of_text table.1
 
+  -- the names of its locks are those of all mutexes
+  abbrev pub names : List e.LockName
+  names = lock_names p.flat of.text
+
+  abbrev pub count : ℕ
+  count = length p.flat.mutexes
+
+  pub plain : names ≡ plain_names count
+  plain = names_are_plain p.flat of.text plan.formed.single
+
+  pub names_long : length names ≡ count
+  names_long = ap (λ (ns : List e.LockName). length ns) plain ∙ length-plain_names count
+
   module _ (node : ℕ) (own : IsNodeOf t node) where
     abbrev step : ℕ
     step = node - t.part.first
@@ -116,8 +89,8 @@ module _ (p : Plan) (plan : IsPlan p) (t : Thread) (of : IsThread p t) where
     own_standing =
         sym (standing_at p.flat t.number t.part of.text node (part_is p plan t of) of.of_text own.from_first own.below_end) ∙ stands.1
 
-    kept : (h : Held) × (slice_get (thread_sets (length p.flat.mutexes) of.text) step ≡ Some h) ×
-        KeepList p.flat.variables h stands.0.left (none_held (length p.flat.mutexes))
+    kept : (h : Held) × (slice_get (thread_sets names of.text) step ≡ Some h) ×
+        KeepList p.flat.variables names h stands.0.left (none_held (length names))
     kept = set_left p.flat of.text step stands.0.left sets.disciplined (left_at of.text step stands.0 own_standing)
 
     before : HeldBefore p.flat of.text step kept.0
@@ -132,19 +105,19 @@ module _ (p : Plan) (plan : IsPlan p) (t : Thread) (of : IsThread p t) where
         ∙ get_or_from_slice_get table.0 step kept.0 [] in_table
 
     -- from the set before the node what is left keeps the discipline
-    pub keeps : KeepsLeft p.flat (set_before p t node) stands.0.left
-    keeps = subst (λ (h : Held). KeepsLeft p.flat h stands.0.left) (sym set_is) kept.2
+    pub keeps : KeepsLeft p.flat names (set_before p t node) stands.0.left
+    keeps = subst (λ (h : Held). KeepsLeft p.flat names h stands.0.left) (sym set_is) kept.2
 
     pub long : length (set_before p t node) ≡ length p.flat.mutexes
-    long = ap (λ (h : Held). length h) set_is ∙ held_length p.flat of.text step kept.0 before
+    long = ap (λ (h : Held). length h) set_is ∙ (held_length p.flat of.text step kept.0 before ∙ names_long)
 
     pub left_is : AllByRecursion (IsStatementLeft p.flat of.text.locals) stands.0.left
     left_is =
         are_left p.flat of.text step stands.0
         (all_at (λ (u : f.Thread). AreFlatStatements p.flat u.locals u.body) p.flat.threads t.number of.text plan.formed.threads of.of_text) own_standing
 
-    -- before a store at which a boundary is chosen its variable's mutex is held
-    pub locked_here : ChosenAreLocked → IsChosen p.graph p.boundaries node → StoresLocked p.flat node (set_before p t node)
+    -- before a store at which a boundary is chosen the lock that guards its variable is held
+    pub locked_here : ChosenAreLocked → IsChosen p.graph p.boundaries node → StoresLocked p.flat t.number node (set_before p t node)
     locked_here locked chosen =
         locked p.flat p.held p.boundaries t.number step node (set_before p t node) plan.held
         (subst (λ (g : Graph). AreAtWrites g p.boundaries) plan.lowered plan.at_writes)
@@ -171,18 +144,25 @@ module _ (p : Plan) (plan : IsPlan p) (t : Thread) (of : IsThread p t) where
     pub free_after_lock : (stands node own).0 ≡ free leads.rest
     free_after_lock = same_Some _ _ (sym (stands node own).1 ∙ leads.follows)
 
-    keeps_lock : KeepsLeft p.flat (set_before p t from) (f.Lock leads.place (record { mutex = mutex; key = None }) ∷ leads.rest)
-    keeps_lock = subst (λ (s : Standing). KeepsLeft p.flat (set_before p t from) s.left) leads.is (keeps from own_from)
+    abbrev named : e.LockName
+    named = record { mutex = mutex; key = None }
+
+    keeps_from : KeepsLeft p.flat names (set_before p t from) (f.Lock leads.place named ∷ leads.rest)
+    keeps_from = subst (λ (s : Standing). KeepsLeft p.flat names (set_before p t from) s.left) leads.is (keeps from own_from)
 
     below : mutex < length p.flat.mutexes
     below = (subst (λ (s : Standing). AllByRecursion (IsStatementLeft p.flat of.text.locals) s.left) leads.is (left_is from own_from)).0.1.0
 
     pub held_after_lock : holds (set_before p t node) mutex ≡ true
     held_after_lock =
-        let here : KeepsLeft p.flat (set_before p t node) leads.rest =
-        subst (λ (s : Standing). KeepsLeft p.flat (set_before p t node) s.left) free_after_lock (keeps node own) in
-        let between : keeps_lock.0 ≡ set_before p t node = one_set p.flat (set_before p t node) keeps_lock.0 leads.rest here keeps_lock.2 in
-        let taken : keeps_lock.0 ≡ slice_set (set_before p t from) mutex true = lock_takes p.flat.variables keeps_lock.1 in
+        let n = number_in names named in
+        let number_is : n ≡ mutex = ap (λ (ns : List e.LockName). number_in ns named) plain ∙ plain_number count mutex below in
+        let here : KeepsLeft p.flat names (set_before p t node) leads.rest =
+        subst (λ (s : Standing). KeepsLeft p.flat names (set_before p t node) s.left) free_after_lock (keeps node own) in
+        let between : keeps_from.0 ≡ set_before p t node =
+        set_is_one p.flat.variables names leads.rest keeps_from.0 (set_before p t node) (none_held (length names)) keeps_from.2 here in
+        let taken : keeps_from.0 ≡ slice_set (set_before p t from) mutex true =
+        (keeps_lock p.flat.variables names keeps_from.1).1 ∙ ap (λ (k : ℕ). slice_set (set_before p t from) k true) number_is in
         let inside : mutex < length (set_before p t from) = (let l = long from own_from in let b = below in omega (arith, l, b)) in
         ap (λ (h : Held). holds h mutex) (sym between ∙ taken) ∙ get_or-set_same (set_before p t from) mutex true false inside
 
@@ -208,22 +188,34 @@ module _ (locked : ChosenAreLocked) (p : Plan) (plan : IsPlan p) (code : Code p)
   pub resumed_hold : (node address : ℕ) → IsNodeOf code.thread node → ResumesAt p code node address → locks_before p code.thread node ≢ []
   resumed_hold node address own (at_chosen chosen) =
       let s = locked_here p plan t code.of node own locked chosen in
-      some_locks (set_before p t node) (guard_of p.flat.variables s.variable) s.locked
+      some_locks (set_before p t node) (number_in (lock_names p.flat s.text) (guard_name p.flat.variables s.used)) s.locked
   resumed_hold node address own (past_lock from mutex is own_from at locks) =
       some_locks (set_before p t node) mutex (held_after_lock p plan t code.of from mutex node is own_from own at locks)
   resumed_hold node address own (past_unlock from mutex is own_from at unlocks some) = some
 
-  -- where a store is pending its variable's mutex is held: no boundary but the chosen one before it leads there
+  -- a guard that is held by its name is held by its number
+  guard_held : (text : f.Thread) (node : ℕ) (own : IsNodeOf code.thread node) (u : Use) (n : ℕ) →
+      is_guarded p.flat.variables (lock_names p.flat text) (set_before p t node) u ≡ true →
+      holds (set_before p t node) (element_lock p.flat.variables u.variable n) ≡ true
+  guard_held text node own u n g =
+      let h = set_before p t node in
+      let as_plain : lock_names p.flat text ≡ plain_names (length h) =
+      names_are_plain p.flat text plan.formed.single ∙ ap plain_names (sym (long p plan t code.of node own)) in
+      element_held (length p.flat.mutexes) p.flat.variables h u n plan.formed.shared.variables
+      (subst (λ (ns : List e.LockName). is_guarded p.flat.variables ns h u ≡ true) as_plain g)
+
+  -- where a store is pending the lock that guards its element is held: no boundary but the chosen one before it leads there
   pub resumed_store_locked : (node address : ℕ) (own : IsNodeOf code.thread node) → ResumesAt p code node address →
-      (variable : ℕ) (kind : Kind) (next : ℕ) → (node_is p plan t code.of node own).0.action ≡ Store variable kind next →
-      (stands p plan t code.of node own).0.owes ≡ true → holds (set_before p t node) (guard_of p.flat.variables variable) ≡ true
-  resumed_store_locked node address own (at_chosen chosen) variable kind next stores owes =
+      (variable : ℕ) (kind : Kind) (next element : ℕ) → (node_is p plan t code.of node own).0.action ≡ Store variable kind next →
+      (stands p plan t code.of node own).0.owes ≡ true → holds (set_before p t node) (element_lock p.flat.variables variable element) ≡ true
+  resumed_store_locked node address own (at_chosen chosen) variable kind next element stores owes =
       let s = locked_here p plan t code.of node own locked chosen in
       let same : s.is ≡ (node_is p plan t code.of node own).0 = same_Some _ _ (sym s.at ∙ lowered_is p plan t code.of node own) in
-      let one : Store s.variable s.kind s.next ≡ Store variable kind next = sym s.stores ∙ (ap (λ (n : Node). n.action) same ∙ stores) in
-      let variable_is : s.variable ≡ variable = cc one in
-      subst (λ (v : ℕ). holds (set_before p t node) (guard_of p.flat.variables v) ≡ true) variable_is s.locked
-  resumed_store_locked node address own (past_lock from mutex is own_from at locks) variable kind next stores owes =
+      let one : Store s.used.variable s.kind s.next ≡ Store variable kind next = sym s.stores ∙ (ap (λ (n : Node). n.action) same ∙ stores) in
+      let variable_is : s.used.variable ≡ variable = cc one in
+      subst (λ (v : ℕ). holds (set_before p t node) (element_lock p.flat.variables v element) ≡ true) variable_is
+      (guard_held s.text node own s.used element s.locked)
+  resumed_store_locked node address own (past_lock from mutex is own_from at locks) variable kind next element stores owes =
       absurd (true≢false (sym owes ∙ ap (λ (s : Standing). s.owes) (free_after_lock p plan t code.of from mutex node is own_from own at locks)))
-  resumed_store_locked node address own (past_unlock from mutex is own_from at unlocks some) variable kind next stores owes =
+  resumed_store_locked node address own (past_unlock from mutex is own_from at unlocks some) variable kind next element stores owes =
       absurd (true≢false (sym owes ∙ free_after_unlock p plan t code.of from mutex node is own_from own at unlocks))

@@ -20,11 +20,15 @@ use Rattle.c_tree.specs.Flats as f
 use Rattle.c_tree.specs.Source as m
 use Rattle.c_tree.specs.Programs.{Variable}
 use Rattle.c_tree.specs.Source.{Pending}
-use Rattle.c_tree.specs.LockDiscipline.{Held, holds}
+use Rattle.c_tree.specs.LockNames.{Held, holds, lock_names, plain_names}
 use Rattle.c_tree.specs.WellFormed.{elements_in, shape_of}
 use Rattle.c_ranges.specs.RunInvariants.{AreNumbersOf, IsStateOf, IsThreadOf}
 use Rattle.source_machine.specs.Mutexes.{held_by}
-use Rattle.source_machine.specs.Discipline.{StateKeeps, ThreadKeeps}
+use Rattle.c_tree.specs.Exprs.{LockName}
+use Rattle.c_tree.proofs.Public.{names_are_plain}
+use Rattle.source_machine.specs.ElementLocks.{element_lock}
+use Rattle.source_machine.specs.Discipline.{HoldsNames, StateKeeps, ThreadKeeps}
+use Rattle.source_machine.proofs.Public.{held_found, plain_holds}
 use Rattle.rv64_isa.specs.declared.object.Slot.{Slot}
 use Rattle.rv64_isa.specs.Machine.{Hart, World, after_crash_of, after_event, durable_point, fresh_hart, happens, numbers_from, phase_after_crash, record_of}
 use Rattle.boundary_code.specs.Boundaries.{is_empty}
@@ -335,19 +339,34 @@ module _ (locked : ChosenAreLocked) (y : System) (s : IsSystem y) (words : List 
         (subst (λ (u : m.Thread). GraphThreadMatches x (of n below).graph_thread u) two (of n below).matches);
   }
 
-  keeps : StateKeeps x source
-  keeps = record {
-    each = λ n z here.
-        let below = thread_inside n z here in
-        let o = of n below in
-        let same : o.thread ≡ z = same_Some _ z (sym (thread_there n below) ∙ here) in
-        subst (λ (u : m.Thread). ThreadKeeps x (held_by n holders) u) same
-        (subst (λ (h : Held). ThreadKeeps x h o.thread) (sym (held_is n below)) (record { left = o.left; pending = o.pending }));
-  }
-
   locks_count : length holders ≡ mutexes
   unfolding holders
   locks_count = count_of (holder_among has count shape.apart count) 0 mutexes
+
+  keeps : StateKeeps x source
+  keeps = record {
+    locks = locks_count;
+    each = λ n z here.
+        let below = thread_inside n z here in
+        let o = of n below in
+        let code = s.codes.each n below in
+        let same : o.thread ≡ z = same_Some _ z (sym (thread_there n below) ∙ here) in
+        let plain : lock_names x code.of.text ≡ plain_names mutexes = names_are_plain x code.of.text s.plan.formed.single in
+        let holding : HoldsNames (lock_names x code.of.text) o.set o.thread.locals holders n =
+        subst (λ (ns : List LockName). HoldsNames ns o.set o.thread.locals holders n) (sym plain)
+        (subst (λ (h : Held). HoldsNames (plain_names mutexes) h o.thread.locals holders n) (held_is n below)
+        (plain_holds mutexes o.thread.locals holders n locks_count)) in
+        subst (λ (u : m.Thread). ThreadKeeps x n holders u) same (record {
+          text = code.of.text;
+          its = ap (slice_get x.threads) (sym (s.codes.number n below)) ∙ code.of.of_text;
+          set = o.set;
+          held = holding;
+          left = o.left;
+          pending = λ q e.
+              let lock = element_lock x.variables q.variable q.element in
+              held_found n holders lock (ap (λ (h : Held). holds h lock) (held_is n below) ∙ o.pending q e);
+        });
+  }
 
   -- as many threads as the text has
   threads_count : count ≡ length x.threads

@@ -8,7 +8,9 @@ use Rattle.std.proofs.lemmas.List.Elements.{Contains-get_or}
 use Rattle.std.proofs.lemmas.Option.{none-some, same_Some, slice_get_within, slice_get-get_or, get_or_from_slice_get}
 use Rattle.ido_ints.specs.declared.kinds.Kind.{Kind}
 use Rattle.c_tree.specs.Flats as f
-use Rattle.c_tree.specs.LockDiscipline.{Held}
+use Rattle.c_tree.specs.Exprs.{LockName}
+use Rattle.c_tree.specs.LockNames.{Held}
+use Rattle.c_tree.proofs.Public.{length-plain_names, names_are_plain}
 use Rattle.memory_layout.specs.declared.roles.TheConstants.{LOCALS}
 use Rattle.memory_layout.specs.Roles.{is_kept}
 use Rattle.flow_graph.specs.declared.graph.Part.{Part}
@@ -71,7 +73,9 @@ module _ (p : Plan) (plan : IsPlan p) (t : Thread) (is : IsThread p t) where
         | inl within ↦
             let long = held_length p.flat is.text step (get_or table.0 step [])
             ((of.exactly step (get_or table.0 step [])).0 (slice_get-get_or table.0 step [] within)) in
-            omega (arith, long, most)
+            let names = ap (λ (ns : List LockName). length ns) (names_are_plain p.flat is.text plan.formed.single)
+            ∙ length-plain_names (length p.flat.mutexes) in
+            omega (arith, long, names, most)
         | inr past ↦ subst (λ (held : Held). length held ≤ 64) (sym (get_or_past table.0 step [] past)) (omega arith)
       ])
 

@@ -1,7 +1,7 @@
 -- The thread of the source that words with the shape describe: it stands at its node, or has not begun.
 use Rattle.std.proofs.Common.{◌≡◌, ◌≢◌, refl, inl, inr, ℕ, zero, suc, ◌+◌, ◌*◌, ◌%◌, ◌<◌, List, [], ◌∷◌, length, map, replicate, ap, sym, ◌∙◌}
 use Rattle.std.proofs.Common.{subst, arith, Option, Some, None, Bool, true, false}
-use Rattle.std.specs.Prelude.{slice_get, slice_index_or, Contains, is_some, ◌^◌, ◌==◌, ℤ, pos}
+use Rattle.std.specs.Prelude.{slice_get, slice_index_or, Contains, is_some, ◌^◌, ℤ, pos}
 use Rattle.std.specs.List.{AllZip}
 use Rattle.std.specs.Option.{option_map}
 use Rattle.std.proofs.lemmas.Bool.Decides.{nat_tests}
@@ -21,12 +21,12 @@ use Rattle.c_tree.specs.Flats as f
 use Rattle.c_tree.specs.Source as m
 use Rattle.c_tree.specs.Source.{Pending}
 use Rattle.c_tree.specs.Exprs.{Placed}
-use Rattle.c_tree.specs.LockDiscipline.{Held, holds, none_held}
+use Rattle.c_tree.specs.LockNames.{Held, holds, none_held, lock_names}
 use Rattle.c_tree.specs.WellFormed.{AreFlatStatements, elements_in, shape_of}
 use Rattle.c_ranges.specs.RunInvariants.{IsStoreInRange, IsThreadOf}
-use Rattle.source_machine.specs.Discipline.{KeepsLeft}
+use Rattle.source_machine.specs.Discipline.{KeepList, KeepsLeft}
 use Rattle.source_machine.specs.ElementLocks.{element_lock}
-use Rattle.source_machine.proofs.Public.{holds_each, keep_opened_all}
+use Rattle.source_machine.proofs.Public.{keep_opened_all}
 use Rattle.memory_layout.specs.Roles.{pending_address, pending_value}
 use Rattle.rv64_isa.specs.Rows.{read}
 use Rattle.rv64_isa.specs.Machine.{bank_of, durable_point, recorded, record_of, resumed_registers}
@@ -50,7 +50,8 @@ use Rattle.thread_code.specs.RegistersAtNodes.{HasPending, IsPendingIn, Enters}
 use Rattle.recovered_threads.specs.RecordDescriptions.{Code, Describes, between, inside}
 use Rattle.image_checks.specs.Checks.{IsElementOf}
 use Rattle.image_runs.specs.Shapes.{GoesOnAt, HasThreadShape, idle, resumes, HomeHasForm}
-use Rattle.image_runs.proofs.HeldAtNodes.{all, node_is, lowered_is, stands, keeps, long, left_is, sets, resumed_hold, resumed_store_locked}
+use Rattle.image_runs.proofs.HeldAtNodes.{all, names, names_long, node_is, lowered_is, stands}
+use Rattle.image_runs.proofs.HeldAtNodes.{keeps, long, left_is, sets, resumed_hold, resumed_store_locked}
 use Rattle.image_runs.proofs.LeftStatements.{opened_all_left}
 use Rattle.image_runs.proofs.RecordedWords.{durable_word, nothing_is_recorded, point_small, recorded_small, register_small, record_none}
 use Rattle.image_runs.proofs.ResumedLocals.{local_keepable, loggable}
@@ -108,7 +109,7 @@ pub record IsSaid (p : Plan) (code : Code p) (words : List ℕ) : Type 0 where
   -- the mutexes that it holds
   pub set : Held
   pub long : length set ≡ length p.flat.mutexes
-  pub left : KeepsLeft p.flat set thread.left
+  pub left : KeepsLeft p.flat (lock_names p.flat code.of.text) set thread.left
   pub pending : (q : Pending) → thread.pending ≡ Some q → holds set (element_lock p.flat.variables q.variable q.element) ≡ true
   -- its node writes where its pending store goes
   pub stored : (q : Pending) → graph_thread.pending ≡ Some q → IsPendingAt p.flat graph_thread.at q
@@ -159,7 +160,9 @@ module _ (locked : ChosenAreLocked) (p : Plan) (plan : IsPlan p) (code : Code p)
       };
       set = free_set;
       long = length-replicate (length x.mutexes) false;
-      left = keep_opened_all x.variables (sets p plan t code.of).disciplined;
+      left = subst (λ (k : ℕ). KeepList x.variables (names p plan t code.of) (none_held k) (m.opened_all code.of.text.body)
+          (none_held (length (names p plan t code.of)))) (names_long p plan t code.of)
+          (keep_opened_all x.variables (names p plan t code.of) (sets p plan t code.of).disciplined);
       pending = λ q some. absurd (none-some q some);
       stored = λ q some. absurd (none-some q some);
       locks =
@@ -300,8 +303,7 @@ module _ (locked : ChosenAreLocked) (p : Plan) (plan : IsPlan p) (code : Code p)
         owes = sym owing;
         ranged = λ q e. subst (λ (z : Pending). IsStoreInRange x.variables z) (same_Some store q e) ranged;
         guarded = λ q e. subst (λ (z : Pending). holds set (element_lock x.variables z.variable z.element) ≡ true) (same_Some store q e)
-            (holds_each x.variables set variable store.element
-            (resumed_store_locked locked p plan code node _ g.own g.resumes variable kind next does owing));
+            (resumed_store_locked locked p plan code node _ g.own g.resumes variable kind next store.element does owing);
         stored = λ q e. subst (λ (z : Pending). IsPendingAt x node z) (same_Some store q e) (record {
           node = is;
           is = lowered_is p plan t code.of node g.own;

@@ -9,7 +9,8 @@ use Rattle.std.proofs.lemmas.List.{get_or_past}
 use Rattle.std.proofs.lemmas.List.Folds.{find-append}
 use Rattle.std.proofs.lemmas.Nat.Bits.{bit_at_lowest, bit_at-suc, bit_at-zero, bit_at_and, bit_at_or, bit_at_xor, shr_and_one, bit_at_above}
 use Rattle.std.proofs.lemmas.Nat.Bits.{bit_at_set_same, bit_at_set_other, bit_at_clear_same, bit_at_clear_other, same_from_bits, bit_at-trailing_zeros}
-use Rattle.c_tree.specs.LockDiscipline.{Held, holds, numbers_below, none_held}
+use Rattle.c_tree.specs.LockNames.{Held, holds, none_held}
+use Rattle.c_tree.specs.LockDiscipline.{numbers_below}
 use Rattle.lock_discipline.specs.Masks.{mask_of}
 use Rattle.lock_discipline.specs.links.Sets.{held_of, differ, length-held_of, mask_of-held_of}
 use Rattle.lock_discipline.proofs.Masks.{mask_of-bound, held_of-mask_of}

@@ -11,16 +11,22 @@ use Rattle.c_tree.specs.declared.expr.Placed.{Placed}
 use Rattle.c_tree.specs.declared.expr.Lvalue.{Lvalue}
 use Rattle.c_tree.specs.declared.flat.Statement as s
 use Rattle.c_tree.specs.declared.flat.Arm as arm
+use Rattle.c_tree.specs.Exprs.{LockName, ToLocal, ToVariable, ToElement, placed_of}
+use Rattle.c_tree.specs.Exprs.{Lvalue as Target}
+use Rattle.std.specs.Prelude.{slice_index_or, find}
+use Rattle.c_tree.proofs.Public.{length-plain_names, none_freezes}
+use Rattle.lock_discipline.proofs.PlainSets.{named, named_at, found_below, same_faults}
 use Rattle.c_tree.specs.Programs.{Variable}
 use Rattle.c_tree.specs.Flats as f
-use Rattle.c_tree.specs.LockDiscipline.{Held, holds, numbers_below, is_in_some, is_in_all, least_difference, Fault, Walked, After}
-use Rattle.c_tree.specs.LockDiscipline.{and_then, expr_uses, target_uses, walk_uses, join, join_all, walk, walk_all, walk_arms}
+use Rattle.c_tree.specs.LockNames.{Held, holds, plain_names}
+use Rattle.c_tree.specs.LockDiscipline.{numbers_below, is_in_some, is_in_all, least_difference, Fault, Walked, After}
+use Rattle.c_tree.specs.LockDiscipline.{and_then, Use, is_guarded, freezing, assign_uses, walk_target, expr_uses}
+use Rattle.c_tree.specs.LockDiscipline.{target_uses, walk_uses, join, join_all, walk, walk_all, walk_arms}
 use Rattle.lock_discipline.specs.links.Flow.{held_after, held_after_all, sets_in, sets_in_all, sets_in_arms}
 use Rattle.c_tree.proofs.Public.{flat_rows_of_while as of_while, flat_rows_of_do as of_do, flat_rows_of_if as of_if}
 use Rattle.c_tree.specs.declared.rule.Rule.TheVariants as rule
 use Rattle.lock_discipline.proofs.Sets.{AllLong, AllLong-append, AllAre-right, same_found, same_where_none}
-use Rattle.lock_discipline.proofs.CheckerCorrectness.{none_or, after_then, after_keeps, after_keep_all, keeps_length, keep_all_length}
-use Rattle.lock_discipline.proofs.Flows.{boundary_after_is, after_all_is}
+use Rattle.lock_discipline.proofs.CheckerCorrectness.{none_or, none_is_after, after_then, after_walk, after_walk_all}
 use Rattle.lock_discipline.proofs.Refusals.{uses_append}
 
 -- ---- Sets at a join
@@ -59,172 +65,215 @@ same_end (Some x) p fault h k e same = ap (λ (q : Option ℕ). none_or q fault 
 
 -- the sets may be met with the last one first
 pub join_last : (vs : List Variable) (n : ℕ) (place : Place) (h : Held) (hs : List Held) → length h ≡ n → All (λ x. length x ≡ n) hs →
-    join_all vs n place (hs ++ h ∷ []) ≡ join vs n place h hs
+    join_all vs (plain_names n) place (hs ++ h ∷ []) ≡ join vs (plain_names n) place h hs
 join_last vs n place h [] l ls = refl
 join_last vs n place h (k ∷ ks) l ls =
     let long = all_long n (k ∷ ks) ls in
-    same_end (least_difference n (k ∷ ks ++ h ∷ [])) (least_difference n (h ∷ k ∷ ks)) (λ m. record { rule = rule.Join; place = place; mutex = m }) k h
-    (difference_last n (k ∷ ks) h)
-    (λ e. sym (AllAre-right k ks (h ∷ []) (same_where_none n k (ks ++ h ∷ []) long.0 (AllLong-append n ks (h ∷ []) long.1 (l, tt)) e)).0)
+    let count = length (plain_names n) in
+    let fault : ℕ → Fault = λ m. record { rule = rule.Join; place = place; mutex = (slice_index_or (plain_names n) m (named 0)).mutex } in
+    same_end (least_difference count (k ∷ ks ++ h ∷ [])) (least_difference count (h ∷ k ∷ ks)) fault k h (difference_last count (k ∷ ks) h)
+    (λ e. sym (AllAre-right k ks (h ∷ []) (same_where_none n k (ks ++ h ∷ []) long.0 (AllLong-append n ks (h ∷ []) long.1 (l, tt))
+    (ap (λ (m : ℕ). least_difference m (k ∷ ks ++ h ∷ [])) (sym (length-plain_names n)) ∙ e))).0)
+
+-- where sets of so many mutexes meet
+pub join_is : (vs : List Variable) (n : ℕ) (place : Place) (h : Held) (hs : List Held) (o : Option ℕ) → o ≡ least_difference n (h ∷ hs) →
+    join vs (plain_names n) place h hs ≡ none_or o (λ m. record { rule = rule.Join; place = place; mutex = m }) h
+join_is vs n place h hs o e =
+    let fault : ℕ → Fault = λ m. record { rule = rule.Join; place = place; mutex = (slice_index_or (plain_names n) m (named 0)).mutex } in
+    let told : ℕ → Fault = λ m. record { rule = rule.Join; place = place; mutex = m } in
+    ap (λ (m : ℕ). none_or (least_difference m (h ∷ hs)) fault h) (length-plain_names n)
+    ∙ ap (λ (p : Option ℕ). none_or p fault h) (sym e)
+    ∙ same_faults o fault told h (λ m is. ap (λ (x : LockName). let y : Fault = record { rule = rule.Join; place = place; mutex = x.mutex } in y)
+    (named_at n m (found_below _ n m (sym e ∙ is))))
 
 -- ---- A statement of a list
 
 module _ (vs : List Variable) (n : ℕ) (w : Walked) where
   pub at_next : (h : Held) (xs : List s.Statement) (i : ℕ) (x : s.Statement) → i < length xs → x ≡ get_or xs i x → length h ≡ n →
-      w ≡ walk_all vs n h (f.statements_of (drop i xs)) → w ≡ and_then (walk vs (length h) h (f.statement_of x))
-      (λ after. walk_all vs n after (f.statements_of (drop (i + 1) xs)))
+      w ≡ walk_all vs (plain_names n) h (f.statements_of (drop i xs)) → w ≡ and_then (walk vs (plain_names (length h)) h (f.statement_of x))
+      (λ after. walk_all vs (plain_names n) after (f.statements_of (drop (i + 1) xs)))
   at_next h xs i x lt is l e =
-      let next = λ (after : Held). walk_all vs n after (f.statements_of (drop (i + 1) xs)) in
-      e ∙ ap (λ (ys : List s.Statement). walk_all vs n h (f.statements_of ys)) (drop_more xs i x lt)
-      ∙ ap (λ (y : s.Statement). and_then (walk vs n h (f.statement_of y)) next) (sym is)
-      ∙ ap (λ (m : ℕ). and_then (walk vs m h (f.statement_of x)) next) (sym l)
+      let next = λ (after : Held). walk_all vs (plain_names n) after (f.statements_of (drop (i + 1) xs)) in
+      e ∙ ap (λ (ys : List s.Statement). walk_all vs (plain_names n) h (f.statements_of ys)) (drop_more xs i x lt)
+      ∙ ap (λ (y : s.Statement). and_then (walk vs (plain_names n) h (f.statement_of y)) next) (sym is)
+      ∙ ap (λ (m : ℕ). and_then (walk vs (plain_names m) h (f.statement_of x)) next) (sym l)
 
   pub next_walk : (h k : Held) (xs : List s.Statement) (i : ℕ) (x : s.Statement) → i < length xs → x ≡ get_or xs i x → length h ≡ n →
-      w ≡ walk_all vs n h (f.statements_of (drop i xs)) → walk vs (length h) h (f.statement_of x) ≡ After k →
-      w ≡ walk_all vs n k (f.statements_of (drop (i + 1) xs))
-  next_walk h k xs i x lt is l e walked = at_next h xs i x lt is l e ∙ after_then _ (λ after. walk_all vs n after (f.statements_of (drop (i + 1) xs))) k walked
+      w ≡ walk_all vs (plain_names n) h (f.statements_of (drop i xs)) → walk vs (plain_names (length h)) h (f.statement_of x) ≡ After k →
+      w ≡ walk_all vs (plain_names n) k (f.statements_of (drop (i + 1) xs))
+  next_walk h k xs i x lt is l e walked =
+      at_next h xs i x lt is l e ∙ after_then _ (λ after. walk_all vs (plain_names n) after (f.statements_of (drop (i + 1) xs))) k walked
 
-pub next_sets : (h k : Held) (xs : List s.Statement) (i : ℕ) (x : s.Statement) (old new all : List Held) → i < length xs → x ≡ get_or xs i x →
-    held_after h (f.statement_of x) ≡ k →
-    new ≡ old ++ sets_in h (f.statement_of x) → old ++ sets_in_all h (f.statements_of (drop i xs)) ≡ all →
-    new ++ sets_in_all k (f.statements_of (drop (i + 1) xs)) ≡ all
-next_sets h k xs i x old new all lt is b p e =
+pub next_sets : (names : List LockName) (h k : Held) (xs : List s.Statement) (i : ℕ) (x : s.Statement) (old new all : List Held) → i < length xs →
+    x ≡ get_or xs i x →
+    held_after names h (f.statement_of x) ≡ k →
+    new ≡ old ++ sets_in names h (f.statement_of x) → old ++ sets_in_all names h (f.statements_of (drop i xs)) ≡ all →
+    new ++ sets_in_all names k (f.statements_of (drop (i + 1) xs)) ≡ all
+next_sets names h k xs i x old new all lt is b p e =
     let rest = f.statements_of (drop (i + 1) xs) in
-    ap (λ (ys : List Held). ys ++ sets_in_all k rest) p ∙ append_assoc old (sets_in h (f.statement_of x)) (sets_in_all k rest)
-    ∙ ap (λ (y : Held). old ++ (sets_in h (f.statement_of x) ++ sets_in_all y rest)) (sym b)
-    ∙ ap (λ (y : s.Statement). old ++ (sets_in h (f.statement_of y) ++ sets_in_all (held_after h (f.statement_of y)) rest)) is
-    ∙ ap (λ (ys : List s.Statement). old ++ sets_in_all h (f.statements_of ys)) (sym (drop_more xs i x lt)) ∙ e
+    ap (λ (ys : List Held). ys ++ sets_in_all names k rest) p ∙ append_assoc old (sets_in names h (f.statement_of x)) (sets_in_all names k rest)
+    ∙ ap (λ (y : Held). old ++ (sets_in names h (f.statement_of x) ++ sets_in_all names y rest)) (sym b)
+    ∙ ap (λ (y : s.Statement). old ++ (sets_in names h (f.statement_of y) ++ sets_in_all names (held_after names h (f.statement_of y)) rest)) is
+    ∙ ap (λ (ys : List s.Statement). old ++ sets_in_all names h (f.statements_of ys)) (sym (drop_more xs i x lt)) ∙ e
 
 -- ---- An arm of a list
 
 module _ (vs : List Variable) (h : Held) (w : (List Held → Walked) → Walked) where
   -- the walk of an arm begins with its condition
   pub at_arm : (left : List Held) (xs : List arm.Arm) (i : ℕ) (x : arm.Arm) → i < length xs → x ≡ get_or xs i x →
-      ((held_after : List Held → Walked) → w held_after ≡ walk_arms vs (length h) h left (f.arms_list_of (drop i xs)) held_after) →
-      (held_after : List Held → Walked) →
-      w held_after ≡ and_then (walk_uses vs (length h) h (expr_uses (expr_of x.condition.expr)))
-      (λ _. and_then (walk_all vs (length h) h (f.statements_of x.body.items))
-      (λ after. walk_arms vs (length h) h (left ++ after ∷ []) (f.arms_list_of (drop (i + 1) xs)) held_after))
-  at_arm left xs i x lt is e held_after =
-      e held_after ∙ ap (λ (ys : List arm.Arm). walk_arms vs (length h) h left (f.arms_list_of ys) held_after) (drop_more xs i x lt)
-      ∙ ap (λ (y : arm.Arm). and_then (walk_uses vs (length h) h (expr_uses (expr_of y.condition.expr)))
-      (λ _. and_then (walk_all vs (length h) h (f.statements_of y.body.items))
-      (λ after. walk_arms vs (length h) h (left ++ after ∷ []) (f.arms_list_of (drop (i + 1) xs)) held_after))) (sym is)
+      ((onward : List Held → Walked) → w onward ≡ walk_arms vs (plain_names (length h)) h left (f.arms_list_of (drop i xs)) onward) →
+      (onward : List Held → Walked) →
+      w onward ≡ and_then (walk_uses vs (plain_names (length h)) h (expr_uses (expr_of x.condition.expr)))
+      (λ _. and_then (walk_all vs (plain_names (length h)) h (f.statements_of x.body.items))
+      (λ after. walk_arms vs (plain_names (length h)) h (left ++ after ∷ []) (f.arms_list_of (drop (i + 1) xs)) onward))
+  at_arm left xs i x lt is e onward =
+      e onward ∙ ap (λ (ys : List arm.Arm). walk_arms vs (plain_names (length h)) h left (f.arms_list_of ys) onward) (drop_more xs i x lt)
+      ∙ ap (λ (y : arm.Arm). and_then (walk_uses vs (plain_names (length h)) h (expr_uses (expr_of y.condition.expr)))
+      (λ _. and_then (walk_all vs (plain_names (length h)) h (f.statements_of y.body.items))
+      (λ after. walk_arms vs (plain_names (length h)) h (left ++ after ∷ []) (f.arms_list_of (drop (i + 1) xs)) onward))) (sym is)
 
   -- after its condition the walk of an arm comes to its body
   pub in_arm_body : (left : List Held) (xs : List arm.Arm) (i : ℕ) (x : arm.Arm) (body : List s.Statement) → i < length xs → x ≡ get_or xs i x →
       body ≡ x.body.items →
-      ((held_after : List Held → Walked) → w held_after ≡ walk_arms vs (length h) h left (f.arms_list_of (drop i xs)) held_after) →
-      walk_uses vs (length h) h (expr_uses (expr_of x.condition.expr)) ≡ After h → (held_after : List Held → Walked) →
-      w held_after ≡ and_then (walk_all vs (length h) h (f.statements_of body))
-      (λ after. walk_arms vs (length h) h (left ++ after ∷ []) (f.arms_list_of (drop (i + 1) xs)) held_after)
-  in_arm_body left xs i x body lt is same e tested held_after =
-      at_arm left xs i x lt is e held_after
-      ∙ after_then _ (λ _. and_then (walk_all vs (length h) h (f.statements_of x.body.items))
-      (λ after. walk_arms vs (length h) h (left ++ after ∷ []) (f.arms_list_of (drop (i + 1) xs)) held_after)) h tested
-      ∙ ap (λ (ys : List s.Statement). and_then (walk_all vs (length h) h (f.statements_of ys))
-      (λ after. walk_arms vs (length h) h (left ++ after ∷ []) (f.arms_list_of (drop (i + 1) xs)) held_after)) (sym same)
+      ((onward : List Held → Walked) → w onward ≡ walk_arms vs (plain_names (length h)) h left (f.arms_list_of (drop i xs)) onward) →
+      walk_uses vs (plain_names (length h)) h (expr_uses (expr_of x.condition.expr)) ≡ After h → (onward : List Held → Walked) →
+      w onward ≡ and_then (walk_all vs (plain_names (length h)) h (f.statements_of body))
+      (λ after. walk_arms vs (plain_names (length h)) h (left ++ after ∷ []) (f.arms_list_of (drop (i + 1) xs)) onward)
+  in_arm_body left xs i x body lt is same e tested onward =
+      at_arm left xs i x lt is e onward
+      ∙ after_then _ (λ _. and_then (walk_all vs (plain_names (length h)) h (f.statements_of x.body.items))
+      (λ after. walk_arms vs (plain_names (length h)) h (left ++ after ∷ []) (f.arms_list_of (drop (i + 1) xs)) onward)) h tested
+      ∙ ap (λ (ys : List s.Statement). and_then (walk_all vs (plain_names (length h)) h (f.statements_of ys))
+      (λ after. walk_arms vs (plain_names (length h)) h (left ++ after ∷ []) (f.arms_list_of (drop (i + 1) xs)) onward)) (sym same)
 
   pub next_arm : (left ends : List Held) (k : Held) (xs : List arm.Arm) (i : ℕ) (x : arm.Arm) (body : List s.Statement) → i < length xs → x ≡ get_or xs i x →
       body ≡ x.body.items →
-      ((held_after : List Held → Walked) → w held_after ≡ walk_arms vs (length h) h left (f.arms_list_of (drop i xs)) held_after) →
-      walk_uses vs (length h) h (expr_uses (expr_of x.condition.expr)) ≡ After h → walk_all vs (length h) h (f.statements_of body) ≡ After k →
-      ends ≡ left ++ k ∷ [] → (held_after : List Held → Walked) →
-      w held_after ≡ walk_arms vs (length h) h ends (f.arms_list_of (drop (i + 1) xs)) held_after
-  next_arm left ends k xs i x body lt is same e tested walked p held_after =
-      in_arm_body left xs i x body lt is same e tested held_after
-      ∙ after_then _ (λ after. walk_arms vs (length h) h (left ++ after ∷ []) (f.arms_list_of (drop (i + 1) xs)) held_after) k walked
-      ∙ ap (λ (hs : List Held). walk_arms vs (length h) h hs (f.arms_list_of (drop (i + 1) xs)) held_after) (sym p)
+      ((onward : List Held → Walked) → w onward ≡ walk_arms vs (plain_names (length h)) h left (f.arms_list_of (drop i xs)) onward) →
+      walk_uses vs (plain_names (length h)) h (expr_uses (expr_of x.condition.expr)) ≡ After h →
+      walk_all vs (plain_names (length h)) h (f.statements_of body) ≡ After k →
+      ends ≡ left ++ k ∷ [] → (onward : List Held → Walked) →
+      w onward ≡ walk_arms vs (plain_names (length h)) h ends (f.arms_list_of (drop (i + 1) xs)) onward
+  next_arm left ends k xs i x body lt is same e tested walked p onward =
+      in_arm_body left xs i x body lt is same e tested onward
+      ∙ after_then _ (λ after. walk_arms vs (plain_names (length h)) h (left ++ after ∷ []) (f.arms_list_of (drop (i + 1) xs)) onward) k walked
+      ∙ ap (λ (hs : List Held). walk_arms vs (plain_names (length h)) h hs (f.arms_list_of (drop (i + 1) xs)) onward) (sym p)
 
-pub next_arm_sets : (h : Held) (xs : List arm.Arm) (i : ℕ) (x : arm.Arm) (body : List s.Statement) (old one new all : List Held) → i < length xs →
+pub next_arm_sets : (names : List LockName) (h : Held) (xs : List arm.Arm) (i : ℕ) (x : arm.Arm) (body : List s.Statement) (old one new all : List Held) →
+    i < length xs →
     x ≡ get_or xs i x → body ≡ x.body.items →
-    one ≡ old ++ h ∷ [] → new ≡ one ++ sets_in_all h (f.statements_of body) → old ++ sets_in_arms h (f.arms_list_of (drop i xs)) ≡ all →
-    new ++ sets_in_arms h (f.arms_list_of (drop (i + 1) xs)) ≡ all
-next_arm_sets h xs i x body old one new all lt is same p q e =
-    let rest = sets_in_arms h (f.arms_list_of (drop (i + 1) xs)) in
-    ap (λ (ys : List Held). ys ++ rest) (q ∙ ap₂ (λ (a : List Held) (b : List s.Statement). a ++ sets_in_all h (f.statements_of b)) p same)
-    ∙ append_assoc (old ++ h ∷ []) (sets_in_all h (f.statements_of x.body.items)) rest
-    ∙ append_assoc old (h ∷ []) (sets_in_all h (f.statements_of x.body.items) ++ rest)
-    ∙ ap (λ (y : arm.Arm). old ++ (h ∷ sets_in_all h (f.statements_of y.body.items) ++ rest)) is
-    ∙ ap (λ (ys : List arm.Arm). old ++ sets_in_arms h (f.arms_list_of ys)) (sym (drop_more xs i x lt)) ∙ e
+    one ≡ old ++ h ∷ [] → new ≡ one ++ sets_in_all names h (f.statements_of body) → old ++ sets_in_arms names h (f.arms_list_of (drop i xs)) ≡ all →
+    new ++ sets_in_arms names h (f.arms_list_of (drop (i + 1) xs)) ≡ all
+next_arm_sets names h xs i x body old one new all lt is same p q e =
+    let rest = sets_in_arms names h (f.arms_list_of (drop (i + 1) xs)) in
+    ap (λ (ys : List Held). ys ++ rest) (q ∙ ap₂ (λ (a : List Held) (b : List s.Statement). a ++ sets_in_all names h (f.statements_of b)) p same)
+    ∙ append_assoc (old ++ h ∷ []) (sets_in_all names h (f.statements_of x.body.items)) rest
+    ∙ append_assoc old (h ∷ []) (sets_in_all names h (f.statements_of x.body.items) ++ rest)
+    ∙ ap (λ (y : arm.Arm). old ++ (h ∷ sets_in_all names h (f.statements_of y.body.items) ++ rest)) is
+    ∙ ap (λ (ys : List arm.Arm). old ++ sets_in_arms names h (f.arms_list_of ys)) (sym (drop_more xs i x lt)) ∙ e
 
 module _ (vs : List Variable) (h : Held) where
   -- ---- The set after a part
 
-  pub walked_length : (x : f.Statement) (k : Held) → walk vs (length h) h x ≡ After k → length k ≡ length h
-  walked_length x k e = keeps_length vs (after_keeps vs (length h) x h k refl e)
+  pub walked_length : (x : f.Statement) (k : Held) → walk vs (plain_names (length h)) h x ≡ After k → length k ≡ length h
+  walked_length x k e = (after_walk vs (plain_names (length h)) x h k (sym (length-plain_names (length h))) e).0 ∙ length-plain_names (length h)
 
-  pub walked_after : (x : f.Statement) (k : Held) → walk vs (length h) h x ≡ After k → held_after h x ≡ k
-  walked_after x k e = boundary_after_is vs (after_keeps vs (length h) x h k refl e)
+  pub walked_after : (x : f.Statement) (k : Held) → walk vs (plain_names (length h)) h x ≡ After k → held_after (plain_names (length h)) h x ≡ k
+  walked_after x k e = (after_walk vs (plain_names (length h)) x h k (sym (length-plain_names (length h))) e).1
 
-  pub walked_all_length : (x : f.Statements) (k : Held) → walk_all vs (length h) h x ≡ After k → length k ≡ length h
-  walked_all_length x k e = keep_all_length vs (after_keep_all vs (length h) x h k refl e)
+  pub walked_all_length : (x : f.Statements) (k : Held) → walk_all vs (plain_names (length h)) h x ≡ After k → length k ≡ length h
+  walked_all_length x k e = (after_walk_all vs (plain_names (length h)) x h k (sym (length-plain_names (length h))) e).0 ∙ length-plain_names (length h)
 
-  pub walked_all_after : (x : f.Statements) (k : Held) → walk_all vs (length h) h x ≡ After k → held_after_all h x ≡ k
-  walked_all_after x k e = after_all_is vs (after_keep_all vs (length h) x h k refl e)
+  pub walked_all_after : (x : f.Statements) (k : Held) → walk_all vs (plain_names (length h)) h x ≡ After k → held_after_all (plain_names (length h)) h x ≡ k
+  walked_all_after x k e = (after_walk_all vs (plain_names (length h)) x h k (sym (length-plain_names (length h))) e).1
+
+  -- a local that is assigned is never in a key
+  target_walks : (target : Lvalue) → walk_target vs (plain_names (length h)) h (lvalue_of target) ≡ After h
+  target_walks target = by (lvalue_of target)
+    where
+      by : (y : Target) → walk_target vs (plain_names (length h)) h y ≡ After h
+      by (ToLocal place local kind) = none_is_after (freezing (plain_names (length h)) h local) _ h (none_freezes (length h) h local)
+      by (ToVariable place variable kind) = refl
+      by (ToElement place variable kind index) = refl
 
   -- ---- An assignment
 
   pub assign_is : (x : s.Statement) (place : Place) (target : Lvalue) (value : Placed) → x ≡ s.Assign place target value →
-      walk vs (length h) h (f.statement_of x) ≡ and_then (walk_uses vs (length h) h (expr_uses (expr_of value.expr)))
-      (λ _. walk_uses vs (length h) h (target_uses (lvalue_of target)))
-  assign_is x place target value is = ap (λ y. walk vs (length h) h (f.statement_of y)) is
-      ∙ uses_append vs (length h) h (expr_uses (expr_of value.expr)) (target_uses (lvalue_of target))
+      walk vs (plain_names (length h)) h (f.statement_of x) ≡ and_then (walk_uses vs (plain_names (length h)) h (expr_uses (expr_of value.expr)))
+      (λ _. walk_uses vs (plain_names (length h)) h (target_uses (lvalue_of target)))
+  assign_is x place target value is =
+      let names = plain_names (length h) in
+      let uses = assign_uses (lvalue_of target) (placed_of value) in
+      ap (λ y. walk vs names h (f.statement_of y)) is
+      ∙ free_uses (find (λ u. not (is_guarded vs names h u)) uses) _
+      ∙ uses_append vs names h (expr_uses (expr_of value.expr)) (target_uses (lvalue_of target))
+    where
+      free_uses : (o : Option Use) (fault : Use → Fault) →
+          and_then (none_or o fault h) (λ _. walk_target vs (plain_names (length h)) h (lvalue_of target)) ≡ none_or o fault h
+      free_uses None fault = target_walks target
+      free_uses (Some u) fault = refl
 
   -- ---- A `while`
 
   pub while_is : (x : s.Statement) (place : Place) (condition : Placed) (body : Vec s.Statement Global) (xs : List s.Statement) →
       x ≡ s.While place condition body → xs ≡ body.items →
-      walk_uses vs (length h) h (expr_uses (expr_of condition.expr)) ≡ After h →
-      walk vs (length h) h (f.statement_of x) ≡ and_then (walk_all vs (length h) h (f.statements_of xs)) (λ after. join vs (length h) place h (after ∷ []))
+      walk_uses vs (plain_names (length h)) h (expr_uses (expr_of condition.expr)) ≡ After h →
+      walk vs (plain_names (length h)) h (f.statement_of x)
+      ≡ and_then (walk_all vs (plain_names (length h)) h (f.statements_of xs)) (λ after. join vs (plain_names (length h)) place h (after ∷ []))
   while_is x place condition body xs is same tested =
-      ap (λ y. walk vs (length h) h (f.statement_of y)) is
-      ∙ ap (walk vs (length h) h) (of_while place condition body)
-      ∙ after_then _ (λ _. and_then (walk_all vs (length h) h (f.statements_of body.items)) (λ after. join vs (length h) place h (after ∷ []))) h tested
-      ∙ ap (λ (y : List s.Statement). and_then (walk_all vs (length h) h (f.statements_of y)) (λ after. join vs (length h) place h (after ∷ []))) (sym same)
+      ap (λ y. walk vs (plain_names (length h)) h (f.statement_of y)) is
+      ∙ ap (walk vs (plain_names (length h)) h) (of_while place condition body)
+      ∙ after_then _ (λ _. and_then (walk_all vs (plain_names (length h)) h (f.statements_of body.items))
+      (λ after. join vs (plain_names (length h)) place h (after ∷ []))) h tested
+      ∙ ap (λ (y : List s.Statement).
+      and_then (walk_all vs (plain_names (length h)) h (f.statements_of y)) (λ after. join vs (plain_names (length h)) place h (after ∷ []))) (sym same)
 
   pub while_sets : (x : s.Statement) (place : Place) (condition : Placed) (body : Vec s.Statement Global) (xs : List s.Statement) (old one all : List Held) →
       x ≡ s.While place condition body → xs ≡ body.items →
-      one ≡ old ++ h ∷ [] → all ≡ one ++ sets_in_all h (f.statements_of xs) → all ≡ old ++ sets_in h (f.statement_of x)
+      one ≡ old ++ h ∷ [] → all ≡ one ++ sets_in_all (plain_names (length h)) h (f.statements_of xs) →
+      all ≡ old ++ sets_in (plain_names (length h)) h (f.statement_of x)
   while_sets x place condition body xs old one all is same p q =
-      q ∙ ap₂ (λ (a b : List Held). a ++ b) p (ap (λ (y : List s.Statement). sets_in_all h (f.statements_of y)) same)
-      ∙ append_assoc old (h ∷ []) (sets_in_all h (f.statements_of body.items))
-      ∙ ap (λ (y : f.Statement). old ++ sets_in h y) (sym (ap f.statement_of is ∙ of_while place condition body))
+      q ∙ ap₂ (λ (a b : List Held). a ++ b) p (ap (λ (y : List s.Statement). sets_in_all (plain_names (length h)) h (f.statements_of y)) same)
+      ∙ append_assoc old (h ∷ []) (sets_in_all (plain_names (length h)) h (f.statements_of body.items))
+      ∙ ap (λ (y : f.Statement). old ++ sets_in (plain_names (length h)) h y) (sym (ap f.statement_of is ∙ of_while place condition body))
 
   -- ---- A `do`
 
   pub do_is : (x : s.Statement) (place : Place) (body : Vec s.Statement Global) (condition : Placed) (xs : List s.Statement) → x ≡ s.Do place body condition →
       xs ≡ body.items →
-      walk vs (length h) h (f.statement_of x) ≡ and_then (walk_all vs (length h) h (f.statements_of xs))
-      (λ after. and_then (walk_uses vs (length h) after (expr_uses (expr_of condition.expr))) (λ _. join vs (length h) place h (after ∷ [])))
+      walk vs (plain_names (length h)) h (f.statement_of x) ≡ and_then (walk_all vs (plain_names (length h)) h (f.statements_of xs))
+      (λ after. and_then (walk_uses vs (plain_names (length h)) after (expr_uses (expr_of condition.expr)))
+      (λ _. join vs (plain_names (length h)) place h (after ∷ [])))
   do_is x place body condition xs is same =
-      ap (λ y. walk vs (length h) h (f.statement_of y)) is
-      ∙ ap (walk vs (length h) h) (of_do place body condition)
-      ∙ ap (λ (y : List s.Statement). and_then (walk_all vs (length h) h (f.statements_of y))
-      (λ after. and_then (walk_uses vs (length h) after (expr_uses (expr_of condition.expr))) (λ _. join vs (length h) place h (after ∷ [])))) (sym same)
+      ap (λ y. walk vs (plain_names (length h)) h (f.statement_of y)) is
+      ∙ ap (walk vs (plain_names (length h)) h) (of_do place body condition)
+      ∙ ap (λ (y : List s.Statement). and_then (walk_all vs (plain_names (length h)) h (f.statements_of y))
+      (λ after. and_then (walk_uses vs (plain_names (length h)) after (expr_uses (expr_of condition.expr)))
+      (λ _. join vs (plain_names (length h)) place h (after ∷ [])))) (sym same)
 
   -- after its body
   pub do_tests : (x : s.Statement) (place : Place) (body : Vec s.Statement Global) (condition : Placed) (xs : List s.Statement) (k : Held) →
       x ≡ s.Do place body condition → xs ≡ body.items →
-      walk_all vs (length h) h (f.statements_of xs) ≡ After k →
-      walk vs (length h) h (f.statement_of x) ≡ and_then (walk_uses vs (length k) k (expr_uses (expr_of condition.expr)))
-      (λ _. join vs (length h) place h (k ∷ []))
+      walk_all vs (plain_names (length h)) h (f.statements_of xs) ≡ After k →
+      walk vs (plain_names (length h)) h (f.statement_of x) ≡ and_then (walk_uses vs (plain_names (length k)) k (expr_uses (expr_of condition.expr)))
+      (λ _. join vs (plain_names (length h)) place h (k ∷ []))
   do_tests x place body condition xs k is same walked =
       do_is x place body condition xs is same
-      ∙ after_then _ (λ after. and_then (walk_uses vs (length h) after (expr_uses (expr_of condition.expr)))
-      (λ _. join vs (length h) place h (after ∷ []))) k walked
-      ∙ ap (λ (n : ℕ). and_then (walk_uses vs n k (expr_uses (expr_of condition.expr))) (λ _. join vs (length h) place h (k ∷ [])))
+      ∙ after_then _ (λ after. and_then (walk_uses vs (plain_names (length h)) after (expr_uses (expr_of condition.expr)))
+      (λ _. join vs (plain_names (length h)) place h (after ∷ []))) k walked
+      ∙ ap (λ (n : ℕ). and_then (walk_uses vs (plain_names n) k (expr_uses (expr_of condition.expr))) (λ _. join vs (plain_names (length h)) place h (k ∷ [])))
       (sym (walked_all_length (f.statements_of xs) k walked))
 
   pub do_sets : (x : s.Statement) (place : Place) (body : Vec s.Statement Global) (condition : Placed) (xs : List s.Statement) (k : Held)
       (old some all : List Held) → x ≡ s.Do place body condition → xs ≡ body.items →
-      walk_all vs (length h) h (f.statements_of xs) ≡ After k →
-      some ≡ old ++ sets_in_all h (f.statements_of xs) → all ≡ some ++ k ∷ [] → all ≡ old ++ sets_in h (f.statement_of x)
+      walk_all vs (plain_names (length h)) h (f.statements_of xs) ≡ After k →
+      some ≡ old ++ sets_in_all (plain_names (length h)) h (f.statements_of xs) → all ≡ some ++ k ∷ [] →
+      all ≡ old ++ sets_in (plain_names (length h)) h (f.statement_of x)
   do_sets x place body condition xs k old some all is same walked p q =
-      q ∙ ap (λ (a : List Held). a ++ k ∷ []) p ∙ append_assoc old (sets_in_all h (f.statements_of xs)) (k ∷ [])
-      ∙ ap (λ (b : Held). old ++ (sets_in_all h (f.statements_of xs) ++ b ∷ [])) (sym (walked_all_after (f.statements_of xs) k walked))
-      ∙ ap (λ (y : List s.Statement). old ++ (sets_in_all h (f.statements_of y) ++ held_after_all h (f.statements_of y) ∷ [])) same
-      ∙ ap (λ (y : f.Statement). old ++ sets_in h y) (sym (ap f.statement_of is ∙ of_do place body condition))
+      q ∙ ap (λ (a : List Held). a ++ k ∷ []) p ∙ append_assoc old (sets_in_all (plain_names (length h)) h (f.statements_of xs)) (k ∷ [])
+      ∙ ap (λ (b : Held). old ++ (sets_in_all (plain_names (length h)) h (f.statements_of xs) ++ b ∷ [])) (sym (walked_all_after (f.statements_of xs) k walked))
+      ∙ ap (λ (y : List s.Statement). old
+      ++ (sets_in_all (plain_names (length h)) h (f.statements_of y) ++ held_after_all (plain_names (length h)) h (f.statements_of y) ∷ [])) same
+      ∙ ap (λ (y : f.Statement). old ++ sets_in (plain_names (length h)) h y) (sym (ap f.statement_of is ∙ of_do place body condition))
 
   -- a set to compare with another
   pub one_long : (k : Held) → length k ≡ length h → All (λ x. length x ≡ length h) (k ∷ [])
@@ -234,41 +283,46 @@ module _ (vs : List Variable) (h : Held) where
 
   pub if_is : (x : s.Statement) (place : Place) (arms : Vec arm.Arm Global) (otherwise : Vec s.Statement Global) (choices : List arm.Arm) →
       x ≡ s.If place arms otherwise → choices ≡ arms.items →
-      walk vs (length h) h (f.statement_of x) ≡ walk_arms vs (length h) h [] (f.arms_list_of choices)
-      (λ left. and_then (walk_all vs (length h) h (f.statements_of otherwise.items)) (λ after. join_all vs (length h) place (left ++ after ∷ [])))
+      walk vs (plain_names (length h)) h (f.statement_of x) ≡ walk_arms vs (plain_names (length h)) h [] (f.arms_list_of choices)
+      (λ left. and_then (walk_all vs (plain_names (length h)) h (f.statements_of otherwise.items))
+      (λ after. join_all vs (plain_names (length h)) place (left ++ after ∷ [])))
   if_is x place arms otherwise choices is same =
-      ap (λ y. walk vs (length h) h (f.statement_of y)) is
-      ∙ ap (walk vs (length h) h) (of_if place arms otherwise)
-      ∙ ap (λ (y : List arm.Arm). walk_arms vs (length h) h [] (f.arms_list_of y)
-      (λ left. and_then (walk_all vs (length h) h (f.statements_of otherwise.items)) (λ after. join_all vs (length h) place (left ++ after ∷ []))))
+      ap (λ y. walk vs (plain_names (length h)) h (f.statement_of y)) is
+      ∙ ap (walk vs (plain_names (length h)) h) (of_if place arms otherwise)
+      ∙ ap (λ (y : List arm.Arm). walk_arms vs (plain_names (length h)) h [] (f.arms_list_of y)
+      (λ left. and_then (walk_all vs (plain_names (length h)) h (f.statements_of otherwise.items))
+      (λ after. join_all vs (plain_names (length h)) place (left ++ after ∷ []))))
       (sym same)
 
   -- after its arms
   pub otherwise_is : (x : s.Statement) (place : Place) (arms : Vec arm.Arm Global) (otherwise : Vec s.Statement Global) (choices : List arm.Arm)
       (xs : List s.Statement) (ends : List Held) → x ≡ s.If place arms otherwise → choices ≡ arms.items → xs ≡ otherwise.items →
-      ((held_after : List Held → Walked) → walk_arms vs (length h) h [] (f.arms_list_of choices) held_after ≡ held_after ends) →
-      walk vs (length h) h (f.statement_of x) ≡ and_then (walk_all vs (length h) h (f.statements_of xs))
-      (λ after. join_all vs (length h) place (ends ++ after ∷ []))
+      ((onward : List Held → Walked) → walk_arms vs (plain_names (length h)) h [] (f.arms_list_of choices) onward ≡ onward ends) →
+      walk vs (plain_names (length h)) h (f.statement_of x) ≡ and_then (walk_all vs (plain_names (length h)) h (f.statements_of xs))
+      (λ after. join_all vs (plain_names (length h)) place (ends ++ after ∷ []))
   otherwise_is x place arms otherwise choices xs ends is same equal walked =
       if_is x place arms otherwise choices is same
-      ∙ walked (λ left. and_then (walk_all vs (length h) h (f.statements_of otherwise.items)) (λ after. join_all vs (length h) place (left ++ after ∷ [])))
-      ∙ ap (λ (y : List s.Statement). and_then (walk_all vs (length h) h (f.statements_of y)) (λ after. join_all vs (length h) place (ends ++ after ∷ [])))
+      ∙ walked (λ left. and_then (walk_all vs (plain_names (length h)) h (f.statements_of otherwise.items))
+      (λ after. join_all vs (plain_names (length h)) place (left ++ after ∷ [])))
+      ∙ ap (λ (y : List s.Statement).
+      and_then (walk_all vs (plain_names (length h)) h (f.statements_of y)) (λ after. join_all vs (plain_names (length h)) place (ends ++ after ∷ [])))
       (sym equal)
 
   -- where its paths meet
   pub ends_meet : (x : s.Statement) (place : Place) (arms : Vec arm.Arm Global) (otherwise : Vec s.Statement Global) (choices : List arm.Arm)
       (xs : List s.Statement) (ends others : List Held) (end : Held) → x ≡ s.If place arms otherwise → choices ≡ arms.items → xs ≡ otherwise.items →
-      ((held_after : List Held → Walked) → walk_arms vs (length h) h [] (f.arms_list_of choices) held_after ≡ held_after ends) →
+      ((onward : List Held → Walked) → walk_arms vs (plain_names (length h)) h [] (f.arms_list_of choices) onward ≡ onward ends) →
       All (λ y. length y ≡ length h) ends →
-      walk_all vs (length h) h (f.statements_of xs) ≡ After end → others ≡ ends →
-      walk vs (length h) h (f.statement_of x) ≡ join vs (length end) place end others
+      walk_all vs (plain_names (length h)) h (f.statements_of xs) ≡ After end → others ≡ ends →
+      walk vs (plain_names (length h)) h (f.statement_of x) ≡ join vs (plain_names (length end)) place end others
   ends_meet x place arms otherwise choices xs ends others end is same equal walked long reached e =
       otherwise_is x place arms otherwise choices xs ends is same equal walked
-      ∙ after_then _ (λ after. join_all vs (length h) place (ends ++ after ∷ [])) end reached
+      ∙ after_then _ (λ after. join_all vs (plain_names (length h)) place (ends ++ after ∷ [])) end reached
       ∙ join_last vs (length h) place end ends (walked_all_length (f.statements_of xs) end reached) long
-      ∙ ap₂ (λ (n : ℕ) (hs : List Held). join vs n place end hs) (sym (walked_all_length (f.statements_of xs) end reached)) (sym e)
+      ∙ ap₂ (λ (n : ℕ) (hs : List Held). join vs (plain_names n) place end hs) (sym (walked_all_length (f.statements_of xs) end reached)) (sym e)
 
-  pub ends_long : (xs : List s.Statement) (end : Held) (ends others : List Held) → walk_all vs (length h) h (f.statements_of xs) ≡ After end → others ≡ ends →
+  pub ends_long : (xs : List s.Statement) (end : Held) (ends others : List Held) →
+      walk_all vs (plain_names (length h)) h (f.statements_of xs) ≡ After end → others ≡ ends →
       All (λ y. length y ≡ length h) ends → All (λ y. length y ≡ length end) others
   ends_long xs end ends others reached e long =
       subst (λ (ys : List Held). All (λ y. length y ≡ length end) ys) (sym e)
@@ -276,9 +330,20 @@ module _ (vs : List Variable) (h : Held) where
 
   pub if_sets : (x : s.Statement) (place : Place) (arms : Vec arm.Arm Global) (otherwise : Vec s.Statement Global) (choices : List arm.Arm)
       (xs : List s.Statement) (old one all : List Held) → x ≡ s.If place arms otherwise → choices ≡ arms.items → xs ≡ otherwise.items →
-      one ≡ old ++ sets_in_arms h (f.arms_list_of choices) → all ≡ one ++ sets_in_all h (f.statements_of xs) → all ≡ old ++ sets_in h (f.statement_of x)
+      one ≡ old ++ sets_in_arms (plain_names (length h)) h (f.arms_list_of choices) → all ≡ one ++ sets_in_all (plain_names (length h)) h (f.statements_of xs) →
+      all ≡ old ++ sets_in (plain_names (length h)) h (f.statement_of x)
   if_sets x place arms otherwise choices xs old one all is same equal p q =
-      q ∙ ap (λ (ys : List Held). ys ++ sets_in_all h (f.statements_of xs)) p
-      ∙ append_assoc old (sets_in_arms h (f.arms_list_of choices)) (sets_in_all h (f.statements_of xs))
-      ∙ ap₂ (λ (a : List arm.Arm) (b : List s.Statement). old ++ (sets_in_arms h (f.arms_list_of a) ++ sets_in_all h (f.statements_of b))) same equal
-      ∙ ap (λ (y : f.Statement). old ++ sets_in h y) (sym (ap f.statement_of is ∙ of_if place arms otherwise))
+      q ∙ ap (λ (ys : List Held). ys ++ sets_in_all (plain_names (length h)) h (f.statements_of xs)) p
+      ∙ append_assoc old (sets_in_arms (plain_names (length h)) h (f.arms_list_of choices)) (sets_in_all (plain_names (length h)) h (f.statements_of xs))
+      ∙ ap₂ (λ (a : List arm.Arm) (b : List s.Statement).
+      old ++ (sets_in_arms (plain_names (length h)) h (f.arms_list_of a) ++ sets_in_all (plain_names (length h)) h (f.statements_of b))) same equal
+      ∙ ap (λ (y : f.Statement). old ++ sets_in (plain_names (length h)) h y) (sym (ap f.statement_of is ∙ of_if place arms otherwise))
+
+-- ---- Sets of as many mutexes
+
+pub sets_by : (n m : ℕ) (h : Held) (x : f.Statement) (new old : List Held) → n ≡ m → new ≡ old ++ sets_in (plain_names n) h x →
+    new ≡ old ++ sets_in (plain_names m) h x
+sets_by n m h x new old e p = p ∙ ap (λ (k : ℕ). old ++ sets_in (plain_names k) h x) e
+
+pub after_by : (n m : ℕ) (h k : Held) (x : f.Statement) → n ≡ m → held_after (plain_names n) h x ≡ k → held_after (plain_names m) h x ≡ k
+after_by n m h k x e p = ap (λ (i : ℕ). held_after (plain_names i) h x) (sym e) ∙ p

@@ -3,6 +3,7 @@ mod Masks
 mod Bits
 mod Sets
 mod CheckerCorrectness
+mod PlainSets
 mod HeldLengths
 mod Flows
 mod Refusals

@@ -3,8 +3,10 @@ use Rattle.std.proofs.Common.{◌≡◌, ◌++◌, ℕ, not, List, Option, Some,
 use Rattle.std.specs.Option.{option_or}
 use Rattle.std.proofs.lemmas.List.Folds.{find-append}
 use Rattle.c_tree.specs.declared.rule.Rule.TheVariants as rule
+use Rattle.c_tree.specs.Exprs.{LockName}
 use Rattle.c_tree.specs.Programs.{Variable}
-use Rattle.c_tree.specs.LockDiscipline.{Held, Fault, Walked, After, Broken, and_then, Use, guard_of, is_guarded, walk_uses}
+use Rattle.c_tree.specs.LockNames.{Held}
+use Rattle.c_tree.specs.LockDiscipline.{Fault, Walked, After, Broken, and_then, Use, guard_name, is_guarded, walk_uses}
 use Rattle.lock_discipline.specs.declared.error.LockError.{LockError}
 use Rattle.lock_discipline.specs.Faults.{fault_of}
 use Rattle.lock_discipline.specs.links.Refusals.{Refuses, RefusesAny}
@@ -41,14 +43,14 @@ either None b fault h = refl
 either (Some x) b fault h = refl
 
 -- uses after uses
-pub uses_append : (vs : List Variable) (n : ℕ) (h : Held) (us ws : List Use) →
-    walk_uses vs n h (us ++ ws) ≡ and_then (walk_uses vs n h us) (λ _. walk_uses vs n h ws)
-uses_append vs n h us ws =
-    let missing = λ (u : Use). not (is_guarded vs h u) in
-    let fault : Use → Fault = λ u. record { rule = rule.Unheld; place = u.place; mutex = guard_of vs u.variable } in
+pub uses_append : (vs : List Variable) (names : List LockName) (h : Held) (us ws : List Use) →
+    walk_uses vs names h (us ++ ws) ≡ and_then (walk_uses vs names h us) (λ _. walk_uses vs names h ws)
+uses_append vs names h us ws =
+    let missing = λ (u : Use). not (is_guarded vs names h u) in
+    let fault : Use → Fault = λ u. record { rule = rule.Unheld; place = u.place; mutex = (guard_name vs u).mutex } in
     ap (λ (o : Option Use). none_or o fault h) (find-append missing us ws) ∙ either (find missing us) (find missing ws) fault h
 
 -- the walk over uses that are put together of two lists goes over the one and then over the other
-pub uses_split : (vs : List Variable) (n : ℕ) (h : Held) (us xs ys : List Use) → us ≡ xs ++ ys →
-    walk_uses vs n h us ≡ and_then (walk_uses vs n h xs) (λ _. walk_uses vs n h ys)
-uses_split vs n h us xs ys e = ap (walk_uses vs n h) e ∙ uses_append vs n h xs ys
+pub uses_split : (vs : List Variable) (names : List LockName) (h : Held) (us xs ys : List Use) → us ≡ xs ++ ys →
+    walk_uses vs names h us ≡ and_then (walk_uses vs names h xs) (λ _. walk_uses vs names h ys)
+uses_split vs names h us xs ys e = ap (walk_uses vs names h) e ∙ uses_append vs names h xs ys

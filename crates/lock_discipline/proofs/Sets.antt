@@ -6,7 +6,8 @@ use Rattle.std.specs.Option.{option_or}
 use Rattle.std.proofs.lemmas.List.{length-replicate}
 use Rattle.std.proofs.lemmas.List.Folds.{find-append}
 use Rattle.lock_discipline.specs.links.Sets.{differ}
-use Rattle.c_tree.specs.LockDiscipline.{Held, holds, numbers_below, is_in_some, is_in_all, least_difference, none_held}
+use Rattle.c_tree.specs.LockNames.{Held, holds, none_held}
+use Rattle.c_tree.specs.LockDiscipline.{numbers_below, is_in_some, is_in_all, least_difference}
 
 -- ---- The first number that passes a test
 

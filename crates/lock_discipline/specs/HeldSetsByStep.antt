@@ -1,11 +1,12 @@
--- The steps of a thread by number, in the order of its text, and the set of held mutexes before each.
+-- The steps of a thread by number, in the order of its text, and the set of held locks before each, by their names.
 use Rattle.std.specs.Prelude.{◌≡◌, ◌↔◌, ℕ, suc, ◌+◌, List, length, slice_get, Some}
 use Rattle.ido_base.specs.declared.place.Place.{Place}
 use Rattle.ido_ints.specs.declared.kinds.Kind.{Kind}
 use Rattle.c_tree.specs.Exprs as e
 use Rattle.c_tree.specs.Programs.{Variable}
 use Rattle.c_tree.specs.Flats as f
-use Rattle.c_tree.specs.LockDiscipline.{Held, none_held, Keeps, KeepAll, IsDisciplined}
+use Rattle.c_tree.specs.LockNames.{Held, none_held, lock_names}
+use Rattle.c_tree.specs.LockDiscipline.{Keeps, KeepAll, IsDisciplined}
 
 -- ---- How many steps
 
@@ -40,7 +41,7 @@ thread_steps t = steps_of_all t.body + 1
 -- ---- The set before a step
 
 -- where the part begins with the one set, the other is held before its step of this number
-module _ (vs : List Variable) where
+module _ (vs : List Variable) (names : List e.LockName) where
   mutual
     pub data HeldIn : Held → f.Statement → (step : ℕ) → Held → Type 0 where
       evaluate : {h : Held} (place : Place) (target : e.Lvalue) (value : e.Placed) → HeldIn h (f.Assign place target value) 0 h
@@ -57,14 +58,14 @@ module _ (vs : List Variable) where
           HeldIn h (f.While place condition body) (suc n) k
       in_do : {h k : Held} {n : ℕ} (place : Place) (body : f.Statements) (condition : e.Placed) → HeldInAll h body n k →
           HeldIn h (f.Do place body condition) n k
-      test_last : {h k : Held} (place : Place) (body : f.Statements) (condition : e.Placed) → KeepAll vs h body k →
+      test_last : {h k : Held} (place : Place) (body : f.Statements) (condition : e.Placed) → KeepAll vs names h body k →
           HeldIn h (f.Do place body condition) (steps_of_all body) k
       take : {h : Held} (place : Place) (name : e.LockName) → HeldIn h (f.Lock place name) 0 h
       give : {h : Held} (place : Place) (name : e.LockName) → HeldIn h (f.Unlock place name) 0 h
 
     pub data HeldInAll : Held → f.Statements → (step : ℕ) → Held → Type 0 where
       in_first : {h k : Held} {n : ℕ} (x : f.Statement) (rest : f.Statements) → HeldIn h x n k → HeldInAll h (f.statement_and x rest) n k
-      in_rest : {h between k : Held} {n : ℕ} (x : f.Statement) (rest : f.Statements) → Keeps vs h x between → HeldInAll between rest n k →
+      in_rest : {h between k : Held} {n : ℕ} (x : f.Statement) (rest : f.Statements) → Keeps vs names h x between → HeldInAll between rest n k →
           HeldInAll h (f.statement_and x rest) (steps x + n) k
 
     pub data HeldInArms : Held → f.Arms → (step : ℕ) → Held → Type 0 where
@@ -76,8 +77,8 @@ module _ (vs : List Variable) where
 
 -- a thread begins with no mutex held
 pub data HeldBefore (x : f.Flat) (t : f.Thread) : (step : ℕ) → Held → Type 0 where
-  in_body : {k : Held} {n : ℕ} → HeldInAll x.variables (none_held (length x.mutexes)) t.body n k → HeldBefore x t n k
-  at_end : {k : Held} → KeepAll x.variables (none_held (length x.mutexes)) t.body k → HeldBefore x t (steps_of_all t.body) k
+  in_body : {k : Held} {n : ℕ} → HeldInAll x.variables (lock_names x t) (none_held (length (lock_names x t))) t.body n k → HeldBefore x t n k
+  at_end : {k : Held} → KeepAll x.variables (lock_names x t) (none_held (length (lock_names x t))) t.body k → HeldBefore x t (steps_of_all t.body) k
 
 -- ---- All the sets of a program
 

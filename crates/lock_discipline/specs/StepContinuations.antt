@@ -1,10 +1,13 @@
 -- What a thread has left to do before each of its steps, in the order of its text, and what it holds there in a run.
 use Rattle.std.specs.Prelude.{◌≡◌, ◌↔◌, ℕ, List, [], ◌∷◌, ◌++◌, slice_get, Some}
+use Rattle.std.specs.List.{AllByRecursion}
 use Rattle.ido_base.specs.declared.place.Place.{Place}
 use Rattle.c_tree.specs.Exprs as e
 use Rattle.c_tree.specs.Flats as f
 use Rattle.c_tree.specs.Source.{Thread, State, opened_all}
-use Rattle.c_tree.specs.LockDiscipline.{Held, IsDisciplined}
+use Rattle.c_tree.specs.LockNames.{Held}
+use Rattle.c_tree.specs.WellFormed.{IsSingle}
+use Rattle.c_tree.specs.LockDiscipline.{IsDisciplined}
 use Rattle.source_machine.specs.Mutexes.{held_by}
 use Rattle.source_machine.specs.Discipline.{StateKeeps}
 use Rattle.lock_discipline.specs.HeldSetsByStep.{HeldBefore}
@@ -39,7 +42,9 @@ abbrev mutual
 abbrev pub thread_lefts : f.Thread → List (List f.Statement)
 thread_lefts t = lefts_in_all t.body [] ++ [] ∷ []
 
--- in a state that keeps the discipline, the set that is held before a step by the text is exactly what the holders say of a thread that stands before it
+-- in a state that keeps the discipline, of a form in which no mutex is in an array, the set that is held before a step by the text is exactly what the holders
+-- say of a thread that stands before it
 abbrev pub HeldIsHeld : Type 0
-HeldIsHeld = (x : f.Flat) (s : State) (number step : ℕ) (t : f.Thread) (thread : Thread) (h : Held) → IsDisciplined x t → StateKeeps x s →
-    slice_get s.threads number ≡ Some thread → slice_get (thread_lefts t) step ≡ Some thread.left → HeldBefore x t step h ↔ (h ≡ held_by number s.holders)
+HeldIsHeld = (x : f.Flat) (s : State) (number step : ℕ) (t : f.Thread) (thread : Thread) (h : Held) → AllByRecursion IsSingle x.mutexes → IsDisciplined x t →
+    StateKeeps x s → slice_get x.threads number ≡ Some t → slice_get s.threads number ≡ Some thread → slice_get (thread_lefts t) step ≡ Some thread.left →
+    HeldBefore x t step h ↔ (h ≡ held_by number s.holders)

@@ -3,6 +3,7 @@ ghost use Rattle.std.specs.Prelude.{◌≡◌, ◌<◌, ◌≤◌, [], None, Som
 ghost use Rattle.ido_base.specs.declared.limits.TheConstants.{MOST_MUTEXES};
 ghost use Rattle.c_tree.specs.Flats.{flat_of};
 ghost use Rattle.c_tree.specs.LockDiscipline.{lock_fault};
+ghost use Rattle.c_tree.specs.WellFormed.{IsWellFormed};
 ghost use Rattle.lock_discipline.specs.Faults.{fault_of};
 ghost use Rattle.lock_discipline.specs.Masks.{mask_of};
 ghost use Rattle.lock_discipline.specs.HeldSetsByStep.{AreAllSetsOf};
@@ -61,12 +62,11 @@ impl Held {
 /// Walks through the threads in order, each from its beginning, to the first fault: a variable that is used while
 /// its mutex isn't held, a mutex that is locked while it is held or unlocked while it isn't, paths that meet with
 /// different mutexes held, or a thread that ends with one held. A well formed flat form has no more than 64 mutexes
-/// (`laws::well_formed_has_few_mutexes`).
+/// (`laws::well_formed_has_few_mutexes`), and none of them is in an array: a lock's name has its mutex's number.
 ///
-/// A number of a mutex or a variable may be any: a mutex that there isn't is never held, and a variable that there isn't is guarded
-/// by mutex 0. The sets are said by relations of before, statement and after, and not by the walk.
+/// The sets are said by relations of before, statement and after, and not by the walk.
 pub fn check(alloc: Global, flat: &Flat) -> Result<Held, LockError>
-    requires { length flat.now.mutexes.items ≤ MOST_MUTEXES }
+    requires { IsWellFormed (flat_of flat.now) }
     ensures accepts { IfOk result (λ _. lock_fault (flat_of flat.now) ≡ None) }
     ensures refuses { IfErr result (λ error. IfSome (fault_of error) (λ fault. lock_fault (flat_of flat.now) ≡ Some fault)) }
     ensures sets { IfOk result (λ held. AreAllSetsOf (flat_of flat.now) held) }

@@ -1,10 +1,13 @@
 //! Sets of mutexes.
 ghost use Rattle.std.specs.Prelude.{◌≡◌, ◌≤◌, ◌||◌, ℕ, true, false, length, slice_set, find};
 ghost use Rattle.ido_base.specs.declared.limits.TheConstants.{MOST_MUTEXES};
-ghost use Rattle.c_tree.specs.LockDiscipline.{holds, none_held, numbers_below};
+ghost use Rattle.c_tree.specs.Exprs.{lock_name_of};
+ghost use Rattle.c_tree.specs.LockNames.{holds, none_held, number_in, plain_names};
+ghost use Rattle.c_tree.specs.LockDiscipline.{numbers_below};
 ghost use Rattle.lock_discipline.specs.Masks.{mask_of};
 ghost use Rattle.lock_discipline.specs.links.Sets.{differ};
 
+use c_tree::expr::LockName;
 use std::alloc::AllocError;
 use std::marker::Model;
 
@@ -66,6 +69,17 @@ impl MutexSet {
         ensures { result ≡ mask_of self }
     {
         self.mask
+    }
+
+    /// The number of a lock's name among those of so many mutexes; past all of them where it has a key.
+    pub fn number(self, lock: &LockName) -> u32
+        ensures { let n = number_in (plain_names (length self)) (lock_name_of lock.now) in
+            (holds self result ≡ holds self n) × (slice_set self result true ≡ slice_set self n true) × (slice_set self result false ≡ slice_set self n false) }
+    {
+        match &lock.key {
+            None => lock.mutex,
+            Some(_) => self.mutexes,
+        }
     }
 
     /// The mutex is held.

@@ -1,11 +1,12 @@
 //! The variables that a step uses, each under its mutex.
-ghost use Rattle.std.specs.Prelude.{◌≡◌, [], ◌∷◌, length, map, MatchResult};
+ghost use Rattle.std.specs.Prelude.{◌≡◌, [], ◌∷◌, length, map, Option, is_some, MatchResult};
 ghost use Rattle.c_tree.specs.Programs as program;
 ghost use Rattle.c_tree.specs.Programs.{variable_of};
-ghost use Rattle.c_tree.specs.Exprs.{expr_of, lvalue_of};
-ghost use Rattle.c_tree.specs.LockDiscipline.{After, guard_number, guard_of, walk_uses, expr_uses, target_uses};
+ghost use Rattle.c_tree.specs.Exprs.{Placed, expr_of, lvalue_of};
+ghost use Rattle.c_tree.specs.LockNames.{holds, number_in, plain_names};
+ghost use Rattle.c_tree.specs.LockDiscipline.{After, variable_guard, name_under, walk_uses, expr_uses, target_uses};
 ghost use Rattle.lock_discipline.specs.links.Refusals.{Refuses};
-ghost use Rattle.lock_discipline.specs.links.Uses.{use_of};
+ghost use Rattle.lock_discipline.specs.links.Uses.{use_of, guard_number};
 
 use crate::error::LockError;
 use crate::set::MutexSet;
@@ -23,37 +24,53 @@ fn guard_number(guard: Guard) -> u32
     }
 }
 
-/// The mutex that guards the variable; mutex 0 where there is no such variable.
-fn guard_of(variables: &[Variable], variable: u32) -> u32
-    ensures { result ≡ guard_of (map variable_of variables.now) variable }
+/// What guards the variable; mutex 0 where there is no such variable.
+fn variable_guard(variables: &[Variable], variable: u32) -> Guard
+    ensures { program.guard_of result ≡ variable_guard (map variable_of variables.now) variable }
 {
     match variables.get(variable as usize) {
-        Some(found) => guard_number(found.guard),
-        None => 0,
+        Some(found) => found.guard,
+        None => Guard::By { mutex: 0 },
     }
 }
 
-/// The use of a variable whose name stands at the place.
+/// The lock of an access under the guard is held. No set has the lock of an element that has a mutex of its own: its name has a key.
+fn holds_guard(held: MutexSet, guard: Guard, indexed: bool) -> bool
+    ensures { (index : Option Placed) → is_some index ≡ indexed →
+        result ≡ holds held (number_in (plain_names (length held)) (name_under (program.guard_of guard) index)) }
+{
+    match guard {
+        Guard::By { mutex } => held.holds(mutex),
+        Guard::Each { first } => !indexed && held.holds(first),
+    }
+}
+
+/// The use of a variable whose name stands at the place, with an index or without one.
 fn check_use(
     variables: &[Variable],
     held: MutexSet,
     variable: u32,
     place: Place,
+    indexed: bool,
 ) -> Result<(), LockError>
-    ensures { let w = walk_uses (map variable_of variables.now) (length held) held (use_of variable place ∷ []) in
-        MatchResult result (λ _. w ≡ After held) (Refuses w) }
+    ensures { (index : Option Placed) → is_some index ≡ indexed →
+        (let w = walk_uses (map variable_of variables.now) (plain_names (length held)) held (use_of variable place index ∷ []) in
+        MatchResult result (λ _. w ≡ After held) (Refuses w)) }
 {
-    let mutex = guard_of(variables, variable);
-    if held.holds(mutex) {
+    let guard = variable_guard(variables, variable);
+    if holds_guard(held, guard, indexed) {
         Ok(())
     } else {
-        Err(LockError::Unheld { place, mutex })
+        Err(LockError::Unheld {
+            place,
+            mutex: guard_number(guard),
+        })
     }
 }
 
 /// The uses in an expression, from left to right.
 pub fn check_expr(variables: &[Variable], held: MutexSet, expr: &Expr) -> Result<(), LockError>
-    ensures { let w = walk_uses (map variable_of variables.now) (length held) held (expr_uses (expr_of expr.now)) in
+    ensures { let w = walk_uses (map variable_of variables.now) (plain_names (length held)) held (expr_uses (expr_of expr.now)) in
         MatchResult result (λ _. w ≡ After held) (Refuses w) }
 {
     match expr {
@@ -62,14 +79,14 @@ pub fn check_expr(variables: &[Variable], held: MutexSet, expr: &Expr) -> Result
             place,
             variable,
             ..
-        } => check_use(variables, held, *variable, *place),
+        } => check_use(variables, held, *variable, *place, false),
         Expr::Element {
             place,
             variable,
             index,
             ..
         } => {
-            check_use(variables, held, *variable, *place)?;
+            check_use(variables, held, *variable, *place, true)?;
             check_expr(variables, held, index)
         }
         Expr::Unary { operand, .. }
@@ -98,7 +115,7 @@ pub fn check_target(
     held: MutexSet,
     target: &Lvalue,
 ) -> Result<(), LockError>
-    ensures { let w = walk_uses (map variable_of variables.now) (length held) held (target_uses (lvalue_of target.now)) in
+    ensures { let w = walk_uses (map variable_of variables.now) (plain_names (length held)) held (target_uses (lvalue_of target.now)) in
         MatchResult result (λ _. w ≡ After held) (Refuses w) }
 {
     match target {
@@ -107,14 +124,14 @@ pub fn check_target(
             place,
             variable,
             ..
-        } => check_use(variables, held, *variable, *place),
+        } => check_use(variables, held, *variable, *place, false),
         Lvalue::Element {
             place,
             variable,
             index,
             ..
         } => {
-            check_use(variables, held, *variable, *place)?;
+            check_use(variables, held, *variable, *place, true)?;
             check_expr(variables, held, &index.expr)
         }
     }

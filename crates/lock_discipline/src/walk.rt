@@ -4,7 +4,8 @@ ghost use Rattle.std.specs.List.{All};
 ghost use Rattle.ido_base.specs.declared.limits.TheConstants.{MOST_MUTEXES};
 ghost use Rattle.c_tree.specs.Programs.{variable_of};
 ghost use Rattle.c_tree.specs.Flats.{statement_of, statements_of, arms_list_of, thread_of};
-ghost use Rattle.c_tree.specs.LockDiscipline.{Held, Walked, After, least_difference, join, walk, walk_all, walk_arms, walk_thread};
+ghost use Rattle.c_tree.specs.LockNames.{Held, plain_names};
+ghost use Rattle.c_tree.specs.LockDiscipline.{Walked, After, least_difference, join, walk, walk_all, walk_arms, walk_thread};
 ghost use Rattle.lock_discipline.specs.links.Refusals.{Refuses, RefusesAny};
 ghost use Rattle.lock_discipline.specs.links.Flow.{sets_in, sets_in_all, sets_in_arms, thread_sets};
 
@@ -32,7 +33,7 @@ fn least_difference(first: MutexSet, others: &[MutexSet]) -> Option<u32>
 /// Paths meet at a statement, each with its set.
 fn join(place: Place, first: MutexSet, others: &[MutexSet]) -> Result<(), LockError>
     requires { All (λ h. length h ≡ length first) others.now }
-    ensures { let w = join [] (length first) place first others.now in
+    ensures { let w = join [] (plain_names (length first)) place first others.now in
         MatchResult result (λ _. w ≡ After first) (Refuses w) }
 {
     match least_difference(first, others) {
@@ -50,9 +51,9 @@ fn walk_statement(
     statement: &Statement,
     sets: &mut Vec<MutexSet>,
 ) -> Result<MutexSet, LockError>
-    ensures walk { let w = walk (map variable_of variables.now) (length held) held (statement_of statement.now) in
+    ensures walk { let w = walk (map variable_of variables.now) (plain_names (length held)) held (statement_of statement.now) in
         MatchResult result (λ after. w ≡ After after) (Refuses w) }
-    ensures sets { IfOk result (λ _. sets.new.items ≡ sets.old.items ++ sets_in held (statement_of statement.now)) }
+    ensures sets { IfOk result (λ _. sets.new.items ≡ sets.old.items ++ sets_in (plain_names (length held)) held (statement_of statement.now)) }
 {
     match statement {
         Statement::Assign { target, value, .. } => {
@@ -99,24 +100,26 @@ fn walk_statement(
             Ok(held)
         }
         Statement::Lock { place, lock } => {
-            if held.holds(lock.mutex) {
+            let number = held.number(lock);
+            if held.holds(number) {
                 return Err(LockError::Again {
                     place: *place,
                     mutex: lock.mutex,
                 });
             }
             sets.push(held)?;
-            Ok(held.with(lock.mutex))
+            Ok(held.with(number))
         }
         Statement::Unlock { place, lock } => {
-            if !held.holds(lock.mutex) {
+            let number = held.number(lock);
+            if !held.holds(number) {
                 return Err(LockError::NotHeld {
                     place: *place,
                     mutex: lock.mutex,
                 });
             }
             sets.push(held)?;
-            Ok(held.without(lock.mutex))
+            Ok(held.without(number))
         }
     }
 }
@@ -130,9 +133,9 @@ fn walk_statements(
     statements: &[Statement],
     sets: &mut Vec<MutexSet>,
 ) -> Result<MutexSet, LockError>
-    ensures walk { let w = walk_all (map variable_of variables.now) (length held) held (statements_of statements.now) in
+    ensures walk { let w = walk_all (map variable_of variables.now) (plain_names (length held)) held (statements_of statements.now) in
         MatchResult result (λ after. w ≡ After after) (Refuses w) }
-    ensures sets { IfOk result (λ _. sets.new.items ≡ sets.old.items ++ sets_in_all held (statements_of statements.now)) }
+    ensures sets { IfOk result (λ _. sets.new.items ≡ sets.old.items ++ sets_in_all (plain_names (length held)) held (statements_of statements.now)) }
 {
     let mut end = held;
     for statement in statements {
@@ -150,10 +153,10 @@ fn walk_arms(
     arms: &[Arm],
     sets: &mut Vec<MutexSet>,
 ) -> Result<Vec<MutexSet>, LockError>
-    ensures walk { let w = walk_arms (map variable_of variables.now) (length held) held [] (arms_list_of arms.now) in
+    ensures walk { let w = walk_arms (map variable_of variables.now) (plain_names (length held)) held [] (arms_list_of arms.now) in
         MatchResult result (λ ends. (later : List Held → Walked) → w later ≡ later ends.items) (RefusesAny w) }
     ensures long { IfOk result (λ ends. All (λ h. length h ≡ length held) ends.items) }
-    ensures sets { IfOk result (λ _. sets.new.items ≡ sets.old.items ++ sets_in_arms held (arms_list_of arms.now)) }
+    ensures sets { IfOk result (λ _. sets.new.items ≡ sets.old.items ++ sets_in_arms (plain_names (length held)) held (arms_list_of arms.now)) }
 {
     let mut ends = Vec::new(alloc);
     for arm in arms {
@@ -172,9 +175,9 @@ pub fn walk_thread(
     thread: &Thread,
 ) -> Result<Vec<MutexSet>, LockError>
     requires { mutexes ≤ MOST_MUTEXES }
-    ensures walk { let w = walk_thread (map variable_of variables.now) mutexes (thread_of thread.now) in
+    ensures walk { let w = walk_thread (map variable_of variables.now) (plain_names mutexes) (thread_of thread.now) in
         MatchResult result (λ _. (end : Held) × (w ≡ After end)) (Refuses w) }
-    ensures sets { IfOk result (λ sets. sets.items ≡ thread_sets mutexes (thread_of thread.now)) }
+    ensures sets { IfOk result (λ sets. sets.items ≡ thread_sets (plain_names mutexes) (thread_of thread.now)) }
 {
     let mut sets = Vec::new(alloc);
     let none = MutexSet::none(mutexes);

@@ -9,7 +9,7 @@ use Rattle.c_tree.specs.declared.flat.Arm as arm
 use Rattle.c_tree.specs.declared.flat.Thread as thread
 use Rattle.c_tree.specs.declared.flat.Flat as d
 use Rattle.c_tree.specs.Flats as f
-use Rattle.c_tree.specs.LockDiscipline.{Held}
+use Rattle.c_tree.specs.LockNames.{Held}
 use Rattle.c_tree.proofs.Public.{flat_rows_of_while as of_while, flat_rows_of_do as of_do, flat_rows_of_if as of_if}
 use Rattle.c_tree.specs.Programs.{mutex_of}
 use Rattle.lock_order.specs.declared.walk.Met.{Met}

@@ -4,7 +4,7 @@ use Rattle.std.specs.Prelude.{ℕ, List, [], ◌∷◌, ◌++◌, drop, length, 
 use Rattle.std.specs.List.{list_any}
 use Rattle.ido_base.specs.declared.place.Place.{Place}
 use Rattle.c_tree.specs.Flats as f
-use Rattle.c_tree.specs.LockDiscipline.{Held, holds, none_held}
+use Rattle.c_tree.specs.LockNames.{Held, holds, none_held}
 use Rattle.lock_order.specs.declared.walk.Met.{Met}
 
 -- how far a walk through a thread has come: which mutexes are held there, and each `lock` that it has met, by its mutex and its place, in the order of the

@@ -1,7 +1,7 @@
 //! The walk through a thread.
 ghost use Rattle.std.specs.Prelude.{◌≡◌, ◌≤◌, ◌&&◌, [], false, true, length, slice_set, if◌then◌else◌, MatchResult};
 ghost use Rattle.c_tree.specs.Flats.{statement_of, statements_of, arms_list_of, thread_of};
-ghost use Rattle.c_tree.specs.LockDiscipline.{holds, none_held};
+ghost use Rattle.c_tree.specs.LockNames.{holds, none_held};
 ghost use Rattle.lock_order.specs.LockOrder.{After, Broken, Progress, broken, holding, holds_from, is_in_way, last_in_way, locked};
 ghost use Rattle.lock_order.specs.LockOrder.{walk, walk_all, walk_arms, walk_thread};
 ghost use Rattle.lock_order.specs.links.Walks.{Refuses, progress_of};

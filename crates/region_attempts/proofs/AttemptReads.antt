@@ -1,18 +1,16 @@
 -- What an attempt reads is right.
-use Rattle.std.proofs.Common.{◌≡◌, ◌≢◌, refl, ℕ, suc, ◌<◌, ◌≤◌, List, replicate, sym, ◌∙◌, ap, subst, arith, Option, Some, None, true, ⊎_elim}
+use Rattle.std.proofs.Common.{◌≡◌, ◌≢◌, refl, ℕ, suc, ◌<◌, ◌≤◌, List, replicate, sym, ◌∙◌, ap, subst, arith, Option, Some, None, ⊎_elim}
 use Rattle.std.proofs.lemmas.Bool.{cases_eq}
 use Rattle.std.specs.Prelude.{slice_get, IsTrue}
-use Rattle.std.proofs.lemmas.Bool.Decides.{nat_tests}
 use Rattle.ido_base.specs.declared.location.Location.{Location}
-use Rattle.ido_base.specs.Locations.{overlap, same}
+use Rattle.ido_base.specs.Locations.{same}
 use Rattle.c_tree.specs.Flats as f
 use Rattle.c_tree.specs.Source as m
 use Rattle.c_tree.specs.Source.{Pending}
 use Rattle.c_tree.specs.WellFormed.{IsWellFormed}
 use Rattle.source_machine.specs.ElementLocks.{element_lock}
-use Rattle.source_machine.specs.Mutexes.{held_by}
 use Rattle.source_machine.specs.Discipline.{Guards}
-use Rattle.source_machine.proofs.Public.{found_same, held_found, run_keeps}
+use Rattle.source_machine.proofs.Public.{found_same, run_keeps}
 use Rattle.flow_graph.specs.Nodes.{Node}
 use Rattle.flow_graph.specs.Lowering.{lowered, threads_nodes}
 use Rattle.flow_graph.specs.Liveness.{NodeAt}
@@ -64,8 +62,8 @@ module _ (x : f.Flat) (w : IsWellFormed x) (old : Config) (t : ℕ) (i : Invaria
   reader_guards =
       let keeps = run_keeps x old.kept old.uncommitted i.keeps in
       let guarded = guarded_at x (now old) t keeps r.graph_thread r.node there_now in
-      held_found t (now old).holders (element_lock x.variables one.variable one.element)
-      (read_held x.variables (held_by t (now old).holders) (seen_by (flow_now x kept old) r.graph_thread) one r.node.action guarded r.reads)
+      let read = read_held x.variables guarded.names guarded.set (seen_by (flow_now x kept old) r.graph_thread) one r.node.action guarded.guarded r.reads in
+      subst (λ (z : Element). Guards x (now old) t z.variable z.element) read.is (guarded.each read.used (flow_now x kept old).variables read.held)
 
   -- the thread has the mutex of what it reads in what is kept
   pub kept_guards : Guards x old.kept t one.variable one.element
@@ -95,8 +93,10 @@ module _ (x : f.Flat) (w : IsWellFormed x) (old : Config) (t steps : ℕ) (i : I
       let s = solo old.kept t steps in
       let keeps = run_keeps x old.kept (replicate steps t) i.keeps in
       let th = is_there x w t (flow_solo x kept t steps) s (matched_run x w (replicate steps t) kept old.kept match) r.graph_thread r.node r.found r.at in
-      held_found t s.holders guard (read_held x.variables (held_by t s.holders) (seen_by (flow_solo x kept t steps) r.graph_thread) one r.node.action
-      (guarded_at x s t keeps r.graph_thread r.node th) r.reads)
+      let guarded = guarded_at x s t keeps r.graph_thread r.node th in
+      let read =
+      read_held x.variables guarded.names guarded.set (seen_by (flow_solo x kept t steps) r.graph_thread) one r.node.action guarded.guarded r.reads in
+      subst (λ (z : Element). Guards x s t z.variable z.element) read.is (guarded.each read.used (flow_solo x kept t steps).variables read.held)
 
   holders_along : (k : ℕ) → k ≤ (attempt_of old t).done → (solo old.kept t k).holders ≡ old.kept.holders
   holders_along k l =

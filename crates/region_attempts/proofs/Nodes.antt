@@ -1,6 +1,6 @@
 -- What a thread's next step says of the node at which it stands.
 use Rattle.std.proofs.Common.{◌≡◌, refl, ℕ, zero, suc, List, [], ◌∷◌, ◌++◌, sym, ◌∙◌, ap, subst, arith, Option, Some, None, Bool, true, false, ⊎_elim}
-use Rattle.std.specs.Prelude.{is_some, Contains}
+use Rattle.std.specs.Prelude.{is_some, Contains, ℤ}
 use Rattle.std.specs.Option.{option_map}
 use Rattle.std.proofs.lemmas.List.Elements.{Contains-append_cases}
 use Rattle.ido_base.specs.declared.location.Location.{Location}
@@ -10,12 +10,13 @@ use Rattle.c_tree.specs.Programs.{Variable}
 use Rattle.c_tree.specs.Flats as f
 use Rattle.c_tree.specs.Source as m
 use Rattle.c_tree.specs.Source.{Pending}
-use Rattle.c_tree.specs.LockDiscipline.{Held, holds, expr_uses, target_uses, guard_of, AreGuarded}
-use Rattle.source_machine.specs.ElementLocks.{element_lock}
+use Rattle.c_tree.specs.LockNames.{Held}
+use Rattle.c_tree.specs.LockDiscipline.{Use, expr_uses, target_uses, is_guarded, AreGuarded}
+use Rattle.c_tree.proofs.Public.{index_element}
 use Rattle.source_machine.specs.Mutexes.{first_lock, first_unlock, locks, unlocks}
-use Rattle.source_machine.proofs.Public.{guarded_first, guarded_rest, guarded_left, guarded_right, holds_each, locks_found, unlocks_found}
+use Rattle.source_machine.proofs.Public.{guarded_first, guarded_rest, guarded_left, guarded_right, locks_found, unlocks_found}
 use Rattle.flow_graph.specs.Nodes.{Action, Eval, Store, Test, Lock, Unlock, End, Node}
-use Rattle.flow_graph.specs.Actions.{Seen, GraphThread, Effect, Makes, Takes, Gives, Ends, effect_of, element_in}
+use Rattle.flow_graph.specs.Actions.{Seen, GraphThread, Effect, Makes, Takes, Gives, Ends, effect_of}
 use Rattle.flow_graph.specs.Lockstep.{Standing, threads_standings}
 use Rattle.flow_graph.specs.Paths.{Element, element, expr_elements, target_elements, reads_of, stored_element, write_of}
 use Rattle.flow_graph.proofs.Public.{ActionLeads, chooses, repeats, ShapedAs, contains_none}
@@ -23,53 +24,57 @@ use Rattle.region_attempts.proofs.StepBisimulation.{action_uses, IsThere}
 
 -- ---- What is read is guarded
 
-module _ (vs : List Variable) (h : Held) (seen : Seen) (one : Element) where
-  abbrev IsHeld : Type 0
-  IsHeld = holds h (element_lock vs one.variable one.element) ≡ true
-
-  held_head : (v n : ℕ) → holds h (guard_of vs v) ≡ true → element v n ≡ one → IsHeld
-  held_head v n g is = subst (λ (z : Element). holds h (element_lock vs z.variable z.element) ≡ true) is (holds_each vs h v n g)
+module _ (vs : List Variable) (names : List e.LockName) (h : Held) (seen : Seen) (one : Element) where
+  -- the element is that of a use whose guard is in the set
+  pub record IsHeld : Type 0 where
+    pub used : Use
+    pub held : is_guarded vs names h used ≡ true
+    pub is : element used.variable (index_element seen.locals seen.variables used.index) ≡ one
 
   of_either : (es fs : List Element) → (Contains es one → IsHeld) → (Contains fs one → IsHeld) → Contains (es ++ fs) one → IsHeld
   of_either es fs l r c = ⊎_elim l r (Contains-append_cases es fs one c)
 
-  of_first : (v n : ℕ) (es : List Element) → holds h (guard_of vs v) ≡ true → (Contains es one → IsHeld) → Contains (element v n ∷ es) one → IsHeld
-  of_first v n es g more (zero, l, is) = held_head v n g is
-  of_first v n es g more (suc k, l, is) = more (k, omega arith, is)
+  of_first : (u : Use) (es : List Element) → is_guarded vs names h u ≡ true → (Contains es one → IsHeld) →
+      Contains (element u.variable (index_element seen.locals seen.variables u.index) ∷ es) one → IsHeld
+  of_first u es g more (zero, l, is) = record { used = u; held = g; is = is }
+  of_first u es g more (suc k, l, is) = more (k, omega arith, is)
 
-  expr_held : (x : e.Expr) → AreGuarded vs h (expr_uses x) → Contains (expr_elements x seen) one → IsHeld
+  expr_held : (x : e.Expr) → AreGuarded vs names h (expr_uses x) → Contains (expr_elements x seen) one → IsHeld
   expr_held (e.Constant value) g c = absurd (contains_none one c)
   expr_held (e.Local local kind) g c = absurd (contains_none one c)
-  expr_held (e.Variable place v kind) g c = of_first v 0 [] (guarded_first vs h _ [] g) (λ d. absurd (contains_none one d)) c
+  expr_held (e.Variable place v kind) g c =
+      let u : Use = record { variable = v; place = place; index = None } in
+      of_first u [] (guarded_first vs names h u [] g) (λ d. absurd (contains_none one d)) c
   expr_held (e.Element place v kind index_place index) g c =
-      of_first v (element_in seen index) (expr_elements index seen) (guarded_first vs h _ (expr_uses index) g)
-      (λ d. expr_held index (guarded_rest vs h _ (expr_uses index) g) d) c
+      let u : Use = record { variable = v; place = place; index = Some (record { place = index_place; expr = index }) } in
+      of_first u (expr_elements index seen) (guarded_first vs names h u (expr_uses index) g)
+      (λ d. expr_held index (guarded_rest vs names h u (expr_uses index) g) d) c
   expr_held (e.Unary operator operand) g c = expr_held operand g c
   expr_held (e.Cast kind operand) g c = expr_held operand g c
   expr_held (e.Converted kind operand) g c = expr_held operand g c
   expr_held (e.Binary operator left right) g c =
       of_either (expr_elements left seen) (expr_elements right seen)
-      (λ d. expr_held left (guarded_left vs h (expr_uses left) (expr_uses right) g) d)
-      (λ d. expr_held right (guarded_right vs h (expr_uses left) (expr_uses right) g) d) c
+      (λ d. expr_held left (guarded_left vs names h (expr_uses left) (expr_uses right) g) d)
+      (λ d. expr_held right (guarded_right vs names h (expr_uses left) (expr_uses right) g) d) c
   expr_held (e.Conditional kind condition chosen otherwise) g c =
-      let first = guarded_left vs h (expr_uses condition ++ expr_uses chosen) (expr_uses otherwise) g in
+      let first = guarded_left vs names h (expr_uses condition ++ expr_uses chosen) (expr_uses otherwise) g in
       of_either (expr_elements condition seen ++ expr_elements chosen seen) (expr_elements otherwise seen)
       (of_either (expr_elements condition seen) (expr_elements chosen seen)
-      (λ d. expr_held condition (guarded_left vs h (expr_uses condition) (expr_uses chosen) first) d)
-      (λ d. expr_held chosen (guarded_right vs h (expr_uses condition) (expr_uses chosen) first) d))
-      (λ d. expr_held otherwise (guarded_right vs h (expr_uses condition ++ expr_uses chosen) (expr_uses otherwise) g) d) c
+      (λ d. expr_held condition (guarded_left vs names h (expr_uses condition) (expr_uses chosen) first) d)
+      (λ d. expr_held chosen (guarded_right vs names h (expr_uses condition) (expr_uses chosen) first) d))
+      (λ d. expr_held otherwise (guarded_right vs names h (expr_uses condition ++ expr_uses chosen) (expr_uses otherwise) g) d) c
 
-  target_held : (target : e.Lvalue) → AreGuarded vs h (target_uses target) → Contains (target_elements target seen) one → IsHeld
+  target_held : (target : e.Lvalue) → AreGuarded vs names h (target_uses target) → Contains (target_elements target seen) one → IsHeld
   target_held (e.ToLocal place local kind) g c = absurd (contains_none one c)
   target_held (e.ToVariable place v kind) g c = absurd (contains_none one c)
-  target_held (e.ToElement place v kind index) g c = expr_held index.expr (guarded_rest vs h _ (expr_uses index.expr) g) c
+  target_held (e.ToElement place v kind index) g c = expr_held index.expr (guarded_rest vs names h _ (expr_uses index.expr) g) c
 
-  -- what a node reads are elements whose locks are held there
-  pub read_held : (a : Action) → AreGuarded vs h (action_uses a) → Contains (reads_of a seen) one → IsHeld
+  -- what a node reads are elements of uses whose guards are in the set
+  pub read_held : (a : Action) → AreGuarded vs names h (action_uses a) → Contains (reads_of a seen) one → IsHeld
   read_held (Eval target value next) g c =
       of_either (target_elements target seen) (expr_elements value.expr seen)
-      (λ d. target_held target (guarded_right vs h (expr_uses value.expr) (target_uses target) g) d)
-      (λ d. expr_held value.expr (guarded_left vs h (expr_uses value.expr) (target_uses target) g) d) c
+      (λ d. target_held target (guarded_right vs names h (expr_uses value.expr) (target_uses target) g) d)
+      (λ d. expr_held value.expr (guarded_left vs names h (expr_uses value.expr) (target_uses target) g) d) c
   read_held (Store variable kind next) g c = absurd (contains_none one c)
   read_held (Test condition holds fails) g c = expr_held condition.expr g c
   read_held (Lock mutex next) g c = absurd (contains_none one c)
@@ -134,90 +139,91 @@ reads_nothing a seen one s c = contains_none one (subst (λ (z : Action). Contai
 
 -- ---- Mutexes
 
-abbrev lock_by : Option Pending → List f.Statement → Option ℕ
-lock_by p left = elim p [
+abbrev lock_by : (locals : List ℤ) → Option Pending → List f.Statement → Option ℕ
+lock_by ls p left = elim p [
   | Some store ↦ None
-  | None ↦ first_lock left
+  | None ↦ first_lock ls left
 ]
 
-abbrev unlock_by : Option Pending → List f.Statement → Option ℕ
-unlock_by p left = elim p [
+abbrev unlock_by : (locals : List ℤ) → Option Pending → List f.Statement → Option ℕ
+unlock_by ls p left = elim p [
   | Some store ↦ None
-  | None ↦ first_unlock left
+  | None ↦ first_unlock ls left
 ]
 
 -- what is left begins with another statement
-no_lock : (left more : List f.Statement) (mutex : ℕ) → left ≡ more → first_lock more ≡ None → first_lock left ≡ Some mutex → ⊥
-no_lock left more mutex is none h = let same = ap first_lock is in cc
+no_lock : (ls : List ℤ) (left more : List f.Statement) (mutex : ℕ) → left ≡ more → first_lock ls more ≡ None → first_lock ls left ≡ Some mutex → ⊥
+no_lock ls left more mutex is none h = let same = ap (first_lock ls) is in cc
 
-no_unlock : (left more : List f.Statement) (mutex : ℕ) → left ≡ more → first_unlock more ≡ None → first_unlock left ≡ Some mutex → ⊥
-no_unlock left more mutex is none h = let same = ap first_unlock is in cc
+no_unlock : (ls : List ℤ) (left more : List f.Statement) (mutex : ℕ) → left ≡ more → first_unlock ls more ≡ None → first_unlock ls left ≡ Some mutex → ⊥
+no_unlock ls left more mutex is none h = let same = ap (first_unlock ls) is in cc
 
 abbrev left_of : Standing → List f.Statement
 left_of s = s.left
 
-none_left : (store : Pending) (mutex : ℕ) (p : Option Pending) (left : List f.Statement) → p ≡ Some store → lock_by p left ≡ Some mutex → ⊥
-none_left store mutex p left is h = let none = ap (λ (o : Option Pending). lock_by o left) is in cc
+none_left : (ls : List ℤ) (store : Pending) (mutex : ℕ) (p : Option Pending) (left : List f.Statement) → p ≡ Some store → lock_by ls p left ≡ Some mutex → ⊥
+none_left ls store mutex p left is h = let none = ap (λ (o : Option Pending). lock_by ls o left) is in cc
 
-locking_by : (all : List Standing) (a : Action) (left : List f.Statement) (mutex : ℕ) → ActionLeads all a (record { left = left; owes = false }) →
-    first_lock left ≡ Some mutex → (next : ℕ) × (a ≡ Lock mutex next)
-locking_by all (Eval target value next) left mutex d h = absurd (no_lock left _ mutex (ap left_of d.is) refl h)
-locking_by all (Store variable kind next) left mutex d h = let b : false ≡ true = ap (λ (z : Standing). z.owes) d.is in cc
-locking_by all (Test condition holds fails) left mutex d h = elim d [
-  | chooses place body arms otherwise rest is a b ↦ absurd (no_lock left _ mutex (ap left_of is) refl h)
-  | repeats place body rest is a b ↦ absurd (no_lock left _ mutex (ap left_of is) refl h)
+locking_by : (ls : List ℤ) (all : List Standing) (a : Action) (left : List f.Statement) (mutex : ℕ) → ActionLeads all a (record { left = left; owes = false }) →
+    first_lock ls left ≡ Some mutex → (next : ℕ) × (a ≡ Lock mutex next)
+locking_by ls all (Eval target value next) left mutex d h = absurd (no_lock ls left _ mutex (ap left_of d.is) refl h)
+locking_by ls all (Store variable kind next) left mutex d h = let b : false ≡ true = ap (λ (z : Standing). z.owes) d.is in cc
+locking_by ls all (Test condition holds fails) left mutex d h = elim d [
+  | chooses place body arms otherwise rest is a b ↦ absurd (no_lock ls left _ mutex (ap left_of is) refl h)
+  | repeats place body rest is a b ↦ absurd (no_lock ls left _ mutex (ap left_of is) refl h)
 ]
-locking_by all (Lock other next) left mutex d h =
-    let same : first_lock left ≡ Some other = ap first_lock (ap left_of d.is) in
+locking_by ls all (Lock other next) left mutex d h =
+    let same : first_lock ls left ≡ Some other = ap (first_lock ls) (ap left_of d.is) in
     let is : other ≡ mutex = cc in
     (next, ap (λ (k : ℕ). Lock k next) is)
-locking_by all (Unlock other next) left mutex d h = absurd (no_lock left _ mutex (ap left_of d.is) refl h)
-locking_by all End left mutex d h = absurd (no_lock left [] mutex (ap left_of d) refl h)
+locking_by ls all (Unlock other next) left mutex d h = absurd (no_lock ls left _ mutex (ap left_of d.is) refl h)
+locking_by ls all End left mutex d h = absurd (no_lock ls left [] mutex (ap left_of d) refl h)
 
-unlocking_by : (all : List Standing) (a : Action) (left : List f.Statement) (mutex : ℕ) → ActionLeads all a (record { left = left; owes = false }) →
-    first_unlock left ≡ Some mutex → (next : ℕ) × (a ≡ Unlock mutex next)
-unlocking_by all (Eval target value next) left mutex d h = absurd (no_unlock left _ mutex (ap left_of d.is) refl h)
-unlocking_by all (Store variable kind next) left mutex d h = let b : false ≡ true = ap (λ (z : Standing). z.owes) d.is in cc
-unlocking_by all (Test condition holds fails) left mutex d h = elim d [
-  | chooses place body arms otherwise rest is a b ↦ absurd (no_unlock left _ mutex (ap left_of is) refl h)
-  | repeats place body rest is a b ↦ absurd (no_unlock left _ mutex (ap left_of is) refl h)
+unlocking_by : (ls : List ℤ) (all : List Standing) (a : Action) (left : List f.Statement) (mutex : ℕ) →
+    ActionLeads all a (record { left = left; owes = false }) →
+    first_unlock ls left ≡ Some mutex → (next : ℕ) × (a ≡ Unlock mutex next)
+unlocking_by ls all (Eval target value next) left mutex d h = absurd (no_unlock ls left _ mutex (ap left_of d.is) refl h)
+unlocking_by ls all (Store variable kind next) left mutex d h = let b : false ≡ true = ap (λ (z : Standing). z.owes) d.is in cc
+unlocking_by ls all (Test condition holds fails) left mutex d h = elim d [
+  | chooses place body arms otherwise rest is a b ↦ absurd (no_unlock ls left _ mutex (ap left_of is) refl h)
+  | repeats place body rest is a b ↦ absurd (no_unlock ls left _ mutex (ap left_of is) refl h)
 ]
-unlocking_by all (Lock other next) left mutex d h = absurd (no_unlock left _ mutex (ap left_of d.is) refl h)
-unlocking_by all (Unlock other next) left mutex d h =
-    let same : first_unlock left ≡ Some other = ap first_unlock (ap left_of d.is) in
+unlocking_by ls all (Lock other next) left mutex d h = absurd (no_unlock ls left _ mutex (ap left_of d.is) refl h)
+unlocking_by ls all (Unlock other next) left mutex d h =
+    let same : first_unlock ls left ≡ Some other = ap (first_unlock ls) (ap left_of d.is) in
     let is : other ≡ mutex = cc in
     (next, ap (λ (k : ℕ). Unlock k next) is)
-unlocking_by all End left mutex d h = absurd (no_unlock left [] mutex (ap left_of d) refl h)
+unlocking_by ls all End left mutex d h = absurd (no_unlock ls left [] mutex (ap left_of d) refl h)
 
-locking_if : (all : List Standing) (a : Action) (left : List f.Statement) (mutex : ℕ) (p : Option Pending) →
-    ActionLeads all a (record { left = left; owes = is_some p }) → lock_by p left ≡ Some mutex → (next : ℕ) × (a ≡ Lock mutex next)
-locking_if all a left mutex None d h = locking_by all a left mutex d h
-locking_if all a left mutex (Some store) d h = cc
+locking_if : (ls : List ℤ) (all : List Standing) (a : Action) (left : List f.Statement) (mutex : ℕ) (p : Option Pending) →
+    ActionLeads all a (record { left = left; owes = is_some p }) → lock_by ls p left ≡ Some mutex → (next : ℕ) × (a ≡ Lock mutex next)
+locking_if ls all a left mutex None d h = locking_by ls all a left mutex d h
+locking_if ls all a left mutex (Some store) d h = cc
 
-unlocking_if : (all : List Standing) (a : Action) (left : List f.Statement) (mutex : ℕ) (p : Option Pending) →
-    ActionLeads all a (record { left = left; owes = is_some p }) → unlock_by p left ≡ Some mutex → (next : ℕ) × (a ≡ Unlock mutex next)
-unlocking_if all a left mutex None d h = unlocking_by all a left mutex d h
-unlocking_if all a left mutex (Some store) d h = cc
+unlocking_if : (ls : List ℤ) (all : List Standing) (a : Action) (left : List f.Statement) (mutex : ℕ) (p : Option Pending) →
+    ActionLeads all a (record { left = left; owes = is_some p }) → unlock_by ls p left ≡ Some mutex → (next : ℕ) × (a ≡ Unlock mutex next)
+unlocking_if ls all a left mutex None d h = unlocking_by ls all a left mutex d h
+unlocking_if ls all a left mutex (Some store) d h = cc
 
-locks_if : (all : List Standing) (left : List f.Statement) (mutex next : ℕ) (p : Option Pending) →
-    ActionLeads all (Lock mutex next) (record { left = left; owes = is_some p }) → lock_by p left ≡ Some mutex
-locks_if all left mutex next None d = ap first_lock (ap left_of d.is)
-locks_if all left mutex next (Some store) d = let b : true ≡ false = ap (λ (z : Standing). z.owes) d.is in cc
+locks_if : (ls : List ℤ) (all : List Standing) (left : List f.Statement) (mutex next : ℕ) (p : Option Pending) →
+    ActionLeads all (Lock mutex next) (record { left = left; owes = is_some p }) → lock_by ls p left ≡ Some mutex
+locks_if ls all left mutex next None d = ap (first_lock ls) (ap left_of d.is)
+locks_if ls all left mutex next (Some store) d = let b : true ≡ false = ap (λ (z : Standing). z.owes) d.is in cc
 
 module _ (x : f.Flat) (s : m.State) (t : ℕ) (graph_thread : GraphThread) (node : Node) (th : IsThere x s t graph_thread node) where
   -- a thread that locks next stands at a node that locks
   pub locking_at : (mutex : ℕ) → locks s t ≡ Some mutex → (next : ℕ) × (node.action ≡ Lock mutex next)
-  locking_at mutex h = locking_if (threads_standings x.threads) node.action th.thread.left mutex th.thread.pending th.does
+  locking_at mutex h = locking_if th.thread.locals (threads_standings x.threads) node.action th.thread.left mutex th.thread.pending th.does
       (sym (locks_found s t th.thread th.there) ∙ h)
 
   pub unlocking_at : (mutex : ℕ) → unlocks s t ≡ Some mutex → (next : ℕ) × (node.action ≡ Unlock mutex next)
-  unlocking_at mutex h = unlocking_if (threads_standings x.threads) node.action th.thread.left mutex th.thread.pending th.does
+  unlocking_at mutex h = unlocking_if th.thread.locals (threads_standings x.threads) node.action th.thread.left mutex th.thread.pending th.does
       (sym (unlocks_found s t th.thread th.there) ∙ h)
 
   -- at a node that locks the thread locks next
   pub locks_at : (mutex next : ℕ) → node.action ≡ Lock mutex next → locks s t ≡ Some mutex
   locks_at mutex next is = locks_found s t th.thread th.there
-      ∙ locks_if (threads_standings x.threads) th.thread.left mutex next th.thread.pending
+      ∙ locks_if th.thread.locals (threads_standings x.threads) th.thread.left mutex next th.thread.pending
       (subst (λ (a : Action). ActionLeads (threads_standings x.threads) a (record { left = th.thread.left; owes = is_some th.thread.pending })) is th.does)
 
 -- ---- The end

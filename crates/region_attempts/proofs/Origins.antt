@@ -78,7 +78,7 @@ module _ (x : f.Flat) (o : Origin x) (schedule : List ℕ) (w : IsWellFormed x) 
         };
         source = begun_anew x (m.after_from o.source schedule);
         matches = record { variables = left.variables; holders = matches.holders; count = matches.count; each = matches.each };
-        keeps = record { each = (start_keeps x disciplined).each };
+        keeps = record { locks = (start_keeps x disciplined).locks; each = (start_keeps x disciplined).each };
         formed = record {
           variables = subst (λ (ns : List (List ℤ)). AllZip AreNumbersOf x.variables ns) (sym good.matches.variables ∙ left.variables)
               good.formed.variables;

@@ -12,12 +12,14 @@ use Rattle.c_tree.specs.Flats as f
 use Rattle.c_tree.specs.Source as m
 use Rattle.c_tree.specs.Source.{Pending}
 use Rattle.c_tree.specs.WellFormed.{IsWellFormed}
-use Rattle.c_tree.specs.LockDiscipline.{Held, holds, Use, expr_uses, target_uses, assign_uses, AreGuarded}
+use Rattle.c_tree.specs.LockNames.{Held, lock_names}
+use Rattle.c_tree.specs.LockDiscipline.{Use, expr_uses, target_uses, assign_uses, is_guarded, AreGuarded}
+use Rattle.c_tree.proofs.Public.{index_element}
 use Rattle.source_machine.specs.ElementLocks.{element_lock, found_number}
-use Rattle.source_machine.specs.Mutexes.{held_by}
 use Rattle.source_machine.specs.Discipline.{KeepList, StateKeeps}
 use Rattle.source_machine.specs.StepExchanges.{IsSameTo}
-use Rattle.source_machine.proofs.Public.{held_found, guarded_rest, guarded_left, guarded_right, value_same, keeps_assign, keeps_if, keeps_arm, keeps_while}
+use Rattle.source_machine.proofs.Public.{guards_each, set_long, guarded_rest, guarded_left}
+use Rattle.source_machine.proofs.Public.{guarded_right, value_same, keeps_assign, keeps_if, keeps_arm, keeps_while}
 use Rattle.flow_graph.specs.Nodes.{Action, Eval, Store, Test, Lock, Unlock, End, Node}
 use Rattle.flow_graph.specs.Lowering.{lowered}
 use Rattle.flow_graph.specs.Liveness.{NodeAt}
@@ -36,26 +38,27 @@ action_uses (Lock mutex next) = []
 action_uses (Unlock mutex next) = []
 action_uses End = []
 
-module _ (variables : List Variable) (h : Held) (ls : List ℤ) (p : Option Pending) (vs ws : List (List ℤ))
-    (same : (v e : ℕ) → holds h (element_lock variables v e) ≡ true → found_number ws v e ≡ found_number vs v e) where
+module _ (variables : List Variable) (names : List e.LockName) (h : Held) (ls : List ℤ) (p : Option Pending) (vs ws : List (List ℤ))
+    (same : (u : Use) → is_guarded variables names h u ≡ true →
+    found_number ws u.variable (index_element ls vs u.index) ≡ found_number vs u.variable (index_element ls vs u.index)) where
   abbrev seen : List (List ℤ) → Seen
   seen us = record { locals = ls; pending = p; variables = us }
 
-  lockstep : (x : e.Expr) → AreGuarded variables h (expr_uses x) → value ls ws x ≡ value ls vs x
-  lockstep x g = value_same variables h ls vs ws same x g
+  lockstep : (x : e.Expr) → AreGuarded variables names h (expr_uses x) → value ls ws x ≡ value ls vs x
+  lockstep x g = value_same variables names h ls vs ws same x g
 
   -- an action that reads by name only what is guarded has the same effect in both states
-  effect_same : (a : Action) → AreGuarded variables h (action_uses a) → effect_of a (seen ws) ≡ effect_of a (seen vs)
+  effect_same : (a : Action) → AreGuarded variables names h (action_uses a) → effect_of a (seen ws) ≡ effect_of a (seen vs)
   effect_same (Eval (e.ToLocal place local kind) x next) g =
-      let number = lockstep x.expr (guarded_left variables h (expr_uses x.expr) (target_uses (e.ToLocal place local kind)) g) in
+      let number = lockstep x.expr (guarded_left variables names h (expr_uses x.expr) (target_uses (e.ToLocal place local kind)) g) in
       ap (λ (n : Typed). Some (Sets local (reduced kind n.number) next)) number
   effect_same (Eval (e.ToVariable place variable kind) x next) g =
-      let number = lockstep x.expr (guarded_left variables h (expr_uses x.expr) (target_uses (e.ToVariable place variable kind)) g) in
+      let number = lockstep x.expr (guarded_left variables names h (expr_uses x.expr) (target_uses (e.ToVariable place variable kind)) g) in
       ap (λ (n : Typed). Some (Owes (record { variable = variable; element = 0; number = reduced kind n.number }) next)) number
   effect_same (Eval (e.ToElement place variable kind index) x next) g =
-      let number = lockstep x.expr (guarded_left variables h (expr_uses x.expr) (target_uses (e.ToElement place variable kind index)) g) in
-      let at = lockstep index.expr (guarded_rest variables h _ (expr_uses index.expr)
-      (guarded_right variables h (expr_uses x.expr) (target_uses (e.ToElement place variable kind index)) g)) in
+      let number = lockstep x.expr (guarded_left variables names h (expr_uses x.expr) (target_uses (e.ToElement place variable kind index)) g) in
+      let at = lockstep index.expr (guarded_rest variables names h _ (expr_uses index.expr)
+      (guarded_right variables names h (expr_uses x.expr) (target_uses (e.ToElement place variable kind index)) g)) in
       ap₂ (λ (i n : Typed). Some (Owes (record { variable = variable; element = element_at i; number = reduced kind n.number }) next)) at number
   effect_same (Store variable kind next) g = refl
   effect_same (Test condition holds fails) g =
@@ -84,34 +87,54 @@ is_there x w t a s h graph_thread node here at =
     record { thread = there.0; there = there.1; match = match; does = subst P same_node found.2 }
 
 -- the thread has the mutexes for what its action reads by name
-guarded_by : (x : f.Flat) (all : List Standing) (h after : Held) (a : Action) (left : List f.Statement) (owes : Bool) →
-    ActionLeads all a (record { left = left; owes = owes }) → KeepList x.variables h left after → AreGuarded x.variables h (action_uses a)
-guarded_by x all h after (Eval target value next) left owes d k =
+guarded_by : (x : f.Flat) (names : List e.LockName) (all : List Standing) (h after : Held) (a : Action) (left : List f.Statement) (owes : Bool) →
+    ActionLeads all a (record { left = left; owes = owes }) → KeepList x.variables names h left after → AreGuarded x.variables names h (action_uses a)
+guarded_by x names all h after (Eval target value next) left owes d k =
     let is : left ≡ f.Assign d.place target value ∷ d.rest = ap (λ (z : Standing). z.left) d.is in
-    let kept : KeepList x.variables h (f.Assign d.place target value ∷ d.rest) after = subst (λ (l : List f.Statement). KeepList x.variables h l after) is k in
-    (keeps_assign x.variables kept.1).0
-guarded_by x all h after (Store variable kind next) left owes d k = refl
-guarded_by x all h after (Test condition holds fails) left owes d k = elim d [
+    let kept : KeepList x.variables names h (f.Assign d.place target value ∷ d.rest) after =
+    subst (λ (l : List f.Statement). KeepList x.variables names h l after) is k in
+    (keeps_assign x.variables names kept.1).0
+guarded_by x names all h after (Store variable kind next) left owes d k = refl
+guarded_by x names all h after (Test condition holds fails) left owes d k = elim d [
   | chooses place body arms otherwise rest is a b ↦
       let same : left ≡ f.If place (f.arm_and condition body arms) otherwise ∷ rest = ap (λ (z : Standing). z.left) is in
-      let kept : KeepList x.variables h (f.If place (f.arm_and condition body arms) otherwise ∷ rest) after =
-      subst (λ (l : List f.Statement). KeepList x.variables h l after) same k in
-      (keeps_arm x.variables (keeps_if x.variables kept.1).0).0
+      let kept : KeepList x.variables names h (f.If place (f.arm_and condition body arms) otherwise ∷ rest) after =
+      subst (λ (l : List f.Statement). KeepList x.variables names h l after) same k in
+      (keeps_arm x.variables names (keeps_if x.variables names kept.1).0).0
   | repeats place body rest is a b ↦
       let same : left ≡ f.While place condition body ∷ rest = ap (λ (z : Standing). z.left) is in
-      let kept : KeepList x.variables h (f.While place condition body ∷ rest) after =
-      subst (λ (l : List f.Statement). KeepList x.variables h l after) same k in
-      (keeps_while x.variables kept.1).0
+      let kept : KeepList x.variables names h (f.While place condition body ∷ rest) after =
+      subst (λ (l : List f.Statement). KeepList x.variables names h l after) same k in
+      (keeps_while x.variables names kept.1).0
 ]
-guarded_by x all h after (Lock mutex next) left owes d k = refl
-guarded_by x all h after (Unlock mutex next) left owes d k = refl
-guarded_by x all h after End left owes d k = refl
+guarded_by x names all h after (Lock mutex next) left owes d k = refl
+guarded_by x names all h after (Unlock mutex next) left owes d k = refl
+guarded_by x names all h after End left owes d k = refl
+
+-- the set of names that a thread with these locals holds guards these uses, and the element of each use that it guards is the thread's, whatever numbers
+-- variables have
+pub record AreGuardedHere (x : f.Flat) (s : m.State) (t : ℕ) (locals : List ℤ) (us : List Use) : Type 0 where
+  pub names : List e.LockName
+  pub set : Held
+  pub guarded : AreGuarded x.variables names set us
+  pub each : (u : Use) (numbers : List (List ℤ)) → is_guarded x.variables names set u ≡ true →
+      slice_get s.holders (element_lock x.variables u.variable (index_element locals numbers u.index)) ≡ Some (Some t)
 
 pub guarded_at : (x : f.Flat) (s : m.State) (t : ℕ) → StateKeeps x s → (graph_thread : GraphThread) (node : Node) → IsThere x s t graph_thread node →
-    AreGuarded x.variables (held_by t s.holders) (action_uses node.action)
+    AreGuardedHere x s t graph_thread.locals (action_uses node.action)
 guarded_at x s t keeps graph_thread node th =
-    guarded_by x (threads_standings x.threads) (held_by t s.holders) _ node.action th.thread.left (is_some th.thread.pending) th.does
-    (keeps.each t th.thread th.there).left
+    let own = keeps.each t th.thread th.there in
+    let names = lock_names x own.text in
+    record {
+      names = names;
+      set = own.set;
+      guarded =
+          guarded_by x names (threads_standings x.threads) own.set _ node.action th.thread.left (is_some th.thread.pending) th.does own.left;
+      each = λ u numbers g. subst
+          (λ (ls : List ℤ). slice_get s.holders (element_lock x.variables u.variable (index_element ls numbers u.index)) ≡ Some (Some t))
+          (sym th.match.locals)
+          (guards_each names own.set th.thread.locals s.holders t own.held (set_long x t s.holders th.thread own) numbers x.variables u g);
+    }
 
 -- ---- A step
 
@@ -130,9 +153,12 @@ others_stay x s next t u n h =
 
 module _ (x : f.Flat) (w : IsWellFormed x) (t : ℕ) (a b : FlowState) (sa sb : m.State) (ma : Matches x a sa) (mb : Matches x b sb)
     (keeps : StateKeeps x sa) (same : IsSameTo x sa sb t) where
-  same_seen : (v e : ℕ) → holds (held_by t sa.holders) (element_lock x.variables v e) ≡ true → found_number a.variables v e ≡ found_number b.variables v e
-  same_seen v e h = ap (λ (vs : List (List ℤ)). found_number vs v e) ma.variables
-      ∙ (same.guarded v e (held_found t sa.holders (element_lock x.variables v e) h) ∙ ap (λ (vs : List (List ℤ)). found_number vs v e) (sym mb.variables))
+  same_seen : (ls : List ℤ) (us : List Use) (here : AreGuardedHere x sa t ls us) (u : Use) → is_guarded x.variables here.names here.set u ≡ true →
+      found_number a.variables u.variable (index_element ls b.variables u.index) ≡ found_number b.variables u.variable (index_element ls b.variables u.index)
+  same_seen ls us here u h =
+      let n : ℕ = index_element ls b.variables u.index in
+      ap (λ (vs : List (List ℤ)). found_number vs u.variable n) ma.variables
+      ∙ (same.guarded u.variable n (here.each u b.variables h) ∙ ap (λ (vs : List (List ℤ)). found_number vs u.variable n) (sym mb.variables))
 
   -- a step does the same to the thread's own graph thread in two states in which that is the same
   pub step_lockstep : (na nb : FlowState) → slice_get a.graph_threads t ≡ slice_get b.graph_threads t → graph_step (lowered x) a t ≡ Some na →
@@ -145,7 +171,8 @@ module _ (x : f.Flat) (w : IsWellFormed x) (t : ℕ) (a b : FlowState) (sa sb : 
       let g = p.at in let h = q.at in let i = ap (λ (z : GraphThread). slice_get (lowered x).nodes z.at) same_graph_thread in cc in
       let guarded = guarded_at x sa t keeps p.graph_thread p.node (is_there x w t a sa ma p.graph_thread p.node p.found p.at) in
       let first : effect_of p.node.action (seen_by a p.graph_thread) ≡ effect_of p.node.action (seen_by b p.graph_thread) =
-      effect_same x.variables (held_by t sa.holders) p.graph_thread.locals p.graph_thread.pending b.variables a.variables same_seen p.node.action guarded in
+      effect_same x.variables guarded.names guarded.set p.graph_thread.locals p.graph_thread.pending b.variables a.variables
+      (same_seen p.graph_thread.locals (action_uses p.node.action) guarded) p.node.action guarded.guarded in
       let second : effect_of p.node.action (seen_by b p.graph_thread) ≡ effect_of q.node.action (seen_by b q.graph_thread) =
       ap₂ (λ (n : Node) (z : GraphThread). effect_of n.action (seen_by b z)) same_node same_graph_thread in
       let effects : q.effect ≡ p.effect = effects_same p.effect q.effect (sym p.does ∙ (first ∙ (second ∙ q.does))) in

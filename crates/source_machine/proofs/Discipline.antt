@@ -10,20 +10,24 @@ use Rattle.ido_ints.specs.TypedNumbers.{Typed}
 use Rattle.ido_ints.specs.Operators.{is_zero}
 use Rattle.ido_ints.specs.Reduction.{reduced}
 use Rattle.c_tree.specs.Exprs as e
-use Rattle.c_tree.specs.Values.{element_at}
+use Rattle.c_tree.specs.Values.{element_at, lock_number}
 use Rattle.c_tree.specs.Flats as f
 use Rattle.c_tree.specs.Source as m
 use Rattle.c_tree.specs.Source.{source_step, opened_all}
-use Rattle.c_tree.specs.LockDiscipline.{Held, holds, none_held, expr_uses, target_uses, assign_uses, AreGuarded, IsDisciplined}
+use Rattle.c_tree.specs.LockNames.{Held, holds, none_held, lock_names, number_in}
+use Rattle.c_tree.specs.LockDiscipline.{Use, expr_uses, target_uses, assign_uses, is_guarded, AreGuarded, IsDisciplined}
+use Rattle.c_tree.proofs.Public.{index_element}
 use Rattle.source_machine.specs.ElementLocks.{element_lock, found_number}
 use Rattle.source_machine.specs.Mutexes.{lock_ahead, unlock_ahead, first_lock, first_unlock, lock_of, unlock_of, held_by}
-use Rattle.source_machine.specs.Discipline.{KeepList, ThreadKeeps, StateKeeps, StartKeeps, StepKeeps, RunKeeps, ReachedKeeps, Guards, LooksSame}
+use Rattle.source_machine.specs.Discipline.{KeepList, HoldsNames, ThreadKeeps, StateKeeps, StartKeeps, StepKeeps, RunKeeps, ReachedKeeps, Guards, LooksSame}
 use Rattle.source_machine.proofs.Emission.{set_same, set_other}
 use Rattle.source_machine.proofs.StartStates.{map_found}
 use Rattle.source_machine.proofs.StateRuns.{after_by, step_found, step_missing}
-use Rattle.source_machine.proofs.GuardedValues.{held_found, held_apart, held_taken, held_given, held_kept, held_none}
-use Rattle.source_machine.proofs.GuardedValues.{guarded_first, guarded_rest, guarded_left, guarded_right, holds_each, value_same}
-use Rattle.source_machine.proofs.DisciplinedContinuations.{keep_append, keep_opened_all, keeps_assign, keeps_if}
+use Rattle.source_machine.proofs.GuardedValues.{held_found, held_there, held_apart, held_kept}
+use Rattle.source_machine.proofs.HeldNames.{keep_list_length, name_held, names_taken, names_given, names_assigned, names_none, holders_moved, guards_each}
+use Rattle.std.proofs.lemmas.List.{length-replicate, length-set}
+use Rattle.source_machine.proofs.GuardedValues.{guarded_first, guarded_rest, guarded_left, guarded_right, value_same}
+use Rattle.source_machine.proofs.DisciplinedContinuations.{keep_append, keep_opened_all, keeps_assign, keeps_free, keeps_if}
 use Rattle.source_machine.proofs.DisciplinedContinuations.{keeps_arm, keeps_while, keeps_lock, keeps_unlock, keep_tested}
 use Rattle.source_machine.proofs.StepChanges.{some_is, Passed, Change, with_passed, changed, ChangesMutex}
 use Rattle.source_machine.proofs.StepChanges.{takes, gives, IsDisciplinedChange, Stepped, locks_found}
@@ -34,14 +38,21 @@ looks_same x s t = record { own = refl; held = λ k g. refl; ahead = λ k g. ref
 
 -- ---- What a step does
 
-module _ (x : f.Flat) (s : m.State) (t : ℕ) (thread : m.Thread) (there : slice_get s.threads t ≡ Some thread) where
-  -- what the thread holds
-  abbrev held : Held
-  held = held_by t s.holders
+module _ (x : f.Flat) (s : m.State) (t : ℕ) (thread : m.Thread) (there : slice_get s.threads t ≡ Some thread) (text : f.Thread)
+    (its : slice_get x.threads t ≡ Some text) (held : Held) (holding : HoldsNames (lock_names x text) held thread.locals s.holders t)
+    (long : length held ≡ length (lock_names x text)) where
+  -- the names of its locks
+  abbrev names : List e.LockName
+  names = lock_names x text
 
   -- nothing held
   abbrev none : Held
-  none = none_held (length x.mutexes)
+  none = none_held (length names)
+
+  -- it keeps the discipline from the same set, with the same numbers of locks
+  keeps_as : (to : m.Thread) → HoldsNames names held to.locals s.holders t → KeepList x.variables names held to.left none →
+      ((p : m.Pending) → to.pending ≡ Some p → Guards x s t p.variable p.element) → ThreadKeeps x t s.holders to
+  keeps_as to holds left pending = record { text = text; its = its; set = held; held = holds; left = left; pending = pending }
 
   -- a step that changes its thread alone
   abbrev alone : m.Thread → Change
@@ -49,7 +60,7 @@ module _ (x : f.Flat) (s : m.State) (t : ℕ) (thread : m.Thread) (there : slice
 
   still : (step : m.State → Option m.State) (to : m.Thread) → lock_ahead thread ≡ None →
       ((other : m.State) → LooksSame x s other t → step other ≡ Some (m.with_thread other t to)) →
-      ThreadKeeps x held to → IsDisciplinedChange x s t thread step
+      ThreadKeeps x t s.holders to → IsDisciplinedChange x s t thread step
   still step to free each keeps = record {
     change = alone to;
     keeps = keeps;
@@ -59,29 +70,36 @@ module _ (x : f.Flat) (s : m.State) (t : ℕ) (thread : m.Thread) (there : slice
     same = each;
   }
 
-  -- an element whose lock is in the set is the same
-  abbrev same_at : (other : m.State) → LooksSame x s other t → (v e : ℕ) → holds held (element_lock x.variables v e) ≡ true →
-      found_number other.variables v e ≡ found_number s.variables v e
-  same_at other l v e g = l.guarded v e (held_found t s.holders (element_lock x.variables v e) g)
+  -- the element of a use
+  abbrev element_of : Use → ℕ
+  element_of u = index_element thread.locals s.variables u.index
 
-  -- the set has the lock of the element that a store is to
-  abbrev HoldsFor : Held → m.Pending → Type 0
-  HoldsFor h p = holds h (element_lock x.variables p.variable p.element) ≡ true
+  -- the element of a use that the set guards is the thread's
+  guarded_at : (u : Use) → is_guarded x.variables names held u ≡ true → Guards x s t u.variable (element_of u)
+  guarded_at u g = guards_each names held thread.locals s.holders t holding long s.variables x.variables u g
+
+  -- it is the same
+  same_at : (other : m.State) → LooksSame x s other t → (u : Use) → is_guarded x.variables names held u ≡ true →
+      found_number other.variables u.variable (element_of u) ≡ found_number s.variables u.variable (element_of u)
+  same_at other l u g = l.guarded u.variable (element_of u) (guarded_at u g)
+
+  -- the thread holds the lock of the element that a store is to
+  abbrev HoldsFor : m.Pending → Type 0
+  HoldsFor p = Guards x s t p.variable p.element
 
   -- ---- The pending store
 
   -- the pending store is to an element whose lock the thread holds
-  by_store : (p : m.Pending) → thread.pending ≡ Some p → KeepList x.variables held thread.left none → HoldsFor held p →
+  by_store : (p : m.Pending) → thread.pending ≡ Some p → KeepList x.variables names held thread.left none → HoldsFor p →
       IsDisciplinedChange x s t thread (λ z. Some (m.with_thread (m.stored z p) t (record thread { pending = None })))
   by_store p is keep guarded = record {
     change = record { thread = record thread { pending = None }; store = Some p; passed = None };
-    keeps = record { left = keep; pending = λ q h. cc };
-    owned = λ q h. subst (λ (w : m.Pending). Guards x s t w.variable w.element) (some_is p q h)
-        (held_found t s.holders (element_lock x.variables p.variable p.element) guarded);
+    keeps = keeps_as (record thread { pending = None }) holding keep (λ q h. cc);
+    owned = λ q h. subst (λ (w : m.Pending). Guards x s t w.variable w.element) (some_is p q h) guarded;
     passes = λ q h. cc;
     ahead = λ k h.
         let no : lock_ahead thread ≡ None = ap (λ (o : Option m.Pending). let r : Option ℕ =
-        elim o [ Some q ↦ None | None ↦ first_lock thread.left ] in r) is in
+        elim o [ Some q ↦ None | None ↦ first_lock thread.locals thread.left ] in r) is in
         let off : None ≡ Some k = sym no ∙ h in
         cc;
     same = λ other l. refl;
@@ -91,197 +109,217 @@ module _ (x : f.Flat) (s : m.State) (t : ℕ) (thread : m.Thread) (there : slice
 
   module _ (idle : thread.pending ≡ None) where
     -- no store is pending
-    at_rest : (h : Held) (p : m.Pending) → thread.pending ≡ Some p → HoldsFor h p
-    at_rest h p e = cc
+    at_rest : (p : m.Pending) → thread.pending ≡ Some p → HoldsFor p
+    at_rest p e = cc
 
     -- what is evaluated reads what is guarded
     evaluated_same : (other : m.State) → LooksSame x s other t → (target : e.Lvalue) (placed : e.Placed) →
-        AreGuarded x.variables held (assign_uses target placed) → m.evaluated other thread target placed.expr ≡ m.evaluated s thread target placed.expr
+        AreGuarded x.variables names held (assign_uses target placed) → m.evaluated other thread target placed.expr ≡ m.evaluated s thread target placed.expr
     evaluated_same other l (e.ToLocal place local kind) placed g =
         ap (λ (y : Typed). record thread { locals = slice_set thread.locals local (reduced kind y.number) })
-        (value_same x.variables held thread.locals s.variables other.variables (same_at other l) placed.expr
-        (guarded_left x.variables held (expr_uses placed.expr) [] g))
+        (value_same x.variables names held thread.locals s.variables other.variables (same_at other l) placed.expr
+        (guarded_left x.variables names held (expr_uses placed.expr) [] g))
     evaluated_same other l (e.ToVariable place variable kind) placed g =
         ap (λ (y : Typed). record thread { pending = Some (record { variable = variable; element = 0; number = reduced kind y.number }) })
-        (value_same x.variables held thread.locals s.variables other.variables (same_at other l) placed.expr
-        (guarded_left x.variables held (expr_uses placed.expr) (target_uses (e.ToVariable place variable kind)) g))
+        (value_same x.variables names held thread.locals s.variables other.variables (same_at other l) placed.expr
+        (guarded_left x.variables names held (expr_uses placed.expr) (target_uses (e.ToVariable place variable kind)) g))
     evaluated_same other l (e.ToElement place variable kind index) placed g =
-        let first = guarded_left x.variables held (expr_uses placed.expr) (target_uses (e.ToElement place variable kind index)) g in
-        let second = guarded_right x.variables held (expr_uses placed.expr) (target_uses (e.ToElement place variable kind index)) g in
+        let first = guarded_left x.variables names held (expr_uses placed.expr) (target_uses (e.ToElement place variable kind index)) g in
+        let second = guarded_right x.variables names held (expr_uses placed.expr) (target_uses (e.ToElement place variable kind index)) g in
         ap₂ (λ (i y : Typed). record thread { pending = Some (record { variable = variable; element = element_at i; number = reduced kind y.number }) })
-        (value_same x.variables held thread.locals s.variables other.variables (same_at other l) index.expr
-        (guarded_rest x.variables held _ (expr_uses index.expr) second))
-        (value_same x.variables held thread.locals s.variables other.variables (same_at other l) placed.expr first)
+        (value_same x.variables names held thread.locals s.variables other.variables (same_at other l) index.expr
+        (guarded_rest x.variables names held _ (expr_uses index.expr) second))
+        (value_same x.variables names held thread.locals s.variables other.variables (same_at other l) placed.expr first)
 
     -- the store that is pending after an evaluation is guarded
-    evaluated_guarded : (target : e.Lvalue) (placed : e.Placed) → AreGuarded x.variables held (assign_uses target placed) → (p : m.Pending) →
-        (m.evaluated s thread target placed.expr).pending ≡ Some p → HoldsFor held p
-    evaluated_guarded (e.ToLocal place local kind) placed g p h = at_rest held p h
+    evaluated_guarded : (target : e.Lvalue) (placed : e.Placed) → AreGuarded x.variables names held (assign_uses target placed) → (p : m.Pending) →
+        (m.evaluated s thread target placed.expr).pending ≡ Some p → HoldsFor p
+    evaluated_guarded (e.ToLocal place local kind) placed g p h = at_rest p h
     evaluated_guarded (e.ToVariable place variable kind) placed g p h =
-        subst (HoldsFor held) (some_is _ p h) (holds_each x.variables held variable 0
-        (guarded_first x.variables held _ [] (guarded_right x.variables held (expr_uses placed.expr) (target_uses (e.ToVariable place variable kind)) g)))
+        let u : Use = record { variable = variable; place = place; index = None } in
+        subst HoldsFor (some_is _ p h) (guarded_at u
+        (guarded_first x.variables names held u []
+        (guarded_right x.variables names held (expr_uses placed.expr) (target_uses (e.ToVariable place variable kind)) g)))
     evaluated_guarded (e.ToElement place variable kind index) placed g p h =
-        subst (HoldsFor held) (some_is _ p h) (holds_each x.variables held variable (element_at (m.value_in s thread index.expr))
-        (guarded_first x.variables held _ (expr_uses index.expr) (guarded_right x.variables held (expr_uses placed.expr)
+        let u : Use = record { variable = variable; place = place; index = Some index } in
+        subst HoldsFor (some_is _ p h) (guarded_at u
+        (guarded_first x.variables names held u (expr_uses index.expr) (guarded_right x.variables names held (expr_uses placed.expr)
         (target_uses (e.ToElement place variable kind index)) g)))
 
     -- a condition is true in both
-    true_same : (other : m.State) → LooksSame x s other t → (condition : e.Placed) → AreGuarded x.variables held (expr_uses condition.expr) →
+    true_same : (other : m.State) → LooksSame x s other t → (condition : e.Placed) → AreGuarded x.variables names held (expr_uses condition.expr) →
         m.is_true other thread condition ≡ m.is_true s thread condition
     true_same other l condition g = ap (λ (y : Typed). not (is_zero y.number))
-        (value_same x.variables held thread.locals s.variables other.variables (same_at other l) condition.expr g)
+        (value_same x.variables names held thread.locals s.variables other.variables (same_at other l) condition.expr g)
 
     module _ (y : f.Statement) (rest : List f.Statement) (first : thread.left ≡ y ∷ rest) where
       -- what is locked next
-      lock_is : lock_ahead thread ≡ lock_of y
-      lock_is = ap (λ (o : Option m.Pending). let r : Option ℕ = elim o [ Some q ↦ None | None ↦ first_lock thread.left ] in r) idle ∙ ap first_lock first
+      lock_is : lock_ahead thread ≡ lock_of thread.locals y
+      lock_is =
+          ap (λ (o : Option m.Pending). let r : Option ℕ = elim o [ Some q ↦ None | None ↦ first_lock thread.locals thread.left ] in r) idle
+          ∙ ap (first_lock thread.locals) first
 
       -- what is unlocked next
-      unlock_is : unlock_ahead thread ≡ unlock_of y
-      unlock_is = ap (λ (o : Option m.Pending). let r : Option ℕ = elim o [ Some q ↦ None | None ↦ first_unlock thread.left ] in r) idle ∙ ap first_unlock first
+      unlock_is : unlock_ahead thread ≡ unlock_of thread.locals y
+      unlock_is =
+          ap (λ (o : Option m.Pending). let r : Option ℕ = elim o [ Some q ↦ None | None ↦ first_unlock thread.locals thread.left ] in r) idle
+          ∙ ap (first_unlock thread.locals) first
 
     module _ (rest : List f.Statement) where
       -- an assignment
       by_assign : (place : Place) (target : e.Lvalue) (placed : e.Placed) → thread.left ≡ f.Assign place target placed ∷ rest →
-          KeepList x.variables held (f.Assign place target placed ∷ rest) none →
+          KeepList x.variables names held (f.Assign place target placed ∷ rest) none →
           IsDisciplinedChange x s t thread (λ z. m.statement_step z t thread (f.Assign place target placed) rest)
       by_assign place target placed first keep =
-          let k = keeps_assign x.variables keep.1 in
+          let k = keeps_assign x.variables names keep.1 in
           still (λ z. m.statement_step z t thread (f.Assign place target placed) rest) (record (m.evaluated s thread target placed.expr) { left = rest })
           (lock_is (f.Assign place target placed) rest first)
           (λ other l. ap (λ (mo : m.Thread). let o : Option m.State = Some (m.with_thread other t (record mo { left = rest })) in o)
           (evaluated_same other l target placed k.0))
-          (record { left = subst (λ (z : Held). KeepList x.variables z rest none) k.1 keep.2; pending = evaluated_guarded target placed k.0 })
+          (keeps_as (record (m.evaluated s thread target placed.expr) { left = rest })
+          (names_assigned names held thread.locals s.holders t holding s thread target placed.expr refl (keeps_free x.variables names keep.1))
+          (subst (λ (z : Held). KeepList x.variables names z rest none) k.1 keep.2) (evaluated_guarded target placed k.0))
 
       -- an `if`
       by_if : (place : Place) (condition : e.Placed) (body : f.Statements) (arms : f.Arms) (otherwise : f.Statements) →
           thread.left ≡ f.If place (f.arm_and condition body arms) otherwise ∷ rest →
-          KeepList x.variables held (f.If place (f.arm_and condition body arms) otherwise ∷ rest) none →
+          KeepList x.variables names held (f.If place (f.arm_and condition body arms) otherwise ∷ rest) none →
           IsDisciplinedChange x s t thread (λ z. m.statement_step z t thread (f.If place (f.arm_and condition body arms) otherwise) rest)
       by_if place condition body arms otherwise first keep =
-          let k = keeps_if x.variables keep.1 in
-          let a = keeps_arm x.variables k.0 in
+          let k = keeps_if x.variables names keep.1 in
+          let a = keeps_arm x.variables names k.0 in
           let onward : Bool → List f.Statement = λ b. m.tested b (opened_all body) (f.If place arms otherwise ∷ []) (opened_all otherwise) arms ++ rest in
           still (λ z. m.statement_step z t thread (f.If place (f.arm_and condition body arms) otherwise) rest)
           (record thread { left = onward (m.is_true s thread condition) })
           (lock_is (f.If place (f.arm_and condition body arms) otherwise) rest first)
           (λ other l. ap (λ (b : Bool). let o : Option m.State = Some (m.with_thread other t (record thread { left = onward b })) in o)
           (true_same other l condition a.0))
-          (record {
-            left = keep_append x.variables (m.tested (m.is_true s thread condition) (opened_all body) (f.If place arms otherwise ∷ [])
-                (opened_all otherwise) arms) rest held keep.0 none
-                (keep_tested x.variables (m.is_true s thread condition) place body arms otherwise held keep.0 a.1 a.2 k.1) keep.2;
-            pending = at_rest held;
-          })
+          (keeps_as (record thread { left = onward (m.is_true s thread condition) }) holding
+          (keep_append x.variables names (m.tested (m.is_true s thread condition) (opened_all body) (f.If place arms otherwise ∷ [])
+          (opened_all otherwise) arms) rest held keep.0 none
+          (keep_tested x.variables names (m.is_true s thread condition) place body arms otherwise held keep.0 a.1 a.2 k.1) keep.2) at_rest)
 
       -- what is left of a `while`
       kept_while : (b : Bool) (place : Place) (condition : e.Placed) (body : f.Statements) →
-          KeepList x.variables held (f.While place condition body ∷ rest) none →
-          KeepList x.variables held (if b then opened_all body ++ (f.While place condition body ∷ rest) else rest) none
+          KeepList x.variables names held (f.While place condition body ∷ rest) none →
+          KeepList x.variables names held (if b then opened_all body ++ (f.While place condition body ∷ rest) else rest) none
       kept_while true place condition body keep =
-          let k = keeps_while x.variables keep.1 in
-          keep_append x.variables (opened_all body) (f.While place condition body ∷ rest) held held none (keep_opened_all x.variables k.1) keep
+          let k = keeps_while x.variables names keep.1 in
+          keep_append x.variables names (opened_all body) (f.While place condition body ∷ rest) held held none (keep_opened_all x.variables names k.1) keep
       kept_while false place condition body keep =
-          let k = keeps_while x.variables keep.1 in
-          subst (λ (z : Held). KeepList x.variables z rest none) k.2 keep.2
+          let k = keeps_while x.variables names keep.1 in
+          subst (λ (z : Held). KeepList x.variables names z rest none) k.2 keep.2
 
       -- a step by a `while` keeps the discipline
       by_while : (place : Place) (condition : e.Placed) (body : f.Statements) → thread.left ≡ f.While place condition body ∷ rest →
-          KeepList x.variables held (f.While place condition body ∷ rest) none →
+          KeepList x.variables names held (f.While place condition body ∷ rest) none →
           IsDisciplinedChange x s t thread (λ z. m.statement_step z t thread (f.While place condition body) rest)
       by_while place condition body first keep =
-          let k = keeps_while x.variables keep.1 in
+          let k = keeps_while x.variables names keep.1 in
           let onward : Bool → List f.Statement = λ b. if b then opened_all body ++ (f.While place condition body ∷ rest) else rest in
           still (λ z. m.statement_step z t thread (f.While place condition body) rest) (record thread { left = onward (m.is_true s thread condition) })
           (lock_is (f.While place condition body) rest first)
           (λ other l. ap (λ (b : Bool). let o : Option m.State = Some (m.with_thread other t (record thread { left = onward b })) in o)
           (true_same other l condition k.0))
-          (record { left = kept_while (m.is_true s thread condition) place condition body keep; pending = at_rest held })
+          (keeps_as (record thread { left = onward (m.is_true s thread condition) }) holding
+          (kept_while (m.is_true s thread condition) place condition body keep) at_rest)
 
       -- a free mutex is taken
-      lock_free : (z : m.State) (place : Place) (name : e.LockName) → slice_get z.holders name.mutex ≡ Some None →
-          m.statement_step z t thread (f.Lock place name) rest ≡ Some (m.with_thread (m.with_holder z name.mutex (Some t)) t (record thread { left = rest }))
+      lock_free : (z : m.State) (place : Place) (name : e.LockName) → slice_get z.holders (lock_number thread.locals name) ≡ Some None →
+          m.statement_step z t thread (f.Lock place name) rest
+          ≡ Some (m.with_thread (m.with_holder z (lock_number thread.locals name) (Some t)) t (record thread { left = rest }))
       lock_free z place name e = rw (m.statement_step, e) refl
 
       -- no other is
-      lock_refused : (place : Place) (name : e.LockName) (o : Option (Option ℕ)) → slice_get s.holders name.mutex ≡ o → o ≢ Some None →
+      lock_refused : (place : Place) (name : e.LockName) (o : Option (Option ℕ)) → slice_get s.holders (lock_number thread.locals name) ≡ o → o ≢ Some None →
           m.statement_step s t thread (f.Lock place name) rest ≡ None
       lock_refused place name None e n = rw (m.statement_step, e) refl
       lock_refused place name (Some None) e n = absurd (n refl)
       lock_refused place name (Some (Some u)) e n = rw (m.statement_step, e) refl
 
       -- a mutex is taken
-      by_lock : (place : Place) (name : e.LockName) (next : m.State) (o : Option (Option ℕ)) → slice_get s.holders name.mutex ≡ o →
-          thread.left ≡ f.Lock place name ∷ rest → KeepList x.variables held (f.Lock place name ∷ rest) none →
+      by_lock : (place : Place) (name : e.LockName) (next : m.State) (o : Option (Option ℕ)) → slice_get s.holders (lock_number thread.locals name) ≡ o →
+          thread.left ≡ f.Lock place name ∷ rest → KeepList x.variables names held (f.Lock place name ∷ rest) none →
           m.statement_step s t thread (f.Lock place name) rest ≡ Some next →
           IsDisciplinedChange x s t thread (λ z. m.statement_step z t thread (f.Lock place name) rest)
       by_lock place name next None e first keep h = let no = lock_refused place name None e (λ q. cc) in cc
       by_lock place name next (Some (Some u)) e first keep h = let no = lock_refused place name (Some (Some u)) e (λ q. cc) in cc
       by_lock place name next (Some None) e first keep h =
-          let k = keeps_lock x.variables keep.1 in
-          let is : lock_ahead thread ≡ Some name.mutex = lock_is (f.Lock place name) rest first in
-          let p : Passed = record { mutex = name.mutex; holder = Some t } in
+          let k = keeps_lock x.variables names keep.1 in
+          let lock = lock_number thread.locals name in
+          let is : lock_ahead thread ≡ Some lock = lock_is (f.Lock place name) rest first in
+          let p : Passed = record { mutex = lock; holder = Some t } in
           record {
             change = record { thread = record thread { left = rest }; store = None; passed = Some p };
             keeps = record {
-              left = subst (λ (z : Held). KeepList x.variables z rest none) (k ∙ sym (held_taken t s.holders name.mutex)) keep.2;
-              pending =
-                  at_rest (held_by t (slice_set s.holders name.mutex (Some t)));
+              text = text;
+              its = its;
+              set = slice_set held (number_in names name) true;
+              held = names_taken names held thread.locals s.holders t holding name long k.0 e;
+              left = subst (λ (z : Held). KeepList x.variables names z rest none) k.1 keep.2;
+              pending = λ q g. cc;
             };
             owned = λ q g. cc;
             passes = λ q g. subst (λ (w : Passed). ChangesMutex s t thread w) (some_is p q g) (takes is e refl);
-            ahead = λ j g. let one : name.mutex ≡ j = some_is name.mutex j (sym is ∙ g) in ap
+            ahead = λ j g. let one : lock ≡ j = some_is lock j (sym is ∙ g) in ap
                 (λ (i : ℕ). let w : Passed = record { mutex = i; holder = Some t } in Some w) one;
-            same = λ other l. lock_free other place name (l.ahead name.mutex (locks_found s t thread there ∙ is) ∙ e);
+            same = λ other l. lock_free other place name (l.ahead lock (locks_found s t thread there ∙ is) ∙ e);
           }
 
       -- a mutex is given back
-      by_unlock : (place : Place) (name : e.LockName) → thread.left ≡ f.Unlock place name ∷ rest → KeepList x.variables held (f.Unlock place name ∷ rest) none →
+      by_unlock : (place : Place) (name : e.LockName) → thread.left ≡ f.Unlock place name ∷ rest →
+          KeepList x.variables names held (f.Unlock place name ∷ rest) none →
           IsDisciplinedChange x s t thread (λ z. m.statement_step z t thread (f.Unlock place name) rest)
       by_unlock place name first keep =
-          let k = keeps_unlock x.variables keep.1 in
+          let k = keeps_unlock x.variables names keep.1 in
+          let lock = lock_number thread.locals name in
           let free : lock_ahead thread ≡ None = lock_is (f.Unlock place name) rest first in
-          let p : Passed = record { mutex = name.mutex; holder = None } in
+          let p : Passed = record { mutex = lock; holder = None } in
           record {
             change = record { thread = record thread { left = rest }; store = None; passed = Some p };
             keeps = record {
-              left = subst (λ (z : Held). KeepList x.variables z rest none) (k.1 ∙ sym (held_given t s.holders name.mutex)) keep.2;
-              pending =
-                  at_rest (held_by t (slice_set s.holders name.mutex None));
+              text = text;
+              its = its;
+              set = slice_set held (number_in names name) false;
+              held = names_given names held thread.locals s.holders t holding name long k.0;
+              left = subst (λ (z : Held). KeepList x.variables names z rest none) k.1 keep.2;
+              pending = λ q g. cc;
             };
             owned = λ q g. cc;
             passes = λ q g. subst (λ (w : Passed). ChangesMutex s t thread w) (some_is p q g)
-                (gives (unlock_is (f.Unlock place name) rest first) (held_found t s.holders name.mutex k.0) refl);
+                (gives (unlock_is (f.Unlock place name) rest first) (name_held names held thread.locals s.holders t holding name long k.0) refl);
             ahead = λ j g. let no : None ≡ Some j = sym free ∙ g in cc;
             same = λ other l. refl;
           }
 
       -- each statement
-      by_statement : (y : f.Statement) (next : m.State) → thread.left ≡ y ∷ rest → KeepList x.variables held (y ∷ rest) none →
+      by_statement : (y : f.Statement) (next : m.State) → thread.left ≡ y ∷ rest → KeepList x.variables names held (y ∷ rest) none →
           m.statement_step s t thread y rest ≡ Some next → IsDisciplinedChange x s t thread (λ z. m.statement_step z t thread y rest)
       by_statement (f.Assign place target placed) next first keep h = by_assign place target placed first keep
       by_statement (f.If place f.no_arm otherwise) next first keep h = cc
       by_statement (f.If place (f.arm_and condition body arms) otherwise) next first keep h = by_if place condition body arms otherwise first keep
       by_statement (f.While place condition body) next first keep h = by_while place condition body first keep
       by_statement (f.Do place body condition) next first keep h = cc
-      by_statement (f.Lock place name) next first keep h = by_lock place name next (slice_get s.holders name.mutex) refl first keep h
+      by_statement (f.Lock place name) next first keep h = by_lock place name next (slice_get s.holders (lock_number thread.locals name)) refl first keep h
       by_statement (f.Unlock place name) next first keep h = by_unlock place name first keep
 
     -- nothing is locked at the end
     end_locks : thread.left ≡ [] → lock_ahead thread ≡ None
-    end_locks over = ap (λ (o : Option m.Pending). let r : Option ℕ = elim o [ Some q ↦ None | None ↦ first_lock thread.left ] in r) idle ∙ ap first_lock over
+    end_locks over =
+        ap (λ (o : Option m.Pending). let r : Option ℕ = elim o [ Some q ↦ None | None ↦ first_lock thread.locals thread.left ] in r) idle
+        ∙ ap (first_lock thread.locals) over
 
     -- the end
-    by_end : (next : m.State) (ended : Bool) → thread.left ≡ [] → KeepList x.variables held thread.left none →
+    by_end : (next : m.State) (ended : Bool) → thread.left ≡ [] → KeepList x.variables names held thread.left none →
         (let o : Option m.State = if ended then None else Some (m.with_thread s t (record thread { ended = true })) in o ≡ Some next) →
         IsDisciplinedChange x s t thread (λ z. if ended then None else Some (m.with_thread z t (record thread { ended = true })))
     by_end next true over keep h = cc
     by_end next false over keep h = still (λ z. Some (m.with_thread z t (record thread { ended = true }))) (record thread { ended = true }) (end_locks over)
-        (λ other l. refl) (record { left = keep; pending = at_rest held })
+        (λ other l. refl) (keeps_as (record thread { ended = true }) holding keep at_rest)
 
     -- what is left to do
-    by_left : (next : m.State) (left : List f.Statement) → thread.left ≡ left → KeepList x.variables held left none →
-        KeepList x.variables held thread.left none → m.left_step s t thread left ≡ Some next →
+    by_left : (next : m.State) (left : List f.Statement) → thread.left ≡ left → KeepList x.variables names held left none →
+        KeepList x.variables names held thread.left none → m.left_step s t thread left ≡ Some next →
         IsDisciplinedChange x s t thread (λ z. m.left_step z t thread left)
     by_left next [] is keep keep_all h = by_end next thread.ended is keep_all h
     by_left next (y ∷ rest) is keep keep_all h = by_statement rest y next is keep h
@@ -294,22 +332,31 @@ module _ (x : f.Flat) (s : m.State) (t : ℕ) (thread : m.Thread) (there : slice
   ]
 
   -- with a pending store, or without
-  by_pending : (next : m.State) (o : Option m.Pending) → thread.pending ≡ o → ThreadKeeps x held thread → pending_by s o ≡ Some next →
-      IsDisciplinedChange x s t thread (λ z. pending_by z o)
-  by_pending next None e keeps h = by_left e next thread.left refl keeps.left keeps.left h
-  by_pending next (Some p) e keeps h = by_store p e keeps.left (keeps.pending p e)
+  by_pending : (next : m.State) (o : Option m.Pending) → thread.pending ≡ o → KeepList x.variables names held thread.left none →
+      ((p : m.Pending) → thread.pending ≡ Some p → HoldsFor p) → pending_by s o ≡ Some next → IsDisciplinedChange x s t thread (λ z. pending_by z o)
+  by_pending next None e left pending h = by_left e next thread.left refl left left h
+  by_pending next (Some p) e left pending h = by_store p e left (pending p e)
 
   -- a step of a thread that keeps the discipline
-  by_thread : (next : m.State) → ThreadKeeps x held thread → m.thread_step s t thread ≡ Some next → Stepped x s t next
-  by_thread next keeps h =
-      let d : IsDisciplinedChange x s t thread (λ z. m.thread_step z t thread) = by_pending next thread.pending refl keeps h in
+  by_thread : (next : m.State) → KeepList x.variables names held thread.left none → ((p : m.Pending) → thread.pending ≡ Some p → HoldsFor p) →
+      m.thread_step s t thread ≡ Some next → Stepped x s t next
+  by_thread next left pending h =
+      let d : IsDisciplinedChange x s t thread (λ z. m.thread_step z t thread) = by_pending next thread.pending refl left pending h in
       record { thread = thread; there = there; does = d; is = some_is next (changed s t d.change) (sym h ∙ d.same s (looks_same x s t)) }
+
+-- a set speaks of all names
+pub set_long : (x : f.Flat) (t : ℕ) (hs : List (Option ℕ)) (thread : m.Thread) (k : ThreadKeeps x t hs thread) → length k.set ≡ length (lock_names x k.text)
+set_long x t hs thread k =
+    keep_list_length x.variables (lock_names x k.text) thread.left k.set (none_held (length (lock_names x k.text))) k.left
+    ∙ length-replicate (length (lock_names x k.text)) false
 
 -- the thread of that number
 by_found : (x : f.Flat) (s next : m.State) (t : ℕ) (o : Option m.Thread) → slice_get s.threads t ≡ o → StateKeeps x s → source_step s t ≡ Some next →
     Stepped x s t next
 by_found x s next t None e keeps h = let no = step_missing s t e in cc
-by_found x s next t (Some thread) e keeps h = by_thread x s t thread e next (keeps.each t thread e) (sym (step_found s t thread e) ∙ h)
+by_found x s next t (Some thread) e keeps h =
+    let k = keeps.each t thread e in
+    by_thread x s t thread e k.text k.its k.set k.held (set_long x t s.holders thread k) next k.left k.pending (sym (step_found s t thread e) ∙ h)
 
 -- a step in a state that keeps the discipline
 pub stepped : (x : f.Flat) (s next : m.State) (t : ℕ) → StateKeeps x s → source_step s t ≡ Some next → Stepped x s t next
@@ -331,36 +378,62 @@ apart x s next t u p n = ap (λ (z : m.State). held_by u z.holders) p.is ∙ apa
 
 -- ---- States that keep the discipline
 
+-- a thread that holds what it held
+pub keeps_still : (x : f.Flat) (u : ℕ) (hs to : List (Option ℕ)) (thread : m.Thread) → held_by u to ≡ held_by u hs → ThreadKeeps x u hs thread →
+    ThreadKeeps x u to thread
+keeps_still x u hs to thread same k = record {
+  text = k.text;
+  its = k.its;
+  set = k.set;
+  held = holders_moved (lock_names x k.text) k.set thread.locals hs u k.held to same;
+  left = k.left;
+  pending = λ p e.
+      let lock = element_lock x.variables p.variable p.element in
+      held_found u to lock (ap (λ (h : Held). holds h lock) same ∙ held_there u hs lock (k.pending p e));
+}
+
+passed_length : (o : Option Passed) (hs : List (Option ℕ)) → length (with_passed o hs) ≡ length hs
+passed_length None hs = refl
+passed_length (Some p) hs = length-set hs p.mutex p.holder
+
 pub step_keeps : StepKeeps
 step_keeps x s next t keeps h =
     let p = stepped x s next t keeps h in
     let c = p.does.change in
     let hs : List (Option ℕ) = with_passed c.passed s.holders in
     let made : StateKeeps x (changed s t c) = record {
+      locks = passed_length c.passed s.holders ∙ keeps.locks;
       each = λ u thread g. ⊎_elim
           (λ is.
           let found : slice_get (slice_set s.threads t c.thread) t ≡ Some c.thread =
           set_same s.threads t c.thread (slice_get_within s.threads t p.thread p.there) in
           let there : slice_get (slice_set s.threads t c.thread) t ≡ Some thread = ap (slice_get (slice_set s.threads t c.thread)) (sym is) ∙ g in
           let same : c.thread ≡ thread = some_is c.thread thread (sym found ∙ there) in
-          subst (λ (w : ℕ). ThreadKeeps x (held_by w hs) thread) (sym is) (subst (λ (th : m.Thread). ThreadKeeps x (held_by t hs) th) same p.does.keeps))
+          subst (λ (w : ℕ). ThreadKeeps x w hs thread) (sym is) (subst (λ (th : m.Thread). ThreadKeeps x t hs th) same p.does.keeps))
           (λ n.
           let there : slice_get s.threads u ≡ Some thread = sym (set_other s.threads t u c.thread n) ∙ g in
-          subst (λ (k : Held). ThreadKeeps x k thread) (sym (apart_by s t u p.thread c.passed p.does.passes n)) (keeps.each u thread there))
+          keeps_still x u s.holders hs thread (apart_by s t u p.thread c.passed p.does.passes n) (keeps.each u thread there))
           (cases_eq u t);
     } in
     subst (λ (z : m.State). StateKeeps x z) (sym p.is) made
 
 pub start_keeps : StartKeeps
 start_keeps x keep = record {
+  locks = length-replicate (length x.mutexes) None;
   each = λ u thread g.
       let a = map_found m.thread_start x.threads u thread g in
       let k : IsDisciplined x a.0 = subst (IsDisciplined x) (get_or_from_slice_get x.threads u a.0 a.0 a.1)
       (keep u a.0 (slice_get_within x.threads u a.0 a.1)) in
-      let is : held_by u (m.start x).holders ≡ none_held (length x.mutexes) = held_none u (length x.mutexes) in
-      let made : ThreadKeeps x (none_held (length x.mutexes)) (m.thread_start a.0) = record { left = keep_opened_all x.variables k; pending = λ p e. cc } in
-      subst (λ (th : m.Thread). ThreadKeeps x (held_by u (m.start x).holders) th) a.2
-      (subst (λ (h : Held). ThreadKeeps x h (m.thread_start a.0)) (sym is) made);
+      let names = lock_names x a.0 in
+      let made : ThreadKeeps x u (m.start x).holders (m.thread_start a.0) = record {
+        text = a.0;
+        its = a.1;
+        set = none_held (length names);
+        held = names_none names (m.thread_start a.0).locals (length x.mutexes) u;
+        left = keep_opened_all x.variables names k;
+        pending = λ p e. cc;
+      } in
+      subst (λ (th : m.Thread). ThreadKeeps x u (m.start x).holders th) a.2 made;
 }
 
 run_by : (x : f.Flat) (s : m.State) (t : ℕ) (ts : List ℕ) (o : Option m.State) → source_step s t ≡ o → StateKeeps x s →

@@ -1,7 +1,7 @@
 -- Steps of one thread are moved before those of others, where no mutex is transferred.
 use Rattle.std.proofs.Common.{◌≡◌, ◌≢◌, refl, ℕ, zero, suc, ◌+◌, ◌≤◌, ◌==◌, List, [], ◌∷◌, ◌++◌, sym, ◌∙◌, ap}
 use Rattle.std.proofs.Common.{subst, arith, Bool, true, false, not, ◌&&◌, Option, Some, None, replicate, ⊎_elim}
-use Rattle.std.specs.Prelude.{slice_get, if◌then◌else◌, is_none}
+use Rattle.std.specs.Prelude.{slice_get, if◌then◌else◌, is_none, ℤ}
 use Rattle.std.proofs.lemmas.Bool.{cases_eq}
 use Rattle.std.proofs.lemmas.Bool.Decides.{nat_tests}
 use Rattle.ido_base.specs.Locks.{is_held_by, held_from}
@@ -9,17 +9,20 @@ use Rattle.c_tree.specs.Programs.{Variable}
 use Rattle.c_tree.specs.Flats as f
 use Rattle.c_tree.specs.Source as m
 use Rattle.c_tree.specs.Source.{source_step}
-use Rattle.c_tree.specs.LockDiscipline.{Held, holds}
+use Rattle.c_tree.specs.Exprs.{LockName}
+use Rattle.c_tree.specs.Values.{lock_number}
+use Rattle.c_tree.specs.LockNames.{Held, holds, lock_names, number_in}
 use Rattle.source_machine.specs.ElementLocks.{element_lock}
 use Rattle.source_machine.specs.Mutexes.{locks, unlocks, lock_ahead, unlock_ahead, first_unlock, held_by}
 use Rattle.source_machine.specs.Discipline.{KeepList, StateKeeps}
 use Rattle.source_machine.specs.StepExchanges.{steps_of, without_first, without, moved, TransfersLock, Exchange, IsSameTo, Solo}
 use Rattle.source_machine.proofs.StepsKeepOthers.{others}
 use Rattle.source_machine.proofs.StateRuns.{after_by, runs_by, ends_by}
-use Rattle.source_machine.proofs.GuardedValues.{held_found}
+use Rattle.source_machine.proofs.GuardedValues.{held_found, held_there}
+use Rattle.source_machine.proofs.HeldNames.{name_held}
 use Rattle.source_machine.proofs.DisciplinedContinuations.{keeps_unlock}
 use Rattle.source_machine.proofs.StepChanges.{some_is, unlocks_found}
-use Rattle.source_machine.proofs.Discipline.{stepped, step_keeps}
+use Rattle.source_machine.proofs.Discipline.{stepped, step_keeps, set_long}
 use Rattle.source_machine.proofs.GuardedAccesses.{leaves_others, leaves_held}
 use Rattle.source_machine.proofs.StepSwaps.{swap, locked}
 
@@ -223,20 +226,27 @@ first_leaves a b c d e g =
 
 -- ---- What a thread unlocks it holds
 
-unlocks_left : (vs : List Variable) (h after : Held) (left : List f.Statement) (k : ℕ) → KeepList vs h left after → first_unlock left ≡ Some k →
-    holds h k ≡ true
-unlocks_left vs h after [] k keep e = cc
-unlocks_left vs h after (f.Assign place target value ∷ rest) k keep e = cc
-unlocks_left vs h after (f.If place arms otherwise ∷ rest) k keep e = cc
-unlocks_left vs h after (f.While place condition body ∷ rest) k keep e = cc
-unlocks_left vs h after (f.Do place body condition ∷ rest) k keep e = cc
-unlocks_left vs h after (f.Lock place name ∷ rest) k keep e = cc
-unlocks_left vs h after (f.Unlock place name ∷ rest) k keep e = subst (λ (j : ℕ). holds h j ≡ true) (some_is name.mutex k e) (keeps_unlock vs keep.1).0
+-- the name of what is unlocked first
+record Unlocked (names : List LockName) (h : Held) (ls : List ℤ) (lock : ℕ) : Type 0 where
+  name : LockName
+  held : holds h (number_in names name) ≡ true
+  is : lock_number ls name ≡ lock
 
-unlocks_pending : (o : Option m.Pending) (left : List f.Statement) (k : ℕ) →
-    (let r : Option ℕ = elim o [ Some p ↦ None | None ↦ first_unlock left ] in r ≡ Some k) → first_unlock left ≡ Some k
-unlocks_pending (Some p) left k e = cc
-unlocks_pending None left k e = e
+unlocks_left : (vs : List Variable) (names : List LockName) (h after : Held) (ls : List ℤ) (left : List f.Statement) (k : ℕ) →
+    KeepList vs names h left after → first_unlock ls left ≡ Some k → Unlocked names h ls k
+unlocks_left vs names h after ls [] k keep e = cc
+unlocks_left vs names h after ls (f.Assign place target value ∷ rest) k keep e = cc
+unlocks_left vs names h after ls (f.If place arms otherwise ∷ rest) k keep e = cc
+unlocks_left vs names h after ls (f.While place condition body ∷ rest) k keep e = cc
+unlocks_left vs names h after ls (f.Do place body condition ∷ rest) k keep e = cc
+unlocks_left vs names h after ls (f.Lock place name ∷ rest) k keep e = cc
+unlocks_left vs names h after ls (f.Unlock place name ∷ rest) k keep e =
+    record { name = name; held = (keeps_unlock vs names keep.1).0; is = some_is (lock_number ls name) k e }
+
+unlocks_pending : (o : Option m.Pending) (ls : List ℤ) (left : List f.Statement) (k : ℕ) →
+    (let r : Option ℕ = elim o [ Some p ↦ None | None ↦ first_unlock ls left ] in r ≡ Some k) → first_unlock ls left ≡ Some k
+unlocks_pending (Some p) ls left k e = cc
+unlocks_pending None ls left k e = e
 
 unlocks_by : (x : f.Flat) (s : m.State) (t k : ℕ) (o : Option m.Thread) → slice_get s.threads t ≡ o → StateKeeps x s → unlocks s t ≡ Some k →
     slice_get s.holders k ≡ Some (Some t)
@@ -245,8 +255,12 @@ unlocks_by x s t k None e keeps h =
     let off : None ≡ Some k = sym no ∙ h in
     cc
 unlocks_by x s t k (Some thread) e keeps h =
-    held_found t s.holders k (unlocks_left x.variables (held_by t s.holders) _ thread.left k (keeps.each t thread e).left
-    (unlocks_pending thread.pending thread.left k (sym (unlocks_found s t thread e) ∙ h)))
+    let own = keeps.each t thread e in
+    let names = lock_names x own.text in
+    let r = unlocks_left x.variables names own.set _ thread.locals thread.left k own.left
+    (unlocks_pending thread.pending thread.locals thread.left k (sym (unlocks_found s t thread e) ∙ h)) in
+    ap (slice_get s.holders) (sym r.is)
+    ∙ name_held names own.set thread.locals s.holders t own.held r.name (set_long x t s.holders thread own) r.held
 
 pub unlocks_held : (x : f.Flat) (s : m.State) (t k : ℕ) → StateKeeps x s → unlocks s t ≡ Some k → slice_get s.holders k ≡ Some (Some t)
 unlocks_held x s t k keeps h = unlocks_by x s t k (slice_get s.threads t) refl keeps h
@@ -408,16 +422,6 @@ exchange x s us t n keeps runs never l =
     }
 
 -- ---- One thread alone
-
-pub held_there : (t : ℕ) (hs : List (Option ℕ)) (k : ℕ) → slice_get hs k ≡ Some (Some t) → holds (held_by t hs) k ≡ true
-held_there t [] k h = cc
-held_there t (o ∷ hs) zero h =
-    let is : o ≡ Some t = some_is o (Some t) h in
-    ap (is_held_by t) is ∙ equal t
-  where
-    equal : (a : ℕ) → (a == a) ≡ true
-    equal a = grind (arith, nat_tests)
-held_there t (o ∷ hs) (suc k) h = held_there t hs k h
 
 module _ (x : f.Flat) (t : ℕ) where
   rests_by : (b : Bool) (u : ℕ) (us : List ℕ) (s last : m.State) → (u == t) ≡ b → StateKeeps x s → LeadsAlong s (u ∷ us) last → steps_of t (u ∷ us) ≡ 0 →

@@ -15,8 +15,10 @@ use Rattle.ido_ints.specs.Operators.{is_zero, unary_of, binary_of}
 use Rattle.c_tree.specs.Exprs as e
 use Rattle.c_tree.specs.Programs.{Variable}
 use Rattle.c_tree.specs.Values.{element_number, element_at, value}
-use Rattle.c_tree.specs.LockDiscipline.{Held, holds, Use, expr_uses, guard_of, is_guarded, AreGuarded}
-use Rattle.source_machine.specs.ElementLocks.{element_lock, found_number}
+use Rattle.c_tree.specs.LockNames.{Held, holds}
+use Rattle.c_tree.specs.LockDiscipline.{Use, expr_uses, is_guarded, AreGuarded}
+use Rattle.c_tree.proofs.Public.{index_element}
+use Rattle.source_machine.specs.ElementLocks.{found_number}
 use Rattle.source_machine.specs.Mutexes.{held_by}
 
 -- ---- What a thread holds
@@ -27,6 +29,14 @@ held_found t [] k h = cc
 held_found t (None ∷ hs) zero h = cc
 held_found t (Some u ∷ hs) zero h = ap (λ (n : ℕ). Some (Some n)) (sym (eqb-true t u h))
 held_found t (o ∷ hs) (suc k) h = held_found t hs k h
+
+-- a mutex that the thread holds is in the set
+pub held_there : (t : ℕ) (hs : List (Option ℕ)) (k : ℕ) → slice_get hs k ≡ Some (Some t) → holds (held_by t hs) k ≡ true
+held_there t [] k h = cc
+held_there t (o ∷ hs) zero h =
+    let is : o ≡ Some t = cc in
+    ap (is_held_by t) is ∙ eq-eqb t t refl
+held_there t (o ∷ hs) (suc k) h = held_there t hs k h
 
 -- a thread holds nothing of another's
 pub held_apart : (u t : ℕ) → u ≢ t → is_held_by u (Some t) ≡ false
@@ -72,33 +82,28 @@ right_of_none : (a b : Option Use) → option_or a b ≡ None → b ≡ None
 right_of_none None b h = h
 right_of_none (Some u) b h = cc
 
-module _ (vs : List Variable) (h : Held) where
-  -- the variable's mutex isn't in the set
+module _ (vs : List Variable) (names : List e.LockName) (h : Held) where
+  -- the name of the use's lock isn't in the set
   abbrev unguarded : Use → Bool
-  unguarded u = not (is_guarded vs h u)
+  unguarded u = not (is_guarded vs names h u)
 
   -- the first use is guarded
-  pub guarded_first : (u : Use) (us : List Use) → AreGuarded vs h (u ∷ us) → holds h (guard_of vs u.variable) ≡ true
-  guarded_first u us g = first_of_none (is_guarded vs h u) u (find unguarded us) g
+  pub guarded_first : (u : Use) (us : List Use) → AreGuarded vs names h (u ∷ us) → is_guarded vs names h u ≡ true
+  guarded_first u us g = first_of_none (is_guarded vs names h u) u (find unguarded us) g
 
   -- the uses after the first are guarded
-  pub guarded_rest : (u : Use) (us : List Use) → AreGuarded vs h (u ∷ us) → AreGuarded vs h us
-  guarded_rest u us g = rest_of_none (is_guarded vs h u) u (find unguarded us) g
+  pub guarded_rest : (u : Use) (us : List Use) → AreGuarded vs names h (u ∷ us) → AreGuarded vs names h us
+  guarded_rest u us g = rest_of_none (is_guarded vs names h u) u (find unguarded us) g
 
   -- of two lists the one in front
-  pub guarded_left : (us ws : List Use) → AreGuarded vs h (us ++ ws) → AreGuarded vs h us
+  pub guarded_left : (us ws : List Use) → AreGuarded vs names h (us ++ ws) → AreGuarded vs names h us
   guarded_left us ws g = left_of_none (find unguarded us) (find unguarded ws) (sym (find-append unguarded us ws) ∙ g)
 
   -- where the uses of two lists are guarded, those of the second are
-  pub guarded_right : (us ws : List Use) → AreGuarded vs h (us ++ ws) → AreGuarded vs h ws
+  pub guarded_right : (us ws : List Use) → AreGuarded vs names h (us ++ ws) → AreGuarded vs names h ws
   guarded_right us ws g = right_of_none (find unguarded us) (find unguarded ws) (sym (find-append unguarded us ws) ∙ g)
 
 -- ---- Elements
-
--- a set that has a variable's mutex has the lock of each of its elements; only here is it known which lock that is
-pub holds_each : (vs : List Variable) (h : Held) (v e : ℕ) → holds h (guard_of vs v) ≡ true → holds h (element_lock vs v e) ≡ true
-unfolding element_lock
-holds_each vs h v e g = g
 
 -- an element that is the same reads the same
 pub found_same : (vs ws : List (List ℤ)) (v e : ℕ) → found_number ws v e ≡ found_number vs v e → element_number ws v e ≡ element_number vs v e
@@ -108,32 +113,38 @@ found_same vs ws v e h =
 
 -- ---- Values
 
-module _ (variables : List Variable) (h : Held) (ls : List ℤ) (vs ws : List (List ℤ))
-    (same : (v e : ℕ) → holds h (element_lock variables v e) ≡ true → found_number ws v e ≡ found_number vs v e) where
-  -- an element of a guarded variable
-  element_same : (v n m : ℕ) → holds h (guard_of variables v) ≡ true → n ≡ m → element_number ws v n ≡ element_number vs v m
-  element_same v n m g is = ap (element_number ws v) is ∙ found_same vs ws v m (same v m (holds_each variables h v m g))
+module _ (variables : List Variable) (names : List e.LockName) (h : Held) (ls : List ℤ) (vs ws : List (List ℤ))
+    (same : (u : Use) → is_guarded variables names h u ≡ true →
+    found_number ws u.variable (index_element ls vs u.index) ≡ found_number vs u.variable (index_element ls vs u.index)) where
+  -- the element of a guarded use
+  element_same : (u : Use) (n : ℕ) → is_guarded variables names h u ≡ true → n ≡ index_element ls vs u.index →
+      element_number ws u.variable n ≡ element_number vs u.variable (index_element ls vs u.index)
+  element_same u n g is =
+      ap (element_number ws u.variable) is ∙ found_same vs ws u.variable (index_element ls vs u.index) (same u g)
 
   -- an expression whose uses are guarded has one value over variables that are the same where they are guarded
-  pub value_same : (x : e.Expr) → AreGuarded variables h (expr_uses x) → value ls ws x ≡ value ls vs x
+  pub value_same : (x : e.Expr) → AreGuarded variables names h (expr_uses x) → value ls ws x ≡ value ls vs x
   value_same (e.Constant x) g = refl
   value_same (e.Local local kind) g = refl
-  value_same (e.Variable place v kind) g = ap (typed kind) (element_same v 0 0 (guarded_first variables h _ [] g) refl)
+  value_same (e.Variable place v kind) g =
+      let u : Use = record { variable = v; place = place; index = None } in
+      ap (typed kind) (element_same u 0 (guarded_first variables names h u [] g) refl)
   value_same (e.Element place v kind index_place index) g =
-      ap (typed kind) (element_same v _ _ (guarded_first variables h _ (expr_uses index) g)
-      (ap element_at (value_same index (guarded_rest variables h _ (expr_uses index) g))))
+      let u : Use = record { variable = v; place = place; index = Some (record { place = index_place; expr = index }) } in
+      ap (typed kind) (element_same u _ (guarded_first variables names h u (expr_uses index) g)
+      (ap element_at (value_same index (guarded_rest variables names h u (expr_uses index) g))))
   value_same (e.Unary operator operand) g = ap (unary_of operator) (value_same operand g)
   value_same (e.Cast kind operand) g = ap (λ (y : Typed). converted y kind) (value_same operand g)
   value_same (e.Converted kind operand) g = ap (λ (y : Typed). converted y kind) (value_same operand g)
   value_same (e.Binary operator left right) g =
-      ap₂ (binary_of operator) (value_same left (guarded_left variables h (expr_uses left) (expr_uses right) g))
-      (value_same right (guarded_right variables h (expr_uses left) (expr_uses right) g))
+      ap₂ (binary_of operator) (value_same left (guarded_left variables names h (expr_uses left) (expr_uses right) g))
+      (value_same right (guarded_right variables names h (expr_uses left) (expr_uses right) g))
   value_same (e.Conditional kind condition chosen otherwise) g =
-      let first = guarded_left variables h (expr_uses condition ++ expr_uses chosen) (expr_uses otherwise) g in
+      let first = guarded_left variables names h (expr_uses condition ++ expr_uses chosen) (expr_uses otherwise) g in
       let pick = λ (c y n : Typed). converted (if is_zero c.number then n else y) kind in
       ap (λ (c : Typed). pick c (value ls ws chosen) (value ls ws otherwise))
-      (value_same condition (guarded_left variables h (expr_uses condition) (expr_uses chosen) first))
+      (value_same condition (guarded_left variables names h (expr_uses condition) (expr_uses chosen) first))
       ∙ (ap (λ (y : Typed). pick (value ls vs condition) y (value ls ws otherwise))
-      (value_same chosen (guarded_right variables h (expr_uses condition) (expr_uses chosen) first))
+      (value_same chosen (guarded_right variables names h (expr_uses condition) (expr_uses chosen) first))
       ∙ ap (pick (value ls vs condition) (value ls vs chosen)) (value_same otherwise
-      (guarded_right variables h (expr_uses condition ++ expr_uses chosen) (expr_uses otherwise) g)))
+      (guarded_right variables names h (expr_uses condition ++ expr_uses chosen) (expr_uses otherwise) g)))

@@ -12,6 +12,7 @@ mod DisciplinedContinuations
 mod StepChanges
 mod Discipline
 mod GuardedAccesses
+mod HeldNames
 mod HeldBeforeContinuations
 mod UniqueRefusals
 mod AppendedScheduleRuns

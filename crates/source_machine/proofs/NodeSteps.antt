@@ -13,7 +13,7 @@ use Rattle.c_tree.specs.declared.expr.LockName as code_lock
 use Rattle.c_tree.specs.declared.expr.Lvalue as code_target
 use Rattle.c_tree.specs.Flats as f
 use Rattle.c_tree.specs.Source as m
-use Rattle.c_tree.specs.Values.{value}
+use Rattle.c_tree.specs.Values.{value, lock_number}
 use Rattle.source_machine.specs.declared.answers.Stepped.{Stepped}
 use Rattle.source_machine.specs.declared.answers.Stepped.TheVariants.{Did, Waits, Ended}
 use Rattle.source_machine.specs.declared.code.Node.{Node}
@@ -67,13 +67,13 @@ module _ (vs : List (List ℤ)) (hs : List (Option ℕ)) (threads : List m.Threa
     abbrev ahead_by : Option m.Pending → Option ℕ
     ahead_by o = elim o [
       | Some p ↦ None
-      | None ↦ first_lock left
+      | None ↦ first_lock t.locals.items left
     ]
 
     prefix : (x : f.Statement) (rest : List f.Statement) → left ≡ x ∷ rest → m.thread_step before n model ≡ m.statement_step before n model x rest
     prefix x rest is = step_is ∙ ap (m.left_step before n model) is
 
-    ahead : (o : Option ℕ) → first_lock left ≡ o → lock_ahead model ≡ o
+    ahead : (o : Option ℕ) → first_lock t.locals.items left ≡ o → lock_ahead model ≡ o
     ahead o e = ap ahead_by (ap (option_map pending_of) idle) ∙ e
 
     does : (x : Node) → slice_get t.nodes.items t.at ≡ Some x → DoesNode l.lefts x left
@@ -88,7 +88,7 @@ module _ (vs : List (List ℤ)) (hs : List (Option ℕ)) (threads : List m.Threa
         let step : m.thread_step before n model ≡ None = step_is ∙ (ap (m.left_step before n model) nothing
         ∙ ap (λ (b : Bool). let o : Option m.State = if b then None else Some (m.with_thread before n (record model { ended = true })) in o) e) in
         made_none Ended l step (ap (λ (o : Option ℕ). let a : Stepped = elim o [ Some mutex ↦ Waits mutex | None ↦ Ended ] in a)
-        (sym (ahead None (ap first_lock nothing))))
+        (sym (ahead None (ap (first_lock t.locals.items) nothing))))
 
     pub end_made : slice_get t.nodes.items t.at ≡ Some node.End → t.ended ≡ false → IsMade n now (hand (record t { ended = true }) vs hs) Did threads left
     end_made g e =
@@ -102,42 +102,46 @@ module _ (vs : List (List ℤ)) (hs : List (Option ℕ)) (threads : List m.Threa
     never_made g =
         let d = does node.Never g in
         made_none Ended l (prefix (f.If d.place f.no_arm d.otherwise) d.rest d.is)
-        (ap (λ (o : Option ℕ). let a : Stepped = elim o [ Some mutex ↦ Waits mutex | None ↦ Ended ] in a) (sym (ahead None (ap first_lock d.is))))
+        (ap (λ (o : Option ℕ). let a : Stepped = elim o [ Some mutex ↦ Waits mutex | None ↦ Ended ] in a)
+        (sym (ahead None (ap (first_lock t.locals.items) d.is))))
 
-    lock_free : (place : Place) (name : LockName) (rest : List f.Statement) → slice_get hs name.mutex ≡ Some None →
+    lock_free : (place : Place) (name : LockName) (rest : List f.Statement) → slice_get hs (lock_number t.locals.items name) ≡ Some None →
         m.statement_step before n model (f.Lock place name) rest
-        ≡ Some (m.with_thread (m.with_holder before name.mutex (Some n)) n (record model { left = rest }))
+        ≡ Some (m.with_thread (m.with_holder before (lock_number t.locals.items name) (Some n)) n (record model { left = rest }))
     lock_free place name rest e = rw (m.statement_step, e) refl
 
     pub unlock_made : (lock : Bor code_lock.LockName) (next : ℕ) → slice_get t.nodes.items t.at ≡ Some (node.Unlock lock next) →
-        IsMade n now (hand (record t { at = next }) vs (slice_set hs lock.now.mutex None)) Did threads left
+        IsMade n now (hand (record t { at = next }) vs (slice_set hs (lock_number t.locals.items (lock_name_of lock.now)) None)) Did threads left
     unlock_made lock next g =
         let d = does (node.Unlock lock next) g in
-        made_did (record t { at = next }) vs (slice_set hs lock.now.mutex None) d.rest (moved next d.rest d.follows)
+        made_did (record t { at = next }) vs (slice_set hs (lock_number t.locals.items (lock_name_of lock.now)) None) d.rest (moved next d.rest d.follows)
         (prefix (f.Unlock d.place (lock_name_of lock.now)) d.rest d.is)
 
     pub lock_made : (lock : Bor code_lock.LockName) (next : ℕ) → slice_get t.nodes.items t.at ≡ Some (node.Lock lock next) →
-        slice_get hs lock.now.mutex ≡ Some None →
-        IsMade n now (hand (record t { at = next }) vs (slice_set hs lock.now.mutex (Some n))) Did threads left
+        slice_get hs (lock_number t.locals.items (lock_name_of lock.now)) ≡ Some None →
+        IsMade n now (hand (record t { at = next }) vs (slice_set hs (lock_number t.locals.items (lock_name_of lock.now)) (Some n))) Did threads left
     lock_made lock next g free =
         let d = does (node.Lock lock next) g in
-        made_did (record t { at = next }) vs (slice_set hs lock.now.mutex (Some n)) d.rest (moved next d.rest d.follows)
+        made_did (record t { at = next }) vs (slice_set hs (lock_number t.locals.items (lock_name_of lock.now)) (Some n)) d.rest (moved next d.rest d.follows)
         (prefix (f.Lock d.place (lock_name_of lock.now)) d.rest d.is ∙ lock_free d.place (lock_name_of lock.now) d.rest free)
 
-    lock_none : (place : Place) (name : LockName) (rest : List f.Statement) (o : Option (Option ℕ)) → slice_get hs name.mutex ≡ o → o ≢ Some None →
+    lock_none : (place : Place) (name : LockName) (rest : List f.Statement) (o : Option (Option ℕ)) →
+        slice_get hs (lock_number t.locals.items name) ≡ o → o ≢ Some None →
         m.statement_step before n model (f.Lock place name) rest ≡ None
     lock_none place name rest None e h = rw (m.statement_step, e) refl
     lock_none place name rest (Some None) e h = absurd (h refl)
     lock_none place name rest (Some (Some u)) e h = rw (m.statement_step, e) refl
 
     pub lock_waits : (lock : Bor code_lock.LockName) (next : ℕ) → slice_get t.nodes.items t.at ≡ Some (node.Lock lock next) →
-        slice_get hs lock.now.mutex ≢ Some None →
-        IsMade n now now (Waits lock.now.mutex) threads left
+        slice_get hs (lock_number t.locals.items (lock_name_of lock.now)) ≢ Some None →
+        IsMade n now now (Waits (lock_number t.locals.items (lock_name_of lock.now))) threads left
     lock_waits lock next g held =
         let d = does (node.Lock lock next) g in
-        made_none (Waits lock.now.mutex) l
-        (prefix (f.Lock d.place (lock_name_of lock.now)) d.rest d.is ∙ lock_none d.place (lock_name_of lock.now) d.rest (slice_get hs lock.now.mutex) refl held)
-        (ap (λ (o : Option ℕ). let a : Stepped = elim o [ Some x ↦ Waits x | None ↦ Ended ] in a) (sym (ahead (Some lock.now.mutex) (ap first_lock d.is))))
+        made_none (Waits (lock_number t.locals.items (lock_name_of lock.now))) l
+        (prefix (f.Lock d.place (lock_name_of lock.now)) d.rest d.is
+        ∙ lock_none d.place (lock_name_of lock.now) d.rest (slice_get hs (lock_number t.locals.items (lock_name_of lock.now))) refl held)
+        (ap (λ (o : Option ℕ). let a : Stepped = elim o [ Some x ↦ Waits x | None ↦ Ended ] in a)
+        (sym (ahead (Some (lock_number t.locals.items (lock_name_of lock.now))) (ap (first_lock t.locals.items) d.is))))
 
     -- ---- Tests and assignments
 

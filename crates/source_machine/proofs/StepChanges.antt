@@ -45,7 +45,7 @@ pub data ChangesMutex (s : m.State) (t : ℕ) (thread : m.Thread) (p : Passed) :
 -- what a step does that keeps the discipline, from this state and from each that looks the same
 pub record IsDisciplinedChange (x : f.Flat) (s : m.State) (t : ℕ) (thread : m.Thread) (step : m.State → Option m.State) : Type 0 where
   pub change : Change
-  pub keeps : ThreadKeeps x (held_by t (with_passed change.passed s.holders)) change.thread
+  pub keeps : ThreadKeeps x t (with_passed change.passed s.holders) change.thread
   pub owned : (p : m.Pending) → change.store ≡ Some p → Guards x s t p.variable p.element
   pub passes : (p : Passed) → change.passed ≡ Some p → ChangesMutex s t thread p
   pub ahead : (k : ℕ) → lock_ahead thread ≡ Some k → change.passed ≡ Some (record { mutex = k; holder = Some t })

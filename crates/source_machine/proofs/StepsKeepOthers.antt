@@ -7,6 +7,7 @@ use Rattle.ido_base.specs.declared.place.Place.{Place}
 use Rattle.c_tree.specs.Exprs as e
 use Rattle.c_tree.specs.Flats as f
 use Rattle.c_tree.specs.Source as m
+use Rattle.c_tree.specs.Values.{lock_number}
 use Rattle.c_tree.specs.Source.{source_step}
 use Rattle.source_machine.proofs.Emission.{set_other}
 use Rattle.source_machine.proofs.StateRuns.{after_by, step_found, step_missing}
@@ -45,8 +46,8 @@ module _ (s next : m.State) (t : ℕ) (thread : m.Thread) where
   lock_by mutex rest (Some None) = Some (m.with_thread (m.with_holder s mutex (Some t)) t (record thread { left = rest }))
   lock_by mutex rest (Some (Some u)) = None
 
-  lock_is : (place : Place) (name : e.LockName) (rest : List f.Statement) (o : Option (Option ℕ)) → slice_get s.holders name.mutex ≡ o →
-      m.statement_step s t thread (f.Lock place name) rest ≡ lock_by name.mutex rest o
+  lock_is : (place : Place) (name : e.LockName) (rest : List f.Statement) (o : Option (Option ℕ)) → slice_get s.holders (lock_number thread.locals name) ≡ o →
+      m.statement_step s t thread (f.Lock place name) rest ≡ lock_by (lock_number thread.locals name) rest o
   lock_is place name rest None e = rw (m.statement_step, e) refl
   lock_is place name rest (Some None) e = rw (m.statement_step, e) refl
   lock_is place name rest (Some (Some u)) e = rw (m.statement_step, e) refl
@@ -62,9 +63,9 @@ module _ (s next : m.State) (t : ℕ) (thread : m.Thread) where
   by_statement (f.If place (f.arm_and condition body arms) otherwise) rest h = by_some s _ refl refl h
   by_statement (f.While place condition body) rest h = by_some s _ refl refl h
   by_statement (f.Do place body condition) rest h = cc
-  by_statement (f.Lock place name) rest h = by_lock name.mutex rest (slice_get s.holders name.mutex)
-      (sym (lock_is place name rest (slice_get s.holders name.mutex) refl) ∙ h)
-  by_statement (f.Unlock place name) rest h = by_some (m.with_holder s name.mutex None) (record thread { left = rest }) refl refl h
+  by_statement (f.Lock place name) rest h = by_lock (lock_number thread.locals name) rest (slice_get s.holders (lock_number thread.locals name))
+      (sym (lock_is place name rest (slice_get s.holders (lock_number thread.locals name)) refl) ∙ h)
+  by_statement (f.Unlock place name) rest h = by_some (m.with_holder s (lock_number thread.locals name) None) (record thread { left = rest }) refl refl h
 
   by_end : (ended : Bool) → (let o : Option m.State = if ended then None else Some (m.with_thread s t (record thread { ended = true })) in o ≡ Some next) →
       Writes s next t

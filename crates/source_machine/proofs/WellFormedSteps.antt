@@ -1,6 +1,6 @@
 -- The answers of steps in a state of a well formed flat form.
 use Rattle.std.proofs.Common.{◌≡◌, refl, sym, ◌∙◌, ap, subst, ⊎_elim, ℕ, List, Option, Some, None}
-use Rattle.std.specs.Prelude.{slice_get}
+use Rattle.std.specs.Prelude.{slice_get, ℤ}
 use Rattle.c_tree.specs.Flats as f
 use Rattle.c_tree.specs.Source as m
 use Rattle.c_ranges.specs.RunInvariants.{IsStateOf, IsOver, IsAtHeldLock}
@@ -12,10 +12,10 @@ use Rattle.source_machine.specs.declared.answers.Stepped.{Stepped}
 use Rattle.source_machine.specs.declared.answers.Stepped.TheVariants.{Did, Waits, Ended}
 
 -- the mutex at whose lock the thread stands, by what is pending and left
-abbrev ahead_by : Option m.Pending → List f.Statement → Option ℕ
-ahead_by o left = elim o [
+abbrev ahead_by : (locals : List ℤ) → Option m.Pending → List f.Statement → Option ℕ
+ahead_by ls o left = elim o [
   | Some p ↦ None
-  | None ↦ first_lock left
+  | None ↦ first_lock ls left
 ]
 
 abbrev answer_by : m.Thread → Option ℕ → Stepped
@@ -25,10 +25,10 @@ answer_by it o = elim o [
 ]
 
 over_ahead : (it : m.Thread) → IsOver it → lock_ahead it ≡ None
-over_ahead it h = λ i. ahead_by (h.idle i) (h.done i)
+over_ahead it h = λ i. ahead_by it.locals (h.idle i) (h.done i)
 
 stands_ahead : (s : m.State) (t : ℕ) (it : m.Thread) (mutex : ℕ) → IsAtHeldLock s t it mutex → lock_ahead it ≡ Some mutex
-stands_ahead s t it mutex h = λ i. ahead_by (h.next.idle i) (h.next.first i)
+stands_ahead s t it mutex h = (λ i. ahead_by it.locals (h.next.idle i) (h.next.first i)) ∙ ap Some h.number
 
 module _ (x : f.Flat) (s : m.State) (t : ℕ) (it : m.Thread) (is : IsStateOf x s) (found : slice_get s.threads t ≡ Some it) where
   abbrev stepped_by : Option m.Thread → Stepped

@@ -3,7 +3,7 @@ use Rattle.std.proofs.Common.{◌≡◌, List, [], ◌∷◌, Some, None, refl, 
 use Rattle.std.specs.Prelude.{pos}
 use Rattle.ido_ints.specs.declared.kinds.Kind.TheVariants as kind
 use Rattle.c_tree.specs.Trees.{Name}
-use Rattle.c_tree.specs.Programs.{Mutex, Variable, By}
+use Rattle.c_tree.specs.Programs.{Mutex, Variable, By, Each}
 use Rattle.c_tree.specs.Flats as f
 use Rattle.c_tree.specs.Source.{State}
 use Rattle.source_machine.specs.ElementLocks.{element_lock, found_number}
@@ -56,6 +56,18 @@ others_guard_nothing h = cc
 none_guards_free : ¬ (Guards x before 3 1 0)
 unfolding element_lock
 none_guards_free h = cc
+
+-- an array of four elements, under the second mutex and those after it
+abbrev each : List Variable
+each = record { name = name; guard = Each 1; kind = kind.Int; length = Some 4; initial = pos 0 ∷ pos 0 ∷ pos 0 ∷ pos 0 ∷ [] } ∷ []
+
+first_of_each : element_lock each 0 0 ≡ 1
+unfolding element_lock
+first_of_each = refl
+
+last_of_each : element_lock each 0 3 ≡ 4
+unfolding element_lock
+last_of_each = refl
 
 -- ---- Numbers
 

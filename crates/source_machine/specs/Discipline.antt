@@ -1,32 +1,58 @@
 -- The lock discipline along a run: what the threads hold, and what their steps read and write.
-use Rattle.std.specs.Prelude.{◌≡◌, ◌≢◌, ◌↔◌, ◌⊎◌, ℕ, List, [], ◌∷◌, length, All, slice_get, Some, true}
+use Rattle.std.specs.Prelude.{◌≡◌, ◌≢◌, ◌↔◌, ◌⊎◌, ℕ, List, [], ◌∷◌, length, All, slice_get, Option, Some, true, ℤ}
+use Rattle.std.specs.List.{AllByRecursion}
 use Rattle.c_tree.specs.Programs.{Variable}
 use Rattle.c_tree.specs.Flats as f
 use Rattle.c_tree.specs.Source as m
 use Rattle.c_tree.specs.Source.{State, source_step, start, after_from}
-use Rattle.c_tree.specs.LockDiscipline.{Held, holds, none_held, Keeps, IsDisciplined}
+use Rattle.c_tree.specs.Exprs.{LockName}
+use Rattle.c_tree.specs.Values.{lock_number}
+use Rattle.c_tree.specs.LockNames.{Held, holds, none_held, lock_names}
+use Rattle.c_tree.specs.LockDiscipline.{Keeps, IsDisciplined}
+use Rattle.c_tree.specs.WellFormed.{IsSingle}
 use Rattle.source_machine.specs.ElementLocks.{element_lock, found_number}
 use Rattle.source_machine.specs.Mutexes.{locks, held_by}
 
 -- ---- States that keep it
 
 -- from the one set, the statements in turn keep the discipline and leave the other
-abbrev pub KeepList : List Variable → Held → List f.Statement → Held → Type 0
-KeepList vs h [] after = h ≡ after
-KeepList vs h (x ∷ rest) after = (between : Held) × Keeps vs h x between × KeepList vs between rest after
+abbrev pub KeepList : List Variable → List LockName → Held → List f.Statement → Held → Type 0
+KeepList vs names h [] after = h ≡ after
+KeepList vs names h (x ∷ rest) after = (between : Held) × Keeps vs names h x between × KeepList vs names between rest after
 
 -- from the set, what a thread has left keeps the discipline and ends with nothing held
-abbrev pub KeepsLeft : f.Flat → Held → List f.Statement → Type 0
-KeepsLeft x h left = KeepList x.variables h left (none_held (length x.mutexes))
+abbrev pub KeepsLeft : f.Flat → List LockName → Held → List f.Statement → Type 0
+KeepsLeft x names h left = KeepList x.variables names h left (none_held (length names))
 
--- from the set, what this thread has left keeps the discipline, and the set has the lock of the element that its pending store is to
-pub record ThreadKeeps (x : f.Flat) (h : Held) (thread : m.Thread) : Type 0 where
-  pub left : KeepsLeft x h thread.left
-  pub pending : (p : m.Pending) → thread.pending ≡ Some p → holds h (element_lock x.variables p.variable p.element) ≡ true
+-- some held name has the lock
+pub record IsOfName (names : List LockName) (h : Held) (locals : List ℤ) (lock : ℕ) : Type 0 where
+  pub number : ℕ
+  pub name : LockName
+  pub there : slice_get names number ≡ Some name
+  pub held : holds h number ≡ true
+  pub is : lock_number locals name ≡ lock
 
--- each thread keeps the discipline from what it holds
+-- a thread holds exactly the locks of these names, where locals have these numbers, and no two of them are one lock
+pub record HoldsNames (names : List LockName) (h : Held) (locals : List ℤ) (holders : List (Option ℕ)) (number : ℕ) : Type 0 where
+  pub all : (name : ℕ) (x : LockName) → slice_get names name ≡ Some x → holds h name ≡ true → slice_get holders (lock_number locals x) ≡ Some (Some number)
+  pub only : (lock : ℕ) → slice_get holders lock ≡ Some (Some number) → IsOfName names h locals lock
+  pub apart : (one other : ℕ) (x y : LockName) → slice_get names one ≡ Some x → slice_get names other ≡ Some y → holds h one ≡ true → holds h other ≡ true →
+      lock_number locals x ≡ lock_number locals y → one ≡ other
+
+-- what a thread of the form has left keeps the discipline from a set, it holds exactly the locks of that set, and among them that of the element that its
+-- pending store is to
+pub record ThreadKeeps (x : f.Flat) (number : ℕ) (holders : List (Option ℕ)) (thread : m.Thread) : Type 0 where
+  pub text : f.Thread
+  pub its : slice_get x.threads number ≡ Some text
+  pub set : Held
+  pub held : HoldsNames (lock_names x text) set thread.locals holders number
+  pub left : KeepsLeft x (lock_names x text) set thread.left
+  pub pending : (p : m.Pending) → thread.pending ≡ Some p → slice_get holders (element_lock x.variables p.variable p.element) ≡ Some (Some number)
+
+-- each thread keeps the discipline, and holds what its place says
 pub record StateKeeps (x : f.Flat) (s : State) : Type 0 where
-  pub each : (number : ℕ) (thread : m.Thread) → slice_get s.threads number ≡ Some thread → ThreadKeeps x (held_by number s.holders) thread
+  pub locks : length s.holders ≡ length x.mutexes
+  pub each : (number : ℕ) (thread : m.Thread) → slice_get s.threads number ≡ Some thread → ThreadKeeps x number s.holders thread
 
 -- a run of the flat form reaches the state
 pub record IsReachedState (x : f.Flat) (s : State) : Type 0 where
@@ -49,10 +75,22 @@ RunKeeps = (x : f.Flat) (s : State) (schedule : List ℕ) → StateKeeps x s →
 abbrev pub ReachedKeeps : Type 0
 ReachedKeeps = (x : f.Flat) (s : State) → All (IsDisciplined x) x.threads → IsReachedState x s → StateKeeps x s
 
--- in a state that keeps the discipline, the set that it gives before what a thread has left is exactly what the holders say of the thread
+-- the set before what is left is one
+abbrev pub SetIsOne : Type 0
+SetIsOne = (vs : List Variable) (names : List LockName) (left : List f.Statement) (h other after : Held) → KeepList vs names h left after →
+    KeepList vs names other left after → h ≡ other
+
+-- in a state that keeps the discipline, a thread holds exactly the locks of the set before what it has left
 abbrev pub HeldIsGiven : Type 0
-HeldIsGiven = (x : f.Flat) (s : State) (number : ℕ) (thread : m.Thread) (h : Held) → StateKeeps x s → slice_get s.threads number ≡ Some thread →
-    KeepsLeft x h thread.left ↔ (h ≡ held_by number s.holders)
+HeldIsGiven = (x : f.Flat) (s : State) (number : ℕ) (text : f.Thread) (thread : m.Thread) (h : Held) → StateKeeps x s → slice_get x.threads number ≡ Some text →
+    slice_get s.threads number ≡ Some thread → KeepsLeft x (lock_names x text) h thread.left →
+    HoldsNames (lock_names x text) h thread.locals s.holders number
+
+-- where no mutex is in an array, the set before what is left is exactly what the holders say of the thread
+abbrev pub PlainIsGiven : Type 0
+PlainIsGiven = (x : f.Flat) (s : State) (number : ℕ) (text : f.Thread) (thread : m.Thread) (h : Held) → AllByRecursion IsSingle x.mutexes → StateKeeps x s →
+    slice_get x.threads number ≡ Some text → slice_get s.threads number ≡ Some thread →
+    KeepsLeft x (lock_names x text) h thread.left ↔ (h ≡ held_by number s.holders)
 
 -- ---- What a step writes
 

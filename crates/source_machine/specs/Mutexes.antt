@@ -1,37 +1,38 @@
--- The mutex that a thread's next step locks or unlocks, and those that a thread holds.
-use Rattle.std.specs.Prelude.{ℕ, List, [], ◌∷◌, map, slice_get, Option, Some, None}
+-- The lock that a thread's next step takes or gives back, and those that a thread holds.
+use Rattle.std.specs.Prelude.{ℕ, List, [], ◌∷◌, map, slice_get, Option, Some, None, ℤ}
 use Rattle.ido_base.specs.Locks.{is_held_by}
 use Rattle.c_tree.specs.Flats as f
 use Rattle.c_tree.specs.Source as m
-use Rattle.c_tree.specs.LockDiscipline.{Held}
+use Rattle.c_tree.specs.LockNames.{Held}
+use Rattle.c_tree.specs.Values.{lock_number}
 
 -- ---- Statements
 
--- the mutex that a statement locks
-abbrev pub lock_of : f.Statement → Option ℕ
-lock_of (f.Lock place name) = Some name.mutex
-lock_of (f.Assign place target value) = None
-lock_of (f.If place arms otherwise) = None
-lock_of (f.While place condition body) = None
-lock_of (f.Do place body condition) = None
-lock_of (f.Unlock place name) = None
+-- the lock that a statement takes, where locals have these numbers
+abbrev pub lock_of : (locals : List ℤ) → f.Statement → Option ℕ
+lock_of ls (f.Lock place name) = Some (lock_number ls name)
+lock_of ls (f.Assign place target value) = None
+lock_of ls (f.If place arms otherwise) = None
+lock_of ls (f.While place condition body) = None
+lock_of ls (f.Do place body condition) = None
+lock_of ls (f.Unlock place name) = None
 
--- the mutex that a statement unlocks
-abbrev pub unlock_of : f.Statement → Option ℕ
-unlock_of (f.Unlock place name) = Some name.mutex
-unlock_of (f.Assign place target value) = None
-unlock_of (f.If place arms otherwise) = None
-unlock_of (f.While place condition body) = None
-unlock_of (f.Do place body condition) = None
-unlock_of (f.Lock place name) = None
+-- the lock that a statement gives back
+abbrev pub unlock_of : (locals : List ℤ) → f.Statement → Option ℕ
+unlock_of ls (f.Unlock place name) = Some (lock_number ls name)
+unlock_of ls (f.Assign place target value) = None
+unlock_of ls (f.If place arms otherwise) = None
+unlock_of ls (f.While place condition body) = None
+unlock_of ls (f.Do place body condition) = None
+unlock_of ls (f.Lock place name) = None
 
-abbrev pub first_lock : List f.Statement → Option ℕ
-first_lock [] = None
-first_lock (x ∷ rest) = lock_of x
+abbrev pub first_lock : (locals : List ℤ) → List f.Statement → Option ℕ
+first_lock ls [] = None
+first_lock ls (x ∷ rest) = lock_of ls x
 
-abbrev pub first_unlock : List f.Statement → Option ℕ
-first_unlock [] = None
-first_unlock (x ∷ rest) = unlock_of x
+abbrev pub first_unlock : (locals : List ℤ) → List f.Statement → Option ℕ
+first_unlock ls [] = None
+first_unlock ls (x ∷ rest) = unlock_of ls x
 
 -- ---- Threads
 
@@ -39,14 +40,14 @@ first_unlock (x ∷ rest) = unlock_of x
 abbrev pub lock_ahead : m.Thread → Option ℕ
 lock_ahead thread = elim thread.pending [
   | Some p ↦ None
-  | None ↦ first_lock thread.left
+  | None ↦ first_lock thread.locals thread.left
 ]
 
 -- the mutex at whose unlock the thread stands, if it does
 abbrev pub unlock_ahead : m.Thread → Option ℕ
 unlock_ahead thread = elim thread.pending [
   | Some p ↦ None
-  | None ↦ first_unlock thread.left
+  | None ↦ first_unlock thread.locals thread.left
 ]
 
 -- ---- States

@@ -6,8 +6,8 @@ use thiserror::Error;
 pub enum Stepped {
     /// The step is made.
     Did,
-    /// There is no step: the thread waits for a mutex that isn't free, or that there isn't.
-    Waits { mutex: u32 },
+    /// There is no step: the thread waits for a lock that isn't free, or that there isn't.
+    Waits { lock: u128 },
     /// There is no step: the thread has ended, or it stands at an `if` that has no condition.
     Ended,
 }

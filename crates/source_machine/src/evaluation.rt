@@ -1,7 +1,7 @@
 //! The value of an expression.
-ghost use Rattle.std.specs.Prelude.{◌≡◌, if◌then◌else◌, pos};
-ghost use Rattle.c_tree.specs.Exprs.{expr_of};
-ghost use Rattle.c_tree.specs.Values.{value, element_at, element_number};
+ghost use Rattle.std.specs.Prelude.{◌≡◌, [], if◌then◌else◌, pos};
+ghost use Rattle.c_tree.specs.Exprs.{expr_of, lock_name_of};
+ghost use Rattle.c_tree.specs.Values.{value, element_at, element_number, lock_number};
 ghost use Rattle.ido_ints.specs.declared.kinds.Kind.TheVariants.{Int};
 ghost use Rattle.ido_ints.specs.Operators.{truth, is_zero, unary_of, binary_of};
 ghost use Rattle.ido_ints.specs.Reduction.{residue};
@@ -9,7 +9,7 @@ ghost use Rattle.ido_ints.specs.TypedNumbers.{typed, typed_reduced, converted};
 
 use crate::number::{self, Number};
 use crate::variables::Variables;
-use c_tree::expr::Expr;
+use c_tree::expr::{Expr, LockName};
 use ido_ints::{Binary, Kind, Unary, residue};
 
 /// The value of an expression. A local that isn't there is 0, as is an element that isn't.
@@ -214,6 +214,20 @@ fn conditional(
         converted(kind, otherwise, locals, variables)
     } else {
         converted(kind, chosen, locals, variables)
+    }
+}
+
+/// The number of the lock of a name: its key reads locals alone, and is evaluated without variables.
+pub fn lock_number(lock: &LockName, locals: &[i128], none: &Variables) -> u128
+    requires { none.now ≡ [] }
+    ensures { result ≡ lock_number locals.now (lock_name_of lock.now) }
+{
+    match &lock.key {
+        None => lock.mutex as u128,
+        Some(key) => {
+            let element = element_at(evaluate(&key.expr, locals, none));
+            lock.mutex as u128 + element
+        }
     }
 }
 

@@ -1,7 +1,7 @@
 //! Laws of the source's own steps: nothing is computed here.
 ghost use Rattle.source_machine.specs.AppendedSchedules.{AfterAppended, EndedAppended, RunsAppended};
-ghost use Rattle.source_machine.specs.Discipline.{HeldIsGiven, LeavesHeld, LeavesOthers, ReachedKeeps};
-ghost use Rattle.source_machine.specs.Discipline.{ReadsGuarded, RunKeeps, StartKeeps, StepKeeps, WritesGuarded};
+ghost use Rattle.source_machine.specs.Discipline.{HeldIsGiven, LeavesHeld, LeavesOthers, PlainIsGiven, ReachedKeeps};
+ghost use Rattle.source_machine.specs.Discipline.{ReadsGuarded, RunKeeps, SetIsOne, StartKeeps, StepKeeps, WritesGuarded};
 ghost use Rattle.source_machine.specs.Lives.{AfterLife, BetweenIsEach, EndedLife, RunsLife};
 ghost use Rattle.source_machine.specs.StepExchanges.{Exchange, Solo, StepAdded, StepsDropped, Swap};
 ghost use Rattle.source_machine.specs.Laws.{NotWhole, OneStop, OthersStay, RestingStays, SizesStay};
@@ -46,6 +46,8 @@ pub fn discipline_is_kept()
     ensures run { RunKeeps }
     ensures reached { ReachedKeeps }
     ensures held { HeldIsGiven }
+    ensures one { SetIsOne }
+    ensures plain { PlainIsGiven }
 {}
 
 /// Under the lock discipline a step of a thread writes, and reads, only elements of variables whose lock the thread holds.

@@ -30,28 +30,31 @@ pub fn holds_none(holders: &[Option<u32>], thread: u32) -> bool
 }
 
 /// Gives the mutex to the thread where it is free.
-pub fn take(holders: &mut [Option<u32>], mutex: u32, thread: u32) -> bool
-    ensures free { IsTrue result ↔ (slice_get holders.old mutex ≡ Some None) }
-    ensures taken { OnTrue result (holders.new ≡ slice_set holders.old mutex (Some thread)) }
+pub fn take(holders: &mut [Option<u32>], lock: u128, thread: u32) -> bool
+    ensures free { IsTrue result ↔ (slice_get holders.old lock ≡ Some None) }
+    ensures taken { OnTrue result (holders.new ≡ slice_set holders.old lock (Some thread)) }
     ensures kept { OnFalse result (holders.new ≡ holders.old) }
 {
-    let mutex = mutex as usize;
-    if mutex >= holders.len() || holders[mutex].is_some() {
+    if lock >= holders.len() as u128 {
         return false;
     }
-    holders[mutex] = Some(thread);
+    let lock = lock as usize;
+    if holders[lock].is_some() {
+        return false;
+    }
+    holders[lock] = Some(thread);
     true
 }
 
 /// Frees the mutex, whoever holds it. Where its holder has none left, a section of it has ended.
-pub fn release(holders: &mut [Option<u32>], sections: &mut [u64], mutex: u32)
-    ensures holders { holders.new ≡ slice_set holders.old mutex None }
+pub fn release(holders: &mut [Option<u32>], sections: &mut [u64], lock: u128)
+    ensures holders { holders.new ≡ slice_set holders.old lock None }
     ensures sections { (ended : ℕ → ℕ) → AreCounted sections.old ended → AreCounted sections.new (λ k. ended k + ends holders.old holders.new k) }
 {
-    let mutex = mutex as usize;
-    if mutex < holders.len() {
-        let holder = holders[mutex];
-        holders[mutex] = None;
+    if lock < holders.len() as u128 {
+        let lock = lock as usize;
+        let holder = holders[lock];
+        holders[lock] = None;
         if let Some(thread) = holder {
             if holds_none(holders, thread) {
                 count(sections, thread);

@@ -1,5 +1,5 @@
 //! The state of a source's run.
-ghost use Rattle.std.specs.Prelude.{◌≡◌, vec_len};
+ghost use Rattle.std.specs.Prelude.{◌≡◌, [], vec_len};
 
 use crate::answers::{Refused, RefusedKind, Stepped};
 use crate::locks;
@@ -18,6 +18,9 @@ pub struct SourceState<'a> {
     // of each thread how many of its sections have ended
     sections: Vec<u64>,
     ghost counted: { vec_len sections ≡ vec_len threads },
+    // what keys of locks are evaluated over
+    none: Variables,
+    ghost empty: { none ≡ [] },
 }
 
 impl<'a> SourceState<'a> {
@@ -45,6 +48,7 @@ impl<'a> SourceState<'a> {
             holders,
             threads,
             sections,
+            none: Variables::none(alloc),
         })
     }
 
@@ -67,6 +71,7 @@ impl<'a> SourceState<'a> {
             &mut self.variables,
             &mut self.holders,
             &mut self.sections,
+            &self.none,
         )
     }
 

@@ -1,5 +1,5 @@
 //! A thread of a run.
-ghost use Rattle.std.specs.Prelude.{◌≡◌, ℕ, ◌+◌, IfOk};
+ghost use Rattle.std.specs.Prelude.{◌≡◌, ℕ, ◌+◌, [], IfOk};
 ghost use Rattle.c_tree.specs.Flats.{thread_of};
 ghost use Rattle.source_machine.specs.Sections.{AreCounted};
 ghost use Rattle.source_machine.specs.links.SectionEnds.{ends};
@@ -8,7 +8,7 @@ ghost use Rattle.source_machine.specs.links.Threads.{IsStarted, StepIsMade, hand
 use crate::answers::Stepped;
 use crate::assignment::{Pending, assign};
 use crate::code::{self, Code, Node};
-use crate::evaluation::evaluate;
+use crate::evaluation::{evaluate, lock_number};
 use crate::locks;
 use crate::variables::Variables;
 use c_tree::flat::Thread;
@@ -41,14 +41,16 @@ impl<'a> ThreadState<'a> {
         })
     }
 
-    /// Makes a step, if there is one now.
+    /// Makes a step, if there is one now. Keys of locks are evaluated over no variables.
     pub(crate) fn step(
         &mut self,
         number: u32,
         variables: &mut Variables,
         holders: &mut [Option<u32>],
         sections: &mut [u64],
+        none: &Variables,
     ) -> Stepped
+        requires { none.now ≡ [] }
         ensures made { StepIsMade number (hand self.old variables.old holders.old) (hand self.new variables.new holders.new) result }
         ensures sections { (ended : ℕ → ℕ) → AreCounted sections.old ended → AreCounted sections.new (λ k. ended k + ends holders.old holders.new k) }
     {
@@ -93,15 +95,17 @@ impl<'a> ThreadState<'a> {
                 Stepped::Did
             }
             Node::Lock { lock, next } => {
-                if locks::take(holders, lock.mutex, number) {
+                let lock = lock_number(lock, &self.locals, none);
+                if locks::take(holders, lock, number) {
                     self.at = next;
                     Stepped::Did
                 } else {
-                    Stepped::Waits { mutex: lock.mutex }
+                    Stepped::Waits { lock }
                 }
             }
             Node::Unlock { lock, next } => {
-                locks::release(holders, sections, lock.mutex);
+                let lock = lock_number(lock, &self.locals, none);
+                locks::release(holders, sections, lock);
                 self.at = next;
                 Stepped::Did
             }

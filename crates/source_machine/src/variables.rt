@@ -50,6 +50,16 @@ fn place_in(spans: &[Span], end: usize, variable: u32, element: u128) -> Option<
 }
 
 impl Variables {
+    /// No variable.
+    pub fn none(alloc: Global) -> Variables
+        ensures { result ≡ [] }
+    {
+        Variables {
+            elements: Vec::new(alloc),
+            spans: Vec::new(alloc),
+        }
+    }
+
     /// The variables with their initial numbers.
     pub fn new(alloc: Global, variables: &[Variable]) -> Result<Variables, OutOfMemory>
         ensures { IfOk result (λ v. v ≡ map (λ x. (variable_of x).initial) variables.now) }

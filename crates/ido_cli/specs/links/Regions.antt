@@ -1,7 +1,7 @@
 -- The nodes of a source, or why there are none; what is known of the code that is listed.
 use Rattle.std.specs.Prelude.{◌≡◌, ◌<◌, ◌+◌, ◌-◌, ◌^◌, ◌≤◌, ℕ, List, [], ◌∷◌, length, slice_get, slice_index_or, Some, Bool, Result, Ok, Err, Vec}
 use Rattle.std.specs.Global.{Global}
-use Rattle.c_tree.specs.LockDiscipline.{Held}
+use Rattle.c_tree.specs.LockNames.{Held}
 use Rattle.flow_graph.specs.declared.graph.Part.{Part}
 use Rattle.region_cutter.specs.declared.straight.Stretch.{Stretch}
 use Rattle.ido_compile.specs.declared.error.CompileError.{CompileError}

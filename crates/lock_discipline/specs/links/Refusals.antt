@@ -1,6 +1,7 @@
 -- What the walk says where an error is told.
 use Rattle.std.specs.Prelude.{◌≡◌, IfSome, List}
-use Rattle.c_tree.specs.LockDiscipline.{Held, Walked, Broken}
+use Rattle.c_tree.specs.LockNames.{Held}
+use Rattle.c_tree.specs.LockDiscipline.{Walked, Broken}
 use Rattle.lock_discipline.specs.declared.error.LockError.{LockError}
 use Rattle.lock_discipline.specs.Faults.{fault_of}
 

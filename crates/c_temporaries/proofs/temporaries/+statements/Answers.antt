@@ -1,5 +1,5 @@
 -- The expressions of a statement are those of its parts, in order.
-use Rattle.std.proofs.Common.{refl, sym, ap, ap₂, ◌∙◌, ◌++◌, ◌∷◌, [], List, arith, rules}
+use Rattle.std.proofs.Common.{refl, sym, ap, ap₂, ◌∙◌, ◌++◌, ◌∷◌, [], List, arith}
 use Rattle.c_tree.specs.Exprs.{Placed, placed_of}
 use Rattle.c_tree.specs.Flats as f
 use Rattle.c_tree.specs.Temporaries.{statement_exprs, statements_exprs, arms_exprs}
@@ -15,14 +15,6 @@ exprs_in xs = statements_exprs (f.statements_of xs)
 
 abbrev exprs_in_arms : List Arm → List Placed
 exprs_in_arms xs = arms_exprs (f.arms_list_of xs)
-
-pub of_statement-returns-in-Lock : goal.of_statement-returns-in-Lock
-unfolding first_deep
-of_statement-returns-in-Lock t c = search rules
-
-pub of_statement-returns-in-Lock-2 : goal.of_statement-returns-in-Lock-2
-unfolding first_deep
-of_statement-returns-in-Lock-2 t c = search rules
 
 pub of_statement-returns-in-If : goal.of_statement-returns-in-If
 of_statement-returns-in-If t c =

@@ -26,7 +26,7 @@ returns-in-Some-clause-fault c =
     form_fault (flat_of c.args.flat.now) runs steps c.in-Some.step (subst (IsPrefix runs steps) c.in-Some.is c.in_ok-prefix.ensures) made
 
 -- the schedule where the prefix is whole
-schedule : (c : goal.After-drop-state-in-None-5) → IsSchedule (flat_of c.args.flat.now) (map run_of c.args.runs.now) c.in_ok-prefix.prefix.steps.items
+schedule : (c : goal.After-drop-state-in-None-7) → IsSchedule (flat_of c.args.flat.now) (map run_of c.args.runs.now) c.in_ok-prefix.prefix.steps.items
 schedule c =
     let begin = start (flat_of c.args.flat.now) in
     let runs = map run_of c.args.runs.now in

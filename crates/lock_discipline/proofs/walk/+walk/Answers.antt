@@ -3,7 +3,8 @@ use Rattle.std.proofs.lemmas.Result.{err_from_is_err_and}
 use Rattle.std.proofs.lemmas.List.Elements.{All-push, All-same}
 use Rattle.c_tree.specs.Programs.{variable_of}
 use Rattle.c_tree.specs.Flats.{statement_of, statements_of, arms_list_of}
-use Rattle.c_tree.specs.LockDiscipline.{Held, walk_arms}
+use Rattle.c_tree.specs.LockNames.{Held, plain_names}
+use Rattle.c_tree.specs.LockDiscipline.{walk_arms}
 use Rattle.lock_discipline.proofs.CheckerCorrectness.{after_then}
 use Rattle.lock_discipline.proofs.Refusals.{refuses_then, refuses_as, refuses_any, refuses_one}
 use Rattle.lock_discipline.proofs.CheckerByStatement as p
@@ -214,8 +215,9 @@ walk_statements-loop-statement-preserved t c =
       long = p.walked_length vs h (statement_of x) k c.in_ok-end.ensures.walk ∙ kept.long;
       walk = p.next_walk vs (length c.args.held) _ h k xs c.loop-statement.statement-index x within c.statement-item.is kept.long kept.walk
           c.in_ok-end.ensures.walk;
-      sets = p.next_sets h k xs c.loop-statement.statement-index x _ _ _ within c.statement-item.is
-          (p.walked_after vs h (statement_of x) k c.in_ok-end.ensures.walk) c.in_ok-end.ensures.sets kept.sets;
+      sets = p.next_sets (plain_names (length c.args.held)) h k xs c.loop-statement.statement-index x _ _ _ within c.statement-item.is
+          (p.after_by _ _ h k (statement_of x) kept.long (p.walked_after vs h (statement_of x) k c.in_ok-end.ensures.walk))
+          (p.sets_by _ _ h (statement_of x) _ _ kept.long c.in_ok-end.ensures.sets) kept.sets;
     }
 
 pub walk_arms-returns-in_err-check_expr-clause-walk : goal.walk_arms-returns-in_err-check_expr-clause-walk
@@ -225,7 +227,7 @@ walk_arms-returns-in_err-check_expr-clause-walk t c =
     let h = c.args.held in
     let xs = c.args.arms.now in
     let within : c.loop-arm.arm-index < length xs = omega arith in
-    rw (q.1, q.2) (refuses_any _ _ _ _ (p.at_arm vs h (walk_arms vs (length h) h []
+    rw (q.1, q.2) (refuses_any _ _ _ _ (p.at_arm vs h (walk_arms vs (plain_names (length h)) h []
     (arms_list_of xs)) c.loop-arm.ends.items xs c.loop-arm.arm-index c.arm-item.result within c.arm-item.is c.loop-arm.invariant.walk)
     c.in_err-check_expr.ensures)
 
@@ -237,7 +239,7 @@ walk_arms-returns-in_err-walk_statements-clause-walk t c =
     let xs = c.args.arms.now in
     let within : c.loop-arm.arm-index < length xs = omega arith in
     rw (q.1, q.2) (refuses_any _ _ _ _
-    (p.in_arm_body vs h (walk_arms vs (length h) h []
+    (p.in_arm_body vs h (walk_arms vs (plain_names (length h)) h []
     (arms_list_of xs)) c.loop-arm.ends.items xs c.loop-arm.arm-index c.arm-item.result c.deref.result.now within c.arm-item.is c.deref.ensures.value
     c.loop-arm.invariant.walk c.in_ok-check_expr.ensures)
     c.in_err-walk_statements.ensures.walk)
@@ -253,9 +255,11 @@ walk_arms-loop-arm-preserved t c =
       long = All-same (λ (y : Held). length y ≡ length h) _ _ c.in_ok-push-2.ensures.items
           (All-push (λ (y : Held). length y ≡ length h) c.loop-arm.ends.items k c.loop-arm.invariant.long
           (p.walked_all_length vs h (statements_of c.deref.result.now) k c.in_ok-walk_statements.ensures.walk));
-      walk = p.next_arm vs h (walk_arms vs (length h) h []
+      walk = p.next_arm vs h (walk_arms vs (plain_names (length h)) h []
           (arms_list_of xs)) c.loop-arm.ends.items _ k xs c.loop-arm.arm-index c.arm-item.result c.deref.result.now within c.arm-item.is c.deref.ensures.value
           c.loop-arm.invariant.walk c.in_ok-check_expr.ensures c.in_ok-walk_statements.ensures.walk c.in_ok-push-2.ensures.items;
-      sets = p.next_arm_sets h xs c.loop-arm.arm-index c.arm-item.result c.deref.result.now _ _ _ _ within c.arm-item.is c.deref.ensures.value
+      sets =
+          p.next_arm_sets (plain_names (length h)) h xs c.loop-arm.arm-index c.arm-item.result c.deref.result.now _ _ _ _ within c.arm-item.is
+          c.deref.ensures.value
           c.in_ok-push.ensures.items c.in_ok-walk_statements.ensures.sets c.loop-arm.invariant.sets;
     }

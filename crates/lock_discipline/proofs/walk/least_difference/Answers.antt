@@ -1,6 +1,6 @@
 use Rattle.std.proofs.Common.{ap, ◌∙◌, arith, take_all, List}
 use Rattle.std.specs.List.{list_any}
-use Rattle.c_tree.specs.LockDiscipline.{Held, holds}
+use Rattle.c_tree.specs.LockNames.{Held, holds}
 use Rattle.lock_discipline.specs.links.Sets.{differ}
 use Rattle.lock_discipline.proofs.Sets.{differing_found}
 use Rattle.lock_discipline.proofs.walk.least_difference.Goals as goal

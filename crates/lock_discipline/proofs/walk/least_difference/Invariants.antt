@@ -1,6 +1,6 @@
 use Rattle.std.proofs.Common.{◌≡◌, ℕ, length, take}
 use Rattle.std.specs.List.{list_any}
-use Rattle.c_tree.specs.LockDiscipline.{holds}
+use Rattle.c_tree.specs.LockNames.{holds}
 use Rattle.lock_discipline.specs.links.Sets.{differ}
 use Rattle.lock_discipline.proofs.walk.least_difference.Given as goal
 

@@ -1,5 +1,5 @@
 use Rattle.std.proofs.Common.{ap, sym, ◌∙◌, length}
-use Rattle.c_tree.specs.LockDiscipline.{none_held}
+use Rattle.c_tree.specs.LockNames.{none_held}
 use Rattle.lock_discipline.specs.links.Sets.{length-held_of}
 use Rattle.lock_discipline.proofs.Bits.{none_held_of}
 use Rattle.lock_discipline.proofs.set.MutexSet.emptied.Goals as goal

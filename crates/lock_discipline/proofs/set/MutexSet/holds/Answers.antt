@@ -1,5 +1,5 @@
 use Rattle.std.proofs.Common.{sym, ap, ◌∙◌, arith, tests, rules}
-use Rattle.c_tree.specs.LockDiscipline.{Held, holds}
+use Rattle.c_tree.specs.LockNames.{Held, holds}
 use Rattle.lock_discipline.proofs.Bits.{bit_test-held_of, holds_past}
 use Rattle.lock_discipline.proofs.set.MutexSet.holds.Goals as goal
 

@@ -1,5 +1,6 @@
 use Rattle.std.proofs.Common.{ℕ, find, length, sym, ap, ◌∙◌, arith}
-use Rattle.c_tree.specs.LockDiscipline.{Held, holds, numbers_below}
+use Rattle.c_tree.specs.LockNames.{Held, holds}
+use Rattle.c_tree.specs.LockDiscipline.{numbers_below}
 use Rattle.lock_discipline.specs.links.Sets.{held_of, length-held_of}
 use Rattle.lock_discipline.proofs.Bits.{least_none, least_found}
 use Rattle.lock_discipline.proofs.set.MutexSet.least.Goals as goal

@@ -1,6 +1,6 @@
 use Rattle.std.proofs.Common.{◌∙◌, ap, sym, set, true, arith, length-set}
 use Rattle.std.proofs.lemmas.List.{set_past}
-use Rattle.c_tree.specs.LockDiscipline.{Held}
+use Rattle.c_tree.specs.LockNames.{Held}
 use Rattle.lock_discipline.specs.links.Sets.{held_of, length-held_of}
 use Rattle.lock_discipline.proofs.Bits.{mask_with, mask_below, held_of_same}
 use Rattle.lock_discipline.proofs.set.MutexSet.with.Goals as goal

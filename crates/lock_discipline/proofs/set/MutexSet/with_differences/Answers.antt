@@ -1,5 +1,5 @@
 use Rattle.std.proofs.Common.{◌<◌, ◌^◌, length, ap, ap₂, sym, ◌∙◌, subst, ℕ, ◌||◌}
-use Rattle.c_tree.specs.LockDiscipline.{Held, holds}
+use Rattle.c_tree.specs.LockNames.{Held, holds}
 use Rattle.lock_discipline.specs.links.Sets.{held_of, length-held_of, differ}
 use Rattle.lock_discipline.proofs.Bits.{same_count, differences_below, differences_hold}
 use Rattle.lock_discipline.proofs.set.MutexSet.with_differences.Goals as goal

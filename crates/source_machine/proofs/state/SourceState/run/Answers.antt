@@ -25,7 +25,7 @@ returns-in-Waits-clause-ran c = λ s ended st.
     let a = c.in-Waits.ensures.after (after_from s (take i xs)) (λ k. ended k + ended_from s (take i xs) k) g.stands in
     ran_stuck c.loop-i.self c.step.new.self s ended xs (take i xs) (get_or xs i 0) (drop (i + 1) xs) (record { kind = kind.Waits; step = i + 1 }) _
     (split_at xs i c.loop-i-test.true) g
-    (waits_stuck c.loop-i.self _ _ (get_or xs i 0) g.stands c.in-Waits.mutex
+    (waits_stuck c.loop-i.self _ _ (get_or xs i 0) g.stands c.in-Waits.lock
     (omega (arith, c.len.ensures, c.if-thread-len.false, c.loop-i.self.threads.ok.0)) a.answered) (omega (arith, size)) a
 
 pub returns-in-Ended-clause-ran : goal.returns-in-Ended-clause-ran

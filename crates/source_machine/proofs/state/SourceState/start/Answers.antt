@@ -18,6 +18,7 @@ invariant_of-result c = record {
     c.loop-thread.auto.thread-index-end,
     c.deref-thread-items.ensures.len,
   );
+  empty = c.none.ensures;
 }
 
 pub returns : goal.returns

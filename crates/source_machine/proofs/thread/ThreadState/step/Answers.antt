@@ -1,11 +1,11 @@
-use Rattle.std.proofs.Common.{◌≡◌, ◌∙◌, ap, sym, Some, ℕ, List, length, Option, subst, refl, false, true, arith}
-use Rattle.std.specs.Prelude.{ℤ}
+use Rattle.std.proofs.Common.{◌≡◌, ◌∙◌, ap, sym, Some, None, slice_set, ℕ, List, length, Option, subst, refl, false, true, arith}
+use Rattle.std.specs.Prelude.{ℤ, slice_get}
 use Rattle.std.specs.Vec.{with_items}
 use Rattle.std.specs.Option.{option_map}
 use Rattle.std.proofs.lemmas.List.{with_items_is}
 use Rattle.c_tree.specs.Source as m
-use Rattle.c_tree.specs.Exprs.{expr_of, lvalue_of}
-use Rattle.c_tree.specs.Values.{value}
+use Rattle.c_tree.specs.Exprs.{expr_of, lvalue_of, lock_name_of}
+use Rattle.c_tree.specs.Values.{value, lock_number}
 use Rattle.ido_ints.specs.Operators.{is_zero}
 use Rattle.ido_ints.specs.TypedNumbers.{Typed}
 use Rattle.source_machine.specs.declared.answers.Stepped.TheVariants.{Did, Waits}
@@ -79,15 +79,18 @@ returns-then-take-clause-made c =
     λ left threads l.
     let P : List (Option ℕ) → Type 0 = λ hs. IsMade c.args.number (hand c.args.self.now c.args.variables.now c.args.holders.now)
     (hand (record c.args.self.now { at = c.in-Lock.next }) c.args.variables.now hs) Did threads left in
-    subst P (sym h.taken) (lock_made c.args.variables.now c.args.holders.now threads c.args.number c.args.self.now left c.in_default.is l c.in-Lock.lock
-    c.in-Lock.next g (h.free.0 refl))
+    let is : c.lock_number-lock.result ≡ lock_number c.args.self.now.locals.items (lock_name_of c.in-Lock.lock.now) =
+    c.lock_number-lock.ensures ∙ ap (λ (ls : List ℤ). lock_number ls (lock_name_of c.in-Lock.lock.now)) c.deref-in-Lock.ensures.value in
+    let Q : ℕ → Type 0 = λ k. P (slice_set c.args.holders.now k (Some c.args.number)) in
+    subst P (sym h.taken) (subst Q (sym is) (lock_made c.args.variables.now c.args.holders.now threads c.args.number c.args.self.now left c.in_default.is l
+    c.in-Lock.lock c.in-Lock.next g (subst (λ (k : ℕ). slice_get c.args.holders.now k ≡ Some None) is (h.free.0 refl))))
 
 pub returns-then-take-clause-sections : goal.returns-then-take-clause-sections
 returns-then-take-clause-sections c =
     let h = c.if-take.ensures in
     λ ended counted.
     let P : List (Option ℕ) → Type 0 = λ hs. (k : ℕ) → ends c.args.holders.now hs k ≡ 0 in
-    counted_same c.args.sections.now ended _ (subst P (sym h.taken) (λ k. ends_taken c.args.holders.now c.in-Lock.lock.now.mutex c.args.number k
+    counted_same c.args.sections.now ended _ (subst P (sym h.taken) (λ k. ends_taken c.args.holders.now c.lock_number-lock.result c.args.number k
     (h.free.0 refl))) counted
 
 pub returns-else-take-clause-made : goal.returns-else-take-clause-made
@@ -97,9 +100,14 @@ returns-else-take-clause-made c =
     let h = c.if-take.ensures in
     λ left threads l.
     let P : List (Option ℕ) → Type 0 = λ hs. IsMade c.args.number (hand c.args.self.now c.args.variables.now c.args.holders.now)
-    (hand c.args.self.now c.args.variables.now hs) (Waits c.in-Lock.lock.now.mutex) threads left in
-    subst P (sym h.kept) (lock_waits c.args.variables.now c.args.holders.now threads c.args.number c.args.self.now left c.in_default.is l c.in-Lock.lock
-    c.in-Lock.next g (λ e. let f : false ≡ true = h.free.1 e in cc))
+    (hand c.args.self.now c.args.variables.now hs) (Waits c.lock_number-lock.result) threads left in
+    let is : c.lock_number-lock.result ≡ lock_number c.args.self.now.locals.items (lock_name_of c.in-Lock.lock.now) =
+    c.lock_number-lock.ensures ∙ ap (λ (ls : List ℤ). lock_number ls (lock_name_of c.in-Lock.lock.now)) c.deref-in-Lock.ensures.value in
+    let Q : ℕ → Type 0 = λ k. IsMade c.args.number (hand c.args.self.now c.args.variables.now c.args.holders.now)
+    (hand c.args.self.now c.args.variables.now c.args.holders.now) (Waits k) threads left in
+    subst P (sym h.kept) (subst Q (sym is) (lock_waits c.args.variables.now c.args.holders.now threads c.args.number c.args.self.now left c.in_default.is l
+    c.in-Lock.lock c.in-Lock.next g
+    (λ e. let f : false ≡ true = h.free.1 (subst (λ (k : ℕ). slice_get c.args.holders.now k ≡ Some None) (sym is) e) in cc)))
 
 pub returns-in-Unlock-clause-made : goal.returns-in-Unlock-clause-made
 returns-in-Unlock-clause-made c =
@@ -108,8 +116,11 @@ returns-in-Unlock-clause-made c =
     λ left threads l.
     let P : List (Option ℕ) → Type 0 = λ hs. IsMade c.args.number (hand c.args.self.now c.args.variables.now c.args.holders.now)
     (hand (record c.args.self.now { at = c.in-Unlock.next }) c.args.variables.now hs) Did threads left in
-    subst P (sym c.release.ensures.holders)
-    (unlock_made c.args.variables.now c.args.holders.now threads c.args.number c.args.self.now left c.in_default.is l c.in-Unlock.lock c.in-Unlock.next g)
+    let is : c.lock_number-lock-in-Unlock.result ≡ lock_number c.args.self.now.locals.items (lock_name_of c.in-Unlock.lock.now) =
+    c.lock_number-lock-in-Unlock.ensures ∙ ap (λ (ls : List ℤ). lock_number ls (lock_name_of c.in-Unlock.lock.now)) c.deref-in-Unlock.ensures.value in
+    let Q : ℕ → Type 0 = λ k. P (slice_set c.args.holders.now k None) in
+    subst P (sym c.release.ensures.holders) (subst Q (sym is)
+    (unlock_made c.args.variables.now c.args.holders.now threads c.args.number c.args.self.now left c.in_default.is l c.in-Unlock.lock c.in-Unlock.next g))
 
 pub returns-in-Never-clause-made : goal.returns-in-Never-clause-made
 returns-in-Never-clause-made c =
