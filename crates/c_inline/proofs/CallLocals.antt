@@ -14,7 +14,8 @@ use Rattle.c_tree.specs.Inlining as i
 use Rattle.c_tree.specs.Inlining.{bodies_of}
 use Rattle.c_tree.specs.AcceptedTexts.{HasNoBack}
 use Rattle.c_inline.specs.CallLaws.{Use, read, assigned, ExprReads, Uses, ListUses, TargetUses, ResultUses, StatementsUse, ArmsUse, AreBelow, TakesArguments}
-use Rattle.c_inline.specs.CallLaws.{IsScoped, AreScoped, AreScopedArms, IsReturnedBelow, AreFunctionsScoped, Site, call_made, IsNew, IsPassed}
+use Rattle.c_inline.specs.CallLaws.{KeyUses, IsKeyBelow, IsScoped, AreScoped, AreScopedArms}
+use Rattle.c_inline.specs.CallLaws.{IsReturnedBelow, AreFunctionsScoped, Site, call_made, IsNew, IsPassed}
 use Rattle.c_inline.specs.links.KnownWeights.{Low}
 use Rattle.c_inline.proofs.CallCongruence.{alone}
 use Rattle.c_inline.proofs.WeightsByDepth.{calls_of_some}
@@ -49,6 +50,10 @@ shifted_reads n (e.Conditional kind condition chosen otherwise) l h =
 uses_shifted : (u : Use) (n : ℕ) (x : e.Expr) (l : ℕ) → Uses u (i.shifted n x) l → From n l (Uses u x)
 uses_shifted read n x l h = shifted_reads n x l h
 uses_shifted assigned n x l h = absurd h
+
+key_shifted : (u : Use) (n : ℕ) (key : Option e.Placed) (l : ℕ) → KeyUses u (option_map (i.shifted_placed n) key) l → From n l (KeyUses u key)
+key_shifted u n None l h = absurd h
+key_shifted u n (Some key) l h = uses_shifted u n key.expr l h
 
 target_shifted : (u : Use) (n : ℕ) (x : e.Lvalue) (l : ℕ) → TargetUses u (i.shifted_target n x) l → From n l (TargetUses u x)
 target_shifted u n (e.ToVariable place variable kind) l h = absurd h
@@ -222,8 +227,10 @@ module _ (fs : List p.Function) (F : i.Bodies) where
         least_statement by ks (p.Do place body condition) m a b u l h =
             ⊎_elim (λ k. ⊎_elim (λ y. least_statements by ks body m a b u l y)
             (λ x. from_least by m l (Uses u condition.expr) a (uses_shifted u by condition.expr l x)) k) (λ k. absurd k) h
-        least_statement by ks (p.Lock place name) m a b u l h = ⊎_elim (λ k. absurd k) (λ k. absurd k) h
-        least_statement by ks (p.Unlock place name) m a b u l h = ⊎_elim (λ k. absurd k) (λ k. absurd k) h
+        least_statement by ks (p.Lock place name) m a b u l h =
+            ⊎_elim (λ k. from_least by m l (KeyUses u name.key) a (key_shifted u by name.key l k)) (λ k. absurd k) h
+        least_statement by ks (p.Unlock place name) m a b u l h =
+            ⊎_elim (λ k. from_least by m l (KeyUses u name.key) a (key_shifted u by name.key l k)) (λ k. absurd k) h
 
         least_statements : (by : ℕ) (ks : List Kind) (xs : p.Statements) (m : ℕ) → m ≤ by → m ≤ length ks → (u : Use) (l : ℕ) → StatementsUse u
             (i.statements fs F by ks xs).made l → m ≤ l
@@ -298,6 +305,10 @@ uses_below : (count : ℕ) (x : e.Expr) → AreBelow count x → (u : Use) (k : 
 uses_below count x h read k y = h k y
 uses_below count x h assigned k y = absurd y
 
+key_below : (count : ℕ) (key : Option e.Placed) → IsKeyBelow count key → (u : Use) (k : ℕ) → KeyUses u key k → k < count
+key_below count None h u k y = absurd y
+key_below count (Some key) h u k y = uses_below count key.expr h u k y
+
 list_below : (count : ℕ) (xs : List e.Placed) → ((l : ℕ) → ListUses read xs l → l < count) → (u : Use) (k : ℕ) → ListUses u xs k → k < count
 list_below count [] h u k y = absurd y
 list_below count (x ∷ xs) h u k y = ⊎_elim (λ a. uses_below count x.expr (λ l b. h l (inl b)) u k a) (λ b. list_below count xs (λ l c. h l (inr c)) u k b) y
@@ -360,8 +371,10 @@ module _ (fs : List p.Function) (F : i.Bodies) (scoped : AreFunctionsScoped fs) 
           ⊎_elim (λ k. ⊎_elim (λ y. below_statements by ks body s.0 good m a b u l y)
           (λ x. from_below by count m l (Uses u condition.expr) a (uses_below count condition.expr s.1 u) (uses_shifted u by condition.expr l x)) k)
           (λ k. absurd k) h
-      below_statement by ks (p.Lock place name) s good m a b u l h = ⊎_elim (λ k. absurd k) (λ k. absurd k) h
-      below_statement by ks (p.Unlock place name) s good m a b u l h = ⊎_elim (λ k. absurd k) (λ k. absurd k) h
+      below_statement by ks (p.Lock place name) s good m a b u l h =
+          ⊎_elim (λ k. from_below by count m l (KeyUses u name.key) a (key_below count name.key s u) (key_shifted u by name.key l k)) (λ k. absurd k) h
+      below_statement by ks (p.Unlock place name) s good m a b u l h =
+          ⊎_elim (λ k. from_below by count m l (KeyUses u name.key) a (key_below count name.key s u) (key_shifted u by name.key l k)) (λ k. absurd k) h
 
       below_statements : (by : ℕ) (ks : List Kind) (xs : p.Statements) → AreScoped fs count xs → AllGood (i.statements_calls xs) →
           (m : ℕ) → by + count ≤ m → length (i.statements fs F by ks xs).kinds ≤ m → (u : Use) (l : ℕ) → StatementsUse u

@@ -12,6 +12,7 @@ use Rattle.c_tree.specs.Flats as f
 use Rattle.c_tree.specs.Programs as p
 use Rattle.c_tree.specs.Inlining as i
 use Rattle.c_tree.specs.Source as m
+use Rattle.c_tree.specs.Values.{lock_number}
 use Rattle.c_tree.specs.Source.{source_step}
 use Rattle.c_inline.specs.CallLaws.{Use, assigned, ListUses, ResultUses, StatementUses, StatementsUse}
 use Rattle.c_inline.specs.CallLaws.{LeftUses, Site, call_made, left_of, local_of, IsBefore, IsKept}
@@ -134,18 +135,18 @@ module _ (s next : m.State) (t : ℕ) (thread : m.Thread) (found : slice_get s.t
   lock_by mutex rest (Some None) = Some (m.with_thread (m.with_holder s mutex (Some t)) t (record thread { left = rest }))
   lock_by mutex rest (Some (Some u)) = None
 
-  lock_is : (place : Place) (name : e.LockName) (rest : List f.Statement) (o : Option (Option ℕ)) → slice_get s.holders name.mutex ≡ o →
+  lock_is : (place : Place) (name : e.LockName) (rest : List f.Statement) (o : Option (Option ℕ)) → slice_get s.holders (lock_number thread.locals name) ≡ o →
       m.statement_step s t thread
-      (f.Lock place name) rest ≡ lock_by name.mutex rest o
+      (f.Lock place name) rest ≡ lock_by (lock_number thread.locals name) rest o
   lock_is place name rest None h = rw (m.statement_step, h) refl
   lock_is place name rest (Some None) h = rw (m.statement_step, h) refl
   lock_is place name rest (Some (Some u)) h = rw (m.statement_step, h) refl
 
   by_lock : (place : Place) (name : e.LockName) (rest : List f.Statement) → thread.left ≡ f.Lock place name ∷ rest → (o : Option (Option ℕ)) →
-      lock_by name.mutex rest o ≡ Some next → Goes s next t
+      lock_by (lock_number thread.locals name) rest o ≡ Some next → Goes s next t
   by_lock place name rest is None h = cc
   by_lock place name rest is (Some None) h =
-      by_some (m.with_holder s name.mutex (Some t)) (record thread { left = rest }) refl
+      by_some (m.with_holder s (lock_number thread.locals name) (Some t)) (record thread { left = rest }) refl
       (keeps_by thread (record thread { left = rest }) (f.Lock place name) rest [] is refl (λ l k. absurd k) (λ l n. refl)) h
   by_lock place name rest is (Some (Some u)) h = cc
 
@@ -163,10 +164,10 @@ module _ (s next : m.State) (t : ℕ) (thread : m.Thread) (found : slice_get s.t
       (record thread { left = while_left place condition body rest (m.is_true s thread condition) }) refl
       (while_keeps place condition body rest is (m.is_true s thread condition)) h
   by_statement (f.Do place body condition) rest is h = cc
-  by_statement (f.Lock place name) rest is h = by_lock place name rest is (slice_get s.holders name.mutex)
-      (sym (lock_is place name rest (slice_get s.holders name.mutex) refl) ∙ h)
+  by_statement (f.Lock place name) rest is h = by_lock place name rest is (slice_get s.holders (lock_number thread.locals name))
+      (sym (lock_is place name rest (slice_get s.holders (lock_number thread.locals name)) refl) ∙ h)
   by_statement (f.Unlock place name) rest is h =
-      by_some (m.with_holder s name.mutex None) (record thread { left = rest }) refl
+      by_some (m.with_holder s (lock_number thread.locals name) None) (record thread { left = rest }) refl
       (keeps_by thread (record thread { left = rest }) (f.Unlock place name) rest [] is refl (λ l k. absurd k) (λ l n. refl)) h
 
   same_keeps : (x : m.Thread) → x.left ≡ thread.left → x.locals ≡ thread.locals → Keeps thread x

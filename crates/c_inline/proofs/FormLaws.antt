@@ -100,9 +100,9 @@ module _ (n : ℕ) where
   range_same (e.Binary operator left right) = λ j. r.binary_range operator (kind_same left j) (range_same left j) (kind_same right j) (range_same right j)
   range_same (e.Conditional kind condition chosen otherwise) = λ j. r.hull (r.fitted kind (range_same chosen j)) (r.fitted kind (range_same otherwise j))
 
-module _ (vs : List p.Variable) where
+module _ (vs : List p.Variable) (ms : List p.Mutex) where
   abbrev AllIn : List Index → Type 0
-  AllIn is = (j : Index) → Contains is j → index_fits vs j ≡ true
+  AllIn is = (j : Index) → Contains is j → index_fits vs ms j ≡ true
 
   first_in : (is js : List Index) → AllIn (is ++ js) → AllIn is
   first_in is js h = λ j c. h j (Contains-append_left is js j c)
@@ -110,7 +110,7 @@ module _ (vs : List p.Variable) where
   second_in : (is js : List Index) → AllIn (is ++ js) → AllIn js
   second_in is js h = λ j c. h j (Contains-append_right is js j c)
 
-  head_in : (j : Index) (js : List Index) → AllIn (j ∷ js) → index_fits vs j ≡ true
+  head_in : (j : Index) (js : List Index) → AllIn (j ∷ js) → index_fits vs ms j ≡ true
   head_in j js h = h j (0, omega arith, refl)
 
   tail_in : (j : Index) (js : List Index) → AllIn (j ∷ js) → AllIn js
@@ -192,20 +192,20 @@ module _ (x : p.Program) (prog : IsProgram x) (fit : AllFit x) where
   both_formed final f.no_statement ys h k = k
   both_formed final (f.statement_and y xs) ys h k = (h.0, both_formed final xs ys h.1 k)
 
-  placed_formed : (n : ℕ) (js ks : List Kind) → At n js ks → (y : e.Placed) → IsPlaced x.variables js y → AllIn x.variables (r.placed_indexes y) →
+  placed_formed : (n : ℕ) (js ks : List Kind) → At n js ks → (y : e.Placed) → IsPlaced x.variables js y → AllIn x.variables x.mutexes (r.placed_indexes y) →
       IsFlatPlaced z ks (shifted_placed n y)
-  placed_formed n js ks at y h k = (expr_shifted x.variables n js ks at y.expr h, fits_shifted x.variables n y.expr k)
+  placed_formed n js ks at y h k = (expr_shifted x.variables x.mutexes n js ks at y.expr h, fits_shifted x.variables x.mutexes n y.expr k)
 
-  target_formed : (n : ℕ) (js ks : List Kind) → At n js ks → (y : e.Lvalue) → IsTarget x.variables js y → AllIn x.variables (r.target_indexes y) →
+  target_formed : (n : ℕ) (js ks : List Kind) → At n js ks → (y : e.Lvalue) → IsTarget x.variables js y → AllIn x.variables x.mutexes (r.target_indexes y) →
       IsFlatTarget z ks (shifted_target n y)
-  target_formed n js ks at y h k = (target_shifted x.variables n js ks at y h, target_fits_shifted x.variables n y k)
+  target_formed n js ks at y h k = (target_shifted x.variables x.mutexes n js ks at y h, target_fits_shifted x.variables x.mutexes n y k)
 
   all_placed : (n : ℕ) (js ks : List Kind) → At n js ks → (ys : List e.Placed) → AllByRecursion (IsPlaced x.variables js) ys →
-      AllIn x.variables (flat_map r.placed_indexes ys) → AllByRecursion (IsFlatPlaced z ks) (map (shifted_placed n) ys)
+      AllIn x.variables x.mutexes (flat_map r.placed_indexes ys) → AllByRecursion (IsFlatPlaced z ks) (map (shifted_placed n) ys)
   all_placed n js ks at [] h k = tt
   all_placed n js ks at (y ∷ ys) h k = (
-    placed_formed n js ks at y h.0 (first_in x.variables (r.placed_indexes y) (flat_map r.placed_indexes ys) k),
-    all_placed n js ks at ys h.1 (second_in x.variables (r.placed_indexes y) (flat_map r.placed_indexes ys) k),
+    placed_formed n js ks at y h.0 (first_in x.variables x.mutexes (r.placed_indexes y) (flat_map r.placed_indexes ys) k),
+    all_placed n js ks at ys h.1 (second_in x.variables x.mutexes (r.placed_indexes y) (flat_map r.placed_indexes ys) k),
   )
 
   -- ---- Calls
@@ -222,19 +222,19 @@ module _ (x : p.Program) (prog : IsProgram x) (fit : AllFit x) where
       )
 
   assigned_formed : (place : Place) (m : ℕ) (js final : List Kind) (given : Option p.Returned) (target : Option e.Lvalue) → At m js final →
-      IsReturned x js given → AllIn x.variables (r.returned_indexes given) →
+      IsReturned x js given → AllIn x.variables x.mutexes (r.returned_indexes given) →
       ((y : e.Lvalue) → target ≡ Some y → IsFlatTarget z final y) → AreFlatStatements z final (i.assigned place m given target)
   assigned_formed place m js final None target at h k t = tt
   assigned_formed place m js final (Some y) None at h k t = tt
   assigned_formed place m js final (Some y) (Some w) at h k t =
-      ((t w refl, (expr_shifted x.variables m js final at y.value.expr h, fits_shifted x.variables m y.value.expr k)), tt)
+      ((t w refl, (expr_shifted x.variables x.mutexes m js final at y.value.expr h, fits_shifted x.variables x.mutexes m y.value.expr k)), tt)
 
   good_call : (made : f.Statements) (ks after : List Kind) → Into ks after → ((final : List Kind) → Into after final → AreFlatStatements z final made) →
       Good ks (record { made = made; kinds = i.kinds_after made ks after })
   good_call f.no_statement ks after grows formed = record { grows = into_self ks; formed = λ final into. tt }
   good_call (f.statement_and y rest) ks after grows formed = record { grows = grows; formed = formed }
 
-  result_formed : (n : ℕ) (js ks : List Kind) → At n js ks → (o : Option e.Lvalue) → IsResult x js o → AllIn x.variables (r.result_indexes o) →
+  result_formed : (n : ℕ) (js ks : List Kind) → At n js ks → (o : Option e.Lvalue) → IsResult x js o → AllIn x.variables x.mutexes (r.result_indexes o) →
       (y : e.Lvalue) → option_map (shifted_target n) o ≡ Some y → IsFlatTarget z ks y
   result_formed n js ks at None h k y g = absurd (none-some y g)
   result_formed n js ks at (Some w) h k y g = subst (IsFlatTarget z ks) (same_Some (shifted_target n w) y g) (target_formed n js ks at w h k)
@@ -249,7 +249,7 @@ module _ (x : p.Program) (prog : IsProgram x) (fit : AllFit x) where
 
   -- the indexes of a function fit
   function_fits : (g : ℕ) (callee : p.Function) → slice_get fs g ≡ Some callee →
-      AllIn x.variables (r.statements_indexes callee.body ++ r.returned_indexes callee.result)
+      AllIn x.variables x.mutexes (r.statements_indexes callee.body ++ r.returned_indexes callee.result)
   function_fits g callee h = λ j c. fit j (Contains-append_left
       (flat_map (λ (y : p.Function). r.statements_indexes y.body ++ r.returned_indexes y.result) fs) _ j
       (in_flat_map (λ (y : p.Function). r.statements_indexes y.body ++ r.returned_indexes y.result) fs g callee j h c))
@@ -274,8 +274,8 @@ module _ (x : p.Program) (prog : IsProgram x) (fit : AllFit x) where
 
       called_formed : (ks : List Kind) (place : Place) (function : ℕ) (callee : p.Function) (arguments : List e.Placed) (result : Option e.Lvalue) →
           At n js ks → slice_get fs function ≡ Some callee → length arguments ≡ callee.parameters → IsBody bodies function callee ks →
-          AllByRecursion (IsPlaced x.variables js) arguments → AllIn x.variables (flat_map r.placed_indexes arguments) → IsResult x js result →
-          AllIn x.variables (r.result_indexes result) →
+          AllByRecursion (IsPlaced x.variables js) arguments → AllIn x.variables x.mutexes (flat_map r.placed_indexes arguments) → IsResult x js result →
+          AllIn x.variables x.mutexes (r.result_indexes result) →
           Good ks (i.called fs bodies place n ks callee (bodies function ks) arguments result)
       called_formed ks place function callee arguments result at found count body a ai t ti =
           let b = bodies function ks in
@@ -288,7 +288,7 @@ module _ (x : p.Program) (prog : IsProgram x) (fit : AllFit x) where
           let passed = passed_formed place (length ks) callee.locals final (map (shifted_placed n) arguments) fresh
           (omega (arith, length-map arguments (shifted_placed n), own.parameters, count)) (all_placed n js final seen arguments a ai) in
           let given = assigned_formed place (length ks) callee.locals final callee.result (option_map (shifted_target n) result) fresh own.result
-          (second_in x.variables (r.statements_indexes callee.body) (r.returned_indexes callee.result) inside)
+          (second_in x.variables x.mutexes (r.statements_indexes callee.body) (r.returned_indexes callee.result) inside)
           (result_formed n js final seen result t ti) in
           both_formed final (i.passed place (length ks) callee.locals (map (shifted_placed n) arguments)) _ passed
           (both_formed final b.made _ (body.good.formed final into) given))
@@ -298,17 +298,17 @@ module _ (x : p.Program) (prog : IsProgram x) (fit : AllFit x) where
       arms_there ks (p.arm_and condition body rest) h = tt
 
       mutual
-        statement_formed : (ks : List Kind) (y : p.Statement) → At n js ks → IsStatement x js y → AllIn x.variables (r.statement_indexes y) →
+        statement_formed : (ks : List Kind) (y : p.Statement) → At n js ks → IsStatement x js y → AllIn x.variables x.mutexes (r.statement_indexes y) →
             Called (i.statement_calls y) → Good ks (i.statement fs bodies n ks y)
         statement_formed ks (p.Assign place target value) at h k c = record {
           grows = into_self ks;
           formed = λ final into.
               let seen = at_into n js ks final at into in (
                 ((
-                  target_formed n js final seen target h.0 (first_in x.variables (r.target_indexes target)
+                  target_formed n js final seen target h.0 (first_in x.variables x.mutexes (r.target_indexes target)
                       (r.placed_indexes value) k),
                   placed_formed n js final seen value h.1
-                      (second_in x.variables (r.target_indexes target) (r.placed_indexes value) k),
+                      (second_in x.variables x.mutexes (r.target_indexes target) (r.placed_indexes value) k),
                 )),
                 tt,
               );
@@ -317,42 +317,42 @@ module _ (x : p.Program) (prog : IsProgram x) (fit : AllFit x) where
             let callee = h.0.it in
             let body = c (record { place = name; function = function }) (alone _) (slice_get_within fs function callee h.0.found) callee ks h.0.found in
             let made = called_formed ks place function callee arguments result at h.0.found h.0.count body h.1
-            (first_in x.variables (flat_map r.placed_indexes arguments) (r.result_indexes result) k) h.2
-            (second_in x.variables (flat_map r.placed_indexes arguments) (r.result_indexes result) k) in
+            (first_in x.variables x.mutexes (flat_map r.placed_indexes arguments) (r.result_indexes result) k) h.2
+            (second_in x.variables x.mutexes (flat_map r.placed_indexes arguments) (r.result_indexes result) k) in
             subst (λ (o : Option p.Function). Good ks (made_call ks place function arguments result o)) (sym h.0.found) made
         statement_formed ks (p.If place arms otherwise) at h k c =
-            let a = arms_formed ks arms at h.1 (first_in x.variables (r.arms_indexes arms) (r.statements_indexes otherwise) k)
+            let a = arms_formed ks arms at h.1 (first_in x.variables x.mutexes (r.arms_indexes arms) (r.statements_indexes otherwise) k)
             (first_called (i.arms_calls arms) (i.statements_calls otherwise) c) in
             let mid = (i.arms_of fs bodies n ks arms).kinds in
             let o = statements_formed mid otherwise (at_into n js ks mid at a.grows) h.2
-            (second_in x.variables (r.arms_indexes arms) (r.statements_indexes otherwise) k)
+            (second_in x.variables x.mutexes (r.arms_indexes arms) (r.statements_indexes otherwise) k)
             (second_called (i.arms_calls arms) (i.statements_calls otherwise) c) in
             let end = (i.statements fs bodies n mid otherwise).kinds in record {
               grows = into_both ks mid end a.grows o.grows;
               formed = λ final into. ((arms_there ks arms h.0, a.formed final (into_both mid end final o.grows into), o.formed final into), tt);
             }
         statement_formed ks (p.While place condition body) at h k c =
-            let m = statements_formed ks body at h.1 (second_in x.variables (r.placed_indexes condition) (r.statements_indexes body) k) c in
+            let m = statements_formed ks body at h.1 (second_in x.variables x.mutexes (r.placed_indexes condition) (r.statements_indexes body) k) c in
             let ms = (i.statements fs bodies n ks body).kinds in record {
               grows = m.grows;
               formed = λ final into. (
                 (
                   placed_formed n js final (at_into n js ks final at (into_both ks ms final m.grows into)) condition h.0
-                      (first_in x.variables (r.placed_indexes condition) (r.statements_indexes body) k),
+                      (first_in x.variables x.mutexes (r.placed_indexes condition) (r.statements_indexes body) k),
                   m.formed final into,
                 ),
                 tt,
               );
             }
         statement_formed ks (p.Do place body condition) at h k c =
-            let m = statements_formed ks body at h.0 (first_in x.variables (r.statements_indexes body) (r.placed_indexes condition) k) c in
+            let m = statements_formed ks body at h.0 (first_in x.variables x.mutexes (r.statements_indexes body) (r.placed_indexes condition) k) c in
             let ms = (i.statements fs bodies n ks body).kinds in record {
               grows = m.grows;
               formed = λ final into. (
                 (
                   m.formed final into,
                   placed_formed n js final (at_into n js ks final at (into_both ks ms final m.grows into)) condition h.1
-                      (second_in x.variables (r.statements_indexes body) (r.placed_indexes condition) k),
+                      (second_in x.variables x.mutexes (r.statements_indexes body) (r.placed_indexes condition) k),
                 ),
                 tt,
               );
@@ -362,15 +362,15 @@ module _ (x : p.Program) (prog : IsProgram x) (fit : AllFit x) where
         statement_formed ks (p.Unlock place name) at h k c =
             record { grows = into_self ks; formed = λ final into. ((h.0, ap (option_map (shifted_placed n)) h.1), tt) }
 
-        statements_formed : (ks : List Kind) (ys : p.Statements) → At n js ks → AreStatements x js ys → AllIn x.variables (r.statements_indexes ys) →
+        statements_formed : (ks : List Kind) (ys : p.Statements) → At n js ks → AreStatements x js ys → AllIn x.variables x.mutexes (r.statements_indexes ys) →
             Called (i.statements_calls ys) → Good ks (i.statements fs bodies n ks ys)
         statements_formed ks p.no_statement at h k c = record { grows = into_self ks; formed = λ final into. tt }
         statements_formed ks (p.statement_and y rest) at h k c =
-            let m = statement_formed ks y at h.0 (first_in x.variables (r.statement_indexes y) (r.statements_indexes rest) k)
+            let m = statement_formed ks y at h.0 (first_in x.variables x.mutexes (r.statement_indexes y) (r.statements_indexes rest) k)
             (first_called (i.statement_calls y) (i.statements_calls rest) c) in
             let ms = (i.statement fs bodies n ks y).kinds in
             let o = statements_formed ms rest (at_into n js ks ms at m.grows) h.1
-            (second_in x.variables (r.statement_indexes y) (r.statements_indexes rest) k)
+            (second_in x.variables x.mutexes (r.statement_indexes y) (r.statements_indexes rest) k)
             (second_called (i.statement_calls y) (i.statements_calls rest) c) in
             let os = (i.statements fs bodies n ms rest).kinds in record {
               grows = into_both ks ms os m.grows o.grows;
@@ -378,16 +378,17 @@ module _ (x : p.Program) (prog : IsProgram x) (fit : AllFit x) where
                   (m.formed final (into_both ms os final o.grows into)) (o.formed final into);
             }
 
-        arms_formed : (ks : List Kind) (ys : p.Arms) → At n js ks → AreArms x js ys → AllIn x.variables (r.arms_indexes ys) → Called (i.arms_calls ys) →
+        arms_formed : (ks : List Kind) (ys : p.Arms) → At n js ks → AreArms x js ys → AllIn x.variables x.mutexes (r.arms_indexes ys) →
+            Called (i.arms_calls ys) →
             GoodArms ks (i.arms_of fs bodies n ks ys)
         arms_formed ks p.no_arm at h k c = record { grows = into_self ks; formed = λ final into. tt }
         arms_formed ks (p.arm_and condition body rest) at h k c =
             let both = r.placed_indexes condition ++ r.statements_indexes body in
-            let first = first_in x.variables both (r.arms_indexes rest) k in
-            let m = statements_formed ks body at h.1 (second_in x.variables (r.placed_indexes condition) (r.statements_indexes body) first)
+            let first = first_in x.variables x.mutexes both (r.arms_indexes rest) k in
+            let m = statements_formed ks body at h.1 (second_in x.variables x.mutexes (r.placed_indexes condition) (r.statements_indexes body) first)
             (first_called (i.statements_calls body) (i.arms_calls rest) c) in
             let ms = (i.statements fs bodies n ks body).kinds in
-            let o = arms_formed ms rest (at_into n js ks ms at m.grows) h.2 (second_in x.variables both (r.arms_indexes rest) k)
+            let o = arms_formed ms rest (at_into n js ks ms at m.grows) h.2 (second_in x.variables x.mutexes both (r.arms_indexes rest) k)
             (second_called (i.statements_calls body) (i.arms_calls rest) c) in
             let os = (i.arms_of fs bodies n ms rest).kinds in record {
               grows = into_both ks ms os m.grows o.grows;
@@ -395,7 +396,7 @@ module _ (x : p.Program) (prog : IsProgram x) (fit : AllFit x) where
                   let last = into_both ms os final o.grows into in
                   let seen = at_into n js ks final at (into_both ks ms final m.grows last) in (
                     placed_formed n js final seen condition h.0
-                        (first_in x.variables (r.placed_indexes condition) (r.statements_indexes body) first),
+                        (first_in x.variables x.mutexes (r.placed_indexes condition) (r.statements_indexes body) first),
                     m.formed final last,
                     o.formed final into,
                   );
@@ -415,7 +416,7 @@ module _ (x : p.Program) (prog : IsProgram x) (fit : AllFit x) where
       let own = all_at (IsFunction x) fs g callee prog.functions found in
       let deeper : Called (i.bodies_of fs d) (i.statements_calls callee.body) = λ c k l. bodies_formed d c.function
       (low c (subst (λ (cs : List i.Call). Contains cs c) (sym (calls_of_some fs g callee found)) k) l) in
-      let inside = first_in x.variables (r.statements_indexes callee.body) (r.returned_indexes callee.result) (function_fits g callee found) in
+      let inside = first_in x.variables x.mutexes (r.statements_indexes callee.body) (r.returned_indexes callee.result) (function_fits g callee found) in
       let made = statements_formed (i.bodies_of fs d) (length ks) callee.locals (ks ++ callee.locals) callee.body
       (at_append ks callee.locals) own.body inside deeper in
       let m = i.statements fs (i.bodies_of fs d) (length ks) (ks ++ callee.locals) callee.body in
@@ -429,7 +430,7 @@ module _ (x : p.Program) (prog : IsProgram x) (fit : AllFit x) where
   -- ---- Threads
 
   module _ (none : HasNoBack x) where
-    thread_formed : (t : p.Thread) → AreStatements x t.locals t.body → AllIn x.variables (r.statements_indexes t.body) →
+    thread_formed : (t : p.Thread) → AreStatements x t.locals t.body → AllIn x.variables x.mutexes (r.statements_indexes t.body) →
         AreFlatStatements z (i.flat_thread fs t).locals (i.flat_thread fs t).body
     thread_formed t h k =
         let bodies = i.bodies_of fs (length fs) in
@@ -438,17 +439,17 @@ module _ (x : p.Program) (prog : IsProgram x) (fit : AllFit x) where
         made.formed (i.statements fs bodies 0 t.locals t.body).kinds (into_self (i.statements fs bodies 0 t.locals t.body).kinds)
 
     threads_formed : (ts : List p.Thread) → AllByRecursion (λ (t : p.Thread). AreStatements x t.locals t.body) ts →
-        AllIn x.variables (flat_map (λ (t : p.Thread). r.statements_indexes t.body) ts) →
+        AllIn x.variables x.mutexes (flat_map (λ (t : p.Thread). r.statements_indexes t.body) ts) →
         AllByRecursion (λ (t : f.Thread). AreFlatStatements z t.locals t.body) (map (i.flat_thread fs) ts)
     threads_formed [] h k = tt
     threads_formed (t ∷ ts) h k = (
-      thread_formed t h.0 (first_in x.variables (r.statements_indexes t.body) (flat_map (λ (u : p.Thread). r.statements_indexes u.body) ts) k),
-      threads_formed ts h.1 (second_in x.variables (r.statements_indexes t.body) (flat_map (λ (u : p.Thread). r.statements_indexes u.body) ts) k),
+      thread_formed t h.0 (first_in x.variables x.mutexes (r.statements_indexes t.body) (flat_map (λ (u : p.Thread). r.statements_indexes u.body) ts) k),
+      threads_formed ts h.1 (second_in x.variables x.mutexes (r.statements_indexes t.body) (flat_map (λ (u : p.Thread). r.statements_indexes u.body) ts) k),
     )
 
 pub flat_formed : (x : p.Program) → IsProgram x → AllFit x → HasNoBack x → IsWellFormed (i.flat_form x)
 flat_formed x prog fit none =
-    let threads = second_in x.variables (flat_map (λ (y : p.Function). r.statements_indexes y.body ++ r.returned_indexes y.result) x.functions)
+    let threads = second_in x.variables x.mutexes (flat_map (λ (y : p.Function). r.statements_indexes y.body ++ r.returned_indexes y.result) x.functions)
     (flat_map (λ (t : p.Thread). r.statements_indexes t.body) x.threads) fit in
     let flat : f.Flat = record { mutexes = x.mutexes; variables = x.variables; threads = map (i.flat_thread x.functions) x.threads } in
     let made : IsWellFormed flat = record {
@@ -458,6 +459,7 @@ flat_formed x prog fit none =
         variables = prog.shared.variables;
         bytes = prog.shared.bytes;
       };
+      single = prog.single;
       threads = threads_formed x prog fit none x.threads prog.threads threads;
     } in
     subst IsWellFormed (sym (flat_is x)) made

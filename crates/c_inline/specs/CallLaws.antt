@@ -51,14 +51,19 @@ abbrev pub ResultUses : Use → Option e.Lvalue → (local : ℕ) → Type 0
 ResultUses u None l = ⊥
 ResultUses u (Some target) l = TargetUses u target l
 
+-- a key reads
+abbrev pub KeyUses : Use → Option e.Placed → (local : ℕ) → Type 0
+KeyUses u None l = ⊥
+KeyUses u (Some key) l = Uses u key.expr l
+
 abbrev mutual
   pub StatementUses : Use → f.Statement → (local : ℕ) → Type 0
   StatementUses u (f.Assign place target value) l = TargetUses u target l ⊎ Uses u value.expr l
   StatementUses u (f.If place arms otherwise) l = ArmsUse u arms l ⊎ StatementsUse u otherwise l
   StatementUses u (f.While place condition body) l = Uses u condition.expr l ⊎ StatementsUse u body l
   StatementUses u (f.Do place body condition) l = StatementsUse u body l ⊎ Uses u condition.expr l
-  StatementUses u (f.Lock place name) l = ⊥
-  StatementUses u (f.Unlock place name) l = ⊥
+  StatementUses u (f.Lock place name) l = KeyUses u name.key l
+  StatementUses u (f.Unlock place name) l = KeyUses u name.key l
 
   pub StatementsUse : Use → f.Statements → (local : ℕ) → Type 0
   StatementsUse u f.no_statement l = ⊥
@@ -72,6 +77,10 @@ abbrev mutual
 
 abbrev pub AreBelow : (count : ℕ) → e.Expr → Type 0
 AreBelow count x = (local : ℕ) → ExprReads x local → local < count
+
+abbrev pub IsKeyBelow : (count : ℕ) → Option e.Placed → Type 0
+IsKeyBelow count None = Unit {0}
+IsKeyBelow count (Some key) = AreBelow count key.expr
 
 abbrev pub AreAllBelow : (count : ℕ) → List e.Placed → Type 0
 AreAllBelow count xs = (local : ℕ) → ListUses read xs local → local < count
@@ -95,8 +104,8 @@ abbrev mutual
   IsScoped fs count (p.If place arms otherwise) = AreScopedArms fs count arms × AreScoped fs count otherwise
   IsScoped fs count (p.While place condition body) = AreBelow count condition.expr × AreScoped fs count body
   IsScoped fs count (p.Do place body condition) = AreScoped fs count body × AreBelow count condition.expr
-  IsScoped fs count (p.Lock place name) = Unit {0}
-  IsScoped fs count (p.Unlock place name) = Unit {0}
+  IsScoped fs count (p.Lock place name) = IsKeyBelow count name.key
+  IsScoped fs count (p.Unlock place name) = IsKeyBelow count name.key
 
   pub AreScoped : List p.Function → (count : ℕ) → p.Statements → Type 0
   AreScoped fs count p.no_statement = Unit {0}

@@ -9,7 +9,7 @@ use Rattle.c_tree.specs.Trees as t
 use Rattle.c_tree.specs.Languages.{mark, ◌⋅◌, first_place}
 use Rattle.c_tree.specs.Grammar.{expression, index, target, changed, assignment}
 use Rattle.c_reader.specs.links.ParserFunctions.{head_of, update_in, parse_target, change_by, parse_change, assignment_by, parse_assignment}
-use Rattle.c_reader.proofs.CorrectParsers.{Language, Good, ◌▷◌, ◌▹◌, found_in, Anything, good_to, good_map, good_head, good_then, good_taking}
+use Rattle.c_reader.proofs.CorrectParsers.{Spelling, Good, ◌▷◌, ◌▹◌, found_in, Anything, good_to, good_map, good_head, good_then, good_taking}
 use Rattle.c_reader.proofs.Tokens.{some_same, marked, named, good_mark, good_name}
 use Rattle.c_reader.proofs.Expressions.{OperandEnd, not_mark}
 use Rattle.c_reader.proofs.Operands.{ExpressionEnd, good_index, good_expression}
@@ -31,16 +31,16 @@ good_target fuel fuel' b h h' =
 -- ---- Changes
 
 -- what stands after a target
-abbrev pub ChangeLanguage : Language t.Change
+abbrev pub ChangeLanguage : Spelling t.Change
 ChangeLanguage (t.Set value) = mark p.Assign ⋅ expression value
 ChangeLanguage (t.Update operator value) = mark (p.Update operator) ⋅ expression value
 ChangeLanguage t.Increment = mark p.Increment
 ChangeLanguage t.Decrement = mark p.Decrement
 
-abbrev UpdateLanguage : Language t.Change
+abbrev UpdateLanguage : Spelling t.Change
 UpdateLanguage = found_in update_in ▷ (λ o. expression ▹ t.Update o)
 
-abbrev change_language : Option Lexeme → Language t.Change
+abbrev change_language : Option Lexeme → Spelling t.Change
 change_language (Some (Punctuator p.Assign)) = marked p.Assign ▷ (λ o. expression ▹ t.Set)
 change_language (Some (Punctuator p.Increment)) = marked p.Increment ▹ (λ o. t.Increment)
 change_language (Some (Punctuator p.Decrement)) = marked p.Decrement ▹ (λ o. t.Decrement)
@@ -104,10 +104,10 @@ made_of x y = record { place = x.name.place; target = x; change = y }
 abbrev before : t.Change → Place → t.Lvalue → t.Assignment
 before y place x = record { place = place; target = x; change = y }
 
-abbrev PlainLanguage : Language t.Assignment
+abbrev PlainLanguage : Spelling t.Assignment
 PlainLanguage = target ▷ (λ x. ChangeLanguage ▹ made_of x)
 
-abbrev assignment_language : Option Lexeme → Language t.Assignment
+abbrev assignment_language : Option Lexeme → Spelling t.Assignment
 assignment_language (Some (Punctuator p.Increment)) = marked p.Increment ▷ (λ place. target ▹ before t.Increment place)
 assignment_language (Some (Punctuator p.Decrement)) = marked p.Decrement ▷ (λ place. target ▹ before t.Decrement place)
 assignment_language _ = PlainLanguage

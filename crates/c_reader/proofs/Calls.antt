@@ -11,7 +11,7 @@ use Rattle.c_tree.specs.Languages.{mark, ◌⋅◌, name, list_of, some_of}
 use Rattle.c_tree.specs.Grammar.{expression, index, call, unary_mark, precedence}
 use Rattle.c_reader.specs.links.ParserFunctions.{give, head_of, head_is, is_mark, where_head, parse_some_of, parse_arguments, call_after, right_after_name}
 use Rattle.c_reader.specs.links.ParserFunctions.{right_by, parse_right, parse_expression, parse_operand, expression_after_name}
-use Rattle.c_reader.proofs.CorrectParsers.{Language, Good, ◌▷◌, ◌▹◌, just, Anything, good_give, good_to, good_map, good_where, good_head, good_then}
+use Rattle.c_reader.proofs.CorrectParsers.{Spelling, Good, ◌▷◌, ◌▹◌, just, Anything, good_give, good_to, good_map, good_where, good_head, good_then}
 use Rattle.c_reader.proofs.Tokens.{marked, named, good_mark, good_name}
 use Rattle.c_reader.proofs.OptionalParts.{Unless, Where, good_some_of}
 use Rattle.c_reader.proofs.Expressions.{OperandEnd, from, not_mark, ladder_ends, ladder_head, precedence_high}
@@ -41,7 +41,7 @@ expression_foreign test f n (t.Conditional x y z) us rest (q, (us₁, us₂, e, 
 -- ---- Arguments and calls
 
 -- the arguments and their closing parenthesis
-abbrev pub ArgumentsLanguage : Language (List t.Expression)
+abbrev pub ArgumentsLanguage : Spelling (List t.Expression)
 ArgumentsLanguage xs = list_of expression xs ⋅ mark p.CloseParenthesis
 
 close_foreign : Foreign (head_is (is_mark p.CloseParenthesis))
@@ -95,7 +95,7 @@ arguments_good fuel fuel' b h h' =
     (λ h f. f)
 
 -- a call of this name, read from after the name
-abbrev pub CallLanguage : t.Name → Language t.Call
+abbrev pub CallLanguage : t.Name → Spelling t.Call
 CallLanguage n c us = (n ≡ c.function) × (mark p.OpenParenthesis ⋅ ArgumentsLanguage c.arguments) us
 
 pub call_good : (fuel fuel' b : ℕ) → b ≤ fuel → b ≤ fuel' → (n : t.Name)
@@ -120,7 +120,7 @@ call_head n c us rest (q, (us₁, us₂, e, (o, l), m)) = rw (e, l) refl
 -- ---- Right sides
 
 -- an expression or a call
-abbrev pub RightLanguage : Language t.Initial
+abbrev pub RightLanguage : Spelling t.Initial
 RightLanguage (t.Value x) = expression x
 RightLanguage (t.Result c) = call c
 RightLanguage t.Absent = λ us. ⊥
@@ -129,11 +129,11 @@ abbrev pub RightEnd : Option Lexeme → Type 0
 RightEnd h = ExpressionEnd h × (head_is (is_mark p.OpenParenthesis) h ≡ false)
 
 -- the expression that begins with this name, read from after the name
-abbrev pub NamedExpression : t.Name → Language t.Expression
+abbrev pub NamedExpression : t.Name → Spelling t.Expression
 NamedExpression n = NamedLanguage n ▷ AfterLanguage
 
 -- a right side that begins with this name, read from after the name
-abbrev AfterName : t.Name → Language t.Initial
+abbrev AfterName : t.Name → Spelling t.Initial
 AfterName n (t.Value x) = NamedExpression n x
 AfterName n (t.Result c) = CallLanguage n c
 AfterName n t.Absent = λ us. ⊥
@@ -183,7 +183,7 @@ after_name_good fuel fuel' b h h' n =
     out (t.Result c) us rest u f = inl ((c, u, refl), rw (call_head n c us rest u) refl)
     out t.Absent us rest u f = absurd u
 
-abbrev right_language : Option Lexeme → Language t.Initial
+abbrev right_language : Option Lexeme → Spelling t.Initial
 right_language (Some (Name bytes)) = named ▷ AfterName
 right_language _ = expression ▹ t.Value
 

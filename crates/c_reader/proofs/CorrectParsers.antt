@@ -5,36 +5,36 @@ use Rattle.std.specs.Prelude.{◌⊎◌}
 use Rattle.c_tree.specs.Tokens.{Token, Lexeme}
 use Rattle.c_reader.specs.links.ParserFunctions.{Parsed, Read, Wrong, Parser, give, wrong, follow, ◌>>=◌, head_of, by_head, taking, where_head}
 
--- ---- Languages with trees
+-- ---- Which tokens spell which tree
 
-abbrev pub Language : Type 0 → Type 1
-Language A = A → List Token → Type 0
+abbrev pub Spelling : Type 0 → Type 1
+Spelling A = A → List Token → Type 0
 
 -- one and then another, which may depend on the tree of the first
 infixr 6 ◌▷◌
-abbrev pub ◌▷◌ : {A B : Type 0} → Language A → (A → Language B) → Language B
+abbrev pub ◌▷◌ : {A B : Type 0} → Spelling A → (A → Spelling B) → Spelling B
 (L ▷ M) y ts = (x : _) × (us : List Token) × (vs : List Token) × (ts ≡ us ++ vs) × L x us × M x y vs
 
 -- the trees that a function makes of others
 infixr 6 ◌▹◌
-abbrev pub ◌▹◌ : {A B : Type 0} → Language A → (A → B) → Language B
+abbrev pub ◌▹◌ : {A B : Type 0} → Spelling A → (A → B) → Spelling B
 (L ▹ f) y ts = (x : _) × L x ts × (f x ≡ y)
 
 -- nothing is read, for one tree
-abbrev pub just : {A : Type 0} → A → Language A
+abbrev pub just : {A : Type 0} → A → Spelling A
 just x y ts = (x ≡ y) × (ts ≡ [])
 
-abbrev pub nothing : {A : Type 0} → Language A
+abbrev pub nothing : {A : Type 0} → Spelling A
 nothing x ts = ⊥
 
 -- one token, in which the function finds the tree
-abbrev pub found_in : {A : Type 0} → (Token → Option A) → Language A
+abbrev pub found_in : {A : Type 0} → (Token → Option A) → Spelling A
 found_in f x ts = (t : Token) × (ts ≡ t ∷ []) × (f t ≡ Some x)
 
 -- ---- What a parser owes
 
 -- an answer: what was read belongs to the language; what stands before a wrong token begins something that does
-abbrev pub Meets : {A : Type 0} → Language A → List Token → Parsed A → Type 0
+abbrev pub Meets : {A : Type 0} → Spelling A → List Token → Parsed A → Type 0
 Meets L ts (Read x rest) = (us : List Token) × (ts ≡ us ++ rest) × L x us
 Meets L ts (Wrong rest) = (us : List Token) × (ts ≡ us ++ rest) × (more : List Token) × (x : _) × L x (us ++ more)
 
@@ -44,7 +44,7 @@ ParseLockstep t w w' (Read x rest) r' = (length rest ≤ length w) ⊎ ((v : Lis
 ParseLockstep t w w' (Wrong rest) r' = (length rest ≤ length w) ⊎ ((v : List Token) × (rest ≡ v ++ t ∷ w) × (r' ≡ Wrong (v ++ t ∷ w')))
 
 -- Up to so many tokens, a parser answers in U, it reads all of K where the next token may follow, and another one answers in lockstep.
-pub record Good {A : Type 0} (b : ℕ) (U K : Language A) (F : Option Lexeme → Type 0) (P P' : Parser A) : Type 0 where
+pub record Good {A : Type 0} (b : ℕ) (U K : Spelling A) (F : Option Lexeme → Type 0) (P P' : Parser A) : Type 0 where
   pub sure : (ts : List Token) → Meets U ts (P ts)
   pub lockstep : (us : List Token) (t : Token) (w w' : List Token) → length us < b → ParseLockstep t w w' (P (us ++ t ∷ w)) (P' (us ++ t ∷ w'))
   pub whole : (x : A) (us rest : List Token) → K x us → length us < b → F (head_of rest) → P (us ++ rest) ≡ Read x rest
@@ -67,7 +67,7 @@ pub rest_within : (ts us rest : List Token) (n : ℕ) → ts ≡ us ++ rest → 
 rest_within ts us rest n e h = let a : length ts ≡ length us + length rest = ap length e ∙ length-append us rest in omega (arith, a, h)
 
 -- an answer whose tokens went past t is in lockstep with any
-pub past : {A : Type 0} (L : Language A) (ts : List Token) (t : Token) (w w' : List Token) (r r' : Parsed A) → Meets L ts r → length ts ≤ length w
+pub past : {A : Type 0} (L : Spelling A) (ts : List Token) (t : Token) (w w' : List Token) (r r' : Parsed A) → Meets L ts r → length ts ≤ length w
     → ParseLockstep t w w' r r'
 past L ts t w w' (Read x rest) r' m h = inl (rest_within ts m.0 rest (length w) m.1 h)
 past L ts t w w' (Wrong rest) r' m h = inl (rest_within ts m.0 rest (length w) m.1 h)
@@ -81,7 +81,7 @@ good_give x = record {
   whole = λ y us rest k h f. rw (k.1, ← k.0) refl;
 }
 
-pub good_wrong : {A : Type 0} {b : ℕ} {U : Language A} {F : Option Lexeme → Type 0} (x : A) (ts : List Token) → U x ts → Good b U nothing F wrong wrong
+pub good_wrong : {A : Type 0} {b : ℕ} {U : Spelling A} {F : Option Lexeme → Type 0} (x : A) (ts : List Token) → U x ts → Good b U nothing F wrong wrong
 good_wrong x more u = record {
   sure = λ ts. ([], refl, more, x, u);
   lockstep = λ us t w w' h. inr (us, refl, refl);
@@ -122,7 +122,7 @@ good_taking f t₀ x₀ e = record {
   whole = λ x us rest k h g. taking_whole f x us rest k;
 }
 
-pub good_to : {A : Type 0} {b : ℕ} {U K U' K' : Language A} {F F' : Option Lexeme → Type 0} {P P' : Parser A} →
+pub good_to : {A : Type 0} {b : ℕ} {U K U' K' : Spelling A} {F F' : Option Lexeme → Type 0} {P P' : Parser A} →
     Good b U K F P P' → ((x : A) (us : List Token) → U x us → U' x us) → ((x : A) (us : List Token) → K' x us → K x us) → ((h : Option Lexeme) → F' h → F h)
     → Good b U' K' F' P P'
 good_to {A = A} {U = U} {U' = U'} {P = P} g up down over = record {
@@ -135,14 +135,14 @@ good_to {A = A} {U = U} {U' = U'} {P = P} g up down over = record {
     go ts (Read x rest) (us, e, u) = (us, e, up x us u)
     go ts (Wrong rest) (us, e, more, x, u) = (us, e, more, x, up x (us ++ more) u)
 
-pub good_less : {A : Type 0} {b c : ℕ} {U K : Language A} {F : Option Lexeme → Type 0} {P P' : Parser A} → Good b U K F P P' → c ≤ b → Good c U K F P P'
+pub good_less : {A : Type 0} {b c : ℕ} {U K : Spelling A} {F : Option Lexeme → Type 0} {P P' : Parser A} → Good b U K F P P' → c ≤ b → Good c U K F P P'
 good_less g h = record {
   sure = g.sure;
   lockstep = λ us t w w' e. g.lockstep us t w w' (le_trans e h);
   whole = λ x us rest k e f. g.whole x us rest k (le_trans e h) f;
 }
 
-pub good_map : {A B : Type 0} {b : ℕ} {U K : Language A} {F : Option Lexeme → Type 0} {P P' : Parser A} (f : A → B) → Good b U K F P P'
+pub good_map : {A B : Type 0} {b : ℕ} {U K : Spelling A} {F : Option Lexeme → Type 0} {P P' : Parser A} (f : A → B) → Good b U K F P P'
     → Good b (U ▹ f) (K ▹ f) F (P >>= λ x. give (f x)) (P' >>= λ x. give (f x))
 good_map {A = A} {B = B} {U = U} {P = P} {P' = P'} f g = record {
   sure = λ ts. go ts (P ts) (g.sure ts);
@@ -162,10 +162,10 @@ good_map {A = A} {B = B} {U = U} {P = P} {P' = P'} f g = record {
     go' t w w' (Wrong rest) r' (inr (v, e, e')) = inr (v, e, rw e' refl)
 
 -- each list of the language has a token
-abbrev pub Strict : {A : Type 0} → Language A → Type 0
+abbrev pub Strict : {A : Type 0} → Spelling A → Type 0
 Strict {A = A} L = (x : A) (us : List Token) → L x us → 0 < length us
 
-then_sure : {A B : Type 0} (L : Language A) (M : A → Language B) (Q : A → Parser B) → ((x : A) (ts : List Token) → Meets (M x) ts (Q x ts)) →
+then_sure : {A B : Type 0} (L : Spelling A) (M : A → Spelling B) (Q : A → Parser B) → ((x : A) (ts : List Token) → Meets (M x) ts (Q x ts)) →
     (ts : List Token) (r : Parsed A) → Meets L ts r → Meets (L ▷ M) ts (follow r Q)
 then_sure {A = A} {B = B} L M Q s ts (Read x rest) (us, e, u) = go (Q x rest) (s x rest)
   where
@@ -179,7 +179,7 @@ then_sure {A = A} {B = B} L M Q s ts (Wrong rest) (us, e, more, x, u) = go (Q x 
     go (Read y rest') (vs, e', m) = (us, e, more ++ vs, y, (x, us ++ more, vs, sym (append_assoc us more vs), u, m))
     go (Wrong rest') (vs, e', more', y, m) = (us, e, more ++ (vs ++ more'), y, (x, us ++ more, vs ++ more', sym (append_assoc us more (vs ++ more')), u, m))
 
-then_lockstep : {A B : Type 0} (L : Language A) (M : A → Language B) (Q Q' : A → Parser B) (us : List Token) (t : Token) (w w' : List Token) →
+then_lockstep : {A B : Type 0} (L : Spelling A) (M : A → Spelling B) (Q Q' : A → Parser B) (us : List Token) (t : Token) (w w' : List Token) →
     ((x : A) (ts : List Token) → Meets (M x) ts (Q x ts)) →
     ((x : A) (prefix v : List Token) → L x prefix → length us ≡ length prefix + length v → ParseLockstep t w w' (Q x (v ++ t ∷ w)) (Q' x (v ++ t ∷ w'))) →
     (r r' : Parsed A) → Meets L (us ++ t ∷ w) r → ParseLockstep t w w' r r' → ParseLockstep t w w' (follow r Q) (follow r' Q')
@@ -188,7 +188,7 @@ then_lockstep L M Q Q' us t w w' s a (Read x rest) r' (prefix, e₀, u) (inr (v,
 then_lockstep L M Q Q' us t w w' s a (Wrong rest) r' m (inl h) = inl h
 then_lockstep L M Q Q' us t w w' s a (Wrong rest) r' m (inr (v, e, e')) = inr (v, e, rw e' refl)
 
-pub good_then : {A B : Type 0} {b : ℕ} {L : Language A} {M : A → Language B} {F G : Option Lexeme → Type 0} {P P' : Parser A} {Q Q' : A → Parser B} →
+pub good_then : {A B : Type 0} {b : ℕ} {L : Spelling A} {M : A → Spelling B} {F G : Option Lexeme → Type 0} {P P' : Parser A} {Q Q' : A → Parser B} →
     Good b L L F P P' → ((x : A) → Good b (M x) (M x) G (Q x) (Q' x)) →
     ((x : A) (y : B) (us rest : List Token) → M x y us → G (head_of rest) → F (head_of (us ++ rest))) →
     Good b (L ▷ M) (L ▷ M) G (P >>= Q) (P' >>= Q')
@@ -204,7 +204,7 @@ good_then {A = A} {B = B} {b = b} {L = L} {M = M} {P = P} {P' = P'} {Q = Q} {Q' 
 }
 
 -- a parser after one that reads a token at least: it is asked about fewer tokens
-pub good_then_less : {A B : Type 0} {b c : ℕ} {L : Language A} {M : A → Language B} {F G : Option Lexeme → Type 0} {P P' : Parser A} {Q Q' : A → Parser B} →
+pub good_then_less : {A B : Type 0} {b c : ℕ} {L : Spelling A} {M : A → Spelling B} {F G : Option Lexeme → Type 0} {P P' : Parser A} {Q Q' : A → Parser B} →
     b ≤ suc c → Strict L → Good b L L F P P' → ((x : A) → Good c (M x) (M x) G (Q x) (Q' x)) →
     ((x : A) (y : B) (us rest : List Token) → M x y us → G (head_of rest) → F (head_of (us ++ rest))) →
     Good b (L ▷ M) (L ▷ M) G (P >>= Q) (P' >>= Q')
@@ -222,7 +222,7 @@ good_then_less {A = A} {B = B} {b = b} {L = L} {M = M} {P = P} {P' = P'} {Q = Q}
 }
 
 -- no list is asked about: only the answers count
-pub good_small : {A : Type 0} {b : ℕ} {U K : Language A} {F : Option Lexeme → Type 0} {P P' : Parser A} → b ≤ 0 → ((ts : List Token) → Meets U ts (P ts))
+pub good_small : {A : Type 0} {b : ℕ} {U K : Spelling A} {F : Option Lexeme → Type 0} {P P' : Parser A} → b ≤ 0 → ((ts : List Token) → Meets U ts (P ts))
     → Good b U K F P P'
 good_small h s = record {
   sure = s;
@@ -231,7 +231,7 @@ good_small h s = record {
 }
 
 -- by the next token: each branch answers in U
-pub good_head : {A : Type 0} {b : ℕ} {U : Language A} {K : Option Lexeme → Language A} {F : Option Lexeme → Type 0} {f f' : Option Lexeme → Parser A} →
+pub good_head : {A : Type 0} {b : ℕ} {U : Spelling A} {K : Option Lexeme → Spelling A} {F : Option Lexeme → Type 0} {f f' : Option Lexeme → Parser A} →
     ((h : Option Lexeme) → Good b U (K h) F (f h) (f' h)) →
     ((x : A) (us rest : List Token) → U x us → F (head_of rest) → K (head_of (us ++ rest)) x us) →
     Good b U U F (by_head f) (by_head f')
@@ -246,7 +246,7 @@ good_head {A = A} {b = b} {f = f} {f' = f'} g out = record {
     go (u ∷ us) t w w' n = (g (Some u.lexeme)).lockstep (u ∷ us) t w w' n
 
 -- by a test of the next token
-pub good_where : {A : Type 0} {b : ℕ} {U K₁ K₂ : Language A} {F : Option Lexeme → Type 0} {P P' Q Q' : Parser A} (test : Option Lexeme → Bool) →
+pub good_where : {A : Type 0} {b : ℕ} {U K₁ K₂ : Spelling A} {F : Option Lexeme → Type 0} {P P' Q Q' : Parser A} (test : Option Lexeme → Bool) →
     Good b U K₁ F P P' → Good b U K₂ F Q Q' →
     ((x : A) (us rest : List Token) → U x us → F (head_of rest)
     → (K₁ x us × (test (head_of (us ++ rest)) ≡ true)) ⊎ (K₂ x us × (test (head_of (us ++ rest)) ≡ false))) →

@@ -6,6 +6,8 @@ use Rattle.std.specs.List.{AllByRecursion}
 use Rattle.std.proofs.lemmas.Bool.Decides.{nat_tests}
 use Rattle.ido_base.specs.declared.place.Place.{Place}
 use Rattle.ido_ints.specs.declared.operators.Unary.TheVariants as unary
+use Rattle.c_tree.specs.declared.language.Language.{Language}
+use Rattle.c_tree.specs.declared.language.Language.TheVariants.{Plain, Full}
 use Rattle.c_tree.specs.Tokens.{Token, Lexeme, Name, Keyword, Number, Punctuator}
 use Rattle.c_tree.specs.declared.token.Keyword as kw
 use Rattle.c_tree.specs.declared.token.Keyword.TheVariants as k
@@ -389,68 +391,71 @@ low_condition x = then _ _ _ (mark p.OpenParenthesis (λ n. refl)) (and_then _ _
 
 -- ---- Statements
 
-of_mutex : (place : Place) (x : kw.Keyword) (mutex : t.Name) → Holds Always
-    (lexeme_at place (Keyword x) ⋅ lexeme (Punctuator p.OpenParenthesis) ⋅ lexeme_at mutex.place (Name mutex.text) ⋅ lexeme
+low_key : (language : Language) (x : Option t.Expression) → Holds (λ room. IsLowIf 129 x) (g.key language x)
+low_key language None = holds_empty
+low_key Plain (Some x) = record { go = λ ts y n room free low. absurd y }
+low_key Full (Some x) = then _ _ _ (mark p.OpenBracket (λ n. refl)) (and_then _ _ _ (low_expression x 0) (mark p.CloseBracket (λ n. refl)))
+
+of_lock : (language : Language) (place : Place) (x : kw.Keyword) (mutex : t.Name) (key : Option t.Expression) → Holds (λ room. IsLowIf 129 key)
+    (lexeme_at place (Keyword x) ⋅ lexeme (Punctuator p.OpenParenthesis) ⋅ lexeme_at mutex.place (Name mutex.text) ⋅ g.key language key ⋅ lexeme
     (Punctuator p.CloseParenthesis) ⋅ lexeme (Punctuator p.Semicolon))
-of_mutex place x mutex =
+of_lock language place x mutex key =
     then _ _ _ (word_at place x)
-    (then _ _ _ (mark p.OpenParenthesis (λ n. refl)) (then _ _ _ (name mutex) (then _ _ _ (mark p.CloseParenthesis (λ n. refl)) semicolon)))
+    (then _ _ _ (mark p.OpenParenthesis (λ n. refl))
+    (then _ _ _ (name mutex) (and_then _ _ _ (low_key language key) (then _ _ _ (mark p.CloseParenthesis (λ n. refl)) semicolon))))
 
-mutual
-  flat : (x : t.Statement) → Holds (λ room. IsFlat 129 room x) (g.statement x)
-  flat (t.BlockOf x) = flat_block x
-  flat (t.Empty place) = holds_at place (Punctuator p.Semicolon) (λ n. refl)
-  flat (t.Declare x) = and_then _ _ _ (low_declaration x) semicolon
-  flat (t.Assign x) = and_then _ _ _ (low_assignment x) semicolon
-  flat (t.AssignResult x c) = holds_both _ _ _ _ (low_target x) (then _ _ _ (mark p.Assign (λ n. refl)) (and_then _ _ _ (low_call c) semicolon))
-  flat (t.CallOnly c) = and_then _ _ _ (low_call c) semicolon
-  flat (t.If place arms otherwise) = holds_both _ _ _ _ (holds_starting _ place _ (flat_arms arms)) (flat_otherwise otherwise)
-  flat (t.While place x inside) = then _ _ _ (word_at place k.While) (holds_both _ _ _ _ (low_condition x) (flat_block inside))
-  flat (t.Do place inside x) =
-      then _ _ _ (word_at place k.Do) (holds_both _ _ _ _ (flat_block inside) (then _ _ _ (word k.While) (and_then _ _ _ (low_condition x) semicolon)))
-  flat (t.For place start x last inside) =
-      holds_less (λ room. IsLowFirst 129 start × (IsLowIf 129 x × (IsLowLast 129 last × IsFlatBlock 129 room inside))) _ _
-      (λ room h. (h.0, h.1.0, h.1.1.0, h.1.1.1))
-      (then _ _ _ (word_at place k.For) (then _ _ _ (mark p.OpenParenthesis (λ n. refl))
-      (holds_both _ _ _ _ (low_first start) (then _ _ _ semicolon (holds_both _ _ _ _ (low_if x) (then _ _ _ semicolon
-      (holds_both _ _ _ _ (low_last last) (then _ _ _ (mark p.CloseParenthesis (λ n. refl)) (flat_block inside)))))))))
-  flat (t.Lock place mutex) = of_mutex place k.Lock mutex
-  flat (t.Unlock place mutex) = of_mutex place k.Unlock mutex
+module _ (language : Language) where
+  mutual
+    flat : (x : t.Statement) → Holds (λ room. IsFlat 129 room x) (g.statement language x)
+    flat (t.BlockOf x) = flat_block x
+    flat (t.Empty place) = holds_at place (Punctuator p.Semicolon) (λ n. refl)
+    flat (t.Declare x) = and_then _ _ _ (low_declaration x) semicolon
+    flat (t.Assign x) = and_then _ _ _ (low_assignment x) semicolon
+    flat (t.AssignResult x c) = holds_both _ _ _ _ (low_target x) (then _ _ _ (mark p.Assign (λ n. refl)) (and_then _ _ _ (low_call c) semicolon))
+    flat (t.CallOnly c) = and_then _ _ _ (low_call c) semicolon
+    flat (t.If place arms otherwise) = holds_both _ _ _ _ (holds_starting _ place _ (flat_arms arms)) (flat_otherwise otherwise)
+    flat (t.While place x inside) = then _ _ _ (word_at place k.While) (holds_both _ _ _ _ (low_condition x) (flat_block inside))
+    flat (t.Do place inside x) =
+        then _ _ _ (word_at place k.Do) (holds_both _ _ _ _ (flat_block inside) (then _ _ _ (word k.While) (and_then _ _ _ (low_condition x) semicolon)))
+    flat (t.For place start x last inside) =
+        holds_less (λ room. IsLowFirst 129 start × (IsLowIf 129 x × (IsLowLast 129 last × IsFlatBlock 129 room inside))) _ _
+        (λ room h. (h.0, h.1.0, h.1.1.0, h.1.1.1))
+        (then _ _ _ (word_at place k.For) (then _ _ _ (mark p.OpenParenthesis (λ n. refl))
+        (holds_both _ _ _ _ (low_first start) (then _ _ _ semicolon (holds_both _ _ _ _ (low_if x) (then _ _ _ semicolon
+        (holds_both _ _ _ _ (low_last last) (then _ _ _ (mark p.CloseParenthesis (λ n. refl)) (flat_block inside)))))))))
+    flat (t.Lock place mutex key) = of_lock language place k.Lock mutex key
+    flat (t.Unlock place mutex key) = of_lock language place k.Unlock mutex key
 
-  flat_block : (x : t.Block) → Holds (λ room. IsFlatBlock 129 room x) (g.block x)
-  flat_block (t.Braced opening inside closing) =
-      holds_braced (λ room. AreFlat 129 room inside × Unit {0}) _ opening _ (λ room h. h.0) (closes_both _ _ _ _ (all_flat inside) (closes_brace_at closing))
+    flat_block : (x : t.Block) → Holds (λ room. IsFlatBlock 129 room x) (g.block language x)
+    flat_block (t.Braced opening inside closing) =
+        holds_braced (λ room. AreFlat 129 room inside × Unit {0}) _ opening _ (λ room h. h.0) (closes_both _ _ _ _ (all_flat inside) (closes_brace_at closing))
 
-  all_flat : (xs : t.Statements) → Holds (λ room. AreFlat 129 room xs) (g.statements xs)
-  all_flat t.no_statement = holds_empty
-  all_flat (t.statement_and x rest) = holds_both _ _ _ _ (flat x) (all_flat rest)
+    all_flat : (xs : t.Statements) → Holds (λ room. AreFlat 129 room xs) (g.statements language xs)
+    all_flat t.no_statement = holds_empty
+    all_flat (t.statement_and x rest) = holds_both _ _ _ _ (flat x) (all_flat rest)
 
-  flat_arms : (xs : t.Arms) → Holds (λ room. AreFlatArms 129 room xs) (g.arms_of xs)
-  flat_arms t.no_arm = record { go = λ ts y n room free low. absurd y }
-  flat_arms (t.arm_and x inside rest) =
-      holds_less (λ room. IsLow 129 x × (IsFlatBlock 129 room inside × AreFlatArms 129 room rest)) _ _ (λ room h. (h.0, h.1.0, h.1.1))
-      (then _ _ _ (word k.If) (holds_both _ _ _ _ (low_condition x) (holds_both _ _ _ _ (flat_block inside) (more_flat_arms rest))))
+    flat_arms : (xs : t.Arms) → Holds (λ room. AreFlatArms 129 room xs) (g.arms_of language xs)
+    flat_arms t.no_arm = record { go = λ ts y n room free low. absurd y }
+    flat_arms (t.arm_and x inside rest) =
+        holds_less (λ room. IsLow 129 x × (IsFlatBlock 129 room inside × AreFlatArms 129 room rest)) _ _ (λ room h. (h.0, h.1.0, h.1.1))
+        (then _ _ _ (word k.If) (holds_both _ _ _ _ (low_condition x) (holds_both _ _ _ _ (flat_block inside) (more_flat_arms rest))))
 
-  more_flat_arms : (xs : t.Arms) → Holds (λ room. AreFlatArms 129 room xs) (g.more_arms_of xs)
-  more_flat_arms t.no_arm = holds_empty
-  more_flat_arms (t.arm_and x inside rest) =
-      holds_less (λ room. IsLow 129 x × (IsFlatBlock 129 room inside × AreFlatArms 129 room rest)) _ _ (λ room h. (h.0, h.1.0, h.1.1))
-      (then _ _ _ (word k.Else) (then _ _ _ (word k.If) (holds_both _ _ _ _ (low_condition x) (holds_both _ _ _ _ (flat_block inside) (more_flat_arms rest)))))
+    more_flat_arms : (xs : t.Arms) → Holds (λ room. AreFlatArms 129 room xs) (g.more_arms_of language xs)
+    more_flat_arms t.no_arm = holds_empty
+    more_flat_arms (t.arm_and x inside rest) =
+        holds_less (λ room. IsLow 129 x × (IsFlatBlock 129 room inside × AreFlatArms 129 room rest)) _ _ (λ room h. (h.0, h.1.0, h.1.1))
+        (then _ _ _ (word k.Else) (then _ _ _ (word k.If)
+        (holds_both _ _ _ _ (low_condition x) (holds_both _ _ _ _ (flat_block inside) (more_flat_arms rest)))))
 
-  flat_otherwise : (x : t.Otherwise) → Holds (λ room. IsFlatOtherwise 129 room x) (g.otherwise_of x)
-  flat_otherwise t.Nothing = holds_empty
-  flat_otherwise (t.Else inside) = then _ _ _ (word k.Else) (flat_block inside)
+    flat_otherwise : (x : t.Otherwise) → Holds (λ room. IsFlatOtherwise 129 room x) (g.otherwise_of language x)
+    flat_otherwise t.Nothing = holds_empty
+    flat_otherwise (t.Else inside) = then _ _ _ (word k.Else) (flat_block inside)
 
 -- ---- Items
 
 low_return : (x : Option t.Return) → Holds (λ room. IsLowReturn 129 x) (maybe g.returned x)
 low_return None = holds_empty
 low_return (Some x) = then _ _ _ (word_at x.place k.Return) (and_then _ _ _ (low_if x.value) semicolon)
-
-flat_body : (x : t.Body) → Holds (λ room. IsFlatBody 129 room x) (g.body x)
-flat_body x =
-    holds_braced (λ room. AreFlat 129 room x.statements × (IsLowReturn 129 x.returned × Unit {0})) _ x.opening _ (λ room h. (h.0, h.1.0))
-    (closes_both _ _ _ _ (all_flat x.statements) (closes_both _ _ _ _ (low_return x.returned) (closes_brace_at x.closing)))
 
 parameters : (xs : List t.Parameter) → Holds Always (g.parameters xs)
 parameters [] = holds_either Always Always empty (lexeme (Keyword k.Void)) holds_empty (word k.Void)
@@ -480,35 +485,52 @@ length_of x = then _ _ _ (mark p.OpenBracket (λ n. refl)) (then _ _ _ (holds_at
 assigned : (x : t.Initialiser) → Holds Always (g.assigned x)
 assigned x = then _ _ _ (mark p.Assign (λ n. refl)) (initialiser x)
 
-flat_item : (x : t.Item) → Holds (λ room. IsFlatItem 129 room x) (g.item x)
-flat_item (t.MutexItem x) = then _ _ _ (word k.Mutex) (then _ _ _ (name x) semicolon)
-flat_item (t.PersistentItem x) =
-    then _ _ _ (word k.Persistent) (then _ _ _ (mark p.OpenParenthesis (λ n. refl)) (then _ _ _ (name x.guard) (then _ _ _ (mark p.CloseParenthesis (λ n. refl))
-    (then _ _ _ (type x.kind)
-    (then _ _ _ (name x.name)
-    (then _ _ _ (holds_maybe g.length_of length_of x.length) (then _ _ _ (holds_maybe g.assigned assigned x.initialiser) semicolon)))))))
-flat_item (t.ThreadItem x) = then _ _ _ (word k.Thread) (then _ _ _ (name x.name) (flat_block x.block))
-flat_item (t.FunctionItem x) =
-    then _ _ _ (result x.kind) (then _ _ _ (name x.name) (then _ _ _ (mark p.OpenParenthesis (λ n. refl)) (then _ _ _ (parameters x.parameters)
-    (then _ _ _ (mark p.CloseParenthesis (λ n. refl)) (flat_body x.body)))))
+mutex_length : (language : Language) (x : Option t.Length) → Holds Always (g.mutex_length language x)
+mutex_length language None = holds_empty
+mutex_length Plain (Some x) = record { go = λ ts y n room free low. absurd y }
+mutex_length Full (Some x) = length_of x
 
-flat_items : (xs : List t.Item) → Holds (λ room. AllByRecursion (IsFlatItem 129 room) xs) (all_of g.item xs)
-flat_items [] = holds_empty
-flat_items (x ∷ xs) = holds_both _ _ _ _ (flat_item x) (flat_items xs)
-
-program : (xs : List t.Item) → Holds (λ room. AllByRecursion (IsFlatItem 129 room) xs) (g.program xs)
-program [] = record { go = λ ts y n room free low. absurd y }
-program (x ∷ xs) = holds_both _ _ _ _ (flat_item x) (flat_items xs)
+brackets : (language : Language) (each : Bool) → Holds Always (g.brackets language each)
+brackets language false = holds_empty
+brackets Plain true = record { go = λ ts y n room free low. absurd y }
+brackets Full true = then _ _ _ (mark p.OpenBracket (λ n. refl)) (mark p.CloseBracket (λ n. refl))
 
 low_from : (ts : List Token) → nests_high ts ≡ false → is_high_from outside ts ≡ false
 unfolding nests_high
 low_from ts e = e
 
-pub shallow : (text : List ℕ) (xs : List t.Item) → IsRead text xs → IsShallow 128 129 xs
-shallow text xs x = ((program xs).go (scanned text).tokens x.spelled outside 128 refl (low_from (scanned text).tokens x.low)).1
+module _ (language : Language) where
+  flat_body : (x : t.Body) → Holds (λ room. IsFlatBody 129 room x) (g.body language x)
+  flat_body x =
+      holds_braced (λ room. AreFlat 129 room x.statements × (IsLowReturn 129 x.returned × Unit {0})) _ x.opening _ (λ room h. (h.0, h.1.0))
+      (closes_both _ _ _ _ (all_flat language x.statements) (closes_both _ _ _ _ (low_return x.returned) (closes_brace_at x.closing)))
 
--- as the reader tells it
-pub shallow_told : (text : List ℕ) (s : Scanned) (r : Result Tree SourceError) → s ≡ scanned text
-    → IfOk r (λ tree. (given : List ℕ) → s ≡ scanned given → IsRead given (items_of tree)) → IfOk r (λ tree. IsShallow 128 129 (items_of tree))
-shallow_told text s (Ok tree) e told = shallow text (items_of tree) (told text e)
-shallow_told text s (Err x) e told = tt
+  flat_item : (x : t.Item) → Holds (λ room. IsFlatItem 129 room x) (g.item language x)
+  flat_item (t.MutexItem x length) = then _ _ _ (word k.Mutex) (then _ _ _ (name x) (then _ _ _ (mutex_length language length) semicolon))
+  flat_item (t.PersistentItem x) =
+      then _ _ _ (word k.Persistent) (then _ _ _ (mark p.OpenParenthesis (λ n. refl)) (then _ _ _ (name x.guard.mutex)
+      (then _ _ _ (brackets language x.guard.each) (then _ _ _ (mark p.CloseParenthesis (λ n. refl))
+      (then _ _ _ (type x.kind)
+      (then _ _ _ (name x.name)
+      (then _ _ _ (holds_maybe g.length_of length_of x.length) (then _ _ _ (holds_maybe g.assigned assigned x.initialiser) semicolon))))))))
+  flat_item (t.ThreadItem x) = then _ _ _ (word k.Thread) (then _ _ _ (name x.name) (flat_block language x.block))
+  flat_item (t.FunctionItem x) =
+      then _ _ _ (result x.kind) (then _ _ _ (name x.name) (then _ _ _ (mark p.OpenParenthesis (λ n. refl)) (then _ _ _ (parameters x.parameters)
+      (then _ _ _ (mark p.CloseParenthesis (λ n. refl)) (flat_body x.body)))))
+
+  flat_items : (xs : List t.Item) → Holds (λ room. AllByRecursion (IsFlatItem 129 room) xs) (all_of (g.item language) xs)
+  flat_items [] = holds_empty
+  flat_items (x ∷ xs) = holds_both _ _ _ _ (flat_item x) (flat_items xs)
+
+  program : (xs : List t.Item) → Holds (λ room. AllByRecursion (IsFlatItem 129 room) xs) (g.program language xs)
+  program [] = record { go = λ ts y n room free low. absurd y }
+  program (x ∷ xs) = holds_both _ _ _ _ (flat_item x) (flat_items xs)
+
+  pub shallow : (text : List ℕ) (xs : List t.Item) → IsRead language text xs → IsShallow 128 129 xs
+  shallow text xs x = ((program xs).go (scanned text).tokens x.spelled outside 128 refl (low_from (scanned text).tokens x.low)).1
+
+  -- as the reader tells it
+  pub shallow_told : (text : List ℕ) (s : Scanned) (r : Result Tree SourceError) → s ≡ scanned text
+      → IfOk r (λ tree. (given : List ℕ) → s ≡ scanned given → IsRead language given (items_of tree)) → IfOk r (λ tree. IsShallow 128 129 (items_of tree))
+  shallow_told text s (Ok tree) e told = shallow text (items_of tree) (told text e)
+  shallow_told text s (Err x) e told = tt

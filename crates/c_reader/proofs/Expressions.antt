@@ -11,7 +11,7 @@ use Rattle.c_tree.specs.Trees as t
 use Rattle.c_tree.specs.Grammar.{expression_from, precedence}
 use Rattle.c_reader.specs.links.ParserFunctions.{Parser, head_of, head_is, is_mark, operator_at, operator_in}
 use Rattle.c_reader.specs.links.ParserFunctions.{is_operator_at, operators_at, operators_after, ◌>>=◌, taking}
-use Rattle.c_reader.proofs.CorrectParsers.{Language, Good, ◌▷◌, just, found_in, Anything, Strict, good_give, good_to}
+use Rattle.c_reader.proofs.CorrectParsers.{Spelling, Good, ◌▷◌, just, found_in, Anything, Strict, good_give, good_to}
 use Rattle.c_reader.proofs.CorrectParsers.{good_less, good_where, good_then, good_then_less, good_small, good_taking}
 use Rattle.c_reader.proofs.Tokens.{is_mark-true, some_same}
 
@@ -24,7 +24,7 @@ OperandEnd h = head_is (is_mark p.OpenBracket) h ≡ false
 abbrev pub End : ℕ → Option Lexeme → Type 0
 End n h = OperandEnd h × ((m : ℕ) → n ≤ m → head_is (is_operator_at m) h ≡ false)
 
-abbrev pub from : ℕ → Language t.Expression
+abbrev pub from : ℕ → Spelling t.Expression
 from n x us = expression_from x n us
 
 pub not_mark : (x : _) (l : Lexeme) → (l ≡ Punctuator x → ⊥) → is_mark x l ≡ false
@@ -58,18 +58,18 @@ operator_ends n o h = (not_mark p.OpenBracket (Punctuator (p.Binary o)) (λ q. c
 
 -- ---- A chain of operators of one precedence
 
-abbrev operator_in_language : ℕ → Language bo.Binary
+abbrev operator_in_language : ℕ → Spelling bo.Binary
 operator_in_language n = found_in (operator_in n)
 
 -- a left operand, and `many` operators of precedence n that follow it with their right operands
-abbrev chain : (n : ℕ) → (many : ℕ) → (left : t.Expression) → Language t.Expression
+abbrev chain : (n : ℕ) → (many : ℕ) → (left : t.Expression) → Spelling t.Expression
 chain n zero left = just left
 chain n (suc many) left = operator_in_language n ▷ (λ o. from (n + 1) ▷ (λ r. chain n many (t.Binary o left r)))
 
-abbrev Chain : (n : ℕ) → (left : t.Expression) → Language t.Expression
+abbrev Chain : (n : ℕ) → (left : t.Expression) → Spelling t.Expression
 Chain n left y us = (many : ℕ) × chain n many left y us
 
-abbrev Longer : (n : ℕ) → (left : t.Expression) → Language t.Expression
+abbrev Longer : (n : ℕ) → (left : t.Expression) → Spelling t.Expression
 Longer n left = operator_in_language n ▷ (λ o. from (n + 1) ▷ (λ r. Chain n (t.Binary o left r)))
 
 longer_up : (n : ℕ) (left y : t.Expression) (us : List Token) → Longer n left y us → Chain n left y us
@@ -157,7 +157,7 @@ operators_good n o e right right' (suc fuel) (suc fuel') b h h' g g₀ left =
 -- ---- The ladder of precedences
 
 -- the operators of the so many greatest precedences that follow on an operand
-abbrev pub Ladder : (levels : ℕ) → (left : t.Expression) → Language t.Expression
+abbrev pub Ladder : (levels : ℕ) → (left : t.Expression) → Spelling t.Expression
 Ladder zero left = just left
 Ladder (suc levels) left = Ladder levels left ▷ Chain (10 - levels)
 

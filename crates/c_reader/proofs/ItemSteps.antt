@@ -1,6 +1,7 @@
 -- The parser's steps at items: one equation for each.
 use Rattle.std.proofs.Common.{◌≡◌, ℕ, suc, ◌+◌, ◌-◌, ◌<◌, ◌≤◌, List, [], ◌∷◌, ◌++◌, Option, Some, Bool, true, false, refl, ap, ◌∙◌, append-nil, arith}
 use Rattle.ido_base.specs.declared.place.Place.{Place}
+use Rattle.c_tree.specs.declared.language.Language.{Language}
 use Rattle.c_tree.specs.Tokens.{Token, Lexeme, Keyword}
 use Rattle.c_tree.specs.declared.token.Keyword.TheVariants as k
 use Rattle.c_tree.specs.declared.token.Punctuator.TheVariants as p
@@ -123,38 +124,40 @@ initialiser_is fuel ts = same (head_is (is_mark p.OpenBrace))
         (do x ← parse_signed; give (t.Single x)) ts
         (at_brace (parse_mark p.OpenBrace ts)) refl
 
--- ---- Items
+module _ (language : Language) where
+  -- ---- Items
 
-abbrev pub item_by_head : (fuel : ℕ) → Option Lexeme → Parser t.Item
-item_by_head fuel (Some (Keyword k.Mutex)) = parse_mutex_item
-item_by_head fuel (Some (Keyword k.Persistent)) = parse_persistent_item fuel
-item_by_head fuel (Some (Keyword k.Thread)) = parse_thread_item fuel
-item_by_head fuel _ = parse_function_item fuel
+  abbrev pub item_by_head : (fuel : ℕ) → Option Lexeme → Parser t.Item
+  item_by_head fuel (Some (Keyword k.Mutex)) = parse_mutex_item language
+  item_by_head fuel (Some (Keyword k.Persistent)) = parse_persistent_item language fuel
+  item_by_head fuel (Some (Keyword k.Thread)) = parse_thread_item language fuel
+  item_by_head fuel _ = parse_function_item language fuel
 
-pub item_is : (fuel : ℕ) (ts : List Token) → one_item fuel ts ≡ by_head (item_by_head fuel) ts
-unfolding one_item parse_mutex_item parse_persistent_item parse_thread_item parse_function_item
-item_is fuel ts = refl
+  pub item_is : (fuel : ℕ) (ts : List Token) → one_item language fuel ts ≡ by_head (item_by_head fuel) ts
+  unfolding one_item parse_mutex_item parse_persistent_item parse_thread_item parse_function_item
+  item_is fuel ts = refl
 
-items_suc : (fuel count : ℕ) (found : List t.Item) (ts : List Token)
-    → more_items fuel (suc count) found ts ≡ elim (at_end ts) as (λ p. Parsed (List t.Item))
-    [ true ↦ Read found ts | false ↦ follow (one_item fuel ts) (λ y. more_items fuel count (found ++ y ∷ [])) ]
-unfolding more_items
-items_suc fuel count found [] = ap (λ (l : List t.Item). Read l []) (append-nil found)
-items_suc fuel count found (x ∷ ts) = through (one_item fuel (x ∷ ts)) _ _ _ (λ y rest. one_more found y (items_over (one_item fuel) count rest))
+  items_suc : (fuel count : ℕ) (found : List t.Item) (ts : List Token)
+      → more_items language fuel (suc count) found ts ≡ elim (at_end ts) as (λ p. Parsed (List t.Item))
+      [ true ↦ Read found ts | false ↦ follow (one_item language fuel ts) (λ y. more_items language fuel count (found ++ y ∷ [])) ]
+  unfolding more_items
+  items_suc fuel count found [] = ap (λ (l : List t.Item). Read l []) (append-nil found)
+  items_suc fuel count found (x ∷ ts) =
+      through (one_item language fuel (x ∷ ts)) _ _ _ (λ y rest. one_more found y (items_over (one_item language fuel) count rest))
 
-pub items_end : (fuel at : ℕ) (found : List t.Item) (ts : List Token) → fuel ≤ at → more_items fuel (fuel - at) found ts ≡ Wrong ts
-unfolding more_items
-items_end fuel at found ts done = let e : fuel - at ≡ 0 = omega arith in ap (λ n. more_items fuel n found ts) e
+  pub items_end : (fuel at : ℕ) (found : List t.Item) (ts : List Token) → fuel ≤ at → more_items language fuel (fuel - at) found ts ≡ Wrong ts
+  unfolding more_items
+  items_end fuel at found ts done = let e : fuel - at ≡ 0 = omega arith in ap (λ n. more_items language fuel n found ts) e
 
-pub items_some : (fuel at : ℕ) (found : List t.Item) (ts : List Token) → at < fuel → more_items fuel (fuel - at) found ts
-    ≡ elim (at_end ts) as (λ p. Parsed (List t.Item)) [
-      | true ↦ Read found ts
-      | false ↦ follow (one_item fuel ts)
-          (λ y. more_items fuel (fuel - (at + 1)) (found ++ y ∷ []))
-    ]
-items_some fuel at found ts below =
-    let e : fuel - at ≡ suc (fuel - (at + 1)) = omega arith in ap (λ n. more_items fuel n found ts) e ∙ items_suc fuel (fuel - (at + 1)) found ts
+  pub items_some : (fuel at : ℕ) (found : List t.Item) (ts : List Token) → at < fuel → more_items language fuel (fuel - at) found ts
+      ≡ elim (at_end ts) as (λ p. Parsed (List t.Item)) [
+        | true ↦ Read found ts
+        | false ↦ follow (one_item language fuel ts)
+            (λ y. more_items language fuel (fuel - (at + 1)) (found ++ y ∷ []))
+      ]
+  items_some fuel at found ts below =
+      let e : fuel - at ≡ suc (fuel - (at + 1)) = omega arith in ap (λ n. more_items language fuel n found ts) e ∙ items_suc fuel (fuel - (at + 1)) found ts
 
-pub items_start : (fuel : ℕ) (ts : List Token) → all_items fuel ts ≡ (do x ← one_item fuel; more_items fuel (fuel - 0) (x ∷ [])) ts
-unfolding all_items one_item more_items
-items_start fuel ts = let e : fuel ≡ fuel - 0 = omega arith in ap (λ (n : ℕ). follow (one_item fuel ts) (λ x. more_items fuel n (x ∷ []))) e
+  pub items_start : (fuel : ℕ) (ts : List Token) → all_items language fuel ts ≡ (do x ← one_item language fuel; more_items language fuel (fuel - 0) (x ∷ [])) ts
+  unfolding all_items one_item more_items
+  items_start fuel ts = let e : fuel ≡ fuel - 0 = omega arith in ap (λ (n : ℕ). follow (one_item language fuel ts) (λ x. more_items language fuel n (x ∷ []))) e

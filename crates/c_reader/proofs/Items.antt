@@ -7,33 +7,38 @@ use Rattle.ido_ints.specs.TypedNumbers.{Typed, typed}
 use Rattle.ido_ints.specs.declared.kinds.Kind.{Kind}
 use Rattle.ido_ints.specs.declared.kinds.Kind.TheVariants as kind
 use Rattle.ido_ints.specs.declared.operators.Binary.TheVariants as binary
+use Rattle.c_tree.specs.declared.language.Language.{Language}
+use Rattle.c_tree.specs.declared.language.Language.TheVariants.{Plain, Full}
 use Rattle.c_tree.specs.Tokens.{Token, Lexeme, Keyword, Punctuator}
 use Rattle.c_tree.specs.declared.token.Keyword.TheVariants as k
 use Rattle.c_tree.specs.declared.token.Punctuator.TheVariants as p
 use Rattle.c_tree.specs.Trees as t
 use Rattle.c_tree.specs.Languages.{maybe, mark, word, ◌⋅◌, ◌or◌, empty, name, all_of, more_of, some_of}
-use Rattle.c_tree.specs.Grammar.{expression, type, statements, block, returned, body, parameter, parameters, result}
-use Rattle.c_tree.specs.Grammar.{function, sign, signed, initialiser, length_of, assigned, persistent, item, program}
+use Rattle.c_tree.specs.Grammar.{expression, type, returned, parameter, parameters, result}
+use Rattle.c_tree.specs.Grammar.{sign, signed, initialiser, length_of, assigned, brackets, mutex_length}
+use Rattle.c_tree.specs.Grammar as g
 use Rattle.c_reader.specs.links.ParserFunctions.{Parser, give, head_of, head_is, is_mark, is_word, begins_type, where_head, parse_mark, parse_word}
 use Rattle.c_reader.specs.links.ParserFunctions.{parse_some_of, parse_return, parse_body, parse_parameter, parse_parameters, parse_result}
 use Rattle.c_reader.specs.links.ParserFunctions.{parse_function, parse_sign, parse_signed, parse_numbers_to_end, parse_initialiser, parse_length}
+use Rattle.c_reader.specs.links.ParserFunctions.{parse_brackets, parse_guard, parse_mutex_length}
 use Rattle.c_reader.specs.links.ParserFunctions.{parse_persistent, item_by, parse_item, items_over, parse_items, ◌>>=◌, ◌>>◌}
-use Rattle.c_reader.proofs.CorrectParsers.{Language, Good, ◌▷◌, ◌▹◌, just, Anything, Strict, good_give, good_to, good_less}
+use Rattle.c_reader.proofs.CorrectParsers.{Spelling, Good, ◌▷◌, ◌▹◌, just, Anything, Strict, good_give, good_to, good_less}
 use Rattle.c_reader.proofs.CorrectParsers.{good_map, good_where, good_head, good_then, good_then_less, good_small}
 use Rattle.c_reader.proofs.Tokens.{marked, worded, named, numbered, good_mark, good_word, good_name, good_number, marked-strict, numbered-strict}
 use Rattle.c_reader.proofs.OptionalParts.{Unless, Where, good_maybe, good_some_of}
 use Rattle.c_reader.proofs.Types.{TypeEnd, good_type, type_begins}
 use Rattle.c_reader.proofs.TokenPlaces.{At, good_here}
 use Rattle.c_reader.proofs.Operands.{ExpressionEnd}
-use Rattle.c_reader.proofs.SimpleStatements.{NameInside, good_name_inside, type_first}
+use Rattle.c_reader.proofs.Expressions.{OperandEnd}
+use Rattle.c_reader.proofs.SimpleStatements.{type_first}
 use Rattle.c_reader.proofs.Statements.{StatementsEnd, good_statements, good_block, maybe_expression_good}
 
--- ---- Bodies
+-- ---- Returns
 
 abbrev made_return : Place → Option t.Expression → t.Return
 made_return place x = record { place = place; value = x }
 
-abbrev ReturnParts : Language t.Return
+abbrev ReturnParts : Spelling t.Return
 ReturnParts = worded k.Return ▷ (λ place. maybe expression ▷ (λ x. marked p.Semicolon ▹ (λ c. made_return place x)))
 
 pub good_return : (fuel fuel' b : ℕ) → b ≤ fuel → b ≤ fuel' → Good b returned returned Anything (parse_return fuel) (parse_return fuel')
@@ -51,44 +56,7 @@ good_return fuel fuel' b h h' =
 return_head : (x : t.Return) (us rest : List Token) → returned x us → head_of (us ++ rest) ≡ Some (Keyword k.Return)
 return_head x us rest (us₁, us₂, e, l, m) = rw (e, l) refl
 
-abbrev made_body : Place → t.Statements → Option t.Return → Place → t.Body
-made_body opening xs x closing = record { opening = opening; statements = xs; returned = x; closing = closing }
-
-abbrev BodyParts : Language t.Body
-BodyParts = marked p.OpenBrace ▷ (λ opening. statements ▷ (λ xs. maybe returned ▷ (λ x. marked p.CloseBrace ▹ made_body opening xs x)))
-
-pub good_body : (fuel fuel' b : ℕ) → b ≤ fuel → b ≤ fuel' → Good b body body Anything (parse_body fuel) (parse_body fuel')
-good_body fuel fuel' b h h' =
-    good_to {U = BodyParts} {K = BodyParts} {F = Anything}
-    (good_then {M = λ opening. statements ▷ (λ xs. maybe returned ▷ (λ x. marked p.CloseBrace ▹ made_body opening xs x))} {F = Anything} {G = Anything}
-    (good_mark p.OpenBrace)
-    (λ opening. good_then {M = λ xs. maybe returned ▷ (λ x. marked p.CloseBrace ▹ made_body opening xs x)} {F = StatementsEnd} {G = Anything}
-    (good_statements fuel fuel' b h h')
-    (λ xs. good_then {M = λ x. marked p.CloseBrace ▹ made_body opening xs x} {F = Unless (is_word k.Return) Anything} {G = Anything}
-    (good_maybe (is_word k.Return) (good_return fuel fuel' b h h') (λ x us rest u. rw (return_head x us rest u) refl))
-    (λ x. good_map (made_body opening xs x) (good_mark p.CloseBrace))
-    (λ x y us rest (c, m, q) f. rw m (tt, refl)))
-    ends)
-    (λ x y us rest m f. tt))
-    (λ y us (opening, us₁, us₂, e, l, (xs, us₃, us₄, e', m, (x, us₅, us₆, e₂, n, (closing, o, q)))). subst (λ y. body y us) q
-    (us₁, us₂, e, l, (us₃, us₄, e', m, (us₅, us₆, e₂, n, o))))
-    (λ y us (us₁, us₂, e, l, (us₃, us₄, e', m, (us₅, us₆, e₂, n, o))). (
-      y.opening,
-      us₁,
-      us₂,
-      e,
-      l,
-      (y.statements, us₃, us₄, e', m, (y.returned, us₅, us₆, e₂, n, (y.closing, o, refl))),
-    ))
-    (λ h f. f)
-  where
-    ends : {opening : Place} (xs : t.Statements) (y : t.Body) (us rest : List Token)
-        → (maybe returned ▷ (λ x. marked p.CloseBrace ▹ made_body opening xs x)) y us → Anything (head_of rest) → StatementsEnd (head_of (us ++ rest))
-    ends xs y us rest (None, us₁, us₂, e, n, (c, m, q)) f = rw (e, n, m) (refl, refl)
-    ends xs y us rest (Some x, us₁, us₂, e, n, m) f =
-        let q : head_of (us ++ rest) ≡ Some (Keyword k.Return) = rw (e, append_assoc us₁ us₂ rest) (return_head x us₁ (us₂ ++ rest) n) in rw q (refl, refl)
-
--- ---- Functions
+-- ---- Parameters and results
 
 abbrev made_parameter : Kind → t.Name → t.Parameter
 made_parameter x n = record { kind = x; name = n }
@@ -105,11 +73,11 @@ good_parameter =
 abbrev ParametersEnd : Option Lexeme → Type 0
 ParametersEnd = Where (is_mark p.CloseParenthesis) (Unless (is_mark p.Comma) Anything)
 
-abbrev WrittenParameters : Language (List t.Parameter)
+abbrev WrittenParameters : Spelling (List t.Parameter)
 WrittenParameters [] = word k.Void
 WrittenParameters (x ∷ xs) = some_of parameter (x ∷ xs)
 
-abbrev VoidAlone : Language (List t.Parameter)
+abbrev VoidAlone : Spelling (List t.Parameter)
 VoidAlone = worded k.Void ▹ (λ v. [])
 
 parameter_first : (test : Option Lexeme → Bool) → test (Some (Keyword k.Char)) ≡ false → test (Some (Keyword k.Short)) ≡ false
@@ -157,7 +125,7 @@ good_parameters fuel fuel' b h h' =
     out [] us rest (inr (v, l)) f = inr ((v, l), rw l refl)
     out (x ∷ xs) us rest u f = inr (u, parameter_first (head_is (is_mark p.CloseParenthesis)) refl refl refl refl refl refl x xs us rest u)
 
-abbrev VoidResult : Language (Option Kind)
+abbrev VoidResult : Spelling (Option Kind)
 VoidResult = worded k.Void ▹ (λ v. None)
 
 pub good_result : {b : ℕ} → Good b result result TypeEnd parse_result parse_result
@@ -174,42 +142,12 @@ good_result =
     out None us rest (v, l) f = inl ((v, l, refl), rw l refl)
     out (Some x) us rest u f = inr ((x, u, refl), type_first (head_is (is_word k.Void)) false refl refl refl refl refl refl x us rest u)
 
-abbrev made_function : Option Kind → t.Name → List t.Parameter → t.Body → t.Function
-made_function x n xs b = record { kind = x; name = n; parameters = xs; body = b }
-
-abbrev FunctionTail : Option Kind → t.Name → Language t.Function
-FunctionTail x n = marked p.OpenParenthesis ▷ (λ o. parameters ▷ (λ xs. marked p.CloseParenthesis ▷ (λ c. body ▹ made_function x n xs)))
-
-abbrev FunctionParts : Language t.Function
-FunctionParts = result ▷ (λ x. named ▷ FunctionTail x)
-
-pub good_function : (fuel fuel' b : ℕ) → b ≤ fuel → b ≤ fuel' → Good b function function Anything (parse_function fuel) (parse_function fuel')
-good_function fuel fuel' b h h' =
-    good_to {U = FunctionParts} {K = FunctionParts} {F = Anything}
-    (good_then {M = λ x. named ▷ FunctionTail x} {F = TypeEnd} {G = Anything} good_result
-    (λ x. good_then {M = FunctionTail x} {F = Anything} {G = Anything} good_name
-    (λ n. good_then {M = λ o. parameters ▷ (λ xs. marked p.CloseParenthesis ▷ (λ c. body ▹ made_function x n xs))} {F = Anything} {G = Anything}
-    (good_mark p.OpenParenthesis)
-    (λ o. good_then {M = λ xs. marked p.CloseParenthesis ▷ (λ c. body ▹ made_function x n xs)} {F = ParametersEnd} {G = Anything}
-    (good_parameters fuel fuel' b h h')
-    (λ xs. good_then {M = λ c. body ▹ made_function x n xs} {F = Anything} {G = Anything} (good_mark p.CloseParenthesis)
-    (λ c. good_map (made_function x n xs) (good_body fuel fuel' b h h')) (λ c y us rest m f. tt))
-    (λ xs y us rest (c, us₁, us₂, e, l, m) f. rw (e, l) ((tt, refl), refl)))
-    (λ o y us rest m f. tt))
-    (λ n y us rest m f. tt))
-    (λ x y us rest (n, us₁, us₂, e, l, m) f. rw (e, l) (refl, refl, refl, refl)))
-    (λ y us (x, us₁, us₂, e, u, (n, us₃, us₄, e₁, l, (o, us₅, us₆, e₂, l₂, (xs, us₇, us₈, e₃, m, (c, us₉, us₁₀, e₄, l₄, (b, g, q)))))).
-    subst (λ y. function y us) q (us₁, us₂, e, u, (us₃, us₄, e₁, l, (us₅, us₆, e₂, (o, l₂), (us₇, us₈, e₃, m, (us₉, us₁₀, e₄, (c, l₄), g))))))
-    (λ y us (us₁, us₂, e, u, (us₃, us₄, e₁, l, (us₅, us₆, e₂, (o, l₂), (us₇, us₈, e₃, m, (us₉, us₁₀, e₄, (c, l₄), g))))).
-    (y.kind, us₁, us₂, e, u, (y.name, us₃, us₄, e₁, l, (o, us₅, us₆, e₂, l₂, (y.parameters, us₇, us₈, e₃, m, (c, us₉, us₁₀, e₄, l₄, (y.body, g, refl)))))))
-    (λ h f. f)
-
 -- ---- Initialisers
 
 abbrev SignEnd : Option Lexeme → Type 0
 SignEnd h = head_is (is_mark (p.Binary binary.Sub)) h ≡ false
 
-abbrev MinusSign : Language Bool
+abbrev MinusSign : Spelling Bool
 MinusSign = marked (p.Binary binary.Sub) ▹ (λ m. true)
 
 good_sign : {b : ℕ} → Good b sign sign SignEnd parse_sign parse_sign
@@ -229,7 +167,7 @@ good_sign =
 abbrev made_signed : Place → Bool → Place × Typed → t.Signed
 made_signed place negative x = record { place = place; negative = negative; value = x.1 }
 
-abbrev SignedParts : Place → Language t.Signed
+abbrev SignedParts : Place → Spelling t.Signed
 SignedParts place = sign ▷ (λ negative. numbered ▹ made_signed place negative)
 
 signed_parts-strict : (place : Place) → Strict (SignedParts place)
@@ -257,19 +195,19 @@ signed_head x us rest (f, (us₁, us₂, e, s, (place, m))) = go x.negative s
     go false l = rw (e, l, m) (refl, refl)
 
 -- the numbers after the first one, and the closing brace
-abbrev NumbersEnd : Language (List t.Signed)
+abbrev NumbersEnd : Spelling (List t.Signed)
 NumbersEnd xs = more_of signed xs ⋅ (empty or mark p.Comma) ⋅ mark p.CloseBrace
 
-abbrev CloseNow : Language (List t.Signed)
+abbrev CloseNow : Spelling (List t.Signed)
 CloseNow = marked p.CloseBrace ▹ (λ c. [])
 
-abbrev OneMore : Language (List t.Signed)
+abbrev OneMore : Spelling (List t.Signed)
 OneMore = signed ▷ (λ x. NumbersEnd ▹ (λ xs. x ∷ xs))
 
-abbrev AfterComma : Language (List t.Signed)
+abbrev AfterComma : Spelling (List t.Signed)
 AfterComma y us = CloseNow y us ⊎ OneMore y us
 
-abbrev WithComma : Language (List t.Signed)
+abbrev WithComma : Spelling (List t.Signed)
 WithComma = marked p.Comma ▷ (λ c. AfterComma)
 
 with_comma_up : (y : List t.Signed) (us : List Token) → WithComma y us → NumbersEnd y us
@@ -341,7 +279,7 @@ good_numbers (suc fuel) (suc fuel') b h h' =
 abbrev made_braces : Place → t.Signed → List t.Signed → t.Initialiser
 made_braces place x xs = t.InBraces place (x ∷ xs)
 
-abbrev InBracesParts : Language t.Initialiser
+abbrev InBracesParts : Spelling t.Initialiser
 InBracesParts = marked p.OpenBrace ▷ (λ place. signed ▷ (λ x. NumbersEnd ▹ made_braces place x))
 
 braces_up : (y : t.Initialiser) (us : List Token) → InBracesParts y us → initialiser y us
@@ -377,7 +315,7 @@ good_initialiser fuel fuel' b h h' =
 abbrev made_length : Place × Typed → t.Length
 made_length x = record { place = x.0; value = x.1 }
 
-abbrev LengthParts : Language t.Length
+abbrev LengthParts : Spelling t.Length
 LengthParts = marked p.OpenBracket ▷ (λ o. numbered ▷ (λ x. marked p.CloseBracket ▹ (λ c. made_length x)))
 
 pub good_length : {b : ℕ} → Good b length_of length_of Anything parse_length parse_length
@@ -398,239 +336,419 @@ good_assigned fuel fuel' b h h' =
     (good_then {M = λ o. initialiser} {F = Anything} {G = Anything} (good_mark p.Assign) (λ o. good_initialiser fuel fuel' b h h') (λ x y us rest m f. tt))
     (λ y us (o, us₁, us₂, e, l, m). (us₁, us₂, e, (o, l), m)) (λ y us (us₁, us₂, e, (o, l), m). (o, us₁, us₂, e, l, m)) (λ h f. f)
 
-abbrev made_persistent : t.Name → Kind → t.Name → Option t.Length → Option t.Initialiser → t.Persistent
+-- brackets that are empty
+abbrev PairParts : Spelling Bool
+PairParts = marked p.OpenBracket ▷ (λ o. marked p.CloseBracket ▹ (λ c. true))
+
+brackets_good : (language : Language) {b : ℕ} → Good b (brackets language) (brackets language) OperandEnd (parse_brackets language) (parse_brackets language)
+brackets_good Plain =
+    good_to {U' = brackets Plain} {K' = brackets Plain} {F' = OperandEnd} (good_give false) (λ y us (q, e). subst (λ y. brackets Plain y us) q e) down
+    (λ h f. tt)
+  where
+    down : (y : Bool) (us : List Token) → brackets Plain y us → just false y us
+    down false us u = (refl, u)
+    down true us u = absurd u
+brackets_good Full =
+    good_where {K₁ = PairParts} {K₂ = just false} (head_is (is_mark p.OpenBracket))
+    (good_to {U = PairParts} {K = PairParts} {F = Anything}
+    (good_then {M = λ o. marked p.CloseBracket ▹ (λ c. true)} {F = Anything} {G = Anything} (good_mark p.OpenBracket)
+    (λ o. good_map (λ c. true) (good_mark p.CloseBracket)) (λ x y us rest m f. tt))
+    (λ y us (o, us₁, us₂, e, l, (c, m, q)). subst (λ y. brackets Full y us) q (us₁, us₂, e, (o, l), (c, m))) (λ y us u. u) (λ h f. tt))
+    (good_to {U' = brackets Full} {K' = just false} (good_give false) (λ y us (q, e). subst (λ y. brackets Full y us) q e) (λ y us u. u) (λ h f. tt))
+    out
+  where
+    out : (y : Bool) (us rest : List Token) → brackets Full y us → OperandEnd (head_of rest) →
+        (PairParts y us × (head_is (is_mark p.OpenBracket) (head_of (us ++ rest)) ≡ true))
+        ⊎ (just false y us × (head_is (is_mark p.OpenBracket) (head_of (us ++ rest)) ≡ false))
+    out true us rest (us₁, us₂, e, (o, l), (c, m)) f = inl ((o, us₁, us₂, e, l, (c, m, refl)), rw (e, l) refl)
+    out false us rest u f = inr ((refl, u), rw u f)
+
+abbrev made_guard : t.Name → Bool → t.Guard
+made_guard x y = record { mutex = x; each = y }
+
+-- what guards a variable, in parentheses
+abbrev GuardInside : Language → Spelling t.Guard
+GuardInside language x = mark p.OpenParenthesis ⋅ name x.mutex ⋅ brackets language x.each ⋅ mark p.CloseParenthesis
+
+good_guard : (language : Language) {b : ℕ} → Good b (GuardInside language) (GuardInside language) Anything (parse_guard language) (parse_guard language)
+good_guard language =
+    good_to {U = Inside} {K = Inside} {F = Anything}
+    (good_then {M = λ o. named ▷ (λ x. brackets language ▷ (λ y. marked p.CloseParenthesis ▹ (λ c. made_guard x y)))} {F = Anything} {G = Anything}
+    (good_mark p.OpenParenthesis)
+    (λ o. good_then {M = λ x. brackets language ▷ (λ y. marked p.CloseParenthesis ▹ (λ c. made_guard x y))} {F = Anything} {G = Anything} good_name
+    (λ x. good_then {M = λ y. marked p.CloseParenthesis ▹ (λ c. made_guard x y)} {F = OperandEnd} {G = Anything} (brackets_good language)
+    (λ y. good_map (λ c. made_guard x y) (good_mark p.CloseParenthesis)) (λ y z us rest (c, m, q) f. rw m refl))
+    (λ x y us rest m f. tt))
+    (λ o y us rest m f. tt))
+    (λ y us (o, us₁, us₂, e, l, (x, us₃, us₄, e', m, (k, us₅, us₆, e₂, n, (c, v, q)))).
+    subst (λ y. GuardInside language y us) q (us₁, us₂, e, (o, l), (us₃, us₄, e', m, (us₅, us₆, e₂, n, (c, v)))))
+    (λ y us (us₁, us₂, e, (o, l), (us₃, us₄, e', m, (us₅, us₆, e₂, n, (c, v)))).
+    (o, us₁, us₂, e, l, (y.mutex, us₃, us₄, e', m, (y.each, us₅, us₆, e₂, n, (c, v, refl)))))
+    (λ h f. f)
+  where
+    Inside : Spelling t.Guard
+    Inside = marked p.OpenParenthesis ▷ (λ o. named ▷ (λ x. brackets language ▷ (λ y. marked p.CloseParenthesis ▹ (λ c. made_guard x y))))
+
+abbrev made_persistent : t.Guard → Kind → t.Name → Option t.Length → Option t.Initialiser → t.Persistent
 made_persistent guard x n l y = record { guard = guard; kind = x; name = n; length = l; initialiser = y }
 
-abbrev PersistentTail : t.Name → Kind → t.Name → Language t.Persistent
+abbrev PersistentTail : t.Guard → Kind → t.Name → Spelling t.Persistent
 PersistentTail guard x n = maybe length_of ▷ (λ l. maybe assigned ▷ (λ y. marked p.Semicolon ▹ (λ c. made_persistent guard x n l y)))
-
-abbrev PersistentParts : Language t.Persistent
-PersistentParts = worded k.Persistent ▷ (λ w. NameInside ▷ (λ guard. type ▷ (λ x. named ▷ PersistentTail guard x)))
 
 maybe_assigned_ends : (y : Option t.Initialiser) (us rest : List Token) → maybe assigned y us → (us ≡ []) ⊎ (head_of (us ++ rest) ≡ Some (Punctuator p.Assign))
 maybe_assigned_ends None us rest u = inl u
 maybe_assigned_ends (Some y) us rest (us₁, us₂, e, (o, l), m) = inr (rw (e, l) refl)
 
-length_ends : (guard : t.Name) (x : Kind) (n : t.Name) (l : Option t.Length) (y : t.Persistent) (us rest : List Token)
+length_ends : (guard : t.Guard) (x : Kind) (n : t.Name) (l : Option t.Length) (y : t.Persistent) (us rest : List Token)
     → (maybe assigned ▷ (λ z. marked p.Semicolon ▹ (λ c. made_persistent guard x n l z))) y us → Unless (is_mark p.OpenBracket) Anything (head_of (us ++ rest))
 length_ends guard x n l y us rest (None, us₁, us₂, e, u, (c, m, q)) = rw (e, u, m) (tt, refl)
 length_ends guard x n l y us rest (Some z, us₁, us₂, e, (us₃, us₄, e', (o, l'), v), m) = rw (e, e', l') (tt, refl)
 
-persistent_up : (y : t.Persistent) (us : List Token) → PersistentParts y us → persistent y us
-persistent_up y us (w, us₁, us₂, e, l, (guard, us₃, us₄, e₁, (us₅, us₆, e₂, o, (us₇, us₈, e₃, n, c)), m)) = go m
+-- ---- Arrays of mutexes
+
+mutex_length_good : (language : Language) {b : ℕ} →
+    Good b (mutex_length language) (mutex_length language) OperandEnd (parse_mutex_length language) (parse_mutex_length language)
+mutex_length_good Plain =
+    good_to {U' = mutex_length Plain} {K' = mutex_length Plain} {F' = OperandEnd} (good_give None) (λ y us (q, e). subst (λ y. mutex_length Plain y us) q e)
+    down (λ h f. tt)
   where
-    go : (type ▷ (λ x. named ▷ PersistentTail guard x)) y us₄ → persistent y us
-    go (x, vs₁, vs₂, f, u, (name, vs₃, vs₄, f₁, v, (len, vs₅, vs₆, f₂, a, (z, vs₇, vs₈, f₃, b, (s, d, q))))) =
-        subst (λ y. persistent y us) q (
-          us₁,
-          us₂,
-          e,
-          (w, l),
-          (
-            us₅,
-            us₆ ++ us₄,
-            e₁ ∙ ap (λ l. l ++ us₄) e₂ ∙ append_assoc us₅ us₆ us₄,
-            o,
+    down : (y : Option t.Length) (us : List Token) → mutex_length Plain y us → just None y us
+    down None us u = (refl, u)
+    down (Some x) us u = absurd u
+mutex_length_good Full =
+    good_to {U' = mutex_length Full} {K' = mutex_length Full} {F' = OperandEnd}
+    (good_maybe (is_mark p.OpenBracket) good_length (λ l us rest (us₁, us₂, e, (o, l'), m). rw (e, l') refl)) up down (λ h f. (tt, f))
+  where
+    up : (y : Option t.Length) (us : List Token) → maybe length_of y us → mutex_length Full y us
+    up None us u = u
+    up (Some x) us u = u
+
+    down : (y : Option t.Length) (us : List Token) → mutex_length Full y us → maybe length_of y us
+    down None us u = u
+    down (Some x) us u = u
+
+module _ (language : Language) where
+  -- what spells parts that have statements, guards or mutexes
+  abbrev statements : Spelling t.Statements
+  statements = g.statements language
+
+  abbrev block : Spelling t.Block
+  block = g.block language
+
+  abbrev body : Spelling t.Body
+  body = g.body language
+
+  abbrev function : Spelling t.Function
+  function = g.function language
+
+  abbrev persistent : Spelling t.Persistent
+  persistent = g.persistent language
+
+  abbrev item : Spelling t.Item
+  item = g.item language
+
+  abbrev program : Spelling (List t.Item)
+  program = g.program language
+
+  -- ---- Bodies and functions
+
+  abbrev made_body : Place → t.Statements → Option t.Return → Place → t.Body
+  made_body opening xs x closing = record { opening = opening; statements = xs; returned = x; closing = closing }
+
+  abbrev BodyParts : Spelling t.Body
+  BodyParts = marked p.OpenBrace ▷ (λ opening. statements ▷ (λ xs. maybe returned ▷ (λ x. marked p.CloseBrace ▹ made_body opening xs x)))
+
+  pub good_body : (fuel fuel' b : ℕ) → b ≤ fuel → b ≤ fuel' → Good b body body Anything (parse_body language fuel) (parse_body language fuel')
+  good_body fuel fuel' b h h' =
+      good_to {U = BodyParts} {K = BodyParts} {F = Anything}
+      (good_then {M = λ opening. statements ▷ (λ xs. maybe returned ▷ (λ x. marked p.CloseBrace ▹ made_body opening xs x))} {F = Anything} {G = Anything}
+      (good_mark p.OpenBrace)
+      (λ opening. good_then {M = λ xs. maybe returned ▷ (λ x. marked p.CloseBrace ▹ made_body opening xs x)} {F = StatementsEnd} {G = Anything}
+      (good_statements language fuel fuel' b h h')
+      (λ xs. good_then {M = λ x. marked p.CloseBrace ▹ made_body opening xs x} {F = Unless (is_word k.Return) Anything} {G = Anything}
+      (good_maybe (is_word k.Return) (good_return fuel fuel' b h h') (λ x us rest u. rw (return_head x us rest u) refl))
+      (λ x. good_map (made_body opening xs x) (good_mark p.CloseBrace))
+      (λ x y us rest (c, m, q) f. rw m (tt, refl)))
+      ends)
+      (λ x y us rest m f. tt))
+      (λ y us (opening, us₁, us₂, e, l, (xs, us₃, us₄, e', m, (x, us₅, us₆, e₂, n, (closing, o, q)))). subst (λ y. body y us) q
+      (us₁, us₂, e, l, (us₃, us₄, e', m, (us₅, us₆, e₂, n, o))))
+      (λ y us (us₁, us₂, e, l, (us₃, us₄, e', m, (us₅, us₆, e₂, n, o))). (
+        y.opening,
+        us₁,
+        us₂,
+        e,
+        l,
+        (y.statements, us₃, us₄, e', m, (y.returned, us₅, us₆, e₂, n, (y.closing, o, refl))),
+      ))
+      (λ h f. f)
+    where
+      ends : {opening : Place} (xs : t.Statements) (y : t.Body) (us rest : List Token)
+          → (maybe returned ▷ (λ x. marked p.CloseBrace ▹ made_body opening xs x)) y us → Anything (head_of rest) → StatementsEnd (head_of (us ++ rest))
+      ends xs y us rest (None, us₁, us₂, e, n, (c, m, q)) f = rw (e, n, m) (refl, refl)
+      ends xs y us rest (Some x, us₁, us₂, e, n, m) f =
+          let q : head_of (us ++ rest) ≡ Some (Keyword k.Return) = rw (e, append_assoc us₁ us₂ rest) (return_head x us₁ (us₂ ++ rest) n) in rw q (refl, refl)
+
+  abbrev made_function : Option Kind → t.Name → List t.Parameter → t.Body → t.Function
+  made_function x n xs b = record { kind = x; name = n; parameters = xs; body = b }
+
+  abbrev FunctionTail : Option Kind → t.Name → Spelling t.Function
+  FunctionTail x n = marked p.OpenParenthesis ▷ (λ o. parameters ▷ (λ xs. marked p.CloseParenthesis ▷ (λ c. body ▹ made_function x n xs)))
+
+  abbrev FunctionParts : Spelling t.Function
+  FunctionParts = result ▷ (λ x. named ▷ FunctionTail x)
+
+  pub good_function : (fuel fuel' b : ℕ) → b ≤ fuel → b ≤ fuel' →
+      Good b function function Anything (parse_function language fuel) (parse_function language fuel')
+  good_function fuel fuel' b h h' =
+      good_to {U = FunctionParts} {K = FunctionParts} {F = Anything}
+      (good_then {M = λ x. named ▷ FunctionTail x} {F = TypeEnd} {G = Anything} good_result
+      (λ x. good_then {M = FunctionTail x} {F = Anything} {G = Anything} good_name
+      (λ n. good_then {M = λ o. parameters ▷ (λ xs. marked p.CloseParenthesis ▷ (λ c. body ▹ made_function x n xs))} {F = Anything} {G = Anything}
+      (good_mark p.OpenParenthesis)
+      (λ o. good_then {M = λ xs. marked p.CloseParenthesis ▷ (λ c. body ▹ made_function x n xs)} {F = ParametersEnd} {G = Anything}
+      (good_parameters fuel fuel' b h h')
+      (λ xs. good_then {M = λ c. body ▹ made_function x n xs} {F = Anything} {G = Anything} (good_mark p.CloseParenthesis)
+      (λ c. good_map (made_function x n xs) (good_body fuel fuel' b h h')) (λ c y us rest m f. tt))
+      (λ xs y us rest (c, us₁, us₂, e, l, m) f. rw (e, l) ((tt, refl), refl)))
+      (λ o y us rest m f. tt))
+      (λ n y us rest m f. tt))
+      (λ x y us rest (n, us₁, us₂, e, l, m) f. rw (e, l) (refl, refl, refl, refl)))
+      (λ y us (x, us₁, us₂, e, u, (n, us₃, us₄, e₁, l, (o, us₅, us₆, e₂, l₂, (xs, us₇, us₈, e₃, m, (c, us₉, us₁₀, e₄, l₄, (b, g, q)))))).
+      subst (λ y. function y us) q (us₁, us₂, e, u, (us₃, us₄, e₁, l, (us₅, us₆, e₂, (o, l₂), (us₇, us₈, e₃, m, (us₉, us₁₀, e₄, (c, l₄), g))))))
+      (λ y us (us₁, us₂, e, u, (us₃, us₄, e₁, l, (us₅, us₆, e₂, (o, l₂), (us₇, us₈, e₃, m, (us₉, us₁₀, e₄, (c, l₄), g))))).
+      (y.kind, us₁, us₂, e, u, (y.name, us₃, us₄, e₁, l, (o, us₅, us₆, e₂, l₂, (y.parameters, us₇, us₈, e₃, m, (c, us₉, us₁₀, e₄, l₄, (y.body, g, refl)))))))
+      (λ h f. f)
+
+  -- ---- Variables
+
+  abbrev PersistentParts : Spelling t.Persistent
+  PersistentParts = worded k.Persistent ▷ (λ w. GuardInside language ▷ (λ guard. type ▷ (λ x. named ▷ PersistentTail guard x)))
+
+  persistent_up : (y : t.Persistent) (us : List Token) → PersistentParts y us → persistent y us
+  persistent_up y us (w, us₁, us₂, e, l, (guard, us₃, us₄, e₁, (us₅, us₆, e₂, o, (us₇, us₈, e₃, n, (us₉, us₁₀, e₄, k, c))), m)) = go m
+    where
+      go : (type ▷ (λ x. named ▷ PersistentTail guard x)) y us₄ → persistent y us
+      go (x, vs₁, vs₂, f, u, (name, vs₃, vs₄, f₁, v, (len, vs₅, vs₆, f₂, a, (z, vs₇, vs₈, f₃, b, (s, d, q))))) =
+          subst (λ y. persistent y us) q (
+            us₁,
+            us₂,
+            e,
+            (w, l),
             (
-              us₇,
-              us₈ ++ us₄,
-              ap (λ l. l ++ us₄) e₃ ∙ append_assoc us₇ us₈ us₄,
-              n,
+              us₅,
+              us₆ ++ us₄,
+              e₁ ∙ ap (λ l. l ++ us₄) e₂ ∙ append_assoc us₅ us₆ us₄,
+              o,
               (
-                us₈,
-                us₄,
-                refl,
-                c,
-                (vs₁, vs₂, f, u, (vs₃, vs₄, f₁, v, (vs₅, vs₆, f₂, a, (vs₇, vs₈, f₃, b, (s, d))))),
+                us₇,
+                us₈ ++ us₄,
+                ap (λ l. l ++ us₄) e₃ ∙ append_assoc us₇ us₈ us₄,
+                n,
+                (
+                  us₉,
+                  us₁₀ ++ us₄,
+                  ap (λ l. l ++ us₄) e₄ ∙ append_assoc us₉ us₁₀ us₄,
+                  k,
+                  (us₁₀, us₄, refl, c, (vs₁, vs₂, f, u, (vs₃, vs₄, f₁, v, (vs₅, vs₆, f₂, a, (vs₇, vs₈, f₃, b, (s, d)))))),
+                ),
               ),
             ),
-          ),
-        )
+          )
 
-persistent_down : (y : t.Persistent) (us : List Token) → persistent y us → PersistentParts y us
-persistent_down y us (
-  us₁,
-  us₂,
-  e,
-  (w, l),
-  (
-    us₅,
-    us₆,
-    e₁,
-    o,
-    (us₇, us₈, e₂, n, (us₉, us₁₀, e₃, c, (vs₁, vs₂, f, u, (vs₃, vs₄, f₁, v, (vs₅, vs₆, f₂, a, (vs₇, vs₈, f₃, b, (s, d))))))),
-  ),
-) =
-    let z : us₂ ≡ (us₅ ++ (us₇ ++ us₉)) ++ us₁₀ = rw (e₁, e₂, e₃) (simp append_assoc refl) in (
-      w,
-      us₁,
-      us₂,
-      e,
-      l,
-      (
-        y.guard,
-        us₅ ++ (us₇ ++ us₉),
-        us₁₀,
-        z,
-        (us₅, us₇ ++ us₉, refl, o, (us₇, us₉, refl, n, c)),
-        (y.kind, vs₁, vs₂, f, u, (y.name, vs₃, vs₄, f₁, v, (y.length, vs₅, vs₆, f₂, a, (y.initialiser, vs₇, vs₈, f₃, b, (s, d, refl))))),
-      ),
-    )
+  persistent_down : (y : t.Persistent) (us : List Token) → persistent y us → PersistentParts y us
+  persistent_down y us (
+    us₁,
+    us₂,
+    e,
+    (w, l),
+    (
+      us₅,
+      us₆,
+      e₁,
+      o,
+      (us₇, us₈, e₂, n, (us₉, us₁₀, e₃, k, (us₁₁, us₁₂, e₄, c, (vs₁, vs₂, f, u, (vs₃, vs₄, f₁, v, (vs₅, vs₆, f₂, a, (vs₇, vs₈, f₃, b, (s, d)))))))),
+    ),
+  ) =
+      let z : us₂ ≡ (us₅ ++ (us₇ ++ (us₉ ++ us₁₁))) ++ us₁₂ = rw (e₁, e₂, e₃, e₄) (simp append_assoc refl) in (
+        w,
+        us₁,
+        us₂,
+        e,
+        l,
+        (
+          y.guard,
+          us₅ ++ (us₇ ++ (us₉ ++ us₁₁)),
+          us₁₂,
+          z,
+          (us₅, us₇ ++ (us₉ ++ us₁₁), refl, o, (us₇, us₉ ++ us₁₁, refl, n, (us₉, us₁₁, refl, k, c))),
+          (y.kind, vs₁, vs₂, f, u, (y.name, vs₃, vs₄, f₁, v, (y.length, vs₅, vs₆, f₂, a, (y.initialiser, vs₇, vs₈, f₃, b, (s, d, refl))))),
+        ),
+      )
 
-pub good_persistent : (fuel fuel' b : ℕ) → b ≤ fuel → b ≤ fuel' → Good b persistent persistent Anything (parse_persistent fuel) (parse_persistent fuel')
-good_persistent fuel fuel' b h h' =
-    good_to {U = PersistentParts} {K = PersistentParts} {F = Anything}
-    (good_then {M = λ w. NameInside ▷ (λ guard. type ▷ (λ x. named ▷ PersistentTail guard x))} {F = Anything} {G = Anything} (good_word k.Persistent)
-    (λ w. good_then {M = λ guard. type ▷ (λ x. named ▷ PersistentTail guard x)} {F = Anything} {G = Anything} good_name_inside
-    (λ guard. good_then {M = λ x. named ▷ PersistentTail guard x} {F = TypeEnd} {G = Anything} good_type
-    (λ x. good_then {M = PersistentTail guard x} {F = Anything} {G = Anything} good_name
-    (λ n. good_then {M = λ l. maybe assigned ▷ (λ y. marked p.Semicolon ▹ (λ c. made_persistent guard x n l y))} {F = Unless (is_mark p.OpenBracket) Anything}
-    {G = Anything}
-    (good_maybe (is_mark p.OpenBracket) good_length (λ l us rest (us₁, us₂, e, (o, l'), m). rw (e, l') refl))
-    (λ l. good_then {M = λ y. marked p.Semicolon ▹ (λ c. made_persistent guard x n l y)} {F = Unless (is_mark p.Assign) Anything} {G = Anything}
-    (good_maybe (is_mark p.Assign) (good_assigned fuel fuel' b h h') (λ y us rest (us₁, us₂, e, (o, l'), m). rw (e, l') refl))
-    (λ y. good_map (λ c. made_persistent guard x n l y) (good_mark p.Semicolon))
-    (λ y z us rest (c, m, q) f. rw m (tt, refl)))
-    (λ l y us rest m f. length_ends guard x n l y us rest m))
-    (λ n y us rest m f. tt))
-    (λ x y us rest (n, us₁, us₂, e, l, m) f. rw (e, l) (refl, refl, refl, refl)))
-    (λ x y us rest m f. tt))
-    (λ x y us rest m f. tt))
-    persistent_up persistent_down (λ h f. f)
+  pub good_persistent : (fuel fuel' b : ℕ) → b ≤ fuel → b ≤ fuel' →
+      Good b persistent persistent Anything (parse_persistent language fuel) (parse_persistent language fuel')
+  good_persistent fuel fuel' b h h' =
+      good_to {U = PersistentParts} {K = PersistentParts} {F = Anything}
+      (good_then {M = λ w. GuardInside language ▷ (λ guard. type ▷ (λ x. named ▷ PersistentTail guard x))} {F = Anything} {G = Anything}
+      (good_word k.Persistent)
+      (λ w. good_then {M = λ guard. type ▷ (λ x. named ▷ PersistentTail guard x)} {F = Anything} {G = Anything} (good_guard language)
+      (λ guard. good_then {M = λ x. named ▷ PersistentTail guard x} {F = TypeEnd} {G = Anything} good_type
+      (λ x. good_then {M = PersistentTail guard x} {F = Anything} {G = Anything} good_name
+      (λ n. good_then {M = λ l. maybe assigned ▷ (λ y. marked p.Semicolon ▹ (λ c. made_persistent guard x n l y))} {F = Unless (is_mark p.OpenBracket) Anything}
+      {G = Anything}
+      (good_maybe (is_mark p.OpenBracket) good_length (λ l us rest (us₁, us₂, e, (o, l'), m). rw (e, l') refl))
+      (λ l. good_then {M = λ y. marked p.Semicolon ▹ (λ c. made_persistent guard x n l y)} {F = Unless (is_mark p.Assign) Anything} {G = Anything}
+      (good_maybe (is_mark p.Assign) (good_assigned fuel fuel' b h h') (λ y us rest (us₁, us₂, e, (o, l'), m). rw (e, l') refl))
+      (λ y. good_map (λ c. made_persistent guard x n l y) (good_mark p.Semicolon))
+      (λ y z us rest (c, m, q) f. rw m (tt, refl)))
+      (λ l y us rest m f. length_ends guard x n l y us rest m))
+      (λ n y us rest m f. tt))
+      (λ x y us rest (n, us₁, us₂, e, l, m) f. rw (e, l) (refl, refl, refl, refl)))
+      (λ x y us rest m f. tt))
+      (λ x y us rest m f. tt))
+      persistent_up persistent_down (λ h f. f)
 
--- ---- Items and programs
+  -- ---- Items and programs
 
-abbrev made_thread : t.Name → t.Block → t.Item
-made_thread n b = t.ThreadItem (record { name = n; block = b })
+  abbrev made_thread : t.Name → t.Block → t.Item
+  made_thread n b = t.ThreadItem (record { name = n; block = b })
 
-abbrev MutexParts : Language t.Item
-MutexParts = worded k.Mutex ▷ (λ w. named ▷ (λ x. marked p.Semicolon ▹ (λ c. t.MutexItem x)))
+  abbrev MutexParts : Spelling t.Item
+  MutexParts = worded k.Mutex ▷ (λ w. named ▷ (λ x. mutex_length language ▷ (λ y. marked p.Semicolon ▹ (λ c. t.MutexItem x y))))
 
-abbrev ThreadParts : Language t.Item
-ThreadParts = worded k.Thread ▷ (λ w. named ▷ (λ x. block ▹ made_thread x))
+  abbrev ThreadParts : Spelling t.Item
+  ThreadParts = worded k.Thread ▷ (λ w. named ▷ (λ x. block ▹ made_thread x))
 
-abbrev item_language : Option Lexeme → Language t.Item
-item_language (Some (Keyword k.Mutex)) = MutexParts
-item_language (Some (Keyword k.Persistent)) = persistent ▹ t.PersistentItem
-item_language (Some (Keyword k.Thread)) = ThreadParts
-item_language _ = function ▹ t.FunctionItem
+  abbrev item_language : Option Lexeme → Spelling t.Item
+  item_language (Some (Keyword k.Mutex)) = MutexParts
+  item_language (Some (Keyword k.Persistent)) = persistent ▹ t.PersistentItem
+  item_language (Some (Keyword k.Thread)) = ThreadParts
+  item_language _ = function ▹ t.FunctionItem
 
-function_good : (fuel fuel' b : ℕ) → b ≤ fuel → b ≤ fuel'
-    → Good b item (function ▹ t.FunctionItem) Anything (do x ← parse_function fuel; give (t.FunctionItem x))
-    (do x ← parse_function fuel'; give (t.FunctionItem x))
-function_good fuel fuel' b h h' =
-    good_to {U' = item} {K' = function ▹ t.FunctionItem} (good_map t.FunctionItem (good_function fuel fuel' b h h'))
-    (λ y us (x, u, q). subst (λ y. item y us) q u) (λ y us u. u) (λ h f. f)
+  function_good : (fuel fuel' b : ℕ) → b ≤ fuel → b ≤ fuel'
+      → Good b item (function ▹ t.FunctionItem) Anything (do x ← parse_function language fuel; give (t.FunctionItem x))
+      (do x ← parse_function language fuel'; give (t.FunctionItem x))
+  function_good fuel fuel' b h h' =
+      good_to {U' = item} {K' = function ▹ t.FunctionItem} (good_map t.FunctionItem (good_function fuel fuel' b h h'))
+      (λ y us (x, u, q). subst (λ y. item y us) q u) (λ y us u. u) (λ h f. f)
 
-item_good : (fuel fuel' b : ℕ) → b ≤ fuel → b ≤ fuel' → (h : Option Lexeme) → Good b item (item_language h) Anything (item_by fuel h) (item_by fuel' h)
-item_good fuel fuel' b h h' (Some (Keyword k.Mutex)) =
-    good_to {U = MutexParts} {K = MutexParts} {F = Anything}
-    (good_then {M = λ w. named ▷ (λ x. marked p.Semicolon ▹ (λ c. t.MutexItem x))} {F = Anything} {G = Anything} (good_word k.Mutex)
-    (λ w. good_then {M = λ x. marked p.Semicolon ▹ (λ c. t.MutexItem x)} {F = Anything} {G = Anything} good_name
-    (λ x. good_map (λ c. t.MutexItem x) (good_mark p.Semicolon)) (λ x y us rest m f. tt))
-    (λ x y us rest m f. tt))
-    (λ y us (w, us₁, us₂, e, l, (x, us₃, us₄, e', m, (c, n, q))). subst (λ y. item y us) q (us₁, us₂, e, (w, l), (us₃, us₄, e', m, (c, n)))) (λ y us u. u)
-    (λ h f. f)
-item_good fuel fuel' b h h' (Some (Keyword k.Persistent)) =
-    good_to {U' = item} {K' = persistent ▹ t.PersistentItem} (good_map t.PersistentItem (good_persistent fuel fuel' b h h'))
-    (λ y us (x, u, q). subst (λ y. item y us) q u) (λ y us u. u) (λ h f. f)
-item_good fuel fuel' b h h' (Some (Keyword k.Thread)) =
-    good_to {U = ThreadParts} {K = ThreadParts} {F = Anything}
-    (good_then {M = λ w. named ▷ (λ x. block ▹ made_thread x)} {F = Anything} {G = Anything} (good_word k.Thread)
-    (λ w. good_then {M = λ x. block ▹ made_thread x} {F = Anything} {G = Anything} good_name (λ x. good_map (made_thread x) (good_block fuel fuel' b h h'))
-    (λ x y us rest m f. tt))
-    (λ x y us rest m f. tt))
-    (λ y us (w, us₁, us₂, e, l, (x, us₃, us₄, e', m, (g, n, q))). subst (λ y. item y us) q (us₁, us₂, e, (w, l), (us₃, us₄, e', m, n))) (λ y us u. u) (λ h f. f)
-item_good fuel fuel' b h h' _ = function_good fuel fuel' b h h'
+  item_good : (fuel fuel' b : ℕ) → b ≤ fuel → b ≤ fuel' → (h : Option Lexeme) →
+      Good b item (item_language h) Anything (item_by language fuel h) (item_by language fuel' h)
+  item_good fuel fuel' b h h' (Some (Keyword k.Mutex)) =
+      good_to {U = MutexParts} {K = MutexParts} {F = Anything}
+      (good_then {M = λ w. named ▷ (λ x. mutex_length language ▷ (λ y. marked p.Semicolon ▹ (λ c. t.MutexItem x y)))} {F = Anything} {G = Anything}
+      (good_word k.Mutex)
+      (λ w. good_then {M = λ x. mutex_length language ▷ (λ y. marked p.Semicolon ▹ (λ c. t.MutexItem x y))} {F = Anything} {G = Anything} good_name
+      (λ x. good_then {M = λ y. marked p.Semicolon ▹ (λ c. t.MutexItem x y)} {F = OperandEnd} {G = Anything} (mutex_length_good language)
+      (λ y. good_map (λ c. t.MutexItem x y) (good_mark p.Semicolon)) (λ y z us rest (c, m, q) f. rw m refl))
+      (λ x y us rest m f. tt))
+      (λ x y us rest m f. tt))
+      (λ y us (w, us₁, us₂, e, l, (x, us₃, us₄, e', m, (k, us₅, us₆, e₂, n, (c, v, q)))).
+      subst (λ y. item y us) q (us₁, us₂, e, (w, l), (us₃, us₄, e', m, (us₅, us₆, e₂, n, (c, v))))) (λ y us u. u) (λ h f. f)
+  item_good fuel fuel' b h h' (Some (Keyword k.Persistent)) =
+      good_to {U' = item} {K' = persistent ▹ t.PersistentItem} (good_map t.PersistentItem (good_persistent fuel fuel' b h h'))
+      (λ y us (x, u, q). subst (λ y. item y us) q u) (λ y us u. u) (λ h f. f)
+  item_good fuel fuel' b h h' (Some (Keyword k.Thread)) =
+      good_to {U = ThreadParts} {K = ThreadParts} {F = Anything}
+      (good_then {M = λ w. named ▷ (λ x. block ▹ made_thread x)} {F = Anything} {G = Anything} (good_word k.Thread)
+      (λ w. good_then {M = λ x. block ▹ made_thread x} {F = Anything} {G = Anything} good_name
+      (λ x. good_map (made_thread x) (good_block language fuel fuel' b h h'))
+      (λ x y us rest m f. tt))
+      (λ x y us rest m f. tt))
+      (λ y us (w, us₁, us₂, e, l, (x, us₃, us₄, e', m, (g, n, q))). subst (λ y. item y us) q (us₁, us₂, e, (w, l), (us₃, us₄, e', m, n)))
+      (λ y us u. u) (λ h f. f)
+  item_good fuel fuel' b h h' _ = function_good fuel fuel' b h h'
 
--- a word of a type leads to a function
-function_at : (h : Option Lexeme) (y : t.Item) (us : List Token) → head_is begins_type h ≡ true → (function ▹ t.FunctionItem) y us → item_language h y us
-function_at (Some (Keyword k.Mutex)) y us q u = absurd (true≢false (sym q))
-function_at (Some (Keyword k.Persistent)) y us q u = absurd (true≢false (sym q))
-function_at (Some (Keyword k.Thread)) y us q u = absurd (true≢false (sym q))
-function_at _ y us q u = u
+  -- a word of a type leads to a function
+  function_at : (h : Option Lexeme) (y : t.Item) (us : List Token) → head_is begins_type h ≡ true → (function ▹ t.FunctionItem) y us → item_language h y us
+  function_at (Some (Keyword k.Mutex)) y us q u = absurd (true≢false (sym q))
+  function_at (Some (Keyword k.Persistent)) y us q u = absurd (true≢false (sym q))
+  function_at (Some (Keyword k.Thread)) y us q u = absurd (true≢false (sym q))
+  function_at _ y us q u = u
 
-function_out : (x : t.Function) (us rest us₁ us₂ : List Token) → us ≡ us₁ ++ us₂ → (y : Option Kind) → result y us₁ → function x us
-    → item_language (head_of (us ++ rest)) (t.FunctionItem x) us
-function_out x us rest us₁ us₂ e None (place, l) u = let q : head_of (us ++ rest) ≡ Some (Keyword k.Void) = rw (e, l) refl in rw q (x, u, refl)
-function_out x us rest us₁ us₂ e (Some y) m u =
-    function_at (head_of (us ++ rest)) (t.FunctionItem x) us (rw (e, append_assoc us₁ us₂ rest) (type_begins y us₁ (us₂ ++ rest) m)) (x, u, refl)
+  function_out : (x : t.Function) (us rest us₁ us₂ : List Token) → us ≡ us₁ ++ us₂ → (y : Option Kind) → result y us₁ → function x us
+      → item_language (head_of (us ++ rest)) (t.FunctionItem x) us
+  function_out x us rest us₁ us₂ e None (place, l) u = let q : head_of (us ++ rest) ≡ Some (Keyword k.Void) = rw (e, l) refl in rw q (x, u, refl)
+  function_out x us rest us₁ us₂ e (Some y) m u =
+      function_at (head_of (us ++ rest)) (t.FunctionItem x) us (rw (e, append_assoc us₁ us₂ rest) (type_begins y us₁ (us₂ ++ rest) m)) (x, u, refl)
 
-item_out : (y : t.Item) (us rest : List Token) → item y us → item_language (head_of (us ++ rest)) y us
-item_out (t.MutexItem x) us rest (us₁, us₂, e, (w, l), (us₃, us₄, e', m, (c, n))) =
-    let q : head_of (us ++ rest) ≡ Some (Keyword k.Mutex) = rw (e, l) refl in rw q (w, us₁, us₂, e, l, (x, us₃, us₄, e', m, (c, n, refl)))
-item_out (t.PersistentItem x) us rest (us₁, us₂, e, (w, l), m) =
-    let q : head_of (us ++ rest) ≡ Some (Keyword k.Persistent) = rw (e, l) refl in rw q (x, (us₁, us₂, e, (w, l), m), refl)
-item_out (t.ThreadItem x) us rest (us₁, us₂, e, (w, l), (us₃, us₄, e', m, n)) =
-    let q : head_of (us ++ rest) ≡ Some (Keyword k.Thread) = rw (e, l) refl in rw q (w, us₁, us₂, e, l, (x.name, us₃, us₄, e', m, (x.block, n, refl)))
-item_out (t.FunctionItem x) us rest (us₁, us₂, e, u, m) = function_out x us rest us₁ us₂ e x.kind u (us₁, us₂, e, u, m)
+  item_out : (y : t.Item) (us rest : List Token) → item y us → item_language (head_of (us ++ rest)) y us
+  item_out (t.MutexItem x y) us rest (us₁, us₂, e, (w, l), (us₃, us₄, e', m, (us₅, us₆, e₂, n, (c, v)))) =
+      let q : head_of (us ++ rest) ≡ Some (Keyword k.Mutex) = rw (e, l) refl in
+      rw q (w, us₁, us₂, e, l, (x, us₃, us₄, e', m, (y, us₅, us₆, e₂, n, (c, v, refl))))
+  item_out (t.PersistentItem x) us rest (us₁, us₂, e, (w, l), m) =
+      let q : head_of (us ++ rest) ≡ Some (Keyword k.Persistent) = rw (e, l) refl in rw q (x, (us₁, us₂, e, (w, l), m), refl)
+  item_out (t.ThreadItem x) us rest (us₁, us₂, e, (w, l), (us₃, us₄, e', m, n)) =
+      let q : head_of (us ++ rest) ≡ Some (Keyword k.Thread) = rw (e, l) refl in rw q (w, us₁, us₂, e, l, (x.name, us₃, us₄, e', m, (x.block, n, refl)))
+  item_out (t.FunctionItem x) us rest (us₁, us₂, e, u, m) = function_out x us rest us₁ us₂ e x.kind u (us₁, us₂, e, u, m)
 
-pub good_item : (fuel fuel' b : ℕ) → b ≤ fuel → b ≤ fuel' → Good b item item Anything (parse_item fuel) (parse_item fuel')
-good_item fuel fuel' b h h' = good_head {K = item_language} (item_good fuel fuel' b h h') (λ y us rest u f. item_out y us rest u)
+  pub good_item : (fuel fuel' b : ℕ) → b ≤ fuel → b ≤ fuel' → Good b item item Anything (parse_item language fuel) (parse_item language fuel')
+  good_item fuel fuel' b h h' = good_head {K = item_language} (item_good fuel fuel' b h h') (λ y us rest u f. item_out y us rest u)
 
-item_strict : Strict item
-item_strict (t.MutexItem x) us (us₁, us₂, e, (w, l), m) = rw (e, l) (zero-lt-suc (length us₂))
-item_strict (t.PersistentItem x) us (us₁, us₂, e, (w, l), m) = rw (e, l) (zero-lt-suc (length us₂))
-item_strict (t.ThreadItem x) us (us₁, us₂, e, (w, l), m) = rw (e, l) (zero-lt-suc (length us₂))
-item_strict (t.FunctionItem x) us (us₁, us₂, e, u, (us₃, us₄, e', l, m)) =
-    let a : length us ≡ length us₁ + length us₂ = ap length e ∙ length-append us₁ us₂ in
-    let b : 0 < length us₂ = rw (e', l) (zero-lt-suc (length us₄)) in omega (arith, a, b)
+  item_strict : Strict item
+  item_strict (t.MutexItem x y) us (us₁, us₂, e, (w, l), m) = rw (e, l) (zero-lt-suc (length us₂))
+  item_strict (t.PersistentItem x) us (us₁, us₂, e, (w, l), m) = rw (e, l) (zero-lt-suc (length us₂))
+  item_strict (t.ThreadItem x) us (us₁, us₂, e, (w, l), m) = rw (e, l) (zero-lt-suc (length us₂))
+  item_strict (t.FunctionItem x) us (us₁, us₂, e, u, (us₃, us₄, e', l, m)) =
+      let a : length us ≡ length us₁ + length us₂ = ap length e ∙ length-append us₁ us₂ in
+      let b : 0 < length us₂ = rw (e', l) (zero-lt-suc (length us₄)) in omega (arith, a, b)
 
--- nothing may follow
-abbrev pub AtEnd : Option Lexeme → Type 0
-AtEnd h = h ≡ None
+  -- nothing may follow
+  abbrev pub AtEnd : Option Lexeme → Type 0
+  AtEnd h = h ≡ None
 
-abbrev ItemsParts : Language (List t.Item)
-ItemsParts = item ▷ (λ y. all_of item ▹ (λ ys. y ∷ ys))
+  abbrev ItemsParts : Spelling (List t.Item)
+  ItemsParts = item ▷ (λ y. all_of item ▹ (λ ys. y ∷ ys))
 
-abbrev items_language : Option Lexeme → Language (List t.Item)
-items_language None = just []
-items_language (Some x) = ItemsParts
+  abbrev items_language : Option Lexeme → Spelling (List t.Item)
+  items_language None = just []
+  items_language (Some x) = ItemsParts
 
-items_step : {b c : ℕ} → b ≤ suc c → {I I' : Parser t.Item} → Good b item item Anything I I' → (fuel fuel' : ℕ)
-    → Good c (all_of item) (all_of item) AtEnd (items_over I fuel) (items_over I' fuel') →
-    Good b (all_of item) (all_of item) AtEnd (items_over I (suc fuel)) (items_over I' (suc fuel'))
-items_step {b = b} {c = c} bc {I = I} {I' = I'} g fuel fuel' r = good_head {K = items_language} at out
-  where
-    at : (h : Option Lexeme) → Good b (all_of item) (items_language h) AtEnd
-        (elim h as (λ h. Parser (List t.Item)) [ None ↦ give [] | Some x ↦ do y ← I; ys ← items_over I fuel; give (y ∷ ys) ])
-        (elim h as (λ h. Parser (List t.Item)) [ None ↦ give [] | Some x ↦ do y ← I'; ys ← items_over I' fuel'; give (y ∷ ys) ])
-    at None = good_to {U' = all_of item} {K' = just []} (good_give []) (λ y us (q, e). subst (λ y. all_of item y us) q e) (λ y us u. u) (λ h f. tt)
-    at (Some x) =
-        good_to {U = ItemsParts} {K = ItemsParts} {F = AtEnd}
-        (good_then_less {M = λ y. all_of item ▹ (λ ys. y ∷ ys)} {F = Anything} {G = AtEnd} bc item_strict g (λ y. good_map (λ ys. y ∷ ys) r)
-        (λ x y us rest m f. tt))
-        (λ y us (x, us₁, us₂, e, u, (xs, m, q)). subst (λ y. all_of item y us) q (us₁, us₂, e, u, m)) (λ y us u. u) (λ h f. f)
+  items_step : {b c : ℕ} → b ≤ suc c → {I I' : Parser t.Item} → Good b item item Anything I I' → (fuel fuel' : ℕ)
+      → Good c (all_of item) (all_of item) AtEnd (items_over I fuel) (items_over I' fuel') →
+      Good b (all_of item) (all_of item) AtEnd (items_over I (suc fuel)) (items_over I' (suc fuel'))
+  items_step {b = b} {c = c} bc {I = I} {I' = I'} g fuel fuel' r = good_head {K = items_language} at out
+    where
+      at : (h : Option Lexeme) → Good b (all_of item) (items_language h) AtEnd
+          (elim h as (λ h. Parser (List t.Item)) [ None ↦ give [] | Some x ↦ do y ← I; ys ← items_over I fuel; give (y ∷ ys) ])
+          (elim h as (λ h. Parser (List t.Item)) [ None ↦ give [] | Some x ↦ do y ← I'; ys ← items_over I' fuel'; give (y ∷ ys) ])
+      at None = good_to {U' = all_of item} {K' = just []} (good_give []) (λ y us (q, e). subst (λ y. all_of item y us) q e) (λ y us u. u) (λ h f. tt)
+      at (Some x) =
+          good_to {U = ItemsParts} {K = ItemsParts} {F = AtEnd}
+          (good_then_less {M = λ y. all_of item ▹ (λ ys. y ∷ ys)} {F = Anything} {G = AtEnd} bc item_strict g (λ y. good_map (λ ys. y ∷ ys) r)
+          (λ x y us rest m f. tt))
+          (λ y us (x, us₁, us₂, e, u, (xs, m, q)). subst (λ y. all_of item y us) q (us₁, us₂, e, u, m)) (λ y us u. u) (λ h f. f)
 
-    some_head : (us rest : List Token) → 0 < length us → (x : Lexeme) × (head_of (us ++ rest) ≡ Some x)
-    some_head [] rest h = let z : ⊥ = omega (arith, h) in absurd z
-    some_head (u ∷ us) rest h = (u.lexeme, refl)
+      some_head : (us rest : List Token) → 0 < length us → (x : Lexeme) × (head_of (us ++ rest) ≡ Some x)
+      some_head [] rest h = let z : ⊥ = omega (arith, h) in absurd z
+      some_head (u ∷ us) rest h = (u.lexeme, refl)
 
-    out : (y : List t.Item) (us rest : List Token) → all_of item y us → AtEnd (head_of rest) → items_language (head_of (us ++ rest)) y us
-    out [] us rest u f = let q : head_of (us ++ rest) ≡ None = rw u f in rw q (refl, u)
-    out (x ∷ xs) us rest (us₁, us₂, e, u, m) f =
-        let s : 0 < length us₁ = item_strict x us₁ u in
-        let a : length us ≡ length us₁ + length us₂ = ap length e ∙ length-append us₁ us₂ in
-        let (l, q) = some_head us rest (omega (arith, s, a)) in
-        rw q (x, us₁, us₂, e, u, (xs, m, refl))
+      out : (y : List t.Item) (us rest : List Token) → all_of item y us → AtEnd (head_of rest) → items_language (head_of (us ++ rest)) y us
+      out [] us rest u f = let q : head_of (us ++ rest) ≡ None = rw u f in rw q (refl, u)
+      out (x ∷ xs) us rest (us₁, us₂, e, u, m) f =
+          let s : 0 < length us₁ = item_strict x us₁ u in
+          let a : length us ≡ length us₁ + length us₂ = ap length e ∙ length-append us₁ us₂ in
+          let (l, q) = some_head us rest (omega (arith, s, a)) in
+          rw q (x, us₁, us₂, e, u, (xs, m, refl))
 
-items_good : (fuel fuel' b : ℕ) → b ≤ fuel → b ≤ fuel' → {I I' : Parser t.Item} → Good b item item Anything I I' → Good 0 item item Anything I I
-    → Good b (all_of item) (all_of item) AtEnd (items_over I fuel) (items_over I' fuel')
-items_good zero fuel' b h h' g g₀ = good_small h (λ ts. ([], refl, [], [], refl))
-items_good (suc fuel) zero b h h' g g₀ =
-    good_small h' (items_step {b = 0} {c = 0} (omega arith) g₀ fuel fuel (items_good fuel fuel 0 (omega arith) (omega arith) g₀ g₀)).sure
-items_good (suc fuel) (suc fuel') b h h' g g₀ =
-    items_step {b = b} {c = b - 1} (omega arith) g fuel fuel'
-    (items_good fuel fuel' (b - 1) (omega (arith, h)) (omega (arith, h')) (good_less g (omega arith)) g₀)
+  items_good : (fuel fuel' b : ℕ) → b ≤ fuel → b ≤ fuel' → {I I' : Parser t.Item} → Good b item item Anything I I' → Good 0 item item Anything I I
+      → Good b (all_of item) (all_of item) AtEnd (items_over I fuel) (items_over I' fuel')
+  items_good zero fuel' b h h' g g₀ = good_small h (λ ts. ([], refl, [], [], refl))
+  items_good (suc fuel) zero b h h' g g₀ =
+      good_small h' (items_step {b = 0} {c = 0} (omega arith) g₀ fuel fuel (items_good fuel fuel 0 (omega arith) (omega arith) g₀ g₀)).sure
+  items_good (suc fuel) (suc fuel') b h h' g g₀ =
+      items_step {b = b} {c = b - 1} (omega arith) g fuel fuel'
+      (items_good fuel fuel' (b - 1) (omega (arith, h)) (omega (arith, h')) (good_less g (omega arith)) g₀)
 
-pub good_items : (fuel fuel' b : ℕ) → b ≤ fuel → b ≤ fuel' → Good b program program AtEnd (parse_items fuel) (parse_items fuel')
-good_items fuel fuel' b h h' =
-    good_to {U = ItemsParts} {K = ItemsParts} {F = AtEnd}
-    (good_then {M = λ y. all_of item ▹ (λ ys. y ∷ ys)} {F = Anything} {G = AtEnd} (good_item fuel fuel' b h h')
-    (λ y. good_map (λ ys. y ∷ ys) (items_good fuel fuel' b h h' (good_item fuel fuel' b h h') (good_item fuel fuel 0 (omega arith) (omega arith))))
-    (λ x y us rest m f. tt))
-    (λ y us (x, us₁, us₂, e, u, (xs, m, q)). subst (λ y. program y us) q (us₁, us₂, e, u, m)) down (λ h f. f)
-  where
-    down : (y : List t.Item) (us : List Token) → program y us → ItemsParts y us
-    down [] us u = absurd u
-    down (x ∷ xs) us (us₁, us₂, e, u, m) = (x, us₁, us₂, e, u, (xs, m, refl))
+  pub good_items : (fuel fuel' b : ℕ) → b ≤ fuel → b ≤ fuel' → Good b program program AtEnd (parse_items language fuel) (parse_items language fuel')
+  good_items fuel fuel' b h h' =
+      good_to {U = ItemsParts} {K = ItemsParts} {F = AtEnd}
+      (good_then {M = λ y. all_of item ▹ (λ ys. y ∷ ys)} {F = Anything} {G = AtEnd} (good_item fuel fuel' b h h')
+      (λ y. good_map (λ ys. y ∷ ys) (items_good fuel fuel' b h h' (good_item fuel fuel' b h h') (good_item fuel fuel 0 (omega arith) (omega arith))))
+      (λ x y us rest m f. tt))
+      (λ y us (x, us₁, us₂, e, u, (xs, m, q)). subst (λ y. program y us) q (us₁, us₂, e, u, m)) down (λ h f. f)
+    where
+      down : (y : List t.Item) (us : List Token) → program y us → ItemsParts y us
+      down [] us u = absurd u
+      down (x ∷ xs) us (us₁, us₂, e, u, m) = (x, us₁, us₂, e, u, (xs, m, refl))

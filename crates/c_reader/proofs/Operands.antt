@@ -19,7 +19,7 @@ use Rattle.c_reader.specs.links.ParserFunctions.{Parser, give, head_of, head_is,
 use Rattle.c_reader.specs.links.ParserFunctions.{parse_type, parse_index, element, operand_after_name, operand_after_opening}
 use Rattle.c_reader.specs.links.ParserFunctions.{operand_by, operand_over, conditional_after, expression_after}
 use Rattle.c_reader.specs.links.ParserFunctions.{parse_operand, parse_expression, begins_type, ◌>>=◌, ◌>>◌}
-use Rattle.c_reader.proofs.CorrectParsers.{Language, Good, ◌▷◌, ◌▹◌, just, found_in, Anything, Strict, good_give, good_to, good_map}
+use Rattle.c_reader.proofs.CorrectParsers.{Spelling, Good, ◌▷◌, ◌▹◌, just, found_in, Anything, Strict, good_give, good_to, good_map}
 use Rattle.c_reader.proofs.CorrectParsers.{good_where, good_head, good_then, good_then_less, good_small, good_taking}
 use Rattle.c_reader.proofs.Tokens.{some_same, marked, named, numbered, good_mark, good_name, good_number, marked-strict, named-strict}
 use Rattle.c_reader.proofs.OptionalParts.{good_maybe}
@@ -35,7 +35,7 @@ ExpressionEnd h = End 1 h × (head_is (is_mark p.Question) h ≡ false)
 -- ---- An index
 
 -- `[expression]`
-abbrev pub bracketed : Language t.Expression
+abbrev pub bracketed : Spelling t.Expression
 bracketed = marked p.OpenBracket ▷ (λ o. expression ▷ (λ x. marked p.CloseBracket ▹ (λ c. x)))
 
 index_up : (x : Option t.Expression) (us : List Token) → maybe bracketed x us → index x us
@@ -64,22 +64,22 @@ good_index bc g =
 -- ---- Operands
 
 -- after a name
-abbrev pub NamedLanguage : t.Name → Language t.Expression
+abbrev pub NamedLanguage : t.Name → Spelling t.Expression
 NamedLanguage x = index ▹ element x
 
-abbrev CastLanguage : Place → Language t.Expression
+abbrev CastLanguage : Place → Spelling t.Expression
 CastLanguage opening = type ▷ (λ x. marked p.CloseParenthesis ▷ (λ c. from 11 ▹ t.Cast opening x))
 
-abbrev InnerLanguage : Place → Language t.Expression
+abbrev InnerLanguage : Place → Spelling t.Expression
 InnerLanguage opening = expression ▷ (λ x. marked p.CloseParenthesis ▹ (λ c. t.Parenthesised opening x))
 
-abbrev OpeningLanguage : Place → Language t.Expression
+abbrev OpeningLanguage : Place → Spelling t.Expression
 OpeningLanguage opening y us = CastLanguage opening y us ⊎ InnerLanguage opening y us
 
-abbrev UnaryLanguage : Language t.Expression
+abbrev UnaryLanguage : Spelling t.Expression
 UnaryLanguage = found_in unary_in ▷ (λ x. from 11 ▹ t.Unary x.0 x.1)
 
-abbrev operand_language : Option Lexeme → Language t.Expression
+abbrev operand_language : Option Lexeme → Spelling t.Expression
 operand_language (Some (Number value)) = numbered ▹ (λ x. t.Number x.0 x.1)
 operand_language (Some (Name bytes)) = named ▷ NamedLanguage
 operand_language (Some (Punctuator p.OpenParenthesis)) = marked p.OpenParenthesis ▷ OpeningLanguage
@@ -242,11 +242,11 @@ operand_over_good bc g h = good_head {K = operand_language} (operand_good bc (om
 
 -- ---- Expressions
 
-abbrev BranchLanguage : t.Expression → Language t.Expression
+abbrev BranchLanguage : t.Expression → Spelling t.Expression
 BranchLanguage x = marked p.Question ▷ (λ q. expression ▷ (λ y. marked p.Colon ▷ (λ c. expression ▹ t.Conditional x y)))
 
 -- `?` and what follows, or nothing
-abbrev pub ConditionalLanguage : t.Expression → Language t.Expression
+abbrev pub ConditionalLanguage : t.Expression → Spelling t.Expression
 ConditionalLanguage x y us = BranchLanguage x y us ⊎ just x y us
 
 branch_good : {b c : ℕ} → b ≤ suc c → {e e' : Parser t.Expression} → Good c expression expression ExpressionEnd e e' → (x : t.Expression) →
@@ -280,7 +280,7 @@ conditional_ends x y us rest (inl (q, us₁, us₂, e, l, m)) f = rw (e, l) (ref
 conditional_ends x y us rest (inr (q, e)) f = rw e f.0
 
 -- after the first operand
-abbrev pub AfterLanguage : t.Expression → Language t.Expression
+abbrev pub AfterLanguage : t.Expression → Spelling t.Expression
 AfterLanguage left = Ladder 10 left ▷ ConditionalLanguage
 
 pub expression_after_good : {b c : ℕ} → b ≤ suc c → (fuel fuel' : ℕ) → b ≤ fuel → b ≤ fuel' → (o o' : Parser t.Expression)

@@ -6,19 +6,19 @@ use Rattle.c_tree.specs.Tokens.{Token, Lexeme, Punctuator}
 use Rattle.c_tree.specs.declared.token.Punctuator.TheVariants as p
 use Rattle.c_tree.specs.Languages.{maybe, more_of, some_of}
 use Rattle.c_reader.specs.links.ParserFunctions.{Parser, head_of, head_is, is_mark, parse_maybe, parse_unless, parse_more_of, parse_some_of}
-use Rattle.c_reader.proofs.CorrectParsers.{Language, Good, ◌▷◌, ◌▹◌, just, Anything, good_give, good_to, good_map}
+use Rattle.c_reader.proofs.CorrectParsers.{Spelling, Good, ◌▷◌, ◌▹◌, just, Anything, good_give, good_to, good_map}
 use Rattle.c_reader.proofs.CorrectParsers.{good_where, good_then, good_then_less, good_less, good_small}
 use Rattle.c_reader.proofs.Tokens.{marked, good_mark, marked-strict}
 
 -- each list of the language begins with a token that passes the test, or with one that fails it
-abbrev pub Starts : {A : Type 0} → (Option Lexeme → Bool) → Bool → Language A → Type 0
+abbrev pub Starts : {A : Type 0} → (Option Lexeme → Bool) → Bool → Spelling A → Type 0
 Starts {A = A} test answer L = (x : A) (us rest : List Token) → L x us → test (head_of (us ++ rest)) ≡ answer
 
 -- where a part is read if the next token passes a test: what follows must fail it too
 abbrev pub Unless : (Lexeme → Bool) → (Option Lexeme → Type 0) → Option Lexeme → Type 0
 Unless test F h = F h × (head_is test h ≡ false)
 
-pub good_maybe : {A : Type 0} {b : ℕ} {L : Language A} {F : Option Lexeme → Type 0} {P P' : Parser A} (test : Lexeme → Bool) →
+pub good_maybe : {A : Type 0} {b : ℕ} {L : Spelling A} {F : Option Lexeme → Type 0} {P P' : Parser A} (test : Lexeme → Bool) →
     Good b L L F P P' → Starts (head_is test) true L → Good b (maybe L) (maybe L) (Unless test F) (parse_maybe test P) (parse_maybe test P')
 good_maybe {A = A} {b = b} {L = L} {F = F} {P = P} {P' = P'} test g starts =
     good_where (head_is test)
@@ -35,7 +35,7 @@ good_maybe {A = A} {b = b} {L = L} {F = F} {P = P} {P' = P'} test g starts =
 abbrev pub Where : (Lexeme → Bool) → (Option Lexeme → Type 0) → Option Lexeme → Type 0
 Where test F h = F h × (head_is test h ≡ true)
 
-pub good_unless : {A : Type 0} {b : ℕ} {L : Language A} {F : Option Lexeme → Type 0} {P P' : Parser A} (test : Lexeme → Bool) →
+pub good_unless : {A : Type 0} {b : ℕ} {L : Spelling A} {F : Option Lexeme → Type 0} {P P' : Parser A} (test : Lexeme → Bool) →
     Good b L L F P P' → Starts (head_is test) false L → Good b (maybe L) (maybe L) (Where test F) (parse_unless test P) (parse_unless test P')
 good_unless {A = A} {b = b} {L = L} {F = F} {P = P} {P' = P'} test g starts =
     good_where (head_is test)
@@ -50,24 +50,24 @@ good_unless {A = A} {b = b} {L = L} {F = F} {P = P} {P' = P'} test g starts =
 
 -- ---- Parts with commas between them
 
-abbrev Comma : {A : Type 0} → Language A → Language (List A)
+abbrev Comma : {A : Type 0} → Spelling A → Spelling (List A)
 Comma L = marked p.Comma ▷ (λ c. L ▷ (λ x. more_of L ▹ (λ xs. x ∷ xs)))
 
-comma_up : {A : Type 0} (L : Language A) (ys : List A) (us : List Token) → Comma L ys us → more_of L ys us
+comma_up : {A : Type 0} (L : Spelling A) (ys : List A) (us : List Token) → Comma L ys us → more_of L ys us
 comma_up L ys us (c, us₁, us₂, e, l, (x, us₃, us₄, e', h, (xs, m, q))) =
     subst (λ ys. more_of L ys us) q (us₁ ++ us₃, us₄, e ∙ ap (λ l. us₁ ++ l) e' ∙ sym (append_assoc us₁ us₃ us₄), (us₁, us₃, refl, (c, l), h), m)
 
-comma_down : {A : Type 0} (L : Language A) (x : A) (xs : List A) (us : List Token) → more_of L (x ∷ xs) us → Comma L (x ∷ xs) us
+comma_down : {A : Type 0} (L : Spelling A) (x : A) (xs : List A) (us : List Token) → more_of L (x ∷ xs) us → Comma L (x ∷ xs) us
 comma_down L x xs us (us₁, us₂, e, (us₃, us₄, e', (c, l), h), m) =
     (c, us₃, us₄ ++ us₂, e ∙ ap (λ l. l ++ us₂) e' ∙ append_assoc us₃ us₄ us₂, l, (x, us₄, us₂, refl, h, (xs, m, refl)))
 
 -- after a part stands a comma, or what follows
-more_ends : {A : Type 0} (L : Language A) (F : Option Lexeme → Type 0) → F (Some (Punctuator p.Comma)) → (xs : List A) (us rest : List Token) → more_of L xs us
+more_ends : {A : Type 0} (L : Spelling A) (F : Option Lexeme → Type 0) → F (Some (Punctuator p.Comma)) → (xs : List A) (us rest : List Token) → more_of L xs us
     → Unless (is_mark p.Comma) F (head_of rest) → F (head_of (us ++ rest))
 more_ends L F comma [] us rest u f = rw u f.0
 more_ends L F comma (x ∷ xs) us rest (us₁, us₂, e, (us₃, us₄, e', (c, l), h), m) f = rw (e, e', l) comma
 
-more_step : {A : Type 0} {b c : ℕ} {L : Language A} {F : Option Lexeme → Type 0} {P P' : Parser A} → b ≤ suc c → c ≤ b → F (Some (Punctuator p.Comma))
+more_step : {A : Type 0} {b c : ℕ} {L : Spelling A} {F : Option Lexeme → Type 0} {P P' : Parser A} → b ≤ suc c → c ≤ b → F (Some (Punctuator p.Comma))
     → Good b L L F P P' → (fuel fuel' : ℕ) →
     Good c (more_of L) (more_of L) (Unless (is_mark p.Comma) F) (parse_more_of fuel P) (parse_more_of fuel' P') →
     Good b (more_of L) (more_of L) (Unless (is_mark p.Comma) F) (parse_more_of (suc fuel) P) (parse_more_of (suc fuel') P')
@@ -90,7 +90,7 @@ more_step {A = A} {L = L} {F = F} bc cb comma g fuel fuel' h =
     out (x ∷ xs) us rest (us₁, us₂, e, (us₃, us₄, e', (c, l), h), m) f =
         inl (comma_down L x xs us (us₁, us₂, e, (us₃, us₄, e', (c, l), h), m), rw (e, e', l) refl)
 
-pub good_more_of : {A : Type 0} {L : Language A} {F : Option Lexeme → Type 0} {P P' : Parser A} → F (Some (Punctuator p.Comma)) → (fuel fuel' b : ℕ) → b ≤ fuel
+pub good_more_of : {A : Type 0} {L : Spelling A} {F : Option Lexeme → Type 0} {P P' : Parser A} → F (Some (Punctuator p.Comma)) → (fuel fuel' b : ℕ) → b ≤ fuel
     → b ≤ fuel' → Good b L L F P P' → Good 0 L L F P P →
     Good b (more_of L) (more_of L) (Unless (is_mark p.Comma) F) (parse_more_of fuel P) (parse_more_of fuel' P')
 good_more_of comma zero fuel' b h h' g g₀ = good_small h (λ ts. ([], refl, [], [], refl))
@@ -101,7 +101,7 @@ good_more_of comma (suc fuel) (suc fuel') b h h' g g₀ =
     more_step {b = b} {c = b - 1} (omega arith) (omega arith) comma g fuel fuel'
     (good_more_of comma fuel fuel' (b - 1) (omega (arith, h)) (omega (arith, h')) (good_less g (omega arith)) g₀)
 
-pub good_some_of : {A : Type 0} {L : Language A} {F : Option Lexeme → Type 0} {P P' : Parser A} → F (Some (Punctuator p.Comma)) → (fuel fuel' b : ℕ) → b ≤ fuel
+pub good_some_of : {A : Type 0} {L : Spelling A} {F : Option Lexeme → Type 0} {P P' : Parser A} → F (Some (Punctuator p.Comma)) → (fuel fuel' b : ℕ) → b ≤ fuel
     → b ≤ fuel' → Good b L L F P P' → Good 0 L L F P P →
     Good b (some_of L) (some_of L) (Unless (is_mark p.Comma) F) (parse_some_of fuel P) (parse_some_of fuel' P')
 good_some_of {A = A} {L = L} {F = F} comma fuel fuel' b h h' g g₀ =

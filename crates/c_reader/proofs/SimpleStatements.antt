@@ -4,16 +4,18 @@ use Rattle.std.proofs.Common.{false, sym, refl, ap, ◌∙◌, subst, inl, inr, 
 use Rattle.std.specs.Prelude.{◌⊎◌}
 use Rattle.ido_base.specs.declared.place.Place.{Place}
 use Rattle.ido_ints.specs.declared.kinds.Kind.{Kind}
+use Rattle.c_tree.specs.declared.language.Language.{Language}
+use Rattle.c_tree.specs.declared.language.Language.TheVariants.{Plain, Full}
 use Rattle.c_tree.specs.Tokens.{Token, Lexeme, Name, Keyword, Punctuator}
 use Rattle.c_tree.specs.declared.token.Keyword.TheVariants as k
 use Rattle.c_tree.specs.declared.token.Punctuator.TheVariants as p
 use Rattle.c_tree.specs.Trees as t
 use Rattle.c_tree.specs.Languages.{mark, ◌⋅◌, name, starting_at}
-use Rattle.c_tree.specs.Grammar.{expression, index, type, initial, initial_of_first, first, condition, assignment, changed, target}
+use Rattle.c_tree.specs.Grammar.{expression, index, type, initial, initial_of_first, first, condition, assignment, changed, target, key}
 use Rattle.c_reader.specs.links.ParserFunctions.{Parser, head_of, head_is, is_mark, begins_type, parse_initial}
 use Rattle.c_reader.specs.links.ParserFunctions.{parse_initial_of_first, declaration_over, parse_first}
-use Rattle.c_reader.specs.links.ParserFunctions.{parse_condition, parse_name_in_parentheses, assigned_from, statement_after_target, statement_after_name}
-use Rattle.c_reader.proofs.CorrectParsers.{Language, Good, ◌▷◌, ◌▹◌, just, Anything, Strict, good_give, good_to, good_map, good_where, good_then}
+use Rattle.c_reader.specs.links.ParserFunctions.{parse_condition, parse_key, parse_lock_name, assigned_from, statement_after_target, statement_after_name}
+use Rattle.c_reader.proofs.CorrectParsers.{Spelling, Good, ◌▷◌, ◌▹◌, just, Anything, Strict, good_give, good_to, good_map, good_where, good_then}
 use Rattle.c_reader.proofs.Tokens.{marked, named, good_mark, good_name}
 use Rattle.c_reader.proofs.Types.{TypeEnd, good_type, type_begins}
 use Rattle.c_reader.proofs.OptionalParts.{Unless}
@@ -28,7 +30,7 @@ use Rattle.c_reader.proofs.Calls.{RightLanguage, RightEnd, good_right, CallLangu
 abbrev pub InitialEnd : Option Lexeme → Type 0
 InitialEnd h = RightEnd h × (head_is (is_mark p.Assign) h ≡ false)
 
-abbrev AssignedRight : Language t.Initial
+abbrev AssignedRight : Spelling t.Initial
 AssignedRight = marked p.Assign ▷ (λ o. RightLanguage)
 
 right_up : (y : t.Initial) (us : List Token) → AssignedRight y us → initial y us
@@ -55,7 +57,7 @@ good_initial fuel fuel' b h h' =
     out (t.Value x) us rest (us₁, us₂, e, (o, l), m) f = inl ((o, us₁, us₂, e, l, m), rw (e, l) refl)
     out (t.Result c) us rest (us₁, us₂, e, (o, l), m) f = inl ((o, us₁, us₂, e, l, m), rw (e, l) refl)
 
-abbrev AssignedValue : Language t.Initial
+abbrev AssignedValue : Spelling t.Initial
 AssignedValue = marked p.Assign ▷ (λ o. expression ▹ t.Value)
 
 good_initial_of_first : (fuel fuel' b : ℕ) → b ≤ fuel → b ≤ fuel'
@@ -83,21 +85,21 @@ pub type-strict : Strict type
 type-strict x [] u = let q : false ≡ true = type_begins x [] [] u in absurd (true≢false (sym q))
 type-strict x (u ∷ us) m = zero-lt-suc (length us)
 
-first_strict : {A B : Type 0} (L : Language A) (M : A → Language B) → Strict L → Strict (L ▷ M)
+first_strict : {A B : Type 0} (L : Spelling A) (M : A → Spelling B) → Strict L → Strict (L ▷ M)
 first_strict L M s y us (x, us₁, us₂, e, l, m) =
     let a : length us ≡ length us₁ + length us₂ = ap length e ∙ length-append us₁ us₂ in let b : 0 < length us₁ = s x us₁ l in omega (arith, a, b)
 
 abbrev made : Place → Kind → t.Name → t.Initial → t.Declaration
 made place x n i = record { place = place; kind = x; name = n; initial = i }
 
-abbrev Declared : Language t.Initial → Place → Language t.Declaration
+abbrev Declared : Spelling t.Initial → Place → Spelling t.Declaration
 Declared L place = type ▷ (λ x. named ▷ (λ n. L ▹ made place x n))
 
 -- a declaration, where what its local begins with is of the language
-abbrev pub DeclarationLanguage : Language t.Initial → Language t.Declaration
+abbrev pub DeclarationLanguage : Spelling t.Initial → Spelling t.Declaration
 DeclarationLanguage L y = starting_at y.place (type y.kind ⋅ name y.name ⋅ L y.initial)
 
-pub good_declaration : {b : ℕ} (L : Language t.Initial) (F : Option Lexeme → Type 0) {P P' : Parser t.Initial} → Good b L L F P P'
+pub good_declaration : {b : ℕ} (L : Spelling t.Initial) (F : Option Lexeme → Type 0) {P P' : Parser t.Initial} → Good b L L F P P'
     → Good b (DeclarationLanguage L) (DeclarationLanguage L) F (declaration_over P) (declaration_over P')
 good_declaration L F g =
     good_to {U = At (Declared L)} {K = At (Declared L)} {F = F}
@@ -124,26 +126,56 @@ good_condition fuel fuel' b h h' =
     (λ y us (us₁, us₂, e, (o, l), (us₃, us₄, e', m, (c, n))). (o, us₁, us₂, e, l, (y, us₃, us₄, e', m, (c, n, refl))))
     (λ h f. f)
   where
-    Inside : Language t.Expression
+    Inside : Spelling t.Expression
     Inside = marked p.OpenParenthesis ▷ (λ o. expression ▷ (λ x. marked p.CloseParenthesis ▹ (λ c. x)))
 
--- `(name)`
-abbrev pub NameInside : Language t.Name
-NameInside x = mark p.OpenParenthesis ⋅ name x ⋅ mark p.CloseParenthesis
+-- ---- Names of locks
 
-pub good_name_inside : {b : ℕ} → Good b NameInside NameInside Anything parse_name_in_parentheses parse_name_in_parentheses
-good_name_inside =
+key_good : (language : Language) (fuel fuel' b : ℕ) → b ≤ fuel → b ≤ fuel'
+    → Good b (key language) (key language) OperandEnd (parse_key language fuel) (parse_key language fuel')
+key_good Plain fuel fuel' b h h' =
+    good_to {U' = key Plain} {K' = key Plain} {F' = OperandEnd} (good_give None) (λ y us (q, e). subst (λ y. key Plain y us) q e) down (λ h f. tt)
+  where
+    down : (y : Option t.Expression) (us : List Token) → key Plain y us → just None y us
+    down None us u = (refl, u)
+    down (Some x) us u = absurd u
+key_good Full fuel fuel' b h h' =
+    good_to {U' = key Full} {K' = key Full} {F' = OperandEnd} (good_index {c = b} (omega arith) (good_expression fuel fuel' b h h')) up down (λ h f. f)
+  where
+    up : (y : Option t.Expression) (us : List Token) → index y us → key Full y us
+    up None us u = u
+    up (Some x) us u = u
+
+    down : (y : Option t.Expression) (us : List Token) → key Full y us → index y us
+    down None us u = u
+    down (Some x) us u = u
+
+abbrev made_lock_name : t.Name → Option t.Expression → t.Name × Option t.Expression
+made_lock_name x y = (x, y)
+
+-- the name of a lock, in parentheses
+abbrev pub LockInside : Language → Spelling (t.Name × Option t.Expression)
+LockInside language x = mark p.OpenParenthesis ⋅ name x.0 ⋅ key language x.1 ⋅ mark p.CloseParenthesis
+
+pub good_lock_inside : (language : Language) (fuel fuel' b : ℕ) → b ≤ fuel → b ≤ fuel'
+    → Good b (LockInside language) (LockInside language) Anything (parse_lock_name language fuel) (parse_lock_name language fuel')
+good_lock_inside language fuel fuel' b h h' =
     good_to {U = Inside} {K = Inside} {F = Anything}
-    (good_then {M = λ o. named ▷ (λ x. marked p.CloseParenthesis ▹ (λ c. x))} {F = Anything} {G = Anything} (good_mark p.OpenParenthesis)
-    (λ o. good_then {M = λ x. marked p.CloseParenthesis ▹ (λ c. x)} {F = Anything} {G = Anything} good_name
-    (λ x. good_map (λ c. x) (good_mark p.CloseParenthesis)) (λ x y us rest m f. tt))
+    (good_then {M = λ o. named ▷ (λ x. key language ▷ (λ y. marked p.CloseParenthesis ▹ (λ c. made_lock_name x y)))} {F = Anything} {G = Anything}
+    (good_mark p.OpenParenthesis)
+    (λ o. good_then {M = λ x. key language ▷ (λ y. marked p.CloseParenthesis ▹ (λ c. made_lock_name x y))} {F = Anything} {G = Anything} good_name
+    (λ x. good_then {M = λ y. marked p.CloseParenthesis ▹ (λ c. made_lock_name x y)} {F = OperandEnd} {G = Anything} (key_good language fuel fuel' b h h')
+    (λ y. good_map (λ c. made_lock_name x y) (good_mark p.CloseParenthesis)) (λ y z us rest (c, m, q) f. rw m refl))
+    (λ x y us rest m f. tt))
     (λ o y us rest m f. tt))
-    (λ y us (o, us₁, us₂, e, l, (x, us₃, us₄, e', m, (c, n, q))). subst (λ y. NameInside y us) q (us₁, us₂, e, (o, l), (us₃, us₄, e', m, (c, n))))
-    (λ y us (us₁, us₂, e, (o, l), (us₃, us₄, e', m, (c, n))). (o, us₁, us₂, e, l, (y, us₃, us₄, e', m, (c, n, refl))))
+    (λ y us (o, us₁, us₂, e, l, (x, us₃, us₄, e', m, (k, us₅, us₆, e₂, n, (c, v, q)))).
+    subst (λ y. LockInside language y us) q (us₁, us₂, e, (o, l), (us₃, us₄, e', m, (us₅, us₆, e₂, n, (c, v)))))
+    (λ y us (us₁, us₂, e, (o, l), (us₃, us₄, e', m, (us₅, us₆, e₂, n, (c, v)))).
+    (o, us₁, us₂, e, l, (y.0, us₃, us₄, e', m, (y.1, us₅, us₆, e₂, n, (c, v, refl)))))
     (λ h f. f)
   where
-    Inside : Language t.Name
-    Inside = marked p.OpenParenthesis ▷ (λ o. named ▷ (λ x. marked p.CloseParenthesis ▹ (λ c. x)))
+    Inside : Spelling (t.Name × Option t.Expression)
+    Inside = marked p.OpenParenthesis ▷ (λ o. named ▷ (λ x. key language ▷ (λ y. marked p.CloseParenthesis ▹ (λ c. made_lock_name x y))))
 
 -- ---- The first part of a `for`
 
@@ -201,7 +233,7 @@ good_first fuel fuel' b h h' =
     present_up (λ y us u. u) (λ h f. f))
     out
   where
-    Present : Language t.First
+    Present : Spelling t.First
     Present t.NoFirst us = ⊥
     Present (t.Declared x) us = DeclarationLanguage initial_of_first x us
     Present (t.Assigned x) us = assignment x us
@@ -236,7 +268,7 @@ good_first fuel fuel' b h h' =
 abbrev assign_of : t.Lvalue → t.Change → t.Statement
 assign_of x y = t.Assign (record { place = x.name.place; target = x; change = y })
 
-abbrev FromRight : t.Lvalue → Language t.Statement
+abbrev FromRight : t.Lvalue → Spelling t.Statement
 FromRight x = marked p.Assign ▷ (λ o. RightLanguage ▹ assigned_from x)
 
 -- a change by another mark than `=`
@@ -246,11 +278,11 @@ IsOther (t.Update operator value) = Unit {0}
 IsOther t.Increment = Unit {0}
 IsOther t.Decrement = Unit {0}
 
-abbrev FromChange : t.Lvalue → Language t.Statement
+abbrev FromChange : t.Lvalue → Spelling t.Statement
 FromChange x y us = (c : t.Change) × IsOther c × ChangeLanguage c us × (assign_of x c ≡ y)
 
 -- what stands after the target of a statement
-abbrev pub AfterTarget : t.Lvalue → Language t.Statement
+abbrev pub AfterTarget : t.Lvalue → Spelling t.Statement
 AfterTarget x y us = FromRight x y us ⊎ FromChange x y us
 
 change_split : (x : t.Lvalue) (y : t.Statement) (us : List Token) → (ChangeLanguage ▹ assign_of x) y us → AfterTarget x y us
@@ -285,11 +317,11 @@ after_target_good fuel fuel' b h h' x =
 abbrev at_index : t.Name → Option t.Expression → t.Lvalue
 at_index n i = record { name = n; index = i }
 
-abbrev FromTarget : t.Name → Language t.Statement
+abbrev FromTarget : t.Name → Spelling t.Statement
 FromTarget n = index ▷ (λ i. AfterTarget (at_index n i))
 
 -- what stands after the name that a statement begins with
-abbrev pub AfterName : t.Name → Language t.Statement
+abbrev pub AfterName : t.Name → Spelling t.Statement
 AfterName n y us = (CallLanguage n ▹ t.CallOnly) y us ⊎ FromTarget n y us
 
 after_target_head : (test : Option Lexeme → Bool) → test (Some (Punctuator p.Assign)) ≡ false → test (Some (Punctuator p.Increment)) ≡ false

@@ -4,11 +4,11 @@ use Rattle.ido_base.specs.declared.place.Place.{Place}
 use Rattle.c_tree.specs.Tokens.{Token, Lexeme}
 use Rattle.c_tree.specs.Languages.{first_place}
 use Rattle.c_reader.specs.links.ParserFunctions.{Parsed, Read, Wrong, Parser, here, ◌>>=◌, head_of}
-use Rattle.c_reader.proofs.CorrectParsers.{Language, Good, Meets, ParseLockstep, Strict}
+use Rattle.c_reader.proofs.CorrectParsers.{Spelling, Good, Meets, ParseLockstep, Strict}
 use Rattle.c_reader.proofs.Tokens.{some_same}
 
 -- a list of the language that belongs to the place of its first token
-abbrev pub At : {B : Type 0} → (Place → Language B) → Language B
+abbrev pub At : {B : Type 0} → (Place → Spelling B) → Spelling B
 At M y us = (place : Place) × (first_place us ≡ Some place) × M place y us
 
 abbrev first_or : Token → List Token → Token
@@ -23,7 +23,7 @@ has_first : (us : List Token) → 0 < length us → (place : Place) × (first_pl
 has_first [] h = let z : ⊥ = omega (arith, h) in absurd z
 has_first (u ∷ us) h = (u.place, refl)
 
-pub good_here : {B : Type 0} {b : ℕ} {F : Option Lexeme → Type 0} (M : Place → Language B) {P P' : Place → Parser B} → ((place : Place) → Strict (M place)) →
+pub good_here : {B : Type 0} {b : ℕ} {F : Option Lexeme → Type 0} (M : Place → Spelling B) {P P' : Place → Parser B} → ((place : Place) → Strict (M place)) →
     ((place place' : Place) (y : B) (us : List Token) → M place y us → (y' : B) × M place' y' us) →
     ((place : Place) → Good b (M place) (M place) F (P place) (P' place)) → Good b (At M) (At M) F (here >>= P) (here >>= P')
 good_here {B = B} {b = b} {F = F} M {P = P} {P' = P'} strict shape g = record { sure = sure; lockstep = lockstep; whole = whole }

@@ -14,7 +14,7 @@ use Rattle.c_tree.specs.Trees as t
 use Rattle.c_tree.specs.Languages.{word_at, mark_at, number_at, name}
 use Rattle.c_reader.specs.links.ParserFunctions.{is_mark, is_word, number_of_mark, number_of_word, number_of_operator, parse_mark}
 use Rattle.c_reader.specs.links.ParserFunctions.{parse_word, parse_name, parse_number, parse_lexeme, name_in, number_in}
-use Rattle.c_reader.proofs.CorrectParsers.{Language, Good, found_in, Anything, Strict, good_taking, good_to}
+use Rattle.c_reader.proofs.CorrectParsers.{Spelling, Good, found_in, Anything, Strict, good_taking, good_to}
 
 -- ---- Numbers of marks and words represent them
 
@@ -158,16 +158,16 @@ is_word-same x = eq-eqb (number_of_word x) (number_of_word x) refl
 -- ---- Single tokens
 
 -- a token of this lexeme, by its place
-abbrev pub marked : pn.Punctuator → Language Place
+abbrev pub marked : pn.Punctuator → Spelling Place
 marked x place = mark_at place x
 
-abbrev pub worded : kw.Keyword → Language Place
+abbrev pub worded : kw.Keyword → Spelling Place
 worded x place = word_at place x
 
-abbrev pub named : Language t.Name
+abbrev pub named : Spelling t.Name
 named x = name x
 
-abbrev pub numbered : Language (Place × Typed)
+abbrev pub numbered : Spelling (Place × Typed)
 numbered x = number_at x.0 x.1
 
 -- the token that passes a test for one lexeme

@@ -12,7 +12,7 @@ use Rattle.c_tree.specs.Languages.{maybe, words}
 use Rattle.c_tree.specs.Grammar.{type, spellings}
 use Rattle.c_reader.specs.links.ParserFunctions.{give, by_head, head_of, head_is, is_word, parse_word, parse_int}
 use Rattle.c_reader.specs.links.ParserFunctions.{signed_by, unsigned_by, type_by, parse_type, begins_type, ◌>>◌}
-use Rattle.c_reader.proofs.CorrectParsers.{Language, Good, ◌▷◌, ◌▹◌, just, nothing, Anything, good_give, good_to, good_map, good_head, good_then, good_wrong}
+use Rattle.c_reader.proofs.CorrectParsers.{Spelling, Good, ◌▷◌, ◌▹◌, just, nothing, Anything, good_give, good_to, good_map, good_head, good_then, good_wrong}
 use Rattle.c_reader.proofs.Tokens.{worded, good_word}
 use Rattle.c_reader.proofs.OptionalParts.{Unless, good_maybe}
 
@@ -62,18 +62,18 @@ int_part : {b : ℕ} → Good b (maybe (worded k.Int)) (maybe (worded k.Int)) (U
 int_part = good_maybe (is_word k.Int) (good_word k.Int) (λ x us rest u. rw u refl)
 
 -- one word, for one kind
-abbrev Alone : kw.Keyword → Kind → Language Kind
+abbrev Alone : kw.Keyword → Kind → Spelling Kind
 Alone w x = worded w ▹ (λ p. x)
 
 -- one word and perhaps `int`, for one kind
-abbrev WithInt : kw.Keyword → Kind → Language Kind
+abbrev WithInt : kw.Keyword → Kind → Spelling Kind
 WithInt w x = worded w ▷ (λ p. maybe (worded k.Int) ▹ (λ i. x))
 
-alone : {b : ℕ} {U : Language Kind} (w : kw.Keyword) (x : Kind) → ((y : Kind) (us : List Token) → Alone w x y us → U y us)
+alone : {b : ℕ} {U : Spelling Kind} (w : kw.Keyword) (x : Kind) → ((y : Kind) (us : List Token) → Alone w x y us → U y us)
     → Good b U (Alone w x) TypeEnd (do parse_word w; give x) (do parse_word w; give x)
 alone w x up = good_to (good_map (λ p. x) (good_word w)) up (λ y us u. u) (λ h f. tt)
 
-with_int : {b : ℕ} {U : Language Kind} (w : kw.Keyword) (x : Kind) → ((y : Kind) (us : List Token) → WithInt w x y us → U y us) →
+with_int : {b : ℕ} {U : Spelling Kind} (w : kw.Keyword) (x : Kind) → ((y : Kind) (us : List Token) → WithInt w x y us → U y us) →
     Good b U (WithInt w x) TypeEnd (do parse_word w; parse_int; give x) (do parse_word w; parse_int; give x)
 with_int w x up = good_to {F = Unless (is_word k.Int) Anything} (good_then (good_word w) (λ p. good_map (λ i. x) int_part) (λ p y us rest m f. tt)) up
     (λ y us u. u) (λ h f. (tt, f.2))
@@ -81,10 +81,10 @@ with_int w x up = good_to {F = Unless (is_word k.Int) Anything} (good_then (good
 -- ---- After `signed`, and after `unsigned`
 
 -- what makes the kind when this word stands before it
-abbrev After : kw.Keyword → Language Kind
+abbrev After : kw.Keyword → Spelling Kind
 After w x us = (place : Place) → type x (token place w ∷ us)
 
-abbrev signed_language : Option Lexeme → Language Kind
+abbrev signed_language : Option Lexeme → Spelling Kind
 signed_language (Some (Keyword k.Char)) = Alone k.Char kind.SignedChar
 signed_language (Some (Keyword k.Short)) = WithInt k.Short kind.Short
 signed_language (Some (Keyword k.Int)) = Alone k.Int kind.Int
@@ -188,7 +188,7 @@ signed_out kind.UnsignedLong us rest (inr (inl (p0, v0, e0, (p1, v1, e1, (p2, v2
     let q : Keyword k.Signed ≡ Keyword k.Unsigned = same_first at_0 p0 us v0 e0 in cc
 signed_out kind.UnsignedLong us rest (inr (inr z)) f = elim z [ ]
 
-abbrev unsigned_language : Option Lexeme → Language Kind
+abbrev unsigned_language : Option Lexeme → Spelling Kind
 unsigned_language (Some (Keyword k.Char)) = Alone k.Char kind.UnsignedChar
 unsigned_language (Some (Keyword k.Short)) = WithInt k.Short kind.UnsignedShort
 unsigned_language (Some (Keyword k.Int)) = Alone k.Int kind.UnsignedInt
@@ -254,7 +254,7 @@ unsigned_out kind.UnsignedLong us rest (inr (inr z)) f = elim z [ ]
 
 -- ---- Types
 
-abbrev type_language : Option Lexeme → Language Kind
+abbrev type_language : Option Lexeme → Spelling Kind
 type_language (Some (Keyword k.Char)) = Alone k.Char kind.Char
 type_language (Some (Keyword k.Short)) = WithInt k.Short kind.Short
 type_language (Some (Keyword k.Int)) = Alone k.Int kind.Int

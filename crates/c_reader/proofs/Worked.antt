@@ -1,10 +1,11 @@
 -- Worked rows of the parser. Each token stands at the place of its number.
-use Rattle.std.specs.Prelude.{◌≡◌, ℕ, ◌+◌, List, [], ◌∷◌, refl, pos}
+use Rattle.std.specs.Prelude.{◌≡◌, ℕ, ◌+◌, List, [], ◌∷◌, ◌++◌, Some, None, true, refl, pos}
 use Rattle.ido_base.specs.declared.place.Place.{Place}
 use Rattle.ido_ints.specs.TypedNumbers.{Typed, typed}
 use Rattle.ido_ints.specs.declared.kinds.Kind.TheVariants as kind
 use Rattle.ido_ints.specs.declared.operators.Unary.TheVariants as unary
 use Rattle.ido_ints.specs.declared.operators.Binary.TheVariants as b
+use Rattle.c_tree.specs.declared.language.Language.TheVariants.{Plain, Full}
 use Rattle.c_tree.specs.Tokens.{Token, Lexeme, Name, Keyword, Number, Punctuator}
 use Rattle.c_tree.specs.declared.token.Keyword.TheVariants as k
 use Rattle.c_tree.specs.declared.token.Punctuator.TheVariants as p
@@ -74,7 +75,7 @@ parenthesised = refl
 
 -- `if (a) { if (b) {} else ;`: after `else` the `;` is wrong
 else_needs_block :
-    parse_statement 14 (tokens_from 0 (Keyword k.If ∷ Punctuator p.OpenParenthesis ∷ letter 97 ∷ Punctuator p.CloseParenthesis ∷ Punctuator p.OpenBrace ∷
+    parse_statement Plain 14 (tokens_from 0 (Keyword k.If ∷ Punctuator p.OpenParenthesis ∷ letter 97 ∷ Punctuator p.CloseParenthesis ∷ Punctuator p.OpenBrace ∷
     Keyword k.If ∷ Punctuator p.OpenParenthesis ∷ letter 98 ∷ Punctuator p.CloseParenthesis ∷ Punctuator p.OpenBrace ∷ Punctuator p.CloseBrace ∷
     Keyword k.Else ∷ Punctuator p.Semicolon ∷ [])) ≡
     Wrong (tokens_from 12 (Punctuator p.Semicolon ∷ []))
@@ -83,7 +84,7 @@ else_needs_block = refl
 
 -- `if (a) {} else if (b) {} else {}` has two arms and a last block
 else_if :
-    parse_statement 17 (tokens_from 0 (Keyword k.If ∷ Punctuator p.OpenParenthesis ∷ letter 97 ∷ Punctuator p.CloseParenthesis ∷ Punctuator p.OpenBrace ∷
+    parse_statement Plain 17 (tokens_from 0 (Keyword k.If ∷ Punctuator p.OpenParenthesis ∷ letter 97 ∷ Punctuator p.CloseParenthesis ∷ Punctuator p.OpenBrace ∷
     Punctuator p.CloseBrace ∷ Keyword k.Else ∷ Keyword k.If ∷ Punctuator p.OpenParenthesis ∷ letter 98 ∷ Punctuator p.CloseParenthesis ∷
     Punctuator p.OpenBrace ∷ Punctuator p.CloseBrace ∷ Keyword k.Else ∷ Punctuator p.OpenBrace ∷ Punctuator p.CloseBrace ∷ [])) ≡
     Read (t.If (at 0) (t.arm_and (t.Named (named 97 2)) (t.Braced (at 4) t.no_statement (at 5))
@@ -92,14 +93,15 @@ unfolding parse_expression parse_statement
 else_if = refl
 
 -- `x = f (;`: the token after the parenthesis is wrong
-wrong_argument : parse_statement 6 (tokens_from 0 (letter 120 ∷ Punctuator p.Assign ∷ letter 102 ∷ Punctuator p.OpenParenthesis ∷ Punctuator p.Semicolon ∷ []))
+wrong_argument : parse_statement Plain 6
+    (tokens_from 0 (letter 120 ∷ Punctuator p.Assign ∷ letter 102 ∷ Punctuator p.OpenParenthesis ∷ Punctuator p.Semicolon ∷ []))
     ≡ Wrong (tokens_from 4 (Punctuator p.Semicolon ∷ []))
 unfolding parse_expression parse_statement
 wrong_argument = refl
 
 -- `x = f() + 1;`: a call is the whole right side
 call_alone :
-    parse_statement 9 (tokens_from 0 (letter 120 ∷ Punctuator p.Assign ∷ letter 102 ∷ Punctuator p.OpenParenthesis ∷ Punctuator p.CloseParenthesis ∷
+    parse_statement Plain 9 (tokens_from 0 (letter 120 ∷ Punctuator p.Assign ∷ letter 102 ∷ Punctuator p.OpenParenthesis ∷ Punctuator p.CloseParenthesis ∷
     Punctuator (p.Binary b.Add) ∷ digit 1 ∷ Punctuator p.Semicolon ∷ [])) ≡
     Wrong (tokens_from 5 (Punctuator (p.Binary b.Add) ∷ digit 1 ∷ Punctuator p.Semicolon ∷ []))
 unfolding parse_expression parse_statement
@@ -107,16 +109,74 @@ call_alone = refl
 
 -- `mutex m; thread t { lock(m); }`
 small_program :
-    parse_program (tokens_from 0 (Keyword k.Mutex ∷ letter 109 ∷ Punctuator p.Semicolon ∷ Keyword k.Thread ∷ letter 116 ∷ Punctuator p.OpenBrace ∷
+    parse_program Plain (tokens_from 0 (Keyword k.Mutex ∷ letter 109 ∷ Punctuator p.Semicolon ∷ Keyword k.Thread ∷ letter 116 ∷ Punctuator p.OpenBrace ∷
     Keyword k.Lock ∷ Punctuator p.OpenParenthesis ∷ letter 109 ∷ Punctuator p.CloseParenthesis ∷ Punctuator p.Semicolon ∷ Punctuator p.CloseBrace ∷ [])) ≡
-    Read (t.MutexItem (named 109 1) ∷ t.ThreadItem (record {
+    Read (t.MutexItem (named 109 1) None ∷ t.ThreadItem (record {
       name = named 116 4;
-      block = t.Braced (at 5) (t.statement_and (t.Lock (at 6) (named 109 8)) t.no_statement) (at 11);
+      block = t.Braced (at 5) (t.statement_and (t.Lock (at 6) (named 109 8) None) t.no_statement) (at 11);
     }) ∷ []) []
 unfolding parse_expression parse_statement parse_program
 small_program = refl
 
+-- ---- What only the full language has
+
+abbrev brackets_of : List Lexeme → List Lexeme → List Lexeme
+brackets_of inside after = Punctuator p.OpenBracket ∷ (inside ++ Punctuator p.CloseBracket ∷ after)
+
+-- `mutex m[4];`
+abbrev mutexes : List Token
+mutexes = tokens_from 0 (Keyword k.Mutex ∷ letter 109 ∷ brackets_of (digit 4 ∷ []) (Punctuator p.Semicolon ∷ []))
+
+array_read : parse_program Full mutexes ≡ Read (t.MutexItem (named 109 1) (Some (record { place = at 3; value = number 4 })) ∷ []) []
+unfolding parse_expression parse_statement parse_program
+array_read = refl
+
+array_wrong : parse_program Plain mutexes ≡ Wrong (tokens_from 2 (brackets_of (digit 4 ∷ []) (Punctuator p.Semicolon ∷ [])))
+unfolding parse_expression parse_statement parse_program
+array_wrong = refl
+
+-- `lock(m[i]);`
+abbrev locked : List Token
+locked = tokens_from 0 (Keyword k.Lock ∷ Punctuator p.OpenParenthesis ∷ letter 109 ∷ brackets_of (letter 105 ∷ [])
+    (Punctuator p.CloseParenthesis ∷ Punctuator p.Semicolon ∷ []))
+
+key_read : parse_statement Full 9 locked ≡ Read (t.Lock (at 0) (named 109 2) (Some (t.Named (named 105 4)))) []
+unfolding parse_expression parse_statement
+key_read = refl
+
+key_wrong : parse_statement Plain 9 locked
+    ≡ Wrong (tokens_from 3 (brackets_of (letter 105 ∷ []) (Punctuator p.CloseParenthesis ∷ Punctuator p.Semicolon ∷ [])))
+unfolding parse_expression parse_statement
+key_wrong = refl
+
+-- a key is needed between brackets
+no_key : parse_statement Full 8 (tokens_from 0 (Keyword k.Lock ∷ Punctuator p.OpenParenthesis ∷ letter 109 ∷ brackets_of []
+    (Punctuator p.CloseParenthesis ∷ Punctuator p.Semicolon ∷ []))) ≡
+    Wrong (tokens_from 4 (Punctuator p.CloseBracket ∷ Punctuator p.CloseParenthesis ∷ Punctuator p.Semicolon ∷ []))
+unfolding parse_expression parse_statement
+no_key = refl
+
+-- `persistent(m[]) int a[4];`
+abbrev guarded : List Token
+guarded = tokens_from 0 (Keyword k.Persistent ∷ Punctuator p.OpenParenthesis ∷ letter 109 ∷ brackets_of []
+    (Punctuator p.CloseParenthesis ∷ Keyword k.Int ∷ letter 97 ∷ brackets_of (digit 4 ∷ []) (Punctuator p.Semicolon ∷ [])))
+
+guard_read : parse_program Full guarded ≡ Read (t.PersistentItem (record {
+  guard = record { mutex = named 109 2; each = true };
+  kind = kind.Int;
+  name = named 97 7;
+  length = Some (record { place = at 9; value = number 4 });
+  initialiser = None;
+}) ∷ []) []
+unfolding parse_expression parse_statement parse_program
+guard_read = refl
+
+guard_wrong : parse_program Plain guarded ≡ Wrong (tokens_from 3 (brackets_of []
+    (Punctuator p.CloseParenthesis ∷ Keyword k.Int ∷ letter 97 ∷ brackets_of (digit 4 ∷ []) (Punctuator p.Semicolon ∷ []))))
+unfolding parse_expression parse_statement parse_program
+guard_wrong = refl
+
 -- an empty text ends too early
-no_program : parse_program [] ≡ Wrong []
+no_program : parse_program Plain [] ≡ Wrong []
 unfolding parse_expression parse_statement parse_program
 no_program = refl

@@ -62,8 +62,8 @@ module _ (high : ℕ) where
     IsFlat deep (t.While place condition inside) = IsLow condition × IsFlatBlock deep inside
     IsFlat deep (t.Do place inside condition) = IsFlatBlock deep inside × IsLow condition
     IsFlat deep (t.For place first condition last inside) = IsLowFirst first × IsLowIf condition × IsLowLast last × IsFlatBlock deep inside
-    IsFlat deep (t.Lock place mutex) = Unit {0}
-    IsFlat deep (t.Unlock place mutex) = Unit {0}
+    IsFlat deep (t.Lock place mutex key) = IsLowIf key
+    IsFlat deep (t.Unlock place mutex key) = IsLowIf key
 
     pub IsFlatBlock : (deep : ℕ) → t.Block → Type 0
     IsFlatBlock zero (t.Braced opening inside closing) = ⊥
@@ -90,7 +90,7 @@ module _ (high : ℕ) where
   IsFlatBody (suc deep) x = AreFlat deep x.statements × IsLowReturn x.returned
 
   abbrev pub IsFlatItem : (deep : ℕ) → t.Item → Type 0
-  IsFlatItem deep (t.MutexItem x) = Unit {0}
+  IsFlatItem deep (t.MutexItem x length) = Unit {0}
   IsFlatItem deep (t.PersistentItem x) = Unit {0}
   IsFlatItem deep (t.ThreadItem x) = IsFlatBlock deep x.block
   IsFlatItem deep (t.FunctionItem x) = IsFlatBody deep x.body

@@ -14,6 +14,7 @@ use crate::statement::{
     unlock,
 };
 use crate::token::Lexeme;
+use c_tree::language::Language;
 use c_tree::token::{Keyword, Punctuator};
 use c_tree::tree::{Arm, Block, Expression, Head, Statement};
 use ido_base::place::Place;
@@ -74,16 +75,21 @@ fn for_of(place: Place, head: Box<Head>, block: Block) -> Statement
 
 /// A statement.
 #[cycle(statement)]
-pub fn statement(alloc: Global, tokens: &mut Cursor<'_>, fuel: usize) -> Result<Statement, Halt>
-    ensures { Reads statement_of (spec.parse_statement fuel tokens.old) result tokens.new }
+pub fn statement(
+    alloc: Global,
+    language: Language,
+    tokens: &mut Cursor<'_>,
+    fuel: usize,
+) -> Result<Statement, Halt>
+    ensures { Reads statement_of (spec.parse_statement language fuel tokens.old) result tokens.new }
 {
     if fuel == 0 {
         return Err(Halt::Wrong);
     }
     match tokens.peek() {
         Some(Lexeme::Name(_)) => named_statement(alloc, tokens, fuel),
-        Some(Lexeme::Punctuator(first)) => marked_statement(alloc, tokens, fuel, first),
-        Some(Lexeme::Keyword(first)) => worded_statement(alloc, tokens, fuel, first),
+        Some(Lexeme::Punctuator(first)) => marked_statement(alloc, language, tokens, fuel, first),
+        Some(Lexeme::Keyword(first)) => worded_statement(alloc, language, tokens, fuel, first),
         _ => declaration_statement(alloc, tokens, fuel),
     }
 }
@@ -92,16 +98,17 @@ pub fn statement(alloc: Global, tokens: &mut Cursor<'_>, fuel: usize) -> Result<
 #[cycle(statement)]
 fn marked_statement(
     alloc: Global,
+    language: Language,
     tokens: &mut Cursor<'_>,
     fuel: usize,
     first: Punctuator,
 ) -> Result<Statement, Halt>
     requires { 0 < fuel }
-    ensures { Reads statement_of (statement_by_mark fuel first tokens.old) result tokens.new }
+    ensures { Reads statement_of (statement_by_mark language fuel first tokens.old) result tokens.new }
 {
     match first {
         Punctuator::OpenBrace => {
-            let inside = block(alloc, tokens, fuel - 1)?;
+            let inside = block(alloc, language, tokens, fuel - 1)?;
             Ok(Statement::Block(inside))
         }
         Punctuator::Semicolon => {
@@ -117,33 +124,39 @@ fn marked_statement(
 #[cycle(statement)]
 fn worded_statement(
     alloc: Global,
+    language: Language,
     tokens: &mut Cursor<'_>,
     fuel: usize,
     first: Keyword,
 ) -> Result<Statement, Halt>
     requires { 0 < fuel }
-    ensures { Reads statement_of (statement_by_word fuel first tokens.old) result tokens.new }
+    ensures { Reads statement_of (statement_by_word language fuel first tokens.old) result tokens.new }
 {
     match first {
-        Keyword::If => if_statement(alloc, tokens, fuel),
-        Keyword::While => while_statement(alloc, tokens, fuel),
-        Keyword::Do => do_statement(alloc, tokens, fuel),
-        Keyword::For => for_statement(alloc, tokens, fuel),
-        Keyword::Lock => lock(alloc, tokens),
-        Keyword::Unlock => unlock(alloc, tokens),
+        Keyword::If => if_statement(alloc, language, tokens, fuel),
+        Keyword::While => while_statement(alloc, language, tokens, fuel),
+        Keyword::Do => do_statement(alloc, language, tokens, fuel),
+        Keyword::For => for_statement(alloc, language, tokens, fuel),
+        Keyword::Lock => lock(alloc, language, tokens, fuel),
+        Keyword::Unlock => unlock(alloc, language, tokens, fuel),
         _ => declaration_statement(alloc, tokens, fuel),
     }
 }
 
 /// `if`, with each `else if` and the last `else`.
 #[cycle(statement)]
-fn if_statement(alloc: Global, tokens: &mut Cursor<'_>, fuel: usize) -> Result<Statement, Halt>
+fn if_statement(
+    alloc: Global,
+    language: Language,
+    tokens: &mut Cursor<'_>,
+    fuel: usize,
+) -> Result<Statement, Halt>
     requires { 0 < fuel }
-    ensures { Reads statement_of (parse_if fuel tokens.old) result tokens.new }
+    ensures { Reads statement_of (parse_if language fuel tokens.old) result tokens.new }
 {
     let place = tokens.word(Keyword::If)?;
     let mut arms = Vec::new(alloc);
-    let first_arm = arm(alloc, tokens, fuel, fuel - 1)?;
+    let first_arm = arm(alloc, language, tokens, fuel, fuel - 1)?;
     arms.push(first_arm)?;
     for turn in 0..fuel {
         if !tokens.sees_word(Keyword::Else) {
@@ -151,11 +164,11 @@ fn if_statement(alloc: Global, tokens: &mut Cursor<'_>, fuel: usize) -> Result<S
         }
         tokens.word(Keyword::Else)?;
         if !tokens.sees_word(Keyword::If) {
-            let inside = block(alloc, tokens, fuel - 1)?;
+            let inside = block(alloc, language, tokens, fuel - 1)?;
             return Ok(if_of(place, arms, Some(inside)));
         }
         tokens.word(Keyword::If)?;
-        let next = arm(alloc, tokens, fuel - turn, fuel - 1)?;
+        let next = arm(alloc, language, tokens, fuel - turn, fuel - 1)?;
         arms.push(next)?;
     }
     Err(Halt::Wrong)
@@ -165,37 +178,48 @@ fn if_statement(alloc: Global, tokens: &mut Cursor<'_>, fuel: usize) -> Result<S
 #[cycle(statement)]
 fn arm(
     alloc: Global,
+    language: Language,
     tokens: &mut Cursor<'_>,
     fuel_of_condition: usize,
     fuel: usize,
 ) -> Result<Arm, Halt>
-    ensures { Reads arm_of (parse_arm fuel_of_condition fuel tokens.old) result tokens.new }
+    ensures { Reads arm_of (parse_arm language fuel_of_condition fuel tokens.old) result tokens.new }
 {
     let condition = condition(alloc, tokens, fuel_of_condition)?;
-    let block = block(alloc, tokens, fuel)?;
+    let block = block(alloc, language, tokens, fuel)?;
     Ok(Arm { condition, block })
 }
 
 /// `while`
 #[cycle(statement)]
-fn while_statement(alloc: Global, tokens: &mut Cursor<'_>, fuel: usize) -> Result<Statement, Halt>
+fn while_statement(
+    alloc: Global,
+    language: Language,
+    tokens: &mut Cursor<'_>,
+    fuel: usize,
+) -> Result<Statement, Halt>
     requires { 0 < fuel }
-    ensures { Reads statement_of (parse_while fuel tokens.old) result tokens.new }
+    ensures { Reads statement_of (parse_while language fuel tokens.old) result tokens.new }
 {
     let place = tokens.word(Keyword::While)?;
     let condition = condition(alloc, tokens, fuel)?;
-    let block = block(alloc, tokens, fuel - 1)?;
+    let block = block(alloc, language, tokens, fuel - 1)?;
     Ok(while_of(alloc, place, condition, block)?)
 }
 
 /// `do`
 #[cycle(statement)]
-fn do_statement(alloc: Global, tokens: &mut Cursor<'_>, fuel: usize) -> Result<Statement, Halt>
+fn do_statement(
+    alloc: Global,
+    language: Language,
+    tokens: &mut Cursor<'_>,
+    fuel: usize,
+) -> Result<Statement, Halt>
     requires { 0 < fuel }
-    ensures { Reads statement_of (parse_do fuel tokens.old) result tokens.new }
+    ensures { Reads statement_of (parse_do language fuel tokens.old) result tokens.new }
 {
     let place = tokens.word(Keyword::Do)?;
-    let block = block(alloc, tokens, fuel - 1)?;
+    let block = block(alloc, language, tokens, fuel - 1)?;
     tokens.word(Keyword::While)?;
     let condition = condition(alloc, tokens, fuel)?;
     tokens.mark(Punctuator::Semicolon)?;
@@ -204,24 +228,34 @@ fn do_statement(alloc: Global, tokens: &mut Cursor<'_>, fuel: usize) -> Result<S
 
 /// `for`
 #[cycle(statement)]
-fn for_statement(alloc: Global, tokens: &mut Cursor<'_>, fuel: usize) -> Result<Statement, Halt>
+fn for_statement(
+    alloc: Global,
+    language: Language,
+    tokens: &mut Cursor<'_>,
+    fuel: usize,
+) -> Result<Statement, Halt>
     requires { 0 < fuel }
-    ensures { Reads statement_of (parse_for fuel tokens.old) result tokens.new }
+    ensures { Reads statement_of (parse_for language fuel tokens.old) result tokens.new }
 {
     let place = tokens.word(Keyword::For)?;
     let head = head_of_for(alloc, tokens, fuel)?;
     tokens.mark(Punctuator::CloseParenthesis)?;
-    let block = block(alloc, tokens, fuel - 1)?;
+    let block = block(alloc, language, tokens, fuel - 1)?;
     Ok(for_of(place, head, block))
 }
 
 /// Statements in braces.
 #[cycle(statement)]
-pub fn block(alloc: Global, tokens: &mut Cursor<'_>, fuel: usize) -> Result<Block, Halt>
-    ensures { Reads block_of (spec.parse_block fuel tokens.old) result tokens.new }
+pub fn block(
+    alloc: Global,
+    language: Language,
+    tokens: &mut Cursor<'_>,
+    fuel: usize,
+) -> Result<Block, Halt>
+    ensures { Reads block_of (spec.parse_block language fuel tokens.old) result tokens.new }
 {
     let opening = tokens.mark(Punctuator::OpenBrace)?;
-    let statements = statements(alloc, tokens, fuel)?;
+    let statements = statements(alloc, language, tokens, fuel)?;
     let closing = tokens.mark(Punctuator::CloseBrace)?;
     Ok(Block {
         opening,
@@ -234,10 +268,11 @@ pub fn block(alloc: Global, tokens: &mut Cursor<'_>, fuel: usize) -> Result<Bloc
 #[cycle(statement)]
 pub fn statements(
     alloc: Global,
+    language: Language,
     tokens: &mut Cursor<'_>,
     fuel: usize,
 ) -> Result<Vec<Statement>, Halt>
-    ensures { Reads (λ xs. statements_of xs.items) (spec.parse_statements fuel tokens.old) result tokens.new }
+    ensures { Reads (λ xs. statements_of xs.items) (spec.parse_statements language fuel tokens.old) result tokens.new }
 {
     let mut found = Vec::new(alloc);
     for _turn in 0..fuel {
@@ -245,7 +280,7 @@ pub fn statements(
             found.shrink_to_fit();
             return Ok(found);
         }
-        let next = statement(alloc, tokens, fuel)?;
+        let next = statement(alloc, language, tokens, fuel)?;
         found.push(next)?;
     }
     Err(Halt::Wrong)

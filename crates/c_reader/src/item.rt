@@ -1,7 +1,7 @@
 //! Items of a program.
 ghost use Rattle.std.specs.Prelude.{map};
 ghost use Rattle.std.specs.Option.{option_map};
-ghost use Rattle.c_tree.specs.Views.{body_of, function_of, initialiser_of, item_of, length_of, parameter_of, persistent_of, return_of, signed_of};
+ghost use Rattle.c_tree.specs.Views.{body_of, function_of, guard_of, initialiser_of, item_of, length_of, parameter_of, persistent_of, return_of, signed_of};
 ghost use Rattle.c_reader.specs.links.ParserFunctions as spec;
 ghost use Rattle.c_reader.specs.links.ParserContracts.{Gives, Reads};
 ghost use Rattle.c_reader.specs.links.ParserSteps.{all_items, one_item, parse_assigned, parse_function_item, parse_mutex_item};
@@ -12,11 +12,12 @@ use crate::cursor::Cursor;
 use crate::expression::expression;
 use crate::halt::Halt;
 use crate::kind::kind;
-use crate::statement::name_in_parentheses;
 use crate::token::Lexeme;
+use c_tree::language::Language;
 use c_tree::token::{Keyword, Punctuator};
 use c_tree::tree::{
-    Body, Function, Initialiser, Item, Length, Parameter, Persistent, Return, Signed, Thread,
+    Body, Function, Guard, Initialiser, Item, Length, Mutex, Parameter, Persistent, Return, Signed,
+    Thread,
 };
 use ido_ints::{Binary, Kind};
 use std::alloc::Global;
@@ -51,11 +52,16 @@ fn maybe_returned(
 }
 
 /// The body of a function.
-fn body(alloc: Global, tokens: &mut Cursor<'_>, fuel: usize) -> Result<Body, Halt>
-    ensures { Reads body_of (spec.parse_body fuel tokens.old) result tokens.new }
+fn body(
+    alloc: Global,
+    language: Language,
+    tokens: &mut Cursor<'_>,
+    fuel: usize,
+) -> Result<Body, Halt>
+    ensures { Reads body_of (spec.parse_body language fuel tokens.old) result tokens.new }
 {
     let opening = tokens.mark(Punctuator::OpenBrace)?;
-    let statements = statements(alloc, tokens, fuel)?;
+    let statements = statements(alloc, language, tokens, fuel)?;
     let returned = maybe_returned(alloc, tokens, fuel)?;
     let closing = tokens.mark(Punctuator::CloseBrace)?;
     Ok(Body {
@@ -124,15 +130,20 @@ fn kind_or_void(tokens: &mut Cursor<'_>) -> Result<Option<Kind>, Halt>
 }
 
 /// A function.
-fn function(alloc: Global, tokens: &mut Cursor<'_>, fuel: usize) -> Result<Function, Halt>
-    ensures { Reads function_of (spec.parse_function fuel tokens.old) result tokens.new }
+fn function(
+    alloc: Global,
+    language: Language,
+    tokens: &mut Cursor<'_>,
+    fuel: usize,
+) -> Result<Function, Halt>
+    ensures { Reads function_of (spec.parse_function language fuel tokens.old) result tokens.new }
 {
     let kind = kind_or_void(tokens)?;
     let name = tokens.name(alloc)?;
     tokens.mark(Punctuator::OpenParenthesis)?;
     let parameters = parameters(alloc, tokens, fuel)?;
     tokens.mark(Punctuator::CloseParenthesis)?;
-    let body = body(alloc, tokens, fuel)?;
+    let body = body(alloc, language, tokens, fuel)?;
     Ok(Function {
         kind,
         name,
@@ -224,6 +235,49 @@ fn maybe_length(tokens: &mut Cursor<'_>) -> Result<Option<Length>, Halt>
     }
 }
 
+/// The length of an array of mutexes, where there is one.
+fn mutex_length(language: Language, tokens: &mut Cursor<'_>) -> Result<Option<Length>, Halt>
+    ensures { Reads (option_map length_of) (spec.parse_mutex_length language tokens.old) result tokens.new }
+{
+    match language {
+        Language::Plain => Ok(None),
+        Language::Full => maybe_length(tokens),
+    }
+}
+
+/// Whether brackets are there, with nothing in them.
+fn bracket_pair(tokens: &mut Cursor<'_>) -> Result<bool, Halt>
+    ensures { Gives (spec.parse_bracket_pair tokens.old) result tokens.new }
+{
+    if !tokens.sees(Punctuator::OpenBracket) {
+        return Ok(false);
+    }
+    tokens.mark(Punctuator::OpenBracket)?;
+    tokens.mark(Punctuator::CloseBracket)?;
+    Ok(true)
+}
+
+/// Whether a guard has brackets.
+fn brackets(language: Language, tokens: &mut Cursor<'_>) -> Result<bool, Halt>
+    ensures { Gives (spec.parse_brackets language tokens.old) result tokens.new }
+{
+    match language {
+        Language::Plain => Ok(false),
+        Language::Full => bracket_pair(tokens),
+    }
+}
+
+/// What guards a variable, in parentheses.
+fn guard(alloc: Global, language: Language, tokens: &mut Cursor<'_>) -> Result<Guard, Halt>
+    ensures { Reads guard_of (spec.parse_guard language tokens.old) result tokens.new }
+{
+    tokens.mark(Punctuator::OpenParenthesis)?;
+    let mutex = tokens.name(alloc)?;
+    let each = brackets(language, tokens)?;
+    tokens.mark(Punctuator::CloseParenthesis)?;
+    Ok(Guard { mutex, each })
+}
+
 /// `=` and what a persistent variable begins with, where it is written.
 #[tactic(auto, unfolding(crate::specs::links::ParserSteps::parse_assigned))]
 fn maybe_initialiser(
@@ -242,11 +296,16 @@ fn maybe_initialiser(
 
 /// A persistent variable.
 #[tactic(auto, unfolding(crate::specs::links::ParserSteps::parse_assigned))]
-fn persistent(alloc: Global, tokens: &mut Cursor<'_>, fuel: usize) -> Result<Persistent, Halt>
-    ensures { Reads persistent_of (spec.parse_persistent fuel tokens.old) result tokens.new }
+fn persistent(
+    alloc: Global,
+    language: Language,
+    tokens: &mut Cursor<'_>,
+    fuel: usize,
+) -> Result<Persistent, Halt>
+    ensures { Reads persistent_of (spec.parse_persistent language fuel tokens.old) result tokens.new }
 {
     tokens.word(Keyword::Persistent)?;
-    let guard = name_in_parentheses(alloc, tokens)?;
+    let guard = guard(alloc, language, tokens)?;
     let kind = kind(tokens)?;
     let name = tokens.name(alloc)?;
     let length = maybe_length(tokens)?;
@@ -263,67 +322,95 @@ fn persistent(alloc: Global, tokens: &mut Cursor<'_>, fuel: usize) -> Result<Per
 
 /// An item that is a persistent variable.
 #[tactic(auto, unfolding(crate::specs::links::ParserSteps::parse_persistent_item))]
-fn persistent_item(alloc: Global, tokens: &mut Cursor<'_>, fuel: usize) -> Result<Item, Halt>
-    ensures { Reads item_of (parse_persistent_item fuel tokens.old) result tokens.new }
+fn persistent_item(
+    alloc: Global,
+    language: Language,
+    tokens: &mut Cursor<'_>,
+    fuel: usize,
+) -> Result<Item, Halt>
+    ensures { Reads item_of (parse_persistent_item language fuel tokens.old) result tokens.new }
 {
-    Ok(Item::Persistent(persistent(alloc, tokens, fuel)?))
+    Ok(Item::Persistent(persistent(alloc, language, tokens, fuel)?))
 }
 
 /// An item that is a function.
 #[tactic(auto, unfolding(crate::specs::links::ParserSteps::parse_function_item))]
-fn function_item(alloc: Global, tokens: &mut Cursor<'_>, fuel: usize) -> Result<Item, Halt>
-    ensures { Reads item_of (parse_function_item fuel tokens.old) result tokens.new }
+fn function_item(
+    alloc: Global,
+    language: Language,
+    tokens: &mut Cursor<'_>,
+    fuel: usize,
+) -> Result<Item, Halt>
+    ensures { Reads item_of (parse_function_item language fuel tokens.old) result tokens.new }
 {
-    Ok(Item::Function(function(alloc, tokens, fuel)?))
+    Ok(Item::Function(function(alloc, language, tokens, fuel)?))
 }
 
-/// A mutex.
+/// A mutex, or an array of them.
 #[tactic(auto, unfolding(crate::specs::links::ParserSteps::parse_mutex_item))]
-fn mutex(alloc: Global, tokens: &mut Cursor<'_>) -> Result<Item, Halt>
-    ensures { Reads item_of (parse_mutex_item tokens.old) result tokens.new }
+fn mutex(alloc: Global, language: Language, tokens: &mut Cursor<'_>) -> Result<Item, Halt>
+    ensures { Reads item_of (parse_mutex_item language tokens.old) result tokens.new }
 {
     tokens.word(Keyword::Mutex)?;
     let name = tokens.name(alloc)?;
+    let length = mutex_length(language, tokens)?;
     tokens.mark(Punctuator::Semicolon)?;
-    Ok(Item::Mutex(name))
+    Ok(Item::Mutex(Mutex { name, length }))
 }
 
 /// A thread.
 #[tactic(auto, unfolding(crate::specs::links::ParserSteps::parse_thread_item))]
-fn thread(alloc: Global, tokens: &mut Cursor<'_>, fuel: usize) -> Result<Item, Halt>
-    ensures { Reads item_of (parse_thread_item fuel tokens.old) result tokens.new }
+fn thread(
+    alloc: Global,
+    language: Language,
+    tokens: &mut Cursor<'_>,
+    fuel: usize,
+) -> Result<Item, Halt>
+    ensures { Reads item_of (parse_thread_item language fuel tokens.old) result tokens.new }
 {
     tokens.word(Keyword::Thread)?;
     let name = tokens.name(alloc)?;
-    let block = block(alloc, tokens, fuel)?;
+    let block = block(alloc, language, tokens, fuel)?;
     Ok(Item::Thread(Thread { name, block }))
 }
 
 /// An item.
 #[tactic(auto, using(crate::proofs::ItemSteps::item_is))]
-fn item(alloc: Global, tokens: &mut Cursor<'_>, fuel: usize) -> Result<Item, Halt>
-    ensures { Reads item_of (one_item fuel tokens.old) result tokens.new }
+fn item(
+    alloc: Global,
+    language: Language,
+    tokens: &mut Cursor<'_>,
+    fuel: usize,
+) -> Result<Item, Halt>
+    ensures { Reads item_of (one_item language fuel tokens.old) result tokens.new }
 {
     match tokens.peek() {
-        Some(Lexeme::Keyword(Keyword::Mutex)) => mutex(alloc, tokens),
-        Some(Lexeme::Keyword(Keyword::Persistent)) => persistent_item(alloc, tokens, fuel),
-        Some(Lexeme::Keyword(Keyword::Thread)) => thread(alloc, tokens, fuel),
-        _ => function_item(alloc, tokens, fuel),
+        Some(Lexeme::Keyword(Keyword::Mutex)) => mutex(alloc, language, tokens),
+        Some(Lexeme::Keyword(Keyword::Persistent)) => persistent_item(
+            alloc, language, tokens, fuel,
+        ),
+        Some(Lexeme::Keyword(Keyword::Thread)) => thread(alloc, language, tokens, fuel),
+        _ => function_item(alloc, language, tokens, fuel),
     }
 }
 
 /// One item and more, up to the end.
-pub fn items(alloc: Global, tokens: &mut Cursor<'_>, fuel: usize) -> Result<Vec<Item>, Halt>
-    ensures { Reads (λ xs. map item_of xs.items) (all_items fuel tokens.old) result tokens.new }
+pub fn items(
+    alloc: Global,
+    language: Language,
+    tokens: &mut Cursor<'_>,
+    fuel: usize,
+) -> Result<Vec<Item>, Halt>
+    ensures { Reads (λ xs. map item_of xs.items) (all_items language fuel tokens.old) result tokens.new }
 {
     let mut found = Vec::new(alloc);
-    let first = item(alloc, tokens, fuel)?;
+    let first = item(alloc, language, tokens, fuel)?;
     found.push(first)?;
     for _turn in 0..fuel {
         if tokens.is_empty() {
             return Ok(found);
         }
-        let next = item(alloc, tokens, fuel)?;
+        let next = item(alloc, language, tokens, fuel)?;
         found.push(next)?;
     }
     Err(Halt::Wrong)

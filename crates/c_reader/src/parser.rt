@@ -7,6 +7,7 @@ use crate::cursor::Cursor;
 use crate::halt::Halt;
 use crate::item::items;
 use crate::token::Token;
+use c_tree::language::Language;
 use c_tree::tree::Tree;
 use ido_base::memory::OutOfMemory;
 use std::alloc::Global;
@@ -24,11 +25,15 @@ pub enum Outcome {
 
 /// Parses the tokens of a program.
 #[tactic(auto, using(crate::proofs::Answers::whole_program, crate::proofs::Answers::wrong_program, crate::proofs::Answers::short_program))]
-pub fn parse(alloc: Global, tokens: &[Token<'_>]) -> Result<Outcome, OutOfMemory>
-    ensures { IfOk result (λ outcome. Parses (tokens_of tokens.now) outcome) }
+pub fn parse(
+    alloc: Global,
+    language: Language,
+    tokens: &[Token<'_>],
+) -> Result<Outcome, OutOfMemory>
+    ensures { IfOk result (λ outcome. Parses language (tokens_of tokens.now) outcome) }
 {
     let mut cursor = Cursor::new(tokens);
-    match items(alloc, &mut cursor, tokens.len() + 1) {
+    match items(alloc, language, &mut cursor, tokens.len() + 1) {
         Ok(items) => Ok(Outcome::Whole(Tree { items })),
         Err(Halt::Wrong) => match cursor.left() {
             0 => Ok(Outcome::TooShort),

@@ -13,6 +13,7 @@ use crate::nesting::first_high;
 use crate::parser::{Outcome, parse};
 use crate::scanner::{Scanned, scan};
 use crate::token::Token;
+use c_tree::language::Language;
 use c_tree::refusal::{Refusal, SourceError};
 use c_tree::rule::Rule;
 use c_tree::tree::Tree;
@@ -46,6 +47,7 @@ fn after(found: &Scanned<'_>, high: Option<usize>) -> Option<Refusal>
 
 /// The tree of a text, or the first rule that it breaks, from its tokens and what they were parsed as.
 fn judge(
+    language: Language,
     end: u32,
     found: &Scanned<'_>,
     high: Option<usize>,
@@ -53,10 +55,10 @@ fn judge(
 ) -> Result<Tree, SourceError>
     requires high { IsFirstHigh (scanned_of found.now).tokens high }
     requires within { IfSome high (λ i. i < length found.now.tokens.items) }
-    requires parsed { IsParsed (scanned_of found.now) high outcome }
-    ensures read { IfOk result (λ tree. (text : List ℕ) → scanned_of found.now ≡ scanned text → IsRead text (items_of tree)) }
+    requires parsed { IsParsed language (scanned_of found.now) high outcome }
+    ensures read { IfOk result (λ tree. (text : List ℕ) → scanned_of found.now ≡ scanned text → IsRead language text (items_of tree)) }
     ensures refused { IfErr result (λ e. IfSome (fault_in e) (λ f. (text : List ℕ) → scanned_of found.now ≡ scanned text → end ≡ length text
-        → IsRefused text f.rule f.place)) }
+        → IsRefused language text f.rule f.place)) }
 {
     match outcome {
         Outcome::WrongAt(index) => Err(SourceError::Refused(Refusal {
@@ -77,20 +79,20 @@ fn judge(
     }
 }
 
-/// Reads a source text: its tree, or the first rule that it breaks and the place of that.
+/// Reads a source text in this language: its tree, or the first rule that it breaks and the place of that.
 ///
 /// A byte that begins no token, a number that is none, a token that the tokens before it can't go on
 /// with, and one that nests past 128: the first place decides, and at one place this order. A text
 /// that ends too early is refused at its length. The blocks of a tree are at most 128 deep, and its
 /// expressions at most 129 high.
-pub fn read(alloc: Global, text: &[u8]) -> Result<Tree, SourceError>
+pub fn read(alloc: Global, language: Language, text: &[u8]) -> Result<Tree, SourceError>
     requires { length text.now ≤ MOST_SOURCE_BYTES }
-    ensures read { IfOk result (λ tree. IsRead text.now (items_of tree)) }
+    ensures read { IfOk result (λ tree. IsRead language text.now (items_of tree)) }
     ensures shallow { IfOk result (λ tree. IsShallow MOST_NESTING (MOST_NESTING + 1) (items_of tree)) }
-    ensures refused { IfErr result (λ e. IfSome (fault_in e) (λ f. IsRefused text.now f.rule f.place)) }
+    ensures refused { IfErr result (λ e. IfSome (fault_in e) (λ f. IsRefused language text.now f.rule f.place)) }
 {
     let found = scan(alloc, text)?;
     let high = first_high(&found.tokens);
-    let outcome = parse(alloc, looked_at(&found.tokens, high))?;
-    judge(text.len() as u32, &found, high, outcome)
+    let outcome = parse(alloc, language, looked_at(&found.tokens, high))?;
+    judge(language, text.len() as u32, &found, high, outcome)
 }

@@ -8,13 +8,14 @@ ghost use Rattle.c_reader.specs.links.ParserContracts.{Reads};
 ghost use Rattle.c_reader.specs.links.ParserSteps.{maybe_initial, parse_assignment_statement, parse_declaration_statement, parse_lock};
 ghost use Rattle.c_reader.specs.links.ParserSteps.{parse_end_of_for, parse_head_of_for, parse_middle_of_for, parse_start_of_for};
 ghost use Rattle.c_reader.specs.links.ParserSteps.{parse_named_statement, parse_unlock, statement_past_name, statement_past_target};
-ghost use Rattle.c_reader.specs.links.Rows.{for_head_of};
+ghost use Rattle.c_reader.specs.links.Rows.{for_head_of, key_of, lock_name_of};
 
 use crate::assignment::{RightSide, assignment, call_after, change, right};
 use crate::cursor::Cursor;
 use crate::expression::{expression, index};
 use crate::halt::Halt;
 use crate::kind::kind;
+use c_tree::language::Language;
 use c_tree::token::{Keyword, Punctuator};
 use c_tree::tree::{
     Assignment, Call, Change, Declaration, Expression, First, Head, Initial, Lvalue, Name,
@@ -189,14 +190,38 @@ pub fn condition(alloc: Global, tokens: &mut Cursor<'_>, fuel: usize) -> Result<
     Ok(inside)
 }
 
-/// `(name)`
-pub fn name_in_parentheses(alloc: Global, tokens: &mut Cursor<'_>) -> Result<Name, Halt>
-    ensures { Reads name_of (spec.parse_name_in_parentheses tokens.old) result tokens.new }
+/// The key of a lock's name, where it has one.
+fn key(
+    alloc: Global,
+    language: Language,
+    tokens: &mut Cursor<'_>,
+    fuel: usize,
+) -> Result<Option<Box<Expression>>, Halt>
+    ensures { Reads key_of (spec.parse_key language fuel tokens.old) result tokens.new }
+{
+    match language {
+        Language::Plain => Ok(None),
+        Language::Full => match index(alloc, tokens, fuel)? {
+            None => Ok(None),
+            Some(key) => Ok(Some(Box::new(alloc, key)?)),
+        },
+    }
+}
+
+/// The name of a lock, in parentheses.
+fn lock_name(
+    alloc: Global,
+    language: Language,
+    tokens: &mut Cursor<'_>,
+    fuel: usize,
+) -> Result<(Name, Option<Box<Expression>>), Halt>
+    ensures { Reads lock_name_of (spec.parse_lock_name language fuel tokens.old) result tokens.new }
 {
     tokens.mark(Punctuator::OpenParenthesis)?;
-    let inside = tokens.name(alloc)?;
+    let mutex = tokens.name(alloc)?;
+    let key = key(alloc, language, tokens, fuel)?;
     tokens.mark(Punctuator::CloseParenthesis)?;
-    Ok(inside)
+    Ok((mutex, key))
 }
 
 /// A declaration as a statement.
@@ -327,24 +352,34 @@ pub fn assignment_statement(
     Ok(assigned_of(alloc, assigned)?)
 }
 
-/// `lock(mutex);`
+/// `lock(mutex);`, and `lock(mutex[key]);` in the full language.
 #[tactic(auto, unfolding(crate::specs::links::ParserSteps::parse_lock))]
-pub fn lock(alloc: Global, tokens: &mut Cursor<'_>) -> Result<Statement, Halt>
-    ensures { Reads statement_of (parse_lock tokens.old) result tokens.new }
+pub fn lock(
+    alloc: Global,
+    language: Language,
+    tokens: &mut Cursor<'_>,
+    fuel: usize,
+) -> Result<Statement, Halt>
+    ensures { Reads statement_of (parse_lock language fuel tokens.old) result tokens.new }
 {
     let place = tokens.word(Keyword::Lock)?;
-    let mutex = name_in_parentheses(alloc, tokens)?;
+    let (mutex, key) = lock_name(alloc, language, tokens, fuel)?;
     tokens.mark(Punctuator::Semicolon)?;
-    Ok(Statement::Lock { place, mutex })
+    Ok(Statement::Lock { place, mutex, key })
 }
 
-/// `unlock(mutex);`
+/// `unlock(mutex);`, and `unlock(mutex[key]);` in the full language.
 #[tactic(auto, unfolding(crate::specs::links::ParserSteps::parse_unlock))]
-pub fn unlock(alloc: Global, tokens: &mut Cursor<'_>) -> Result<Statement, Halt>
-    ensures { Reads statement_of (parse_unlock tokens.old) result tokens.new }
+pub fn unlock(
+    alloc: Global,
+    language: Language,
+    tokens: &mut Cursor<'_>,
+    fuel: usize,
+) -> Result<Statement, Halt>
+    ensures { Reads statement_of (parse_unlock language fuel tokens.old) result tokens.new }
 {
     let place = tokens.word(Keyword::Unlock)?;
-    let mutex = name_in_parentheses(alloc, tokens)?;
+    let (mutex, key) = lock_name(alloc, language, tokens, fuel)?;
     tokens.mark(Punctuator::Semicolon)?;
-    Ok(Statement::Unlock { place, mutex })
+    Ok(Statement::Unlock { place, mutex, key })
 }

@@ -5,7 +5,7 @@ use Rattle.std.proofs.lemmas.Bool.Decides.{nat_tests}
 use Rattle.ido_base.specs.declared.limits.TheConstants.{MOST_ELEMENTS}
 use Rattle.c_tree.specs.Trees as t
 use Rattle.c_tree.specs.TypeRules.{numbers_past, broken, length_faults}
-use Rattle.c_tree.specs.Elaboration.{element_count, length_number}
+use Rattle.c_tree.specs.Names.{element_count, length_number}
 use Rattle.c_tree.specs.Views.{signed_of}
 use Rattle.c_tree.specs.declared.rule.Rule.TheVariants as rule
 use Rattle.c_tree.specs.declared.tree.Signed.{Signed}

@@ -4,6 +4,7 @@ use Rattle.c_tree.specs.Names as n
 use Rattle.c_tree.specs.Programs as p
 use Rattle.c_tree.specs.Trees as t
 use Rattle.c_tree.specs.TypeRules as rules
+use Rattle.c_tree.specs.Elaboration as made
 use Rattle.c_tree.specs.Elaboration.{with_item}
 use Rattle.c_tree.specs.declared.rule.Rule.{Rule}
 use Rattle.c_typer.specs.links.JoinedPrograms.{and_item, joined, nothing}
@@ -32,7 +33,8 @@ joined_item gs q x r = joined_both q (with_item gs x nothing) r ∙ ap (joined q
         (append_assoc a.threads b.threads c.threads)
 
     before : (x : t.Item) → joined (with_item gs x nothing) r ≡ with_item gs x r
-    before (t.MutexItem y) = refl
+    before (t.MutexItem y count) =
+        ap (λ (ms : List p.Mutex). program (ms ++ r.mutexes) r.variables r.functions r.threads) (append-nil (made.mutexes gs y count))
     before (t.PersistentItem y) = refl
     before (t.ThreadItem y) = refl
     before (t.FunctionItem y) = refl

@@ -70,8 +70,8 @@ module _ (gs : List n.Global) where
     grow_statement s (t.For place start y last body) =
         let s' = (made.first_at gs place (n.entered s) start).scope in into_both s.kinds s'.kinds (made.inside gs s' body).scope.kinds
         (grow_first place (n.entered s) start) (grow_inside s' body)
-    grow_statement s (t.Lock place mutex) = into_self s.kinds
-    grow_statement s (t.Unlock place mutex) = into_self s.kinds
+    grow_statement s (t.Lock place mutex key) = into_self s.kinds
+    grow_statement s (t.Unlock place mutex key) = into_self s.kinds
 
     pub grow_inside : (s : n.Scope) (y : t.Block) → Into s.kinds (made.inside gs s y).scope.kinds
     grow_inside s (t.Braced opening ys closing) = grow_statements (n.entered s) ys

@@ -1,7 +1,8 @@
 -- One step of a row: what is made of the rest, and what is broken in it, after one part more.
 use Rattle.std.proofs.Common.{◌≡◌, ◌+◌, ◌<◌, ℕ, List, [], ◌∷◌, ◌++◌, Option, None, length, drop, get_or, map, flat_map, subst, refl, sym, ap, ap₂, ◌∙◌}
 use Rattle.std.proofs.lemmas.List.{at_drop_more}
-use Rattle.ido_base.specs.declared.limits.TheConstants.{MOST_THREADS, MOST_MUTEXES}
+use Rattle.ido_base.specs.declared.limits.TheConstants.{MOST_THREADS}
+use Rattle.c_tree.specs.declared.language.Language.{Language}
 use Rattle.c_tree.specs.Exprs.{placed_of}
 use Rattle.c_tree.specs.Names as n
 use Rattle.c_tree.specs.Programs as p
@@ -129,17 +130,18 @@ items_noted_step gs before after x rest all whole split found h =
 
 -- ---- The whole text
 
-pub all_noted : (xs : List t.Item) (gs : List n.Global) (begin twice threads mutexes bytes all : Option Fault) → gs ≡ n.globals_of xs → begin ≡ None
+pub all_noted : (l : Language) (xs : List t.Item) (gs : List n.Global) (begin twice threads mutexes bytes all : Option Fault) →
+    gs ≡ n.globals_of xs → begin ≡ None
     → twice ≡ noted begin (rules.twice_from [] gs)
     → threads ≡ noted twice (rules.past rule.Threads MOST_THREADS (rules.thread_names xs))
-    → mutexes ≡ noted threads (rules.past rule.Mutexes MOST_MUTEXES (rules.mutex_names xs))
+    → mutexes ≡ noted threads (rules.too_many_mutexes (rules.most_mutexes l) 0 xs)
     → bytes ≡ noted mutexes (rules.too_many_bytes 0 xs)
-    → all ≡ noted bytes (flat_map (rules.item_faults gs) xs) → all ≡ noted None (type_faults xs)
+    → all ≡ noted bytes (flat_map (rules.item_faults gs) xs) → all ≡ noted None (type_faults l xs)
 unfolding type_faults
-all_noted xs gs begin twice threads mutexes bytes all known none first second third fourth fifth =
+all_noted l xs gs begin twice threads mutexes bytes all known none first second third fourth fifth =
     let a = rules.twice_from [] (n.globals_of xs) in
     let b = rules.past rule.Threads MOST_THREADS (rules.thread_names xs) in
-    let d = rules.past rule.Mutexes MOST_MUTEXES (rules.mutex_names xs) in
+    let d = rules.too_many_mutexes (rules.most_mutexes l) 0 xs in
     let e = rules.too_many_bytes 0 xs in
     let f = flat_map (rules.item_faults (n.globals_of xs)) xs in
     let first_is = first ∙ ap₂ (λ (o : Option Fault) (ys : List n.Global). noted o (rules.twice_from [] ys)) none known in

@@ -1,17 +1,20 @@
 -- Of the rules that a tree breaks one is the first: each rule of names and kinds has an order of its own.
-use Rattle.std.proofs.Common.{◌≡◌, inl, inr, ℕ, zero, suc, ◌<◌, List, [], ◌∷◌, ◌++◌, length, Contains, Option, Some, None, Bool, true, false}
+use Rattle.std.proofs.Common.{◌≡◌, inl, inr, ℕ, zero, suc, ◌+◌, ◌<◌, List, [], ◌∷◌, ◌++◌, length, Contains, Option, Some, None, Bool, true, false}
 use Rattle.std.proofs.Common.{not, ◌||◌, ◌==◌, nat_lt, is_some, if◌then◌else◌, flat_map, refl, sym, ap, ap₂, subst, slice_get, ◌∙◌, arith}
 use Rattle.std.specs.List.{list_any}
 use Rattle.ido_base.specs.declared.place.Place.{Place}
-use Rattle.ido_base.specs.declared.limits.TheConstants.{MOST_THREADS, MOST_MUTEXES, MOST_VARIABLE_BYTES, MOST_ELEMENTS}
+use Rattle.ido_base.specs.declared.limits.TheConstants.{MOST_THREADS, MOST_VARIABLE_BYTES, MOST_ELEMENTS}
 use Rattle.c_tree.specs.declared.rule.Rule as r
 use Rattle.c_tree.specs.declared.rule.Rule.TheVariants as rule
+use Rattle.c_tree.specs.declared.language.Language.{Language}
 use Rattle.c_tree.specs.Names as n
+use Rattle.c_tree.specs.Names.{element_count, length_number}
 use Rattle.c_tree.specs.LexicalScan.{Fault}
 use Rattle.c_tree.specs.Trees as t
 use Rattle.c_tree.specs.TypeRules.{broken, broken_if, twice, twice_from, past}
-use Rattle.c_tree.specs.TypeRules.{thread_names, mutex_names, end_after, too_many_bytes}
+use Rattle.c_tree.specs.TypeRules.{thread_names, most_mutexes, too_many_mutexes, end_after, too_many_bytes}
 use Rattle.c_tree.specs.TypeRules.{length_faults, numbers_past, initialiser_faults, use_faults, mutex_faults, expression_faults}
+use Rattle.c_tree.specs.TypeRules.{persistent_faults, shared_faults, key_faults, lock_faults, mutexes_of, count_faults, each_faults}
 use Rattle.c_tree.specs.TypeRules.{maybe_faults, target_faults, change_faults, assignment_faults}
 use Rattle.c_tree.specs.TypeRules.{function_faults, call_faults, declaration_faults, first_faults, last_faults}
 use Rattle.c_tree.specs.TypeRules.{after, statement_faults, block_faults, statements_faults, arms_faults}
@@ -50,6 +53,7 @@ back rule.Again h = absurd (omega (arith, h))
 back rule.NotHeld h = absurd (omega (arith, h))
 back rule.Join h = absurd (omega (arith, h))
 back rule.EndHeld h = absurd (omega (arith, h))
+back rule.Frozen h = absurd (omega (arith, h))
 back rule.Locals h = absurd (omega (arith, h))
 back rule.Temporaries h = absurd (omega (arith, h))
 
@@ -104,13 +108,25 @@ too_many-ordered k (t.PersistentItem x ∷ xs) = go (nat_lt MOST_VARIABLE_BYTES 
     go : (b : Bool) → Ordered (too_many_bytes (end_after k x) xs) → Ordered (if b then broken rule.Bytes x.name.place else too_many_bytes (end_after k x) xs)
     go true h = (omega arith, tt)
     go false h = h
-too_many-ordered k (t.MutexItem x ∷ xs) = too_many-ordered k xs
+too_many-ordered k (t.MutexItem x count ∷ xs) = too_many-ordered k xs
 too_many-ordered k (t.ThreadItem x ∷ xs) = too_many-ordered k xs
 too_many-ordered k (t.FunctionItem x ∷ xs) = too_many-ordered k xs
 
+more_than-ordered : (most k : ℕ) (xs : List t.Item) → Ordered (too_many_mutexes most k xs)
+more_than-ordered most k [] = tt
+more_than-ordered most k (t.MutexItem x count ∷ xs) = go (nat_lt most (k + element_count count)) (more_than-ordered most (k + element_count count) xs)
+  where
+    go : (b : Bool) → Ordered (too_many_mutexes most (k + element_count count) xs) →
+        Ordered (if b then broken rule.Mutexes x.place else too_many_mutexes most (k + element_count count) xs)
+    go true h = (omega arith, tt)
+    go false h = h
+more_than-ordered most k (t.PersistentItem x ∷ xs) = more_than-ordered most k xs
+more_than-ordered most k (t.ThreadItem x ∷ xs) = more_than-ordered most k xs
+more_than-ordered most k (t.FunctionItem x ∷ xs) = more_than-ordered most k xs
+
 length_ordered : (size : Option t.Length) → Ordered (length_faults size)
 length_ordered None = tt
-length_ordered (Some x) = one_if (made.length_number x == 0 || nat_lt MOST_ELEMENTS (made.length_number x)) rule.Length x.place (omega arith)
+length_ordered (Some x) = one_if (length_number x == 0 || nat_lt MOST_ELEMENTS (length_number x)) rule.Length x.place (omega arith)
 
 numbers_ordered : (count : ℕ) (xs : List t.Signed) → Ordered (numbers_past count xs)
 numbers_ordered count [] = tt
@@ -120,7 +136,7 @@ numbers_ordered (suc count) (x ∷ xs) = numbers_ordered count xs
 initialiser_ordered : (size : Option t.Length) (x : Option t.Initialiser) → Ordered (initialiser_faults size x)
 initialiser_ordered size None = tt
 initialiser_ordered size (Some (t.Single x)) = one_if (is_some size) rule.WrongSort x.place (omega arith)
-initialiser_ordered size (Some (t.InBraces place xs)) = numbers_ordered (made.element_count size) xs
+initialiser_ordered size (Some (t.InBraces place xs)) = numbers_ordered (element_count size) xs
 
 module _ (gs : List n.Global) where
   -- ---- Uses of names
@@ -137,22 +153,22 @@ module _ (gs : List n.Global) where
       go n.IsUnknown = (omega arith, tt)
       go (n.IsLocal l) = one_if indexed rule.WrongSort x.place (omega arith)
       go (n.IsGlobal (n.Variable number kind is_array)) = one_if (if is_array then not indexed else indexed) rule.WrongSort x.place (omega arith)
-      go (n.IsGlobal (n.Mutex number)) = (omega arith, tt)
+      go (n.IsGlobal (n.Mutex number count)) = (omega arith, tt)
       go (n.IsGlobal (n.Function number gives parameters)) = (omega arith, tt)
       go (n.IsGlobal n.Thread) = (omega arith, tt)
 
-  mutex_ordered : (s : n.Scope) (x : t.Name) → Ordered (mutex_faults gs s x)
-  mutex_ordered s x = go (n.meaning gs s x.text)
+  mutex_ordered : (s : n.Scope) (x : t.Name) (keyed : Bool) → Ordered (mutex_faults gs s x keyed)
+  mutex_ordered s x keyed = go (n.meaning gs s x.text)
     where
       go : (m : n.Meaning) → Ordered (elim m [
         | n.IsUnknown ↦ broken rule.Unknown x.place
-        | n.IsGlobal (n.Mutex number) ↦ []
+        | n.IsGlobal (n.Mutex number count) ↦ broken_if (if is_some count then not keyed else keyed) rule.WrongSort x.place
         | _ ↦ broken rule.WrongSort x.place
       ])
       go n.IsUnknown = (omega arith, tt)
       go (n.IsLocal l) = (omega arith, tt)
       go (n.IsGlobal (n.Variable number kind is_array)) = (omega arith, tt)
-      go (n.IsGlobal (n.Mutex number)) = tt
+      go (n.IsGlobal (n.Mutex number count)) = one_if (if is_some count then not keyed else keyed) rule.WrongSort x.place (omega arith)
       go (n.IsGlobal (n.Function number gives parameters)) = (omega arith, tt)
       go (n.IsGlobal n.Thread) = (omega arith, tt)
 
@@ -171,6 +187,43 @@ module _ (gs : List n.Global) where
       (expression_ordered s condition)
       (expression_ordered s chosen)
       (expression_ordered s otherwise)
+
+  persistent_ordered : (s : n.Scope) (x : t.Name) → Ordered (persistent_faults gs s x)
+  persistent_ordered s x = go (n.meaning gs s x.text)
+    where
+      go : (m : n.Meaning) → Ordered (elim m [
+        | n.IsGlobal (n.Variable number kind is_array) ↦ broken rule.WrongSort x.place
+        | _ ↦ []
+      ])
+      go n.IsUnknown = tt
+      go (n.IsLocal l) = tt
+      go (n.IsGlobal (n.Variable number kind is_array)) = (omega arith, tt)
+      go (n.IsGlobal (n.Mutex number count)) = tt
+      go (n.IsGlobal (n.Function number gives parameters)) = tt
+      go (n.IsGlobal n.Thread) = tt
+
+  shared_ordered : (s : n.Scope) (x : t.Expression) → Ordered (shared_faults gs s x)
+  shared_ordered s (t.Number place value) = tt
+  shared_ordered s (t.Named x) = persistent_ordered s x
+  shared_ordered s (t.Element array index) =
+      both (persistent_faults gs s array) (shared_faults gs s index) (persistent_ordered s array) (shared_ordered s index)
+  shared_ordered s (t.Parenthesised place inner) = shared_ordered s inner
+  shared_ordered s (t.Unary place operator operand) = shared_ordered s operand
+  shared_ordered s (t.Cast place kind operand) = shared_ordered s operand
+  shared_ordered s (t.Binary operator left right) =
+      both (shared_faults gs s left) (shared_faults gs s right) (shared_ordered s left) (shared_ordered s right)
+  shared_ordered s (t.Conditional condition chosen otherwise) =
+      three (shared_faults gs s condition) (shared_faults gs s chosen) (shared_faults gs s otherwise)
+      (shared_ordered s condition)
+      (shared_ordered s chosen)
+      (shared_ordered s otherwise)
+
+  key_ordered : (s : n.Scope) (x : Option t.Expression) → Ordered (key_faults gs s x)
+  key_ordered s None = tt
+  key_ordered s (Some x) = both (expression_faults gs s x) (shared_faults gs s x) (expression_ordered s x) (shared_ordered s x)
+
+  lock_ordered : (s : n.Scope) (x : t.Name) (key : Option t.Expression) → Ordered (lock_faults gs s x key)
+  lock_ordered s x key = both (mutex_faults gs s x (is_some key)) (key_faults gs s key) (mutex_ordered s x (is_some key)) (key_ordered s key)
 
   maybe_ordered : (s : n.Scope) (x : Option t.Expression) → Ordered (maybe_faults gs s x)
   maybe_ordered s None = tt
@@ -202,7 +255,7 @@ module _ (gs : List n.Global) where
       go n.IsUnknown = (omega arith, tt)
       go (n.IsLocal l) = (omega arith, tt)
       go (n.IsGlobal (n.Variable number kind is_array)) = (omega arith, tt)
-      go (n.IsGlobal (n.Mutex number)) = (omega arith, tt)
+      go (n.IsGlobal (n.Mutex number count)) = (omega arith, tt)
       go (n.IsGlobal (n.Function number gives parameters)) =
           both (broken_if (if is_some gives then not assigned else assigned) rule.WrongSort x.place)
           (broken_if (not (arguments == length parameters)) rule.Count x.place)
@@ -262,8 +315,8 @@ module _ (gs : List n.Global) where
         both (first_faults gs (n.entered s) start) (maybe_faults gs f x ++ last_faults gs f last ++ block_faults gs f body)
         (first_ordered (n.entered s) start)
         (three (maybe_faults gs f x) (last_faults gs f last) (block_faults gs f body) (maybe_ordered f x) (last_ordered f last) (block_ordered f body))
-    statement_ordered s (t.Lock place mutex) = mutex_ordered s mutex
-    statement_ordered s (t.Unlock place mutex) = mutex_ordered s mutex
+    statement_ordered s (t.Lock place mutex key) = lock_ordered s mutex key
+    statement_ordered s (t.Unlock place mutex key) = lock_ordered s mutex key
 
     block_ordered : (s : n.Scope) (x : t.Block) → Ordered (block_faults gs s x)
     block_ordered s (t.Braced opening xs closing) = statements_ordered (n.entered s) xs
@@ -301,12 +354,28 @@ module _ (gs : List n.Global) where
   return_ordered x =
       one_if (if is_some x.kind then not (returns_value gs x.body.returned) else returns_value gs x.body.returned) rule.Return x.name.place (omega arith)
 
+  count_ordered : (mutexes : Option ℕ) (size : t.Length) → Ordered (count_faults gs mutexes size)
+  count_ordered None size = tt
+  count_ordered (Some count) size = one_if (not (length_number size == count)) rule.Count size.place (omega arith)
+
+  each_ordered : (x : t.Persistent) → Ordered (each_faults gs x)
+  each_ordered x = go (not x.guard.each) x.length
+    where
+      go : (b : Bool) (size : Option t.Length) → Ordered (if b then [] else elim size [
+        | None ↦ broken rule.WrongSort x.name.place
+        | Some length ↦ count_faults gs (mutexes_of gs x.guard.mutex) length
+      ])
+      go true size = tt
+      go false None = (omega arith, tt)
+      go false (Some size) = count_ordered (mutexes_of gs x.guard.mutex) size
+
   item_ordered : (x : t.Item) → Ordered (item_faults gs x)
-  item_ordered (t.MutexItem x) = tt
+  item_ordered (t.MutexItem x count) = length_ordered count
   item_ordered (t.PersistentItem x) =
-      three (mutex_faults gs n.no_locals x.guard) (length_faults x.length) (initialiser_faults x.length x.initialiser)
-      (mutex_ordered n.no_locals x.guard)
-      (length_ordered x.length)
+      let guard = mutex_faults gs n.no_locals x.guard.mutex x.guard.each in
+      both (guard ++ each_faults gs x ++ length_faults x.length) (initialiser_faults x.length x.initialiser)
+      (three guard (each_faults gs x) (length_faults x.length) (mutex_ordered n.no_locals x.guard.mutex x.guard.each) (each_ordered x)
+      (length_ordered x.length))
       (initialiser_ordered x.length x.initialiser)
   item_ordered (t.ThreadItem x) = statements_ordered n.no_locals (made.body_of x.block)
   item_ordered (t.FunctionItem x) =
@@ -322,22 +391,24 @@ module _ (gs : List n.Global) where
 
 -- ---- All faults of a tree
 
-all_ordered : (xs : List t.Item) → Ordered (type_faults xs)
+all_ordered : (l : Language) (xs : List t.Item) → Ordered (type_faults l xs)
 unfolding type_faults
-all_ordered xs =
+all_ordered l xs =
     let gs = n.globals_of xs in
-    both (twice_from [] gs ++ past rule.Threads MOST_THREADS (thread_names xs) ++ past rule.Mutexes MOST_MUTEXES (mutex_names xs) ++ too_many_bytes 0 xs)
+    let threads = past rule.Threads MOST_THREADS (thread_names xs) in
+    let mutexes = too_many_mutexes (most_mutexes l) 0 xs in
+    both (twice_from [] gs ++ threads ++ mutexes ++ too_many_bytes 0 xs)
     (flat_map (item_faults gs) xs)
-    (both (twice_from [] gs ++ past rule.Threads MOST_THREADS (thread_names xs) ++ past rule.Mutexes MOST_MUTEXES (mutex_names xs)) (too_many_bytes 0 xs)
-    (three (twice_from [] gs) (past rule.Threads MOST_THREADS (thread_names xs)) (past rule.Mutexes MOST_MUTEXES (mutex_names xs))
+    (both (twice_from [] gs ++ threads ++ mutexes) (too_many_bytes 0 xs)
+    (three (twice_from [] gs) threads mutexes
     (twice_from-ordered [] gs)
     (past_ordered rule.Threads MOST_THREADS (thread_names xs) (omega arith))
-    (past_ordered rule.Mutexes MOST_MUTEXES (mutex_names xs) (omega arith)))
+    (more_than-ordered (most_mutexes l) 0 xs))
     (too_many-ordered 0 xs))
     (each (item_faults gs) (item_ordered gs) xs)
 
-pub one_first : (xs : List t.Item) (f g : Fault) → IsFirst (type_faults xs) f → IsFirst (type_faults xs) g → f ≡ g
-one_first xs f g x y = go (x.first g y.found) (y.first f x.found)
+pub one_first : (l : Language) (xs : List t.Item) (f g : Fault) → IsFirst (type_faults l xs) f → IsFirst (type_faults l xs) g → f ≡ g
+one_first l xs f g x y = go (x.first g y.found) (y.first f x.found)
   where
     fault : r.Rule → Place → Fault
     fault found place = record { rule = found; place = place }
@@ -347,6 +418,7 @@ one_first xs f g x y = go (x.first g y.found) (y.first f x.found)
     go (inl h) (inr k) = absurd (omega (arith, h, ap (λ (p : Place). p.0) k.0))
     go (inr h) (inl k) = absurd (omega (arith, k, ap (λ (p : Place). p.0) h.0))
     go (inr h) (inr k) =
-        let rules = one_rule f.rule g.rule (has_order (type_faults xs) f (all_ordered xs) x.found) (has_order (type_faults xs) g (all_ordered xs) y.found)
+        let rules = one_rule f.rule g.rule (has_order (type_faults l xs) f (all_ordered l xs) x.found)
+        (has_order (type_faults l xs) g (all_ordered l xs) y.found)
         (omega (arith, h.1, k.1)) in
         ap₂ fault rules h.0

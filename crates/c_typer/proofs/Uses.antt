@@ -29,7 +29,7 @@ function_is gs s x assigned arguments = go (n.meaning gs s x.text)
     go n.IsUnknown = refl
     go (n.IsLocal l) = refl
     go (n.IsGlobal (n.Variable number kind is_array)) = refl
-    go (n.IsGlobal (n.Mutex number)) = refl
+    go (n.IsGlobal (n.Mutex number count)) = refl
     go (n.IsGlobal (n.Function number gives parameters)) =
         ap₂ (λ (xs ys : List Fault). xs ++ ys)
         (if_is (if is_some gives then not assigned else assigned) rule.WrongSort x.place)

@@ -14,17 +14,19 @@ use Rattle.ido_ints.specs.Reduction.{reduced}
 use Rattle.ido_ints.proofs.Public.{Holds-zero, Holds-reduced}
 use Rattle.c_tree.specs.declared.rule.Rule.TheVariants as rule
 use Rattle.c_tree.specs.AcceptedTexts.{IsTyped}
+use Rattle.c_tree.specs.declared.language.Language.TheVariants.{Plain}
 use Rattle.c_tree.specs.Languages.{all_of}
 use Rattle.c_tree.specs.Tokens.{Token}
 use Rattle.c_tree.specs.Trees as t
 use Rattle.c_tree.specs.Grammar as g
 use Rattle.c_tree.specs.Names as n
+use Rattle.c_tree.specs.Names.{element_count, length_number}
 use Rattle.c_tree.specs.Programs as p
 use Rattle.c_tree.specs.TypeRules as rules
 use Rattle.c_tree.specs.TypeRules.{broken, broken_if, type_faults}
 use Rattle.c_tree.specs.Elaboration as made
 use Rattle.c_tree.specs.Elaboration.{typed_program}
-use Rattle.c_tree.specs.WellFormed.{elements_in, shape_of, IsVariable, AreStatements, IsReturned, IsFunction, IsProgram}
+use Rattle.c_tree.specs.WellFormed.{elements_in, shape_of, IsVariable, IsGuard, AreStatements, IsReturned, IsFunction, IsProgram, IsSingle}
 use Rattle.c_typer.proofs.LocalKindsGrow.{Into, into_self, into_length, Known, grow_statements, known_parameters}
 use Rattle.c_typer.proofs.WellFormedStatements.{nil_left, nil_right, not_broken, unbroken, SortIn, lock_formed, expr_formed, known_all, statements_formed}
 
@@ -36,23 +38,41 @@ past_most found zero (x ∷ xs) h = absurd (not_broken found x.place h)
 past_most found (suc most) (x ∷ xs) h = omega (arith, past_most found most xs h)
 
 module _ (gs : List n.Global) where
-  mutexes_named : (xs : List t.Item) → length (made.program_from gs xs).mutexes ≡ length (rules.mutex_names xs)
-  mutexes_named [] = refl
-  mutexes_named (t.MutexItem x ∷ xs) = omega (arith, mutexes_named xs)
-  mutexes_named (t.PersistentItem x ∷ xs) = mutexes_named xs
-  mutexes_named (t.ThreadItem x ∷ xs) = mutexes_named xs
-  mutexes_named (t.FunctionItem x ∷ xs) = mutexes_named xs
+  mutexes_count : (x : t.Name) (count : Option t.Length) (ms : List p.Mutex) → length (made.mutexes gs x count ++ ms) ≡ element_count count + length ms
+  mutexes_count x count ms =
+      let one : p.Mutex = record { name = x; length = option_map length_number count } in
+      omega (arith, length-append (made.mutexes gs x count) ms, length-replicate (element_count count) one)
+
+  -- there are no more than the rule of mutexes says
+  mutexes_within : (most k : ℕ) (xs : List t.Item) → k ≤ most → rules.too_many_mutexes most k xs ≡ [] →
+      k + length (made.program_from gs xs).mutexes ≤ most
+  mutexes_within most k [] le h = omega arith
+  mutexes_within most k (t.MutexItem x count ∷ xs) le h = go (nat_lt most (k + element_count count)) refl
+      (λ fits q. mutexes_within most (k + element_count count) xs fits q) h
+    where
+      go : (c : Bool) → nat_lt most (k + element_count count) ≡ c →
+          (k + element_count count ≤ most → rules.too_many_mutexes most (k + element_count count) xs ≡ [] →
+          (k + element_count count) + length (made.program_from gs xs).mutexes ≤ most) →
+          (if c then broken rule.Mutexes x.place else rules.too_many_mutexes most (k + element_count count) xs) ≡ [] →
+          k + length (made.mutexes gs x count ++ (made.program_from gs xs).mutexes) ≤ most
+      go true e more q = absurd (not_broken rule.Mutexes x.place q)
+      go false e more q =
+          let fits : k + element_count count ≤ most = grind (arith, nat_tests) in
+          omega (arith, more fits q, mutexes_count x count (made.program_from gs xs).mutexes)
+  mutexes_within most k (t.PersistentItem x ∷ xs) le h = mutexes_within most k xs le h
+  mutexes_within most k (t.ThreadItem x ∷ xs) le h = mutexes_within most k xs le h
+  mutexes_within most k (t.FunctionItem x ∷ xs) le h = mutexes_within most k xs le h
 
   threads_named : (xs : List t.Item) → length (made.program_from gs xs).threads ≡ length (rules.thread_names xs)
   threads_named [] = refl
-  threads_named (t.MutexItem x ∷ xs) = threads_named xs
+  threads_named (t.MutexItem x count ∷ xs) = threads_named xs
   threads_named (t.PersistentItem x ∷ xs) = threads_named xs
   threads_named (t.ThreadItem x ∷ xs) = omega (arith, threads_named xs)
   threads_named (t.FunctionItem x ∷ xs) = threads_named xs
 
 -- ---- Elements and bytes
 
-size_is : (o : Option t.Length) → elements_in (option_map made.length_number o) ≡ made.element_count o
+size_is : (o : Option t.Length) → elements_in (option_map length_number o) ≡ element_count o
 size_is None = refl
 size_is (Some x) = refl
 
@@ -64,7 +84,7 @@ module _ (gs : List n.Global) where
   ends_within : (k : ℕ) (xs : List t.Item) → k ≤ MOST_VARIABLE_BYTES → rules.too_many_bytes k xs ≡ [] →
       end_from k (map shape_of (made.program_from gs xs).variables) ≤ MOST_VARIABLE_BYTES
   ends_within k [] le h = le
-  ends_within k (t.MutexItem x ∷ xs) le h = ends_within k xs le h
+  ends_within k (t.MutexItem x count ∷ xs) le h = ends_within k xs le h
   ends_within k (t.ThreadItem x ∷ xs) le h = ends_within k xs le h
   ends_within k (t.FunctionItem x ∷ xs) le h = ends_within k xs le h
   ends_within k (t.PersistentItem x ∷ xs) le h = go (nat_lt MOST_VARIABLE_BYTES (rules.end_after k x)) refl
@@ -109,23 +129,37 @@ record InBounds (count : ℕ) : Type 0 where
   not_empty : 0 < count
   not_too_long : count ≤ MOST_ELEMENTS
 
-bounds : (o : Option t.Length) → rules.length_faults o ≡ [] → InBounds (made.element_count o)
+bounds : (o : Option t.Length) → rules.length_faults o ≡ [] → InBounds (element_count o)
 bounds None h = record { not_empty = omega arith; not_too_long = omega arith }
 bounds (Some x) h =
-    let no = unbroken (made.length_number x == 0 || nat_lt MOST_ELEMENTS (made.length_number x)) rule.Length x.place h in
+    let no = unbroken (length_number x == 0 || nat_lt MOST_ELEMENTS (length_number x)) rule.Length x.place h in
     record { not_empty = grind (arith, nat_tests); not_too_long = grind (arith, nat_tests) }
 
 -- ---- Items, in a program in which their names stand
 
 module _ (q : p.Program) (gs : List n.Global) (sorts : AllByRecursion (λ (y : n.Global). SortIn q y.sort) gs) where
-  variable_formed : (x : t.Persistent) → rules.item_faults gs (t.PersistentItem x) ≡ [] → IsVariable (length q.mutexes) (made.variable gs x)
-  variable_formed x h =
-      let first = nil_left (rules.mutex_faults gs n.no_locals x.guard ++ rules.length_faults x.length) (rules.initialiser_faults x.length x.initialiser) h in
-      let guard = nil_left (rules.mutex_faults gs n.no_locals x.guard) (rules.length_faults x.length) first in
-      let size = bounds x.length (nil_right (rules.mutex_faults gs n.no_locals x.guard) (rules.length_faults x.length) first) in
-      let count = made.element_count x.length in
+  -- where there are no brackets, one mutex guards all of the variable
+  guard_formed : (x : t.Persistent) (each : Bool) (us : List Token) → x.guard.each ≡ each → g.brackets Plain each us →
+      rules.mutex_faults gs n.no_locals x.guard.mutex x.guard.each ≡ [] → IsGuard (length q.mutexes) (made.variable gs x)
+  guard_formed x true us e d h = absurd d
+  guard_formed x false us e d h =
+      let number = made.mutex_number gs n.no_locals x.guard.mutex in
+      subst (λ (b : Bool). elim (if b then p.Each number else p.By number) as (λ _. Type 0) [
+        | p.By mutex ↦ mutex < length q.mutexes
+        | p.Each first ↦ ⊥
+      ]) (sym e) (lock_formed q gs sorts [] n.no_locals tt x.guard.mutex x.guard.each h)
+
+  variable_formed : (x : t.Persistent) (us : List Token) → g.brackets Plain x.guard.each us → rules.item_faults gs (t.PersistentItem x) ≡ [] →
+      IsVariable (length q.mutexes) (made.variable gs x)
+  variable_formed x us d h =
+      let a = rules.mutex_faults gs n.no_locals x.guard.mutex x.guard.each in
+      let b = rules.each_faults gs x in
+      let first = nil_left ((a ++ b) ++ rules.length_faults x.length) (rules.initialiser_faults x.length x.initialiser) h in
+      let guard = nil_left a b (nil_left (a ++ b) (rules.length_faults x.length) first) in
+      let size = bounds x.length (nil_right (a ++ b) (rules.length_faults x.length) first) in
+      let count = element_count x.length in
       let zs = map (reduced x.kind) (made.numbers_of x.initialiser) in record {
-        guarded = lock_formed q gs sorts [] n.no_locals tt x.guard guard;
+        guarded = guard_formed x x.guard.each us refl d guard;
         not_empty = subst (λ (m : ℕ). 0 < m) (sym (size_is x.length)) size.not_empty;
         not_too_long = subst (λ (m : ℕ). m ≤ MOST_ELEMENTS) (sym (size_is x.length)) size.not_too_long;
         count = filled_length count zs ∙ sym (size_is x.length);
@@ -133,12 +167,12 @@ module _ (q : p.Program) (gs : List n.Global) (sorts : AllByRecursion (λ (y : n
             (all_zeros x.kind (count - length zs));
       }
 
-  block_formed : (ks : List Kind) (s : n.Scope) (x : t.Block) (ts : List Token) → g.block x ts → Known ks s.known →
+  block_formed : (ks : List Kind) (s : n.Scope) (x : t.Block) (ts : List Token) → g.block Plain x ts → Known ks s.known →
       Into (made.statements gs s (made.body_of x)).scope.kinds ks → rules.statements_faults gs s (made.body_of x) ≡ [] →
       AreStatements q ks (made.statements gs s (made.body_of x)).made
   block_formed ks s (t.Braced opening xs closing) ts d known into h = statements_formed q gs sorts ks s xs d.4.0 d.4.3 known into h
 
-  thread_formed : (x : t.Thread) (ts : List Token) → g.block x.block ts → rules.item_faults gs (t.ThreadItem x) ≡ [] →
+  thread_formed : (x : t.Thread) (ts : List Token) → g.block Plain x.block ts → rules.item_faults gs (t.ThreadItem x) ≡ [] →
       AreStatements q (made.thread gs x).locals (made.thread gs x).body
   thread_formed x ts d h = let ks = (made.statements gs n.no_locals (made.body_of x.block)).scope.kinds in block_formed ks n.no_locals x.block ts d tt
       (into_self ks) h
@@ -153,7 +187,8 @@ module _ (q : p.Program) (gs : List n.Global) (sorts : AllByRecursion (λ (y : n
       go None k = tt
       go (Some v) k = expr_formed q gs sorts ks s known v k
 
-  function_formed : (x : t.Function) (ts : List Token) → g.function x ts → rules.item_faults gs (t.FunctionItem x) ≡ [] → IsFunction q (made.function gs x)
+  function_formed : (x : t.Function) (ts : List Token) → g.function Plain x ts → rules.item_faults gs (t.FunctionItem x) ≡ [] →
+      IsFunction q (made.function gs x)
   function_formed x ts d h =
       let s = made.with_parameters n.no_locals x.parameters in
       let m = made.statements gs s x.body.statements in
@@ -180,15 +215,16 @@ module _ (q : p.Program) (gs : List n.Global) (sorts : AllByRecursion (λ (y : n
     functions : AllByRecursion (IsFunction q) made_of.functions
     threads : AllByRecursion (λ (y : p.Thread). AreStatements q y.locals y.body) made_of.threads
 
-  parts_formed : (xs : List t.Item) (ts : List Token) → all_of g.item xs ts → flat_map (rules.item_faults gs) xs ≡ [] → Parts (made.program_from gs xs)
+  parts_formed : (xs : List t.Item) (ts : List Token) → all_of (g.item Plain) xs ts → flat_map (rules.item_faults gs) xs ≡ [] → Parts (made.program_from gs xs)
   parts_formed [] ts d h = record { variables = tt; functions = tt; threads = tt }
   parts_formed (x ∷ xs) ts d h = add x d.0 d.3 (nil_left (rules.item_faults gs x) (flat_map (rules.item_faults gs) xs) h)
       (parts_formed xs d.1 d.4 (nil_right (rules.item_faults gs x) (flat_map (rules.item_faults gs) xs) h))
     where
-      add : (y : t.Item) (us : List Token) → g.item y us → rules.item_faults gs y ≡ [] → Parts (made.program_from gs xs) →
+      add : (y : t.Item) (us : List Token) → g.item Plain y us → rules.item_faults gs y ≡ [] → Parts (made.program_from gs xs) →
           Parts (made.with_item gs y (made.program_from gs xs))
-      add (t.MutexItem y) us c k r = record { variables = r.variables; functions = r.functions; threads = r.threads }
-      add (t.PersistentItem y) us c k r = record { variables = (variable_formed y k, r.variables); functions = r.functions; threads = r.threads }
+      add (t.MutexItem y count) us c k r = record { variables = r.variables; functions = r.functions; threads = r.threads }
+      add (t.PersistentItem y) us c k r =
+          record { variables = (variable_formed y c.4.4.4.0 c.4.4.4.3 k, r.variables); functions = r.functions; threads = r.threads }
       add (t.ThreadItem y) us c k r = record { variables = r.variables; functions = r.functions; threads = (thread_formed y c.4.1 c.4.4 k, r.threads) }
       add (t.FunctionItem y) us c k r = record { variables = r.variables; functions = (function_formed y us c k, r.functions); threads = r.threads }
 
@@ -233,15 +269,16 @@ module _ (q : p.Program) (gs : List n.Global) where
       go : (y : t.Item) → After q c (made.with_item gs y (made.program_from gs xs)) → rules.item_faults gs y ≡ [] →
           ((d : n.Counts) → After q d (made.program_from gs xs) → AllByRecursion (λ (z : n.Global). SortIn q z.sort) (n.globals_from d xs)) →
           AllByRecursion (λ (z : n.Global). SortIn q z.sort) (n.globals_from c (y ∷ xs))
-      go (t.MutexItem y) e k rest = (
-        omega (arith, e.mutexes),
-        rest (n.counted c (t.MutexItem y))
-            (record { mutexes = omega (arith, e.mutexes); variables = e.variables; functions = e.functions }),
-      )
+      go (t.MutexItem y count) e k rest =
+          let many = mutexes_count gs y count (made.program_from gs xs).mutexes in (
+            omega (arith, e.mutexes, many, (bounds count k).not_empty),
+            rest (n.counted c (t.MutexItem y count))
+                (record { mutexes = omega (arith, e.mutexes, many); variables = e.variables; functions = e.functions }),
+          )
       go (t.PersistentItem y) e k rest =
           let here : at p.Variable q.variables c.variables (made.variable gs y) = subst (λ (i : ℕ). at p.Variable q.variables i (made.variable gs y))
           (omega arith) (e.variables 0 (made.variable gs y) refl) in (
-            record { it = made.variable gs y; found = here; kind = refl; array = some_mapped made.length_number y.length },
+            record { it = made.variable gs y; found = here; kind = refl; array = some_mapped length_number y.length },
             rest (n.counted c (t.PersistentItem y)) (record {
               mutexes = e.mutexes;
               variables = λ i v l. subst (λ (j : ℕ). at p.Variable q.variables j v) (omega arith) (e.variables (suc i) v l);
@@ -269,16 +306,32 @@ module _ (q : p.Program) (gs : List n.Global) where
             }),
           )
 
+-- ---- Mutexes
+
+-- an item makes no mutex that is in an array
+single_more : (gs : List n.Global) (x : t.Item) (us : List Token) (q : p.Program) → g.item Plain x us → AllByRecursion IsSingle q.mutexes →
+    AllByRecursion IsSingle (made.with_item gs x q).mutexes
+single_more gs (t.MutexItem x None) us q d h = (refl, h)
+single_more gs (t.MutexItem x (Some count)) us q d h = absurd d.4.4.3
+single_more gs (t.PersistentItem x) us q d h = h
+single_more gs (t.FunctionItem x) us q d h = h
+single_more gs (t.ThreadItem x) us q d h = h
+
+single_items : (gs : List n.Global) (xs : List t.Item) (ts : List Token) → all_of (g.item Plain) xs ts →
+    AllByRecursion IsSingle (made.program_from gs xs).mutexes
+single_items gs [] ts d = tt
+single_items gs (x ∷ xs) ts d = single_more gs x d.0 (made.program_from gs xs) d.3 (single_items gs xs d.1 d.4)
+
 -- ---- The whole text
 
-formed : (xs : List t.Item) (ts : List Token) → all_of g.item xs ts → type_faults xs ≡ [] → IsProgram (typed_program xs)
+formed : (xs : List t.Item) (ts : List Token) → all_of (g.item Plain) xs ts → type_faults Plain xs ≡ [] → IsProgram (typed_program xs)
 unfolding type_faults typed_program
 formed xs ts d h =
     let gs = n.globals_of xs in
     let q = made.program_from gs xs in
     let a = rules.twice_from [] gs in
     let b = rules.past rule.Threads MOST_THREADS (rules.thread_names xs) in
-    let m = rules.past rule.Mutexes MOST_MUTEXES (rules.mutex_names xs) in
+    let m = rules.too_many_mutexes MOST_MUTEXES 0 xs in
     let e = rules.too_many_bytes 0 xs in
     let f = flat_map (rules.item_faults gs) xs in
     let h4 = nil_left (((a ++ b) ++ m) ++ e) f h in
@@ -294,18 +347,19 @@ formed xs ts d h =
     let sorts = sorts_formed q gs n.none_yet xs whole items in
     let parts = parts_formed q gs sorts xs ts d items in record {
       shared = record {
-        mutexes = omega (arith, mutexes_named gs xs, past_most rule.Mutexes MOST_MUTEXES (rules.mutex_names xs) (nil_right (a ++ b) m h3));
+        mutexes = omega (arith, mutexes_within gs MOST_MUTEXES 0 xs (omega arith) (nil_right (a ++ b) m h3));
         threads = omega (arith, threads_named gs xs, past_most rule.Threads MOST_THREADS (rules.thread_names xs) (nil_right a b h2));
         variables = parts.variables;
         bytes = ends_within gs 0 xs (omega arith) (nil_right ((a ++ b) ++ m) e h4);
       };
+      single = single_items gs xs ts d;
       functions = parts.functions;
       threads = parts.threads;
     }
 
-spelled_items : (xs : List t.Item) (ts : List Token) → g.program xs ts → all_of g.item xs ts
+spelled_items : (xs : List t.Item) (ts : List Token) → g.program Plain xs ts → all_of (g.item Plain) xs ts
 spelled_items [] ts d = absurd d
 spelled_items (x ∷ xs) ts d = d
 
-pub typed_formed : (text : List ℕ) (x : p.Program) → IsTyped text x → IsProgram x
+pub typed_formed : (text : List ℕ) (x : p.Program) → IsTyped Plain text x → IsProgram x
 typed_formed text x h = subst IsProgram (sym h.typed) (formed h.items _ (spelled_items h.items _ h.read.spelled) h.faultless)

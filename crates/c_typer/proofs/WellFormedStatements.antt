@@ -10,6 +10,7 @@ use Rattle.ido_base.specs.declared.place.Place.{Place}
 use Rattle.ido_ints.specs.declared.kinds.Kind.{Kind}
 use Rattle.ido_ints.specs.declared.kinds.Kind.TheVariants.{Int}
 use Rattle.c_tree.specs.declared.rule.Rule.TheVariants as rule
+use Rattle.c_tree.specs.declared.language.Language.TheVariants.{Plain}
 use Rattle.c_tree.specs.Tokens.{Token}
 use Rattle.c_tree.specs.Trees as t
 use Rattle.c_tree.specs.Grammar as g
@@ -44,13 +45,13 @@ unbroken false found place h = refl
 
 abbrev Spelled : t.Arms → Type 0
 Spelled t.no_arm = Unit {0}
-Spelled (t.arm_and y body rest) = ((us : List Token) × g.block body us) × Spelled rest
+Spelled (t.arm_and y body rest) = ((us : List Token) × g.block Plain body us) × Spelled rest
 
-spelled_more : (ys : t.Arms) (ts : List Token) → g.more_arms_of ys ts → Spelled ys
+spelled_more : (ys : t.Arms) (ts : List Token) → g.more_arms_of Plain ys ts → Spelled ys
 spelled_more t.no_arm ts d = tt
 spelled_more (t.arm_and y body rest) ts d = ((d.4.4.4.0, d.4.4.4.3), spelled_more rest d.4.4.4.1 d.4.4.4.4)
 
-spelled_arms : (ys : t.Arms) (ts : List Token) → g.arms_of ys ts → Spelled ys
+spelled_arms : (ys : t.Arms) (ts : List Token) → g.arms_of Plain ys ts → Spelled ys
 spelled_arms t.no_arm ts d = absurd d
 spelled_arms (t.arm_and y body rest) ts d = ((d.4.4.0, d.4.4.3), spelled_more rest d.4.4.1 d.4.4.4)
 
@@ -58,7 +59,7 @@ spelled_arms (t.arm_and y body rest) ts d = ((d.4.4.0, d.4.4.3), spelled_more re
 
 -- what stands for it is there
 abbrev pub SortIn : p.Program → n.Sort → Type 0
-SortIn x (n.Mutex number) = number < length x.mutexes
+SortIn x (n.Mutex number count) = number < length x.mutexes
 SortIn x (n.Variable number kind is_array) = IsDeclared x.variables number kind is_array
 SortIn x (n.Function number gives parameters) = IsCall x.functions number (length parameters) (is_some gives)
 SortIn x n.Thread = Unit {0}
@@ -123,7 +124,7 @@ module _ (x : p.Program) (gs : List n.Global) (sorts : AllByRecursion (λ (y : n
         ])
         go n.IsUnknown k q = absurd (not_broken rule.Unknown y.place q)
         go (n.IsLocal l) k q = k
-        go (n.IsGlobal (n.Mutex number)) k q = tt
+        go (n.IsGlobal (n.Mutex number count)) k q = tt
         go (n.IsGlobal (n.Variable number kind is_array)) k q =
             subst (IsDeclared x.variables number kind) (equal_bools is_array false
             (unbroken (if is_array then not false else false) rule.WrongSort y.place q)) k
@@ -145,7 +146,7 @@ module _ (x : p.Program) (gs : List n.Global) (sorts : AllByRecursion (λ (y : n
         ])
         go n.IsUnknown k q = tt
         go (n.IsLocal l) k q = tt
-        go (n.IsGlobal (n.Mutex number)) k q = tt
+        go (n.IsGlobal (n.Mutex number count)) k q = tt
         go (n.IsGlobal (n.Variable number kind is_array)) k q = (
           subst (IsDeclared x.variables number kind) (equal_bools is_array true
               (unbroken (if is_array then not true else true) rule.WrongSort y.place q)) k,
@@ -169,7 +170,7 @@ module _ (x : p.Program) (gs : List n.Global) (sorts : AllByRecursion (λ (y : n
         ])
         go n.IsUnknown k q = absurd (not_broken rule.Unknown y.place q)
         go (n.IsLocal l) k q = k
-        go (n.IsGlobal (n.Mutex number)) k q = absurd (not_broken rule.WrongSort y.place q)
+        go (n.IsGlobal (n.Mutex number count)) k q = absurd (not_broken rule.WrongSort y.place q)
         go (n.IsGlobal (n.Variable number kind is_array)) k q =
             subst (IsDeclared x.variables number kind) (equal_bools is_array false
             (unbroken (if is_array then not false else false) rule.WrongSort y.place q)) k
@@ -191,7 +192,7 @@ module _ (x : p.Program) (gs : List n.Global) (sorts : AllByRecursion (λ (y : n
         ])
         go n.IsUnknown k q = absurd (not_broken rule.Unknown y.place q)
         go (n.IsLocal l) k q = absurd (not_broken rule.WrongSort y.place q)
-        go (n.IsGlobal (n.Mutex number)) k q = absurd (not_broken rule.WrongSort y.place q)
+        go (n.IsGlobal (n.Mutex number count)) k q = absurd (not_broken rule.WrongSort y.place q)
         go (n.IsGlobal (n.Variable number kind is_array)) k q = (
           subst (IsDeclared x.variables number kind) (equal_bools is_array true
               (unbroken (if is_array then not true else true) rule.WrongSort y.place q)) k,
@@ -294,7 +295,7 @@ module _ (x : p.Program) (gs : List n.Global) (sorts : AllByRecursion (λ (y : n
         ])
         go n.IsUnknown k q = absurd (not_broken rule.Unknown c.function.place q)
         go (n.IsLocal l) k q = absurd (not_broken rule.WrongSort c.function.place q)
-        go (n.IsGlobal (n.Mutex number)) k q = absurd (not_broken rule.WrongSort c.function.place q)
+        go (n.IsGlobal (n.Mutex number count)) k q = absurd (not_broken rule.WrongSort c.function.place q)
         go (n.IsGlobal (n.Variable number kind is_array)) k q = absurd (not_broken rule.WrongSort c.function.place q)
         go (n.IsGlobal (n.Function number gives parameters)) k q =
             let wrong = broken_if (if is_some gives then not (is_some result) else is_some result) rule.WrongSort c.function.place in
@@ -323,20 +324,20 @@ module _ (x : p.Program) (gs : List n.Global) (sorts : AllByRecursion (λ (y : n
         go (t.Value value) q = (new, expr_formed value q)
         go (t.Result c) q = call_formed place c (Some (e.ToLocal y.place (length s.kinds) y.kind)) q new
 
-    pub lock_formed : (y : t.Name) → rules.mutex_faults gs s y ≡ [] → made.mutex_number gs s y < length x.mutexes
-    lock_formed y h = go (n.meaning gs s y.text) (meaning_in s y.text known) h
+    pub lock_formed : (y : t.Name) (keyed : Bool) → rules.mutex_faults gs s y keyed ≡ [] → made.mutex_number gs s y < length x.mutexes
+    lock_formed y keyed h = go (n.meaning gs s y.text) (meaning_in s y.text known) h
       where
         go : (m : n.Meaning) → MeaningIn x ks m → ◌≡◌ {A = List Fault} (elim m [
           | n.IsUnknown ↦ broken rule.Unknown y.place
-          | n.IsGlobal (n.Mutex number) ↦ []
+          | n.IsGlobal (n.Mutex number count) ↦ broken_if (if is_some count then not keyed else keyed) rule.WrongSort y.place
           | _ ↦ broken rule.WrongSort y.place
         ]) [] → (elim m [
-          | n.IsGlobal (n.Mutex number) ↦ number
+          | n.IsGlobal (n.Mutex number count) ↦ number
           | _ ↦ 0
         ]) < length x.mutexes
         go n.IsUnknown k q = absurd (not_broken rule.Unknown y.place q)
         go (n.IsLocal l) k q = absurd (not_broken rule.WrongSort y.place q)
-        go (n.IsGlobal (n.Mutex number)) k q = k
+        go (n.IsGlobal (n.Mutex number count)) k q = k
         go (n.IsGlobal (n.Variable number kind is_array)) k q = absurd (not_broken rule.WrongSort y.place q)
         go (n.IsGlobal (n.Function number gives parameters)) k q = absurd (not_broken rule.WrongSort y.place q)
         go (n.IsGlobal n.Thread) k q = absurd (not_broken rule.WrongSort y.place q)
@@ -382,8 +383,8 @@ module _ (x : p.Program) (gs : List n.Global) (sorts : AllByRecursion (λ (y : n
   known_after s (t.While place y body) known into = known_inside s body known
   known_after s (t.Do place body y) known into = known_inside s body known
   known_after s (t.For place start y last body) known into = known
-  known_after s (t.Lock place mutex) known into = known
-  known_after s (t.Unlock place mutex) known into = known
+  known_after s (t.Lock place mutex key) known into = known
+  known_after s (t.Unlock place mutex key) known into = known
 
   pub known_all : (s : n.Scope) (ys : t.Statements) → Known ks s.known → Into (made.statements gs s ys).scope.kinds ks →
       Known ks (made.statements gs s ys).scope.known
@@ -410,12 +411,13 @@ module _ (x : p.Program) (gs : List n.Global) (sorts : AllByRecursion (λ (y : n
   condition_formed place s None known h = tt
   condition_formed place s (Some y) known h = expr_formed s known y h
 
-  arms_there : (s : n.Scope) (ys : t.Arms) (ts : List Token) → g.arms_of ys ts → HasProgramArm (made.arms_of gs s ys).made
+  arms_there : (s : n.Scope) (ys : t.Arms) (ts : List Token) → g.arms_of Plain ys ts → HasProgramArm (made.arms_of gs s ys).made
   arms_there s t.no_arm ts d = d
   arms_there s (t.arm_and y body rest) ts d = tt
 
   mutual
-    statement_formed : (s : n.Scope) (y : t.Statement) (ts : List Token) → g.statement y ts → Known ks s.known → Into (made.statement gs s y).scope.kinds ks →
+    statement_formed : (s : n.Scope) (y : t.Statement) (ts : List Token) → g.statement Plain y ts → Known ks s.known →
+        Into (made.statement gs s y).scope.kinds ks →
         rules.statement_faults gs s y ≡ [] → AreStatements x ks (made.statement gs s y).made
     statement_formed s (t.BlockOf y) ts d known into h = inside_formed s y ts d known into h
     statement_formed s (t.Empty place) ts d known into h = tt
@@ -468,14 +470,18 @@ module _ (x : p.Program) (gs : List n.Global) (sorts : AllByRecursion (λ (y : n
         let body_is = inside_formed s1 body d.4.4.4.4.4.4.4.1 block known1 into (nil_right (maybe ++ after) inner h1) in
         let start_is = first_formed place s0 start known within h0 in
         both_formed (made.first_at gs place s0 start).made _ start_is ((condition, both_formed (made.inside gs s1 body).made _ body_is third), tt)
-    statement_formed s (t.Lock place mutex) ts d known into h = ((lock_formed s known mutex h, refl), tt)
-    statement_formed s (t.Unlock place mutex) ts d known into h = ((lock_formed s known mutex h, refl), tt)
+    statement_formed s (t.Lock place mutex None) ts d known into h =
+        ((lock_formed s known mutex false (nil_left (rules.mutex_faults gs s mutex false) [] h), refl), tt)
+    statement_formed s (t.Lock place mutex (Some key)) ts d known into h = absurd d.4.4.4.3
+    statement_formed s (t.Unlock place mutex None) ts d known into h =
+        ((lock_formed s known mutex false (nil_left (rules.mutex_faults gs s mutex false) [] h), refl), tt)
+    statement_formed s (t.Unlock place mutex (Some key)) ts d known into h = absurd d.4.4.4.3
 
-    inside_formed : (s : n.Scope) (y : t.Block) (ts : List Token) → g.block y ts → Known ks s.known → Into (made.inside gs s y).scope.kinds ks →
+    inside_formed : (s : n.Scope) (y : t.Block) (ts : List Token) → g.block Plain y ts → Known ks s.known → Into (made.inside gs s y).scope.kinds ks →
         rules.block_faults gs s y ≡ [] → AreStatements x ks (made.inside gs s y).made
     inside_formed s (t.Braced opening ys closing) ts d known into h = statements_formed (n.entered s) ys d.4.0 d.4.3 known into h
 
-    pub statements_formed : (s : n.Scope) (ys : t.Statements) (ts : List Token) → g.statements ys ts → Known ks s.known →
+    pub statements_formed : (s : n.Scope) (ys : t.Statements) (ts : List Token) → g.statements Plain ys ts → Known ks s.known →
         Into (made.statements gs s ys).scope.kinds ks → rules.statements_faults gs s ys ≡ [] → AreStatements x ks (made.statements gs s ys).made
     statements_formed s t.no_statement ts d known into h = tt
     statements_formed s (t.statement_and y ys) ts d known into h =
@@ -499,7 +505,7 @@ module _ (x : p.Program) (gs : List n.Global) (sorts : AllByRecursion (λ (y : n
           arms_formed s' rest d.1 (known_inside s body known) into (nil_right both (rules.arms_faults gs s' rest) h),
         )
 
-    otherwise_formed : (s : n.Scope) (y : t.Otherwise) (ts : List Token) → g.otherwise_of y ts → Known ks s.known →
+    otherwise_formed : (s : n.Scope) (y : t.Otherwise) (ts : List Token) → g.otherwise_of Plain y ts → Known ks s.known →
         Into (made.otherwise_of gs s y).scope.kinds ks → rules.otherwise_faults gs s y ≡ [] → AreStatements x ks (made.otherwise_of gs s y).made
     otherwise_formed s t.Nothing ts d known into h = tt
     otherwise_formed s (t.Else body) ts d known into h = inside_formed s body d.1 d.4 known into h

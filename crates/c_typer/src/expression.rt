@@ -122,6 +122,47 @@ pub fn value(
     }
 }
 
+/// Notes the persistent variable that a name in a key is.
+fn note_persistent(globals: &Globals, scope: &Scope, faults: &mut Faults, name: &Name)
+    ensures { first_of faults.new ≡ noted (first_of faults.old) (rules.persistent_faults (globals_of globals.now) (scope_of scope.now) (name_of name.now)) }
+{
+    let rule = resolve(globals, scope, &name.text).persistent_rule();
+    faults.note_some(rule, name.place);
+}
+
+/// Notes the persistent variables in a key.
+#[tactic(auto, using(crate::proofs::FirstFaultLaws::noted_append))]
+pub fn note_shared(globals: &Globals, scope: &Scope, faults: &mut Faults, expression: &Expression)
+    ensures { first_of faults.new ≡ noted (first_of faults.old)
+        (rules.shared_faults (globals_of globals.now) (scope_of scope.now) (expression_of expression.now)) }
+{
+    match expression {
+        Expression::Number { .. } => (),
+        Expression::Named { name } => note_persistent(globals, scope, faults, name),
+        Expression::Element { array, index } => {
+            note_persistent(globals, scope, faults, array);
+            note_shared(globals, scope, faults, index);
+        }
+        Expression::Parenthesised { inner, .. } => note_shared(globals, scope, faults, inner),
+        Expression::Unary { operand, .. } | Expression::Cast { operand, .. } => {
+            note_shared(globals, scope, faults, operand)
+        }
+        Expression::Binary { left, right, .. } => {
+            note_shared(globals, scope, faults, left);
+            note_shared(globals, scope, faults, right);
+        }
+        Expression::Conditional {
+            condition,
+            then,
+            otherwise,
+        } => {
+            note_shared(globals, scope, faults, condition);
+            note_shared(globals, scope, faults, then);
+            note_shared(globals, scope, faults, otherwise);
+        }
+    }
+}
+
 /// An expression with its place.
 pub fn placed(
     alloc: Global,

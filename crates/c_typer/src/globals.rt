@@ -6,6 +6,7 @@ ghost use Rattle.c_tree.specs.Views.{name_of, parameter_of};
 ghost use Rattle.c_typer.specs.links.Declarations.{names_declared};
 ghost use Rattle.c_typer.specs.links.Places.{place_of, first_place};
 
+use crate::length::{element_count, length_of};
 use crate::names::Places;
 use c_tree::tree::{Item, Name, Parameter, Tree};
 use ido_ints::Kind;
@@ -14,8 +15,10 @@ use std::alloc::{AllocError, Global};
 /// What a name of the whole text stands for, with its number among those of its sort.
 #[derive(Drop)]
 pub enum Sort {
+    /// The number of an array of mutexes is that of its first one.
     Mutex {
-        number: u32,
+        number: u128,
+        length: Option<u64>,
     },
     Variable {
         number: u32,
@@ -47,10 +50,11 @@ impl Declared {
         ensures { IfOk result (λ x. global_of x ≡ n.global_of (counts_of counts.now) (item_of item.now)) }
     {
         match item {
-            Item::Mutex(name) => Ok(Declared {
-                name: copied(name)?,
+            Item::Mutex(read) => Ok(Declared {
+                name: copied(&read.name)?,
                 sort: Sort::Mutex {
                     number: counts.mutexes,
+                    length: length_of(&read.length),
                 },
             }),
             Item::Persistent(read) => Ok(Declared {
@@ -136,7 +140,7 @@ impl Globals {
 /// How many of a sort were declared before.
 #[derive(Drop)]
 struct Counts {
-    mutexes: u32,
+    mutexes: u128,
     variables: u32,
     functions: u32,
 }
@@ -146,18 +150,25 @@ impl Counts {
     ghost use Rattle.c_tree.specs.Views.{item_of};
     ghost use Rattle.c_typer.specs.links.Scopes.{counts_of};
 
-    /// Counts one more. More than 2^32 - 1 of a sort have no numbers.
+    /// Counts one more, or as many mutexes as an array has. More than 2^32 - 1 variables or functions have no numbers; an
+    /// array of mutexes has some, however long it is, since its length may break a rule.
     fn count(&mut self, item: &Item) -> Result<(), AllocError>
         ensures { OnOk result (counts_of self.new ≡ n.counted (counts_of self.old) (item_of item.now)) }
     {
         match item {
-            Item::Mutex(_) => self.mutexes = next(self.mutexes)?,
+            Item::Mutex(read) => self.mutexes = after(self.mutexes, element_count(&read.length))?,
             Item::Persistent(_) => self.variables = next(self.variables)?,
             Item::Thread(_) => (),
             Item::Function(_) => self.functions = next(self.functions)?,
         }
         Ok(())
     }
+}
+
+fn after(number: u128, count: u64) -> Result<u128, AllocError>
+    ensures { IfOk result (λ x. x ≡ number + count) }
+{
+    number.checked_add(u128::from(count)).ok_or(AllocError)
 }
 
 fn next(number: u32) -> Result<u32, AllocError>

@@ -2,6 +2,7 @@
 ghost use Rattle.std.specs.Prelude.{◌≡◌, List, [], map, IfOk, OnOk};
 ghost use Rattle.std.specs.Option.{option_map};
 ghost use Rattle.c_tree.specs.Names as n;
+ghost use Rattle.c_tree.specs.Names.{element_count, length_number};
 ghost use Rattle.c_tree.specs.Programs as p;
 ghost use Rattle.c_tree.specs.Trees as t;
 ghost use Rattle.c_tree.specs.TypeRules as rules;
@@ -15,6 +16,8 @@ use crate::assignment::note_twice;
 use crate::expression::placed;
 use crate::faults::Faults;
 use crate::globals::{Globals, copied};
+use crate::length::{element_count, length_number};
+use crate::meaning::resolve;
 use crate::scope::Scope;
 use crate::statement::{mutex, statements};
 use c_tree::program::{Function, Guard, Returned, Thread, Variable};
@@ -157,17 +160,8 @@ pub fn thread(
     })
 }
 
-/// How many elements a variable has.
-pub fn element_count(length: &Option<Length>) -> u64
-    ensures { result ≡ typing.element_count (option_map v.length_of length.now) }
-{
-    match length {
-        None => 1,
-        Some(length) => length.value.number().unsigned_abs() as u64,
-    }
-}
-
-fn note_length(faults: &mut Faults, length: &Option<Length>)
+/// Notes a length that is 0 or past the most.
+pub fn note_length(faults: &mut Faults, length: &Option<Length>)
     ensures { first_of faults.new ≡ noted (first_of faults.old) (rules.length_faults (option_map v.length_of length.now)) }
 {
     if let Some(read) = length {
@@ -260,8 +254,8 @@ fn fill(numbers: &mut Vec<i128>, count: usize) -> Result<(), AllocError>
 
 /// How many elements a variable has, or any number where its length breaks its rule.
 #[tactic(auto, using(crate::proofs::Counts::within))]
-fn checked_count(length: &Option<Length>) -> u32
-    ensures { rules.length_faults (option_map v.length_of length.now) ≡ [] → result ≡ typing.element_count (option_map v.length_of length.now) }
+pub fn checked_count(length: &Option<Length>) -> u32
+    ensures { rules.length_faults (option_map v.length_of length.now) ≡ [] → result ≡ element_count (option_map v.length_of length.now) }
 {
     let count = element_count(length);
     if count <= MOST_ELEMENTS {
@@ -272,12 +266,59 @@ fn checked_count(length: &Option<Length>) -> u32
 }
 
 /// The length of an array, or any where it breaks its rule.
-fn checked_length(length: &Option<Length>) -> Option<u32>
-    ensures { rules.length_faults (option_map v.length_of length.now) ≡ [] → result ≡ option_map typing.length_number (option_map v.length_of length.now) }
+pub fn checked_length(length: &Option<Length>) -> Option<u32>
+    ensures { rules.length_faults (option_map v.length_of length.now) ≡ [] → result ≡ option_map length_number (option_map v.length_of length.now) }
 {
     match length {
         None => None,
         Some(_) => Some(checked_count(length)),
+    }
+}
+
+/// Notes a length that isn't that of the array of mutexes.
+fn note_same_count(faults: &mut Faults, mutexes: Option<u64>, length: &Length)
+    ensures { first_of faults.new ≡ noted (first_of faults.old) (rules.count_faults [] mutexes (v.length_of length.now)) }
+{
+    if let Some(count) = mutexes {
+        if length_number(length) != count {
+            faults.note(Rule::Count, length.place);
+        }
+    }
+}
+
+/// Notes a variable, each element of which has a mutex of its own, that is no array or has another length than their array.
+fn note_each(globals: &Globals, scope: &Scope, faults: &mut Faults, read: &Persistent)
+    requires { scope_of scope.now ≡ n.no_locals }
+    ensures { first_of faults.new ≡ noted (first_of faults.old) (rules.each_faults (globals_of globals.now) (v.persistent_of read.now)) }
+{
+    if read.guard.each {
+        match &read.length {
+            None => faults.note(Rule::WrongSort, read.name.place),
+            Some(length) => {
+                let mutexes = resolve(globals, scope, &read.guard.mutex.text).mutexes();
+                note_same_count(faults, mutexes, length);
+            }
+        }
+    }
+}
+
+/// What guards a variable; notes the rule that the use of its name breaks.
+fn guard(
+    globals: &Globals,
+    scope: &Scope,
+    faults: &mut Faults,
+    read: &tree::Guard,
+) -> Result<Guard, AllocError>
+    requires { scope_of scope.now ≡ n.no_locals }
+    ensures made { IfOk result (λ x. p.guard_of x ≡ typing.guard (globals_of globals.now) (v.guard_of read.now)) }
+    ensures noted { OnOk result (first_of faults.new ≡ noted (first_of faults.old)
+        (rules.mutex_faults (globals_of globals.now) n.no_locals (v.name_of read.now.mutex) read.now.each)) }
+{
+    let number = mutex(globals, scope, faults, &read.mutex, read.each)?;
+    if read.each {
+        Ok(Guard::Each { first: number })
+    } else {
+        Ok(Guard::By { mutex: number })
     }
 }
 
@@ -292,14 +333,16 @@ pub fn variable(
     ensures noted { OnOk result (first_of faults.new ≡ noted (first_of faults.old)
         (rules.item_faults (globals_of globals.now) (t.PersistentItem (v.persistent_of read.now)))) }
 {
-    let guard = mutex(globals, &Scope::new(alloc), faults, &read.guard);
+    let outside = Scope::new(alloc);
+    let guard = guard(globals, &outside, faults, &read.guard)?;
+    note_each(globals, &outside, faults, read);
     note_length(faults, &read.length);
     note_initialiser(faults, &read.length, &read.initialiser);
     let mut initial = given_numbers(alloc, read.kind, &read.initialiser)?;
     fill(&mut initial, checked_count(&read.length) as usize)?;
     Ok(Variable {
         name: copied(&read.name)?,
-        guard: Guard::By { mutex: guard },
+        guard,
         kind: read.kind,
         length: checked_length(&read.length),
         initial,

@@ -7,6 +7,7 @@ mod faults;
 mod globals;
 mod item;
 pub mod laws;
+mod length;
 mod meaning;
 mod names;
 mod program;

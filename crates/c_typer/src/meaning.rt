@@ -1,13 +1,13 @@
 //! What a name means where it stands.
-ghost use Rattle.std.specs.Prelude.{◌≡◌, IfOk};
+ghost use Rattle.std.specs.Prelude.{◌≡◌, ℕ, IfOk};
 ghost use Rattle.ido_ints.specs.Kinds.{Holds};
 ghost use Rattle.ido_ints.specs.TypedNumbers.{typed};
 ghost use Rattle.ido_ints.specs.declared.kinds.Kind.TheVariants.{Int};
 ghost use Rattle.c_tree.specs.Exprs as e;
 ghost use Rattle.c_tree.specs.Exprs.{expr_of, placed_of, lvalue_of};
 ghost use Rattle.c_tree.specs.Names as n;
-ghost use Rattle.c_typer.specs.links.Meanings.{count_rule, element_as, function_as, function_rule, meaning_of, mutex_as};
-ghost use Rattle.c_typer.specs.links.Meanings.{mutex_rule, named_as, rule_if, target_as, target_element_as, use_rule};
+ghost use Rattle.c_typer.specs.links.Meanings.{count_rule, element_as, function_as, function_rule, meaning_of, mutex_as, mutexes_as};
+ghost use Rattle.c_typer.specs.links.Meanings.{mutex_rule, named_as, persistent_rule, rule_if, target_as, target_element_as, use_rule};
 ghost use Rattle.c_typer.specs.links.Scopes.{globals_of, scope_of};
 
 use crate::globals::{Globals, Sort};
@@ -136,13 +136,25 @@ impl<'a> Meaning<'a> {
         }
     }
 
-    /// The number of the mutex, or any where it is none.
-    pub fn mutex(self) -> u32
-        ensures { result ≡ mutex_as (meaning_of self.entry) }
+    /// The number of the mutex, of an array that of its first one, or any where it is none. A number past 2^32 - 1 stands for none.
+    pub fn mutex(self) -> Result<u32, AllocError>
+        ensures { IfOk result (λ x. x ≡ mutex_as (meaning_of self.entry)) }
     {
         match self {
-            Meaning::Global(Sort::Mutex { number }) => *number,
-            _ => 0,
+            Meaning::Global(Sort::Mutex { number, .. }) => {
+                u32::try_from(*number).map_err(|_| AllocError)
+            }
+            _ => Ok(0),
+        }
+    }
+
+    /// How many mutexes the array has, where it is one.
+    pub fn mutexes(self) -> Option<u64>
+        ensures { result ≡ mutexes_as (meaning_of self.entry) }
+    {
+        match self {
+            Meaning::Global(Sort::Mutex { length, .. }) => *length,
+            _ => None,
         }
     }
 
@@ -160,14 +172,27 @@ impl<'a> Meaning<'a> {
         }
     }
 
-    /// The rule that its use as a mutex breaks.
-    pub fn mutex_rule(self) -> Option<Rule>
-        ensures { result ≡ mutex_rule (meaning_of self.entry) }
+    /// The rule that its use as a mutex breaks: it has a key or brackets exactly where it is an array.
+    pub fn mutex_rule(self, keyed: bool) -> Option<Rule>
+        ensures { result ≡ mutex_rule (meaning_of self.entry) keyed }
     {
         match self {
             Meaning::Unknown => Some(Rule::Unknown),
-            Meaning::Global(Sort::Mutex { .. }) => None,
+            Meaning::Global(Sort::Mutex { length, .. }) => rule_if(
+                if length.is_some() { !keyed } else { keyed },
+                Rule::WrongSort,
+            ),
             _ => Some(Rule::WrongSort),
+        }
+    }
+
+    /// The rule that its use in a key breaks: a key reads no persistent variable.
+    pub fn persistent_rule(self) -> Option<Rule>
+        ensures { result ≡ persistent_rule (meaning_of self.entry) }
+    {
+        match self {
+            Meaning::Global(Sort::Variable { .. }) => Some(Rule::WrongSort),
+            _ => None,
         }
     }
 

@@ -1,7 +1,8 @@
 //! Statements. Each is made after those that were made before, in the order of the text.
-ghost use Rattle.std.specs.Prelude.{◌≡◌, ◌++◌, ◌∷◌, [], OnOk, IfOk};
+ghost use Rattle.std.specs.Prelude.{◌≡◌, ◌++◌, ◌∷◌, [], Some, OnOk, IfOk};
+ghost use Rattle.std.specs.Box.{box_value};
 ghost use Rattle.std.specs.Option.{option_map};
-ghost use Rattle.c_tree.specs.Exprs.{placed_of};
+ghost use Rattle.c_tree.specs.Exprs.{placed_of, lock_name_of};
 ghost use Rattle.c_tree.specs.Names as n;
 ghost use Rattle.c_tree.specs.Programs as p;
 ghost use Rattle.c_tree.specs.Trees as t;
@@ -14,7 +15,7 @@ ghost use Rattle.c_typer.specs.links.Rows.{loop_as, loop_faults, maybe_one};
 ghost use Rattle.c_typer.specs.links.Scopes.{globals_of, scope_of, ScopeGrows, Stays};
 
 use crate::assignment::{assignment, call, declaration, target};
-use crate::expression::placed;
+use crate::expression::{note_shared, placed};
 use crate::faults::Faults;
 use crate::globals::Globals;
 use crate::meaning::{int, resolve};
@@ -78,14 +79,68 @@ fn do_of(place: Place, body: Vec<program::Statement>, condition: Placed) -> prog
     }
 }
 
-/// The number of a mutex; notes the rule that the use of its name breaks.
-pub fn mutex(globals: &Globals, scope: &Scope, faults: &mut Faults, name: &Name) -> u32
-    ensures made { result ≡ typing.mutex_number (globals_of globals.now) (scope_of scope.now) (v.name_of name.now) }
-    ensures noted { first_of faults.new ≡ noted (first_of faults.old) (rules.mutex_faults (globals_of globals.now) (scope_of scope.now) (v.name_of name.now)) }
+/// The number of a mutex, of an array that of its first one; notes the rule that the use of its name breaks, with a key or brackets or
+/// without.
+pub fn mutex(
+    globals: &Globals,
+    scope: &Scope,
+    faults: &mut Faults,
+    name: &Name,
+    keyed: bool,
+) -> Result<u32, AllocError>
+    ensures made { IfOk result (λ x. x ≡ typing.mutex_number (globals_of globals.now) (scope_of scope.now) (v.name_of name.now)) }
+    ensures noted { OnOk result (first_of faults.new ≡ noted (first_of faults.old)
+        (rules.mutex_faults (globals_of globals.now) (scope_of scope.now) (v.name_of name.now) keyed)) }
 {
     let meaning = resolve(globals, scope, &name.text);
-    faults.note_some(meaning.mutex_rule(), name.place);
+    faults.note_some(meaning.mutex_rule(keyed), name.place);
     meaning.mutex()
+}
+
+/// A key, and the persistent variables in it.
+#[tactic(auto, using(crate::proofs::FirstFaultLaws::noted_append))]
+fn key(
+    alloc: Global,
+    globals: &Globals,
+    scope: &Scope,
+    faults: &mut Faults,
+    read: &Expression,
+) -> Result<Placed, AllocError>
+    ensures made { IfOk result (λ x. placed_of x ≡ typing.placed (globals_of globals.now) (scope_of scope.now) (v.expression_of read.now)) }
+    ensures noted { OnOk result (first_of faults.new ≡ noted (first_of faults.old)
+        (rules.key_faults (globals_of globals.now) (scope_of scope.now) (Some (v.expression_of read.now)))) }
+{
+    let key = placed(alloc, globals, scope, faults, read)?;
+    note_shared(globals, scope, faults, read);
+    Ok(key)
+}
+
+/// The name of a lock.
+#[tactic(auto, using(crate::proofs::FirstFaultLaws::noted_append))]
+fn lock_name(
+    alloc: Global,
+    globals: &Globals,
+    scope: &Scope,
+    faults: &mut Faults,
+    name: &Name,
+    read: &Option<Box<Expression>>,
+) -> Result<LockName, AllocError>
+    ensures made { IfOk result (λ x. lock_name_of x
+        ≡ typing.lock_name (globals_of globals.now) (scope_of scope.now) (v.name_of name.now) (option_map (λ x. v.expression_of (box_value x)) read.now)) }
+    ensures noted { OnOk result (first_of faults.new ≡ noted (first_of faults.old)
+        (rules.lock_faults (globals_of globals.now) (scope_of scope.now) (v.name_of name.now) (option_map (λ x. v.expression_of (box_value x)) read.now))) }
+{
+    let mutex = mutex(globals, scope, faults, name, read.is_some())?;
+    match read {
+        None => Ok(LockName { mutex, key: None }),
+        Some(read) => {
+            let key = key(alloc, globals, scope, faults, read)?;
+            Ok(LockName {
+                mutex,
+                key: Some(key),
+            })
+        }
+    }
 }
 
 /// A declaration, as a statement at a place, and its local in the scope.
@@ -255,23 +310,23 @@ fn statement(
             scope.leave(outer);
             add(made, next)
         }
-        Statement::Lock { place, mutex: name } => {
-            let mutex = mutex(globals, scope, faults, name);
+        Statement::Lock { place, mutex, key } => {
+            let lock = lock_name(alloc, globals, scope, faults, mutex, key)?;
             add(
                 made,
                 program::Statement::Lock {
                     place: *place,
-                    lock: LockName { mutex, key: None },
+                    lock,
                 },
             )
         }
-        Statement::Unlock { place, mutex: name } => {
-            let mutex = mutex(globals, scope, faults, name);
+        Statement::Unlock { place, mutex, key } => {
+            let lock = lock_name(alloc, globals, scope, faults, mutex, key)?;
             add(
                 made,
                 program::Statement::Unlock {
                     place: *place,
-                    lock: LockName { mutex, key: None },
+                    lock,
                 },
             )
         }

@@ -8,7 +8,8 @@ ghost use Rattle.c_typer.specs.links.Scopes.{globals_of};
 
 use crate::faults::Faults;
 use crate::globals::Globals;
-use crate::item::element_count;
+use crate::length::element_count;
+use c_tree::language::Language;
 use c_tree::rule::Rule;
 use c_tree::tree::{Item, Persistent, Tree};
 use ido_base::limits::{MOST_MUTEXES, MOST_THREADS, MOST_VARIABLE_BYTES};
@@ -41,19 +42,29 @@ pub fn note_threads(tree: &Tree, faults: &mut Faults)
     }
 }
 
-/// Notes the first mutex past the 64th.
-#[tactic(auto, using(crate::proofs::ItemRows::pasts))]
-pub fn note_mutexes(tree: &Tree, faults: &mut Faults)
-    ensures { first_of faults.new ≡ noted (first_of faults.old) (rules.past rule.Mutexes MOST_MUTEXES (rules.mutex_names (items_of tree.now))) }
+/// How many mutexes there may be, with those of arrays.
+fn most_mutexes(language: Language) -> u32
+    ensures { result ≡ rules.most_mutexes language }
 {
-    let mut left = MOST_MUTEXES as usize;
+    match language {
+        Language::Plain => MOST_MUTEXES,
+        Language::Full => 1024,
+    }
+}
+
+/// Notes the first name by which there are more mutexes than there may be.
+pub fn note_mutexes(language: Language, tree: &Tree, faults: &mut Faults)
+    ensures { first_of faults.new ≡ noted (first_of faults.old) (rules.too_many_mutexes (rules.most_mutexes language) 0 (items_of tree.now)) }
+{
+    let most = u128::from(most_mutexes(language));
+    let mut count = 0;
     for item in &tree.items {
-        if let Item::Mutex(name) = item {
-            if left == 0 {
-                faults.note(Rule::Mutexes, name.place);
+        if let Item::Mutex(mutex) = item {
+            count += u128::from(element_count(&mutex.length));
+            if count > most {
+                faults.note(Rule::Mutexes, mutex.name.place);
                 return;
             }
-            left -= 1;
         }
     }
 }

@@ -7,6 +7,7 @@
 use anyhow::Error;
 use c_inline::inline::inline;
 use c_reader::read;
+use c_tree::language::Language;
 use c_typer::type_tree;
 use ido_base::limits::MOST_SOURCE_BYTES;
 use std::alloc::{AllocError, Global};
@@ -84,10 +85,10 @@ fn accepts(alloc: Global, text: &[u8]) -> bool {
     if text.len() > MOST_SOURCE_BYTES {
         return false;
     }
-    let Ok(tree) = read(alloc, text) else {
+    let Ok(tree) = read(alloc, Language::Plain, text) else {
         return false;
     };
-    let Ok(program) = type_tree(alloc, &tree) else {
+    let Ok(program) = type_tree(alloc, Language::Plain, tree) else {
         return false;
     };
     c_ranges::check(&program).is_ok() && inline(alloc, &program).is_ok()

@@ -1,14 +1,15 @@
 -- What a text that keeps the rules of names has: few threads.
 use Rattle.std.proofs.Common.{◌≡◌, refl, ℕ, zero, suc, ◌≤◌, List, [], ◌∷◌, ◌++◌, length, flat_map, ap, arith}
 use Rattle.std.proofs.lemmas.List.{length-map}
-use Rattle.ido_base.specs.declared.limits.TheConstants.{MOST_THREADS, MOST_MUTEXES}
+use Rattle.ido_base.specs.declared.limits.TheConstants.{MOST_THREADS}
+use Rattle.c_tree.specs.declared.language.Language.TheVariants.{Plain}
 use Rattle.c_tree.specs.Flats as f
 use Rattle.c_tree.specs.Flats.{flat_of}
 use Rattle.c_tree.specs.Inlining.{flat_form, flat_thread}
 use Rattle.c_tree.specs.Names as n
 use Rattle.c_tree.specs.Programs as p
 use Rattle.c_tree.specs.Trees as t
-use Rattle.c_tree.specs.TypeRules.{mutex_names, past, thread_names, type_faults, twice_from, too_many_bytes, item_faults}
+use Rattle.c_tree.specs.TypeRules.{most_mutexes, past, thread_names, type_faults, twice_from, too_many_bytes, too_many_mutexes, item_faults}
 use Rattle.c_tree.specs.Elaboration.{program_from, typed_program}
 use Rattle.c_tree.specs.declared.rule.Rule as r
 use Rattle.c_tree.specs.declared.rule.Rule.TheVariants as rule
@@ -30,17 +31,17 @@ few found (suc most) (x ∷ xs) h = let rest = few found most xs h in omega (ari
 
 threads_in : (gs : List n.Global) (xs : List t.Item) → length (program_from gs xs).threads ≡ length (thread_names xs)
 threads_in gs [] = refl
-threads_in gs (t.MutexItem x ∷ xs) = threads_in gs xs
+threads_in gs (t.MutexItem x count ∷ xs) = threads_in gs xs
 threads_in gs (t.PersistentItem x ∷ xs) = threads_in gs xs
 threads_in gs (t.FunctionItem x ∷ xs) = threads_in gs xs
 threads_in gs (t.ThreadItem x ∷ xs) = ap suc (threads_in gs xs)
 
-few_of : (xs : List t.Item) → type_faults xs ≡ [] → length (typed_program xs).threads ≤ MOST_THREADS
+few_of : (xs : List t.Item) → type_faults Plain xs ≡ [] → length (typed_program xs).threads ≤ MOST_THREADS
 unfolding type_faults typed_program
 few_of xs h =
     let twice = twice_from [] (n.globals_of xs) in
     let of_threads = past rule.Threads MOST_THREADS (thread_names xs) in
-    let of_mutexes = past rule.Mutexes MOST_MUTEXES (mutex_names xs) in
+    let of_mutexes = too_many_mutexes (most_mutexes Plain) 0 xs in
     let a = no_prefix (twice ++ of_threads ++ of_mutexes ++ too_many_bytes 0 xs) (flat_map (item_faults (n.globals_of xs)) xs) h in
     let b = no_prefix (twice ++ of_threads ++ of_mutexes) (too_many_bytes 0 xs) a in
     let threads = no_back twice of_threads (no_prefix (twice ++ of_threads) of_mutexes b) in

@@ -2,6 +2,7 @@
 use Rattle.std.proofs.Common.{◌≡◌, refl, ℕ, List, sym, subst, IfSome, IsErrAnd}
 use Rattle.std.specs.Prelude.{Result, Ok, Err}
 use Rattle.ido_base.specs.declared.place.Place.{Place}
+use Rattle.c_tree.specs.declared.language.Language.TheVariants.{Plain}
 use Rattle.c_tree.specs.AcceptedTexts as c
 use Rattle.c_tree.specs.AcceptedTexts.{IsTyped, IsRanged, IsFlattened, unread, mistyped, unfit, leads_back, too_long}
 use Rattle.c_tree.specs.Flats as f
@@ -31,18 +32,18 @@ pub by_error : {X : Type 0} (Meets : Result X CompileError → Type 0) (x : Comp
 by_error Meets x (Ok y) h a = absurd h
 by_error Meets x (Err e) h a = subst (λ (z : CompileError). Meets (Err z)) (sym h) a
 
-pub by_reading : (text : List ℕ) (e : SourceError) → IfSome (fault_in e) (λ x. IsRefused text x.rule x.place) → IsRefusal text (of_source e)
+pub by_reading : (text : List ℕ) (e : SourceError) → IfSome (fault_in e) (λ x. IsRefused Plain text x.rule x.place) → IsRefusal text (of_source e)
 by_reading text (source.Refused x) h = faulty (unread h)
 by_reading text source.Memory h = tt
 
-pub by_typing : (text : List ℕ) (items : List Item) (e : SourceError) → IsRead text items → Answers items (Err e) → IsRefusal text (of_source e)
+pub by_typing : (text : List ℕ) (items : List Item) (e : SourceError) → IsRead Plain text items → Answers Plain items (Err e) → IsRefusal text (of_source e)
 by_typing text items (source.Refused x) is h = faulty (mistyped items is h)
 by_typing text items source.Memory is h = tt
 
-pub by_index : (text : List ℕ) (x : p.Program) (e : IndexError) → IsTyped text x → IsFaultOf x e → IsRefusal text (of_index e)
+pub by_index : (text : List ℕ) (x : p.Program) (e : IndexError) → IsTyped Plain text x → IsFaultOf x e → IsRefusal text (of_index e)
 by_index text x e is h = faulty (unfit x h.index is h.first refl h.place)
 
-pub by_calls : (text : List ℕ) (x : p.Program) (e : inline.InlineError) → IsRanged text x → IsInlining x (Err e) → IsRefusal text (of_inline e)
+pub by_calls : (text : List ℕ) (x : p.Program) (e : inline.InlineError) → IsRanged Plain text x → IsInlining x (Err e) → IsRefusal text (of_inline e)
 by_calls text x (inline_error.Recursion place) is h = faulty (leads_back x is h refl)
 by_calls text x (inline_error.Code place) is h = faulty (too_long x is h.0 h.1 refl)
 by_calls text x inline_error.Memory is h = tt
@@ -54,7 +55,7 @@ uncompiled text error.Memory h = tt
 
 -- ---- Of a flat form
 
-module _ (text : List ℕ) (flat : f.Flat) (is : IsFlattened text flat) where
+module _ (text : List ℕ) (flat : f.Flat) (is : IsFlattened Plain text flat) where
   refused_form : (found : Rule) (place : Place) → IsRefusedForm flat found place → IsRefusedBy text found place
   refused_form found place (undisciplined x h rule_is place_is) = faulty (c.undisciplined flat x is h rule_is place_is)
   refused_form found place (crowded wanted locks h rule_is) = r.crowded flat wanted (record { flattened = is; disciplined = locks }) h rule_is

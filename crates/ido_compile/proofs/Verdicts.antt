@@ -1,6 +1,7 @@
 -- A text is accepted and has one flat form, or it is refused by one rule, at one place: check after check.
 use Rattle.std.proofs.Common.{◌≡◌, ◌⊎◌, inl, inr, refl, ℕ, ◌<◌, ◌≤◌, List, [], length, Option, Some, None, true, false, sym, ap, ap₂, ◌∙◌, subst, arith}
 use Rattle.ido_base.specs.declared.place.Place.{Place}
+use Rattle.c_tree.specs.declared.language.Language.TheVariants.{Plain}
 use Rattle.c_tree.specs.AcceptedTexts.{HasNoBack, IsTyped, IsRanged, IsFlattened, IsChecked, IsFaulty}
 use Rattle.c_tree.specs.AcceptedTexts.{unread, mistyped, unfit, leads_back, too_long, undisciplined}
 use Rattle.c_tree.specs.Flats as f
@@ -168,10 +169,10 @@ one_by_indexes x = one_check (IndexStop x) (AllFit x) (ByCalls x)
 -- ---- Names and kinds
 
 abbrev TypeStop : List Item → Verdict → Type 0
-TypeStop xs v = (x : Fault) × IsFirst (type_faults xs) x × (v ≡ Refused x.rule x.place)
+TypeStop xs v = (x : Fault) × IsFirst (type_faults Plain xs) x × (v ≡ Refused x.rule x.place)
 
 abbrev ByTypes : List Item → Verdict → Type 0
-ByTypes xs = Check (TypeStop xs) (type_faults xs ≡ []) (ByIndexes (typed_program xs))
+ByTypes xs = Check (TypeStop xs) (type_faults Plain xs ≡ []) (ByIndexes (typed_program xs))
 
 no_first : (fs : List Fault) (x : Fault) → fs ≡ [] → IsFirst fs x → ⊥
 no_first fs x e first = let within : first.found.0 < length fs = first.found.1 in absurd (omega (arith, within, ap length e))
@@ -179,28 +180,28 @@ no_first fs x e first = let within : first.found.0 < length fs = first.found.1 i
 -- ---- The text
 
 abbrev ReadStop : (text : List ℕ) → Verdict → Type 0
-ReadStop text v = (found : r.Rule) × (place : Place) × IsRefused text found place × (v ≡ Refused found place)
+ReadStop text v = (found : r.Rule) × (place : Place) × IsRefused Plain text found place × (v ≡ Refused found place)
 
 data ByReading (text : List ℕ) (v : Verdict) : Type 0 where
   no_tree : ReadStop text v → ByReading text v
-  tree : (xs : List Item) → IsRead text xs → ByTypes xs v → ByReading text v
+  tree : (xs : List Item) → IsRead Plain text xs → ByTypes xs v → ByReading text v
 
-typed_then : (text : List ℕ) (x : p.Program) (v : Verdict) → IsTyped text x → ByIndexes x v → ByReading text v
+typed_then : (text : List ℕ) (x : p.Program) (v : Verdict) → IsTyped Plain text x → ByIndexes x v → ByReading text v
 typed_then text x v is by = tree is.items is.read (passes is.faultless (subst (λ y. ByIndexes y v) is.typed by))
 
-ranged_then : (text : List ℕ) (x : p.Program) (v : Verdict) → IsRanged text x → ByCalls x v → ByReading text v
+ranged_then : (text : List ℕ) (x : p.Program) (v : Verdict) → IsRanged Plain text x → ByCalls x v → ByReading text v
 ranged_then text x v is by = typed_then text x v is.typed (passes is.fits by)
 
-flattened_then : (text : List ℕ) (flat : f.Flat) (v : Verdict) → IsFlattened text flat → ByLocks flat v → ByReading text v
+flattened_then : (text : List ℕ) (flat : f.Flat) (v : Verdict) → IsFlattened Plain text flat → ByLocks flat v → ByReading text v
 flattened_then text flat v is by = ranged_then text is.program v is.ranged (passes is.ends (passes is.short (subst (λ y. ByLocks y v) is.flattened by)))
 
-checked_then : (text : List ℕ) (flat : f.Flat) (v : Verdict) → IsChecked text flat → ByRoom flat v → ByReading text v
+checked_then : (text : List ℕ) (flat : f.Flat) (v : Verdict) → IsChecked Plain text flat → ByRoom flat v → ByReading text v
 checked_then text flat v is by = flattened_then text flat v is.flattened (passes is.disciplined by)
 
 accepted_by : (text : List ℕ) (flat : f.Flat) → IsAccepted text flat → ByReading text (Accepted flat)
 accepted_by text flat is = checked_then text flat (Accepted flat) is.checked (passes is.room (passes is.shallow refl))
 
-faulty_by : (text : List ℕ) (found : r.Rule) (place : Place) → IsFaulty text found place → ByReading text (Refused found place)
+faulty_by : (text : List ℕ) (found : r.Rule) (place : Place) → IsFaulty Plain text found place → ByReading text (Refused found place)
 faulty_by text found place (unread is) = no_tree (found, place, is, refl)
 faulty_by text found place (mistyped xs is first) = tree xs is (stops (record { rule = found; place = place }, first, refl))
 faulty_by text found place (unfit x i is first e at) = typed_then text x (Refused found place) is (stops (i, first, ap₂ Refused e at))
@@ -218,17 +219,18 @@ refused_by text found place (too_deep flat is room deep e) =
 
 module _ (one_tree : reader.OneTree) (one_refusal : reader.OneRefusal) (not_both : reader.NotBoth) (one_first : OneFirst) where
   one_by_types : (xs : List Item) → IsOne (ByTypes xs)
-  one_by_types xs = one_check (TypeStop xs) (type_faults xs ≡ []) (ByIndexes (typed_program xs))
-      (λ v w s t. s.2 ∙ ap (λ (x : Fault). Refused x.rule x.place) (one_first xs s.0 t.0 s.1 t.1) ∙ sym t.2)
-      (λ v s e. no_first (type_faults xs) s.0 e s.1)
+  one_by_types xs = one_check (TypeStop xs) (type_faults Plain xs ≡ []) (ByIndexes (typed_program xs))
+      (λ v w s t. s.2 ∙ ap (λ (x : Fault). Refused x.rule x.place) (one_first Plain xs s.0 t.0 s.1 t.1) ∙ sym t.2)
+      (λ v s e. no_first (type_faults Plain xs) s.0 e s.1)
       (one_by_indexes (typed_program xs))
 
   one_by_reading : (text : List ℕ) → IsOne (ByReading text)
   one_by_reading text v w (no_tree (found, place, is, e)) (no_tree (other, elsewhere, also, h)) =
-      let both = one_refusal text found other place elsewhere is also in e ∙ ap₂ Refused both.0 both.1 ∙ sym h
-  one_by_reading text v w (no_tree (found, place, is, e)) (tree xs read by) = absurd (not_both text xs found place read is)
-  one_by_reading text v w (tree xs read by) (no_tree (found, place, is, e)) = absurd (not_both text xs found place read is)
-  one_by_reading text v w (tree xs read by) (tree ys also as_well) = one_by_types ys v w (subst (λ zs. ByTypes zs v) (one_tree text xs ys read also) by) as_well
+      let both = one_refusal Plain text found other place elsewhere is also in e ∙ ap₂ Refused both.0 both.1 ∙ sym h
+  one_by_reading text v w (no_tree (found, place, is, e)) (tree xs read by) = absurd (not_both Plain text xs found place read is)
+  one_by_reading text v w (tree xs read by) (no_tree (found, place, is, e)) = absurd (not_both Plain text xs found place read is)
+  one_by_reading text v w (tree xs read by) (tree ys also as_well) =
+      one_by_types ys v w (subst (λ zs. ByTypes zs v) (one_tree Plain text xs ys read also) by) as_well
 
   pub one_flat : laws.OneFlat
   one_flat text x y is also =

@@ -1,6 +1,7 @@
 -- What holds of the flat form of every text that is accepted, and of each run of it.
 use Rattle.std.specs.Prelude.{ℕ, List}
 use Rattle.std.specs.List.{AllByRecursion}
+use Rattle.c_tree.specs.declared.language.Language.TheVariants.{Plain}
 use Rattle.c_tree.specs.AcceptedTexts.{IsFlattened}
 use Rattle.c_tree.specs.Exprs.{Placed}
 use Rattle.c_tree.specs.Flats.{Flat, Statement}
@@ -12,7 +13,7 @@ use Rattle.flow_graph.specs.Refusals.{IsAccepted}
 
 -- the flat form of a text is well formed
 abbrev pub FlattenedIsFormed : Type 0
-FlattenedIsFormed = (text : List ℕ) (flat : Flat) → IsFlattened text flat → IsWellFormed flat
+FlattenedIsFormed = (text : List ℕ) (flat : Flat) → IsFlattened Plain text flat → IsWellFormed flat
 
 -- values keep to their kinds in every run
 abbrev pub AcceptedRuns : Type 0
@@ -28,4 +29,4 @@ AcceptedValues = (text : List ℕ) (flat : Flat) (schedule : List ℕ) (thread :
 abbrev pub AcceptedIndexes : Type 0
 AcceptedIndexes = (text : List ℕ) (flat : Flat) (schedule : List ℕ) (thread : ℕ) (it : Thread) (y : Statement) (rest : List Statement) → IsAccepted text flat →
     IsNext (after_from (start flat) schedule) thread it y rest →
-    AllByRecursion (IsElement flat.variables it.locals (after_from (start flat) schedule).variables) (step_indexes y)
+    AllByRecursion (IsElement flat.variables flat.mutexes it.locals (after_from (start flat) schedule).variables) (step_indexes y)

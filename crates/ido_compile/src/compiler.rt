@@ -1,6 +1,7 @@
 //! Source texts, compiled.
 ghost use Rattle.std.specs.Prelude.{◌≡◌, ◌≤◌, length, IfOk};
 ghost use Rattle.ido_base.specs.declared.limits.TheConstants.{MOST_SOURCE_BYTES};
+ghost use Rattle.c_tree.specs.declared.language.Language.TheVariants.{Plain};
 ghost use Rattle.c_tree.specs.AcceptedTexts.{IsFlattened};
 ghost use Rattle.c_tree.specs.Flats.{flat_of};
 ghost use Rattle.ido_compile.specs.CompileAnswers.{IsCompileAnswer};
@@ -26,7 +27,7 @@ pub struct Compiled {
 
 /// What a machine runs for a text's flat form, or why nothing does.
 fn object_of(alloc: Global, text: &[u8], flat: &Flat) -> Result<Translated, CompileError>
-    requires { IsFlattened text.now (flat_of flat.now) }
+    requires { IsFlattened Plain text.now (flat_of flat.now) }
     ensures { IsTranslationAnswer text.now (flat_of flat.now) result }
 {
     let analysis = checked(alloc, text, flat)?;

@@ -17,6 +17,8 @@ mod lives;
 #[cfg(test)]
 mod locations;
 #[cfg(test)]
+mod readings;
+#[cfg(test)]
 mod regions;
 #[cfg(test)]
 mod registers;
@@ -24,3 +26,5 @@ mod registers;
 mod scripts;
 #[cfg(test)]
 mod straight;
+#[cfg(test)]
+mod typings;

@@ -9,6 +9,8 @@ use Rattle.ido_ints.specs.declared.operators.Unary.{Unary}
 use Rattle.ido_ints.specs.declared.operators.Unary.TheVariants as unary
 use Rattle.ido_ints.specs.declared.operators.Binary.{Binary}
 use Rattle.ido_ints.specs.declared.operators.Binary.TheVariants as binary
+use Rattle.c_tree.specs.declared.language.Language.{Language}
+use Rattle.c_tree.specs.declared.language.Language.TheVariants.{Plain, Full}
 use Rattle.c_tree.specs.Tokens.{Token, Lexeme, Name, Keyword, Number, Punctuator}
 use Rattle.c_tree.specs.declared.token.Keyword as kw
 use Rattle.c_tree.specs.declared.token.Keyword.TheVariants as k
@@ -447,9 +449,14 @@ parse_first fuel =
 abbrev pub parse_condition : (fuel : ℕ) → Parser t.Expression
 parse_condition fuel = do parse_mark p.OpenParenthesis; x ← parse_expression fuel; parse_mark p.CloseParenthesis; give x
 
--- `(name)`
-abbrev pub parse_name_in_parentheses : Parser t.Name
-parse_name_in_parentheses = do parse_mark p.OpenParenthesis; x ← parse_name; parse_mark p.CloseParenthesis; give x
+-- the key of a lock's name, where it has one
+abbrev pub parse_key : Language → (fuel : ℕ) → Parser (Option t.Expression)
+parse_key Plain fuel = give None
+parse_key Full fuel = parse_index (parse_expression fuel)
+
+-- the name of a lock, in parentheses
+abbrev pub parse_lock_name : Language → (fuel : ℕ) → Parser (t.Name × Option t.Expression)
+parse_lock_name l fuel = do parse_mark p.OpenParenthesis; x ← parse_name; y ← parse_key l fuel; parse_mark p.CloseParenthesis; give (x, y)
 
 -- an assignment of the right side to the target
 abbrev pub assigned_from : t.Lvalue → t.Initial → t.Statement
@@ -509,27 +516,27 @@ abbrev pub if_of : (place : Place) → t.Arms × t.Otherwise → t.Statement
 if_of place x = t.If place x.0 x.1
 
 -- a statement, by its first token
-abbrev pub statement_by : (block : Parser t.Block) → (fuel : ℕ) → Option Lexeme → Parser t.Statement
-statement_by block fuel (Some (Name bytes)) = ended (do x ← parse_name; statement_after_name fuel x)
-statement_by block fuel (Some (Punctuator p.OpenBrace)) = do b ← block; give (t.BlockOf b)
-statement_by block fuel (Some (Punctuator p.Semicolon)) = do place ← parse_mark p.Semicolon; give (t.Empty place)
-statement_by block fuel (Some (Punctuator p.Increment)) = ended (do x ← parse_assignment fuel; give (t.Assign x))
-statement_by block fuel (Some (Punctuator p.Decrement)) = ended (do x ← parse_assignment fuel; give (t.Assign x))
-statement_by block fuel (Some (Keyword k.If)) = do
+abbrev pub statement_by : Language → (block : Parser t.Block) → (fuel : ℕ) → Option Lexeme → Parser t.Statement
+statement_by l block fuel (Some (Name bytes)) = ended (do x ← parse_name; statement_after_name fuel x)
+statement_by l block fuel (Some (Punctuator p.OpenBrace)) = do b ← block; give (t.BlockOf b)
+statement_by l block fuel (Some (Punctuator p.Semicolon)) = do place ← parse_mark p.Semicolon; give (t.Empty place)
+statement_by l block fuel (Some (Punctuator p.Increment)) = ended (do x ← parse_assignment fuel; give (t.Assign x))
+statement_by l block fuel (Some (Punctuator p.Decrement)) = ended (do x ← parse_assignment fuel; give (t.Assign x))
+statement_by l block fuel (Some (Keyword k.If)) = do
   place ← parse_word k.If
   x ← parse_condition fuel
   b ← block
   rest ← arms_after block fuel
   give (if_of place (with_arm x b rest))
-statement_by block fuel (Some (Keyword k.While)) = do place ← parse_word k.While; x ← parse_condition fuel; b ← block; give (t.While place x b)
-statement_by block fuel (Some (Keyword k.Do)) = do
+statement_by l block fuel (Some (Keyword k.While)) = do place ← parse_word k.While; x ← parse_condition fuel; b ← block; give (t.While place x b)
+statement_by l block fuel (Some (Keyword k.Do)) = do
   place ← parse_word k.Do
   b ← block
   parse_word k.While
   x ← parse_condition fuel
   parse_mark p.Semicolon
   give (t.Do place b x)
-statement_by block fuel (Some (Keyword k.For)) = do
+statement_by l block fuel (Some (Keyword k.For)) = do
   place ← parse_word k.For
   parse_mark p.OpenParenthesis
   start ← parse_first fuel
@@ -540,27 +547,28 @@ statement_by block fuel (Some (Keyword k.For)) = do
   parse_mark p.CloseParenthesis
   b ← block
   give (t.For place start x last b)
-statement_by block fuel (Some (Keyword k.Lock)) = do place ← parse_word k.Lock; x ← parse_name_in_parentheses; parse_mark p.Semicolon; give (t.Lock place x)
-statement_by block fuel (Some (Keyword k.Unlock)) =
-    do place ← parse_word k.Unlock; x ← parse_name_in_parentheses; parse_mark p.Semicolon; give (t.Unlock place x)
-statement_by block fuel _ = ended (do x ← declaration_over (parse_initial fuel); give (t.Declare x))
+statement_by l block fuel (Some (Keyword k.Lock)) =
+    do place ← parse_word k.Lock; x ← parse_lock_name l fuel; parse_mark p.Semicolon; give (t.Lock place x.0 x.1)
+statement_by l block fuel (Some (Keyword k.Unlock)) =
+    do place ← parse_word k.Unlock; x ← parse_lock_name l fuel; parse_mark p.Semicolon; give (t.Unlock place x.0 x.1)
+statement_by l block fuel _ = ended (do x ← declaration_over (parse_initial fuel); give (t.Declare x))
 
 -- a statement, where this parser reads its blocks
-abbrev pub statement_over : (block : Parser t.Block) → (fuel : ℕ) → Parser t.Statement
-statement_over block fuel = by_head (statement_by block fuel)
+abbrev pub statement_over : Language → (block : Parser t.Block) → (fuel : ℕ) → Parser t.Statement
+statement_over l block fuel = by_head (statement_by l block fuel)
 
 -- a statement
-unfoldable pub parse_statement : (fuel : ℕ) → Parser t.Statement
-parse_statement zero ts = Wrong ts
-parse_statement (suc fuel) ts = statement_over (block_over (parse_statement fuel) fuel) (suc fuel) ts
+unfoldable pub parse_statement : Language → (fuel : ℕ) → Parser t.Statement
+parse_statement l zero ts = Wrong ts
+parse_statement l (suc fuel) ts = statement_over l (block_over (parse_statement l fuel) fuel) (suc fuel) ts
 
 -- statements, up to a token that begins none
-abbrev pub parse_statements : (fuel : ℕ) → Parser t.Statements
-parse_statements fuel = statements_over (parse_statement fuel) fuel
+abbrev pub parse_statements : Language → (fuel : ℕ) → Parser t.Statements
+parse_statements l fuel = statements_over (parse_statement l fuel) fuel
 
 -- a block
-abbrev pub parse_block : (fuel : ℕ) → Parser t.Block
-parse_block fuel = block_over (parse_statement fuel) fuel
+abbrev pub parse_block : Language → (fuel : ℕ) → Parser t.Block
+parse_block l fuel = block_over (parse_statement l fuel) fuel
 
 -- ---- Items
 
@@ -573,10 +581,10 @@ parse_return fuel = do
   give (record { place = place; value = x })
 
 -- the body of a function
-abbrev pub parse_body : (fuel : ℕ) → Parser t.Body
-parse_body fuel = do
+abbrev pub parse_body : Language → (fuel : ℕ) → Parser t.Body
+parse_body l fuel = do
   opening ← parse_mark p.OpenBrace
-  xs ← parse_statements fuel
+  xs ← parse_statements l fuel
   x ← parse_maybe (is_word k.Return) (parse_return fuel)
   closing ← parse_mark p.CloseBrace
   give (record { opening = opening; statements = xs; returned = x; closing = closing })
@@ -596,14 +604,14 @@ abbrev pub parse_result : Parser (Option Kind)
 parse_result = where_head (head_is (is_word k.Void)) (do parse_word k.Void; give None) (do x ← parse_type; give (Some x))
 
 -- a function
-abbrev pub parse_function : (fuel : ℕ) → Parser t.Function
-parse_function fuel = do
+abbrev pub parse_function : Language → (fuel : ℕ) → Parser t.Function
+parse_function l fuel = do
   x ← parse_result
   n ← parse_name
   parse_mark p.OpenParenthesis
   xs ← parse_parameters fuel
   parse_mark p.CloseParenthesis
-  b ← parse_body fuel
+  b ← parse_body l fuel
   give (record { kind = x; name = n; parameters = xs; body = b })
 
 -- a `-` that may stand there
@@ -635,28 +643,47 @@ parse_initialiser fuel = where_head (head_is (is_mark p.OpenBrace))
 abbrev pub parse_length : Parser t.Length
 parse_length = do parse_mark p.OpenBracket; x ← parse_number; parse_mark p.CloseBracket; give (record { place = x.0; value = x.1 })
 
+-- the length of an array of mutexes, where there is one
+abbrev pub parse_mutex_length : Language → Parser (Option t.Length)
+parse_mutex_length Plain = give None
+parse_mutex_length Full = parse_maybe (is_mark p.OpenBracket) parse_length
+
+-- whether brackets are there, with nothing in them
+abbrev pub parse_bracket_pair : Parser Bool
+parse_bracket_pair = where_head (head_is (is_mark p.OpenBracket)) (do parse_mark p.OpenBracket; parse_mark p.CloseBracket; give true) (give false)
+
+-- whether a guard has brackets
+abbrev pub parse_brackets : Language → Parser Bool
+parse_brackets Plain = give false
+parse_brackets Full = parse_bracket_pair
+
+-- what guards a variable, in parentheses
+abbrev pub parse_guard : Language → Parser t.Guard
+parse_guard l =
+    do parse_mark p.OpenParenthesis; x ← parse_name; y ← parse_brackets l; parse_mark p.CloseParenthesis; give (record { mutex = x; each = y })
+
 -- a persistent variable
-abbrev pub parse_persistent : (fuel : ℕ) → Parser t.Persistent
-parse_persistent fuel = do
+abbrev pub parse_persistent : Language → (fuel : ℕ) → Parser t.Persistent
+parse_persistent l fuel = do
   parse_word k.Persistent
-  guard ← parse_name_in_parentheses
+  guard ← parse_guard l
   x ← parse_type
   n ← parse_name
-  l ← parse_maybe (is_mark p.OpenBracket) parse_length
+  size ← parse_maybe (is_mark p.OpenBracket) parse_length
   y ← parse_maybe (is_mark p.Assign) (do parse_mark p.Assign; parse_initialiser fuel)
   parse_mark p.Semicolon
-  give (record { guard = guard; kind = x; name = n; length = l; initialiser = y })
+  give (record { guard = guard; kind = x; name = n; length = size; initialiser = y })
 
 -- an item, by its first token
-abbrev pub item_by : (fuel : ℕ) → Option Lexeme → Parser t.Item
-item_by fuel (Some (Keyword k.Mutex)) = do parse_word k.Mutex; x ← parse_name; parse_mark p.Semicolon; give (t.MutexItem x)
-item_by fuel (Some (Keyword k.Persistent)) = do x ← parse_persistent fuel; give (t.PersistentItem x)
-item_by fuel (Some (Keyword k.Thread)) = do parse_word k.Thread; x ← parse_name; b ← parse_block fuel; give (t.ThreadItem (record { name = x; block = b }))
-item_by fuel _ = do x ← parse_function fuel; give (t.FunctionItem x)
+abbrev pub item_by : Language → (fuel : ℕ) → Option Lexeme → Parser t.Item
+item_by l fuel (Some (Keyword k.Mutex)) = do parse_word k.Mutex; x ← parse_name; y ← parse_mutex_length l; parse_mark p.Semicolon; give (t.MutexItem x y)
+item_by l fuel (Some (Keyword k.Persistent)) = do x ← parse_persistent l fuel; give (t.PersistentItem x)
+item_by l fuel (Some (Keyword k.Thread)) = do parse_word k.Thread; x ← parse_name; b ← parse_block l fuel; give (t.ThreadItem (record { name = x; block = b }))
+item_by l fuel _ = do x ← parse_function l fuel; give (t.FunctionItem x)
 
 -- an item
-abbrev pub parse_item : (fuel : ℕ) → Parser t.Item
-parse_item fuel = by_head (item_by fuel)
+abbrev pub parse_item : Language → (fuel : ℕ) → Parser t.Item
+parse_item l fuel = by_head (item_by l fuel)
 
 -- items up to the end, fewer than the fuel
 abbrev pub items_over : (item : Parser t.Item) → (fuel : ℕ) → Parser (List t.Item)
@@ -664,9 +691,9 @@ items_over item zero = wrong
 items_over item (suc fuel) = by_head (elim [ None ↦ give [] | Some x ↦ do y ← item; ys ← items_over item fuel; give (y ∷ ys) ])
 
 -- one item and more, up to the end, of fewer tokens than the fuel
-abbrev pub parse_items : (fuel : ℕ) → Parser (List t.Item)
-parse_items fuel = do x ← parse_item fuel; xs ← items_over (parse_item fuel) fuel; give (x ∷ xs)
+abbrev pub parse_items : Language → (fuel : ℕ) → Parser (List t.Item)
+parse_items l fuel = do x ← parse_item l fuel; xs ← items_over (parse_item l fuel) fuel; give (x ∷ xs)
 
 -- a whole program
-unfoldable pub parse_program : Parser (List t.Item)
-parse_program ts = parse_items (suc (length ts)) ts
+unfoldable pub parse_program : Language → Parser (List t.Item)
+parse_program l ts = parse_items l (suc (length ts)) ts

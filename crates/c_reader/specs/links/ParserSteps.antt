@@ -3,6 +3,7 @@ use Rattle.std.specs.Prelude.{ℕ, ◌-◌, List, [], ◌∷◌, ◌++◌, Optio
 use Rattle.ido_base.specs.declared.place.Place.{Place}
 use Rattle.ido_ints.specs.declared.operators.Unary.{Unary}
 use Rattle.ido_ints.specs.declared.operators.Binary.{Binary}
+use Rattle.c_tree.specs.declared.language.Language.{Language}
 use Rattle.c_tree.specs.Tokens.{Token}
 use Rattle.c_tree.specs.Trees as t
 use Rattle.c_tree.specs.declared.token.Keyword.{Keyword}
@@ -12,7 +13,7 @@ use Rattle.c_tree.specs.declared.token.Punctuator.TheVariants as p
 use Rattle.c_reader.specs.links.ParserFunctions.{Parser, give, ◌>>=◌, ◌>>◌, is_mark, ended, declaration_over, with_arm, if_of, arms_after}
 use Rattle.c_reader.specs.links.ParserFunctions.{statements_over, items_over, parse_statement, parse_item, parse_items, parse_persistent}
 use Rattle.c_reader.specs.links.ParserFunctions.{parse_function, parse_initialiser, parse_signed, parse_numbers_to_end, parse_more_of}
-use Rattle.c_reader.specs.links.ParserFunctions.{parse_mark, parse_word, parse_name, parse_name_in_parentheses}
+use Rattle.c_reader.specs.links.ParserFunctions.{parse_mark, parse_word, parse_name, parse_lock_name, parse_mutex_length}
 use Rattle.c_reader.specs.links.ParserFunctions.{parse_expression, parse_assignment, parse_condition, parse_unless, parse_first}
 use Rattle.c_reader.specs.links.ParserFunctions.{parse_block, taking, unary_in, update_in, operators_at, operators_after}
 use Rattle.c_reader.specs.links.ParserFunctions.{parse_operand, expression_after_name, right_after_name, parse_right}
@@ -76,27 +77,27 @@ parse_declaration_statement fuel ts = ended (do x ← declaration_over (parse_in
 unfoldable pub parse_assignment_statement : (fuel : ℕ) → Parser t.Statement
 parse_assignment_statement fuel ts = ended (do x ← parse_assignment fuel; give (t.Assign x)) ts
 
-unfoldable pub parse_lock : Parser t.Statement
-parse_lock ts = (do place ← parse_word k.Lock; x ← parse_name_in_parentheses; parse_mark p.Semicolon; give (t.Lock place x)) ts
+unfoldable pub parse_lock : Language → (fuel : ℕ) → Parser t.Statement
+parse_lock l fuel ts = (do place ← parse_word k.Lock; x ← parse_lock_name l fuel; parse_mark p.Semicolon; give (t.Lock place x.0 x.1)) ts
 
-unfoldable pub parse_unlock : Parser t.Statement
-parse_unlock ts = (do place ← parse_word k.Unlock; x ← parse_name_in_parentheses; parse_mark p.Semicolon; give (t.Unlock place x)) ts
+unfoldable pub parse_unlock : Language → (fuel : ℕ) → Parser t.Statement
+parse_unlock l fuel ts = (do place ← parse_word k.Unlock; x ← parse_lock_name l fuel; parse_mark p.Semicolon; give (t.Unlock place x.0 x.1)) ts
 
-unfoldable pub parse_if : (fuel : ℕ) → Parser t.Statement
-parse_if fuel ts = (do
+unfoldable pub parse_if : Language → (fuel : ℕ) → Parser t.Statement
+parse_if l fuel ts = (do
   place ← parse_word k.If
   x ← parse_condition fuel
-  b ← parse_block (fuel - 1)
-  rest ← arms_after (parse_block (fuel - 1)) fuel
+  b ← parse_block l (fuel - 1)
+  rest ← arms_after (parse_block l (fuel - 1)) fuel
   give (if_of place (with_arm x b rest))) ts
 
-unfoldable pub parse_while : (fuel : ℕ) → Parser t.Statement
-parse_while fuel ts = (do place ← parse_word k.While; x ← parse_condition fuel; b ← parse_block (fuel - 1); give (t.While place x b)) ts
+unfoldable pub parse_while : Language → (fuel : ℕ) → Parser t.Statement
+parse_while l fuel ts = (do place ← parse_word k.While; x ← parse_condition fuel; b ← parse_block l (fuel - 1); give (t.While place x b)) ts
 
-unfoldable pub parse_do : (fuel : ℕ) → Parser t.Statement
-parse_do fuel ts = (do
+unfoldable pub parse_do : Language → (fuel : ℕ) → Parser t.Statement
+parse_do l fuel ts = (do
   place ← parse_word k.Do
-  b ← parse_block (fuel - 1)
+  b ← parse_block l (fuel - 1)
   parse_word k.While
   x ← parse_condition fuel
   parse_mark p.Semicolon
@@ -124,34 +125,34 @@ parse_head_of_for fuel ts = (do
   last ← parse_end_of_for fuel
   give (record { start = start; condition = x; last = last })) ts
 
-unfoldable pub parse_for : (fuel : ℕ) → Parser t.Statement
-parse_for fuel ts = (do
+unfoldable pub parse_for : Language → (fuel : ℕ) → Parser t.Statement
+parse_for l fuel ts = (do
   place ← parse_word k.For
   head ← parse_head_of_for fuel
   parse_mark p.CloseParenthesis
-  b ← parse_block (fuel - 1)
+  b ← parse_block l (fuel - 1)
   give (t.For place head.start head.condition head.last b)) ts
 
 -- by the first token of a statement, where it is a reserved word or a punctuator
-abbrev pub statement_by_word : (fuel : ℕ) → Keyword → Parser t.Statement
-statement_by_word fuel k.If = parse_if fuel
-statement_by_word fuel k.While = parse_while fuel
-statement_by_word fuel k.Do = parse_do fuel
-statement_by_word fuel k.For = parse_for fuel
-statement_by_word fuel k.Lock = parse_lock
-statement_by_word fuel k.Unlock = parse_unlock
-statement_by_word fuel _ = parse_declaration_statement fuel
+abbrev pub statement_by_word : Language → (fuel : ℕ) → Keyword → Parser t.Statement
+statement_by_word l fuel k.If = parse_if l fuel
+statement_by_word l fuel k.While = parse_while l fuel
+statement_by_word l fuel k.Do = parse_do l fuel
+statement_by_word l fuel k.For = parse_for l fuel
+statement_by_word l fuel k.Lock = parse_lock l fuel
+statement_by_word l fuel k.Unlock = parse_unlock l fuel
+statement_by_word l fuel _ = parse_declaration_statement fuel
 
-abbrev pub statement_by_mark : (fuel : ℕ) → Punctuator → Parser t.Statement
-statement_by_mark fuel p.OpenBrace = do b ← parse_block (fuel - 1); give (t.BlockOf b)
-statement_by_mark fuel p.Semicolon = do place ← parse_mark p.Semicolon; give (t.Empty place)
-statement_by_mark fuel p.Increment = parse_assignment_statement fuel
-statement_by_mark fuel p.Decrement = parse_assignment_statement fuel
-statement_by_mark fuel _ = parse_declaration_statement fuel
+abbrev pub statement_by_mark : Language → (fuel : ℕ) → Punctuator → Parser t.Statement
+statement_by_mark l fuel p.OpenBrace = do b ← parse_block l (fuel - 1); give (t.BlockOf b)
+statement_by_mark l fuel p.Semicolon = do place ← parse_mark p.Semicolon; give (t.Empty place)
+statement_by_mark l fuel p.Increment = parse_assignment_statement fuel
+statement_by_mark l fuel p.Decrement = parse_assignment_statement fuel
+statement_by_mark l fuel _ = parse_declaration_statement fuel
 
 -- a condition and its block
-abbrev pub parse_arm : (fuel_of_condition fuel : ℕ) → Parser (t.Expression × t.Block)
-parse_arm fuel_of_condition fuel = do x ← parse_condition fuel_of_condition; b ← parse_block fuel; give (x, b)
+abbrev pub parse_arm : Language → (fuel_of_condition fuel : ℕ) → Parser (t.Expression × t.Block)
+parse_arm l fuel_of_condition fuel = do x ← parse_condition fuel_of_condition; b ← parse_block l fuel; give (x, b)
 
 -- ---- What was found, and at most so much more
 
@@ -163,11 +164,11 @@ abbrev pub then_arms : t.Arms → t.Arms → t.Arms
 then_arms t.no_arm more = more
 then_arms (t.arm_and x b rest) more = t.arm_and x b (then_arms rest more)
 
-unfoldable pub more_statements : (fuel count : ℕ) → (found : t.Statements) → Parser t.Statements
-more_statements fuel count found = statements_over (parse_statement fuel) count >>= λ xs. give (then_statements found xs)
+unfoldable pub more_statements : Language → (fuel count : ℕ) → (found : t.Statements) → Parser t.Statements
+more_statements l fuel count found = statements_over (parse_statement l fuel) count >>= λ xs. give (then_statements found xs)
 
-unfoldable pub more_arms : (fuel count : ℕ) → (place : Place) → (found : t.Arms) → Parser t.Statement
-more_arms fuel count place found = arms_after (parse_block fuel) count >>= λ rest. give (t.If place (then_arms found rest.0) rest.1)
+unfoldable pub more_arms : Language → (fuel count : ℕ) → (place : Place) → (found : t.Arms) → Parser t.Statement
+more_arms l fuel count place found = arms_after (parse_block l fuel) count >>= λ rest. give (t.If place (then_arms found rest.0) rest.1)
 
 -- ---- Items
 
@@ -180,24 +181,24 @@ unfoldable pub parse_assigned : (fuel : ℕ) → Parser t.Initialiser
 parse_assigned fuel = do parse_mark p.Assign; parse_initialiser fuel
 
 -- the kinds of items, by their first words
-unfoldable pub parse_mutex_item : Parser t.Item
-parse_mutex_item = do parse_word k.Mutex; x ← parse_name; parse_mark p.Semicolon; give (t.MutexItem x)
+unfoldable pub parse_mutex_item : Language → Parser t.Item
+parse_mutex_item l = do parse_word k.Mutex; x ← parse_name; y ← parse_mutex_length l; parse_mark p.Semicolon; give (t.MutexItem x y)
 
-unfoldable pub parse_persistent_item : (fuel : ℕ) → Parser t.Item
-parse_persistent_item fuel = do x ← parse_persistent fuel; give (t.PersistentItem x)
+unfoldable pub parse_persistent_item : Language → (fuel : ℕ) → Parser t.Item
+parse_persistent_item l fuel = do x ← parse_persistent l fuel; give (t.PersistentItem x)
 
-unfoldable pub parse_thread_item : (fuel : ℕ) → Parser t.Item
-parse_thread_item fuel = do parse_word k.Thread; x ← parse_name; b ← parse_block fuel; give (t.ThreadItem (record { name = x; block = b }))
+unfoldable pub parse_thread_item : Language → (fuel : ℕ) → Parser t.Item
+parse_thread_item l fuel = do parse_word k.Thread; x ← parse_name; b ← parse_block l fuel; give (t.ThreadItem (record { name = x; block = b }))
 
-unfoldable pub parse_function_item : (fuel : ℕ) → Parser t.Item
-parse_function_item fuel = do x ← parse_function fuel; give (t.FunctionItem x)
+unfoldable pub parse_function_item : Language → (fuel : ℕ) → Parser t.Item
+parse_function_item l fuel = do x ← parse_function l fuel; give (t.FunctionItem x)
 
 -- an item, and all of them
-unfoldable pub one_item : (fuel : ℕ) → Parser t.Item
-one_item fuel = parse_item fuel
+unfoldable pub one_item : Language → (fuel : ℕ) → Parser t.Item
+one_item l fuel = parse_item l fuel
 
-unfoldable pub all_items : (fuel : ℕ) → Parser (List t.Item)
-all_items fuel = parse_items fuel
+unfoldable pub all_items : Language → (fuel : ℕ) → Parser (List t.Item)
+all_items l fuel = parse_items l fuel
 
 -- no token is left
 abbrev pub at_end : List Token → Bool
@@ -207,5 +208,5 @@ at_end (x ∷ ts) = false
 unfoldable pub more_numbers : (count : ℕ) → (found : List t.Signed) → Parser (List t.Signed)
 more_numbers count found = parse_numbers_to_end count >>= λ xs. give (found ++ xs)
 
-unfoldable pub more_items : (fuel count : ℕ) → (found : List t.Item) → Parser (List t.Item)
-more_items fuel count found = items_over (one_item fuel) count >>= λ xs. give (found ++ xs)
+unfoldable pub more_items : Language → (fuel count : ℕ) → (found : List t.Item) → Parser (List t.Item)
+more_items l fuel count found = items_over (one_item l fuel) count >>= λ xs. give (found ++ xs)

@@ -46,8 +46,12 @@ function_as (n.IsGlobal (n.Function number gives parameters)) = number
 function_as _ = 0
 
 abbrev pub mutex_as : n.Meaning → ℕ
-mutex_as (n.IsGlobal (n.Mutex number)) = number
+mutex_as (n.IsGlobal (n.Mutex number count)) = number
 mutex_as _ = 0
+
+abbrev pub mutexes_as : n.Meaning → Option ℕ
+mutexes_as (n.IsGlobal (n.Mutex number count)) = count
+mutexes_as _ = None
 
 -- ---- Rules
 
@@ -65,10 +69,14 @@ use_rule (n.IsLocal l) indexed = rule_if indexed rule.WrongSort
 use_rule (n.IsGlobal (n.Variable number kind is_array)) indexed = rule_if (if is_array then not indexed else indexed) rule.WrongSort
 use_rule (n.IsGlobal _) indexed = Some rule.WrongSort
 
-abbrev pub mutex_rule : n.Meaning → Option r.Rule
-mutex_rule n.IsUnknown = Some rule.Unknown
-mutex_rule (n.IsGlobal (n.Mutex number)) = None
-mutex_rule _ = Some rule.WrongSort
+abbrev pub mutex_rule : n.Meaning → (keyed : Bool) → Option r.Rule
+mutex_rule n.IsUnknown keyed = Some rule.Unknown
+mutex_rule (n.IsGlobal (n.Mutex number count)) keyed = rule_if (if is_some count then not keyed else keyed) rule.WrongSort
+mutex_rule _ keyed = Some rule.WrongSort
+
+abbrev pub persistent_rule : n.Meaning → Option r.Rule
+persistent_rule (n.IsGlobal (n.Variable number kind is_array)) = Some rule.WrongSort
+persistent_rule _ = None
 
 -- what a called name has to be, and how many arguments it takes
 abbrev pub function_rule : n.Meaning → (assigned : Bool) → Option r.Rule

@@ -11,7 +11,7 @@ use Rattle.c_typer.specs.declared.scope.Local as l
 use Rattle.c_typer.specs.declared.scope.Scope as scope
 
 abbrev pub sort_of : s.Sort → n.Sort
-sort_of (sort.Mutex number) = n.Mutex number
+sort_of (sort.Mutex number count) = n.Mutex number count
 sort_of (sort.Variable number kind is_array) = n.Variable number kind is_array
 sort_of (sort.Function number result parameters) = n.Function number result parameters.items
 sort_of sort.Thread = n.Thread

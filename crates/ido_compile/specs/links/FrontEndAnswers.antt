@@ -1,5 +1,6 @@
 -- What is answered to a text: its flat form, or the first rule that it breaks.
 use Rattle.std.specs.Prelude.{ℕ, List, Result, Ok, Err}
+use Rattle.c_tree.specs.declared.language.Language.TheVariants.{Plain}
 use Rattle.c_tree.specs.AcceptedTexts.{IsFlattened}
 use Rattle.c_tree.specs.Flats as f
 use Rattle.c_tree.specs.Flats.{flat_of}
@@ -31,7 +32,7 @@ IsFrontAnswer text (Err x) = IsRefusal text x
 
 -- by the checks up to the flat form
 abbrev pub IsFlatAnswer : (text : List ℕ) → Result Flat CompileError → Type 0
-IsFlatAnswer text (Ok flat) = IsFlattened text (flat_of flat)
+IsFlatAnswer text (Ok flat) = IsFlattened Plain text (flat_of flat)
 IsFlatAnswer text (Err x) = IsRefusal text x
 
 -- by the checks of the flat form

@@ -36,8 +36,8 @@ decreases-arm l = 20 * l.fuel + 7
 
 abbrev pub invariant-statements-loop-turn : goal.invariant-statements-loop-turn
 invariant-statements-loop-turn l =
-    parse_statements l.fuel l.fn.tokens ≡ more_statements l.fuel (l.fuel - l._turn) (statements_of l.found.items) l.tokens
+    parse_statements l.language l.fuel l.fn.tokens ≡ more_statements l.language l.fuel (l.fuel - l._turn) (statements_of l.found.items) l.tokens
 
 abbrev pub invariant-if_statement-loop-turn : goal.invariant-if_statement-loop-turn
 invariant-if_statement-loop-turn l =
-    parse_if l.fuel l.fn.tokens ≡ more_arms (l.fuel - 1) (l.fuel - l.turn) l.place (arms_list_of l.arms.items) l.tokens
+    parse_if l.language l.fuel l.fn.tokens ≡ more_arms l.language (l.fuel - 1) (l.fuel - l.turn) l.place (arms_list_of l.arms.items) l.tokens

@@ -1,4 +1,4 @@
-use Rattle.std.proofs.Common.{◌≡◌, None, map, flat_map, drop}
+use Rattle.std.proofs.Common.{◌≡◌, None, map, flat_map}
 use Rattle.c_tree.specs.Programs.{program_of}
 use Rattle.c_tree.specs.TypeRules.{item_faults}
 use Rattle.c_tree.specs.Elaboration.{program_from}
@@ -11,9 +11,9 @@ use Rattle.c_typer.proofs.program.items.Given as goal
 abbrev pub invariant-loop-item : goal.invariant-loop-item
 invariant-loop-item l = record {
   made :
-      first_of l.faults ≡ None → joined (program_of l.made) (program_from (globals_of l.globals) (map item_of (drop l.item-index l.tree.items.items)))
-      ≡ program_from (globals_of l.globals) (map item_of l.tree.items.items);
+      first_of l.faults ≡ None → joined (program_of l.made) (program_from (globals_of l.globals) (map item_of (l.item-iterator.rest.items)))
+      ≡ program_from (globals_of l.globals) (map item_of l.fn.tree.items.items);
   noted :
-      noted (first_of l.faults) (flat_map (item_faults (globals_of l.globals)) (map item_of (drop l.item-index l.tree.items.items)))
-      ≡ noted (first_of l.initial.faults) (flat_map (item_faults (globals_of l.globals)) (map item_of l.tree.items.items));
+      noted (first_of l.faults) (flat_map (item_faults (globals_of l.globals)) (map item_of (l.item-iterator.rest.items)))
+      ≡ noted (first_of l.initial.faults) (flat_map (item_faults (globals_of l.globals)) (map item_of l.fn.tree.items.items));
 }

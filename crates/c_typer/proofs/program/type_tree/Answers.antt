@@ -11,18 +11,19 @@ use Rattle.c_typer.proofs.program.type_tree.Goals as goal
 
 pub returns-in-None : goal.returns-in-None
 returns-in-None c =
-    let xs = items_of c.args.tree.now in
+    let xs = items_of c.args.tree in
     let gs = globals_of c.in_ok-globals.globals in
     let known = c.in_ok-globals.ensures in
-    let all = all_noted xs gs _ _ _ _ _ _ known c.new-faults.ensures c.note_second_declarations.ensures c.note_threads.ensures c.note_mutexes.ensures
+    let all = all_noted c.args.language xs gs _ _ _ _ _ _ known c.new-faults.ensures c.note_second_declarations.ensures c.note_threads.ensures
+    c.note_mutexes.ensures
     c.note_bytes.ensures c.in_ok-program.ensures.noted in
     let none : first_of c.items.new.faults ≡ None = ap (option_map fault_of) c.in-None.is in
-    ((noted_none None (type_faults xs) (sym all ∙ none)).1, c.in_ok-program.ensures.made none ∙ program_is xs gs known)
+    ((noted_none None (type_faults c.args.language xs) (sym all ∙ none)).1, c.in_ok-program.ensures.made none ∙ program_is xs gs known)
 
 pub returns : goal.returns
 returns c =
-    let xs = items_of c.args.tree.now in
+    let xs = items_of c.args.tree in
     let gs = globals_of c.in_ok-globals.globals in
-    let all = all_noted xs gs _ _ _ _ _ _ c.in_ok-globals.ensures c.new-faults.ensures c.note_second_declarations.ensures c.note_threads.ensures
+    let all = all_noted c.args.language xs gs _ _ _ _ _ _ c.in_ok-globals.ensures c.new-faults.ensures c.note_second_declarations.ensures c.note_threads.ensures
     c.note_mutexes.ensures c.note_bytes.ensures c.in_ok-program.ensures.noted in
-    first_is_first (type_faults xs) (fault_of c.in-Some.refusal) (sym all ∙ ap (option_map fault_of) c.in-Some.is)
+    first_is_first (type_faults c.args.language xs) (fault_of c.in-Some.refusal) (sym all ∙ ap (option_map fault_of) c.in-Some.is)

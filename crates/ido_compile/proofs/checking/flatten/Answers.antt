@@ -1,4 +1,5 @@
 -- Each check begins with what the ones before it have found.
+use Rattle.c_tree.specs.declared.language.Language.TheVariants.{Plain}
 use Rattle.c_tree.specs.AcceptedTexts.{IsTyped, IsRanged}
 use Rattle.c_tree.specs.Programs.{program_of}
 use Rattle.c_tree.specs.Views.{items_of}
@@ -19,24 +20,24 @@ returns-in_err-program c =
 
 pub returns-in_err-check : goal.returns-in_err-check
 returns-in_err-check c =
-    let typed : IsTyped c.args.text.now (program_of c.in_ok-program.program) =
+    let typed : IsTyped Plain c.args.text.now (program_of c.in_ok-program.program) =
     record { items = items_of c.in_ok-tree.tree; read = c.in_ok-tree.ensures.read; faultless = c.in_ok-program.ensures.0; typed = c.in_ok-program.ensures.1 } in
     by_error (IsFlatAnswer c.args.text.now) (of_index c.in_err-check.field-0.0) c.from_residual-in_err-check.result c.from_residual-in_err-check.ensures.1
     (by_index c.args.text.now (program_of c.in_ok-program.program) c.in_err-check.field-0.0 typed c.in_err-check.ensures)
 
 pub returns-in_err-flat : goal.returns-in_err-flat
 returns-in_err-flat c =
-    let typed : IsTyped c.args.text.now (program_of c.in_ok-program.program) =
+    let typed : IsTyped Plain c.args.text.now (program_of c.in_ok-program.program) =
     record { items = items_of c.in_ok-tree.tree; read = c.in_ok-tree.ensures.read; faultless = c.in_ok-program.ensures.0; typed = c.in_ok-program.ensures.1 } in
-    let ranged : IsRanged c.args.text.now (program_of c.in_ok-program.program) = record { typed = typed; fits = c.in_ok-check.ensures } in
+    let ranged : IsRanged Plain c.args.text.now (program_of c.in_ok-program.program) = record { typed = typed; fits = c.in_ok-check.ensures } in
     by_error (IsFlatAnswer c.args.text.now) (of_inline c.in_err-flat.field-0.0) c.from_residual-in_err-flat.result c.from_residual-in_err-flat.ensures.1
     (by_calls c.args.text.now (program_of c.in_ok-program.program) c.in_err-flat.field-0.0 ranged c.in_err-flat.ensures)
 
 pub returns : goal.returns
 returns c =
-    let typed : IsTyped c.args.text.now (program_of c.in_ok-program.program) =
+    let typed : IsTyped Plain c.args.text.now (program_of c.in_ok-program.program) =
     record { items = items_of c.in_ok-tree.tree; read = c.in_ok-tree.ensures.read; faultless = c.in_ok-program.ensures.0; typed = c.in_ok-program.ensures.1 } in
-    let ranged : IsRanged c.args.text.now (program_of c.in_ok-program.program) = record { typed = typed; fits = c.in_ok-check.ensures } in
+    let ranged : IsRanged Plain c.args.text.now (program_of c.in_ok-program.program) = record { typed = typed; fits = c.in_ok-check.ensures } in
     record {
       program = program_of c.in_ok-program.program;
       ranged = ranged;

@@ -1,0 +1,78 @@
+//! Texts of the full language, whose names and kinds are checked.
+ghost use Rattle.std.specs.Prelude.{◌≡◌, Some};
+ghost use Rattle.c_tree.specs.declared.refusal.SourceError.TheVariants as error;
+
+use c_reader::read;
+use c_tree::language::Language;
+use c_tree::program::Guard;
+use c_tree::refusal::{Refusal, SourceError};
+use c_tree::rule::Rule;
+use c_typer::type_tree;
+use ido_base::place::Place;
+use std::test::Fail;
+
+/// An array of mutexes, numbered on from another mutex, each of which guards an element.
+const GUARDED: &[u8] =
+    b"mutex n; mutex m[2]; persistent(m[]) int a[2]; thread t { lock(m[1]); a[1] = 1; unlock(m[1]); }";
+
+/// One mutex past the most, with those of the array.
+const TOO_MANY: &[u8] = b"mutex n; mutex m[1024];";
+
+/// As many mutexes as no number of 32 bits counts.
+const FAR_TOO_MANY: &[u8] = b"mutex m[5000000000];";
+
+/// Another length than that of the mutexes.
+const OTHER_LENGTH: &[u8] = b"mutex m[2]; persistent(m[]) int a[3];";
+
+/// A key that reads a variable.
+const SHARED_KEY: &[u8] =
+    b"mutex n; mutex m[2]; persistent(n) int a; thread t { lock(m[a]); unlock(m[0]); }";
+
+/// A refusal by the rule at the place.
+fn by(rule: Rule, place: u32) -> Option<SourceError>
+    ensures { result ≡ Some (error.Refused (record { rule = rule; place = record { 0 = place } })) }
+{
+    Some(SourceError::Refused(Refusal {
+        rule,
+        place: Place(place),
+    }))
+}
+
+#[test]
+fn made(rt: HostRuntime) -> Result<(), Fail> {
+    let a = rt.alloc();
+    let tree = read(a, Language::Full, GUARDED)?;
+    let program = type_tree(a, Language::Full, tree)?;
+    assert_eq!(rt; program.mutexes.len(), 3);
+    let Some(variable) = program.variables.first() else {
+        return Err("no variable".into());
+    };
+    assert_eq!(rt; variable.guard, Guard::Each { first: 1 });
+    Ok(())
+}
+
+#[test]
+fn refused(rt: HostRuntime) -> Result<(), Fail> {
+    let a = rt.alloc();
+    let many = read(a, Language::Full, TOO_MANY)?;
+    assert_eq!(rt;
+        type_tree(a, Language::Full, many).err(),
+        by(Rule::Mutexes, 15)
+    );
+    let far = read(a, Language::Full, FAR_TOO_MANY)?;
+    assert_eq!(rt;
+        type_tree(a, Language::Full, far).err(),
+        by(Rule::Mutexes, 6)
+    );
+    let other = read(a, Language::Full, OTHER_LENGTH)?;
+    assert_eq!(rt;
+        type_tree(a, Language::Full, other).err(),
+        by(Rule::Count, 34)
+    );
+    let shared = read(a, Language::Full, SHARED_KEY)?;
+    assert_eq!(rt;
+        type_tree(a, Language::Full, shared).err(),
+        by(Rule::WrongSort, 60)
+    );
+    Ok(())
+}
