@@ -1,7 +1,7 @@
 //! Code as a machine runs it: decoded once.
 ghost use Rattle.std.specs.Prelude.{◌≡◌, ℕ, ◌+◌, ◌*◌, ◌<◌, ◌≤◌, List, map, length, IfOk, sum_by};
 ghost use Rattle.ido_base.specs.declared.limits.TheConstants.{MOST_THREADS};
-ghost use Rattle.rv64_isa.specs.Programs.{slot_of, program_of, code_of, code_start, fetched};
+ghost use Rattle.rv64_isa.specs.Programs.{slot_of, program_of, code_start, fetched};
 ghost use Rattle.hart_core.specs.Objects.{IsWithinLimits};
 ghost use Rattle.hart_core.specs.links.Starts.{AreStarts};
 
@@ -73,14 +73,6 @@ impl Program {
         ensures { result ≡ code_start self.now thread }
     {
         self.starts[thread as usize]
-    }
-
-    /// What a thread's words are decoded to.
-    pub(crate) fn code_of(&self, thread: u32) -> &[Slot]
-        requires { thread < length self.now }
-        ensures { result.now ≡ code_of self.now thread }
-    {
-        &self.code[thread as usize]
     }
 
     /// What stands at a pc in a thread's own code; none where that has no word there, or there is no such

@@ -12,6 +12,7 @@ use ido_base::log::Log;
 use ido_base::memory::OutOfMemory;
 use line_memory::memory::LineMemory;
 use lock_table::LockTable;
+use rv64_isa::instr::Instr;
 use rv64_isa::object::Object;
 use rv64_isa::phase::Phase;
 use std::alloc::Global;
@@ -40,7 +41,8 @@ impl Machine {
     ghost use Rattle.ido_base.specs.Layout.{line_count, log_words};
     ghost use Rattle.ido_base.specs.Locks.{holds_none};
     ghost use Rattle.ido_base.specs.Cores.{is_idle};
-    ghost use Rattle.rv64_isa.specs.Programs.{program_of};
+    ghost use Rattle.rv64_isa.specs.declared.object.Slot.TheVariants.{Row};
+    ghost use Rattle.rv64_isa.specs.Programs.{fetched, program_of};
     ghost use Rattle.rv64_isa.specs.Machine.{Hart as HartModel, World, IsValidEvent, happens, reply_to, with_hart, machine_start, machine_from};
     ghost use Rattle.rv64_isa.specs.declared.phase.Phase.TheVariants.{Run};
     ghost use Rattle.hart_core.specs.LocalSteps.{local_step, placed_code, after_write};
@@ -248,18 +250,19 @@ impl Machine {
         self.events += u64::from(steps);
     }
 
-    /// What the next step of a hart writes, where the hart executes instructions and the next one touches nothing but its registers and
-    /// its pc.
+    /// What the next step of a hart writes by this instruction, which is the hart's next: where the hart executes instructions, and this
+    /// one touches nothing but registers and pc.
     #[inline(always)]
-    pub fn local_write(&self, hart: u32) -> Option<LocalWrite>
+    pub fn local_write(&self, hart: u32, instr: Instr) -> Option<LocalWrite>
         requires { hart < length (program_in self.now) }
         ensures some { IfSome result (λ write. (w : World) (model : HartModel) → RepresentsMachine self.now w → slice_get w.harts hart ≡ Some model →
-            GoesLocally (program_in self.now) hart model write) }
+            fetched (program_in self.now) hart model.pc ≡ Some (Row instr) → GoesLocally (program_in self.now) hart model write) }
         ensures none { IfNone result ((w : World) (model : HartModel) → RepresentsMachine self.now w → slice_get w.harts hart ≡ Some model →
-            model.phase ≡ Run → local_step (placed_code (program_in self.now) hart) (local_state_of model) ≡ None) }
+            fetched (program_in self.now) hart model.pc ≡ Some (Row instr) → model.phase ≡ Run →
+            local_step (placed_code (program_in self.now) hart) (local_state_of model) ≡ None) }
     {
         match self.phases[hart as usize] {
-            Phase::Run => local::local_write(hart, &self.program, &self.harts[hart as usize]),
+            Phase::Run => local::local_write(instr, &self.harts[hart as usize]),
             _ => None,
         }
     }

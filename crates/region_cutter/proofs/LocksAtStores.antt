@@ -10,7 +10,8 @@ use Rattle.ido_ints.specs.declared.kinds.Kind.{Kind}
 use Rattle.c_tree.specs.Exprs as e
 use Rattle.c_tree.specs.Programs.{Variable}
 use Rattle.c_tree.specs.Flats as f
-use Rattle.c_tree.specs.LockDiscipline.{Held, holds, none_held, Use, expr_uses, assign_uses, guard_of, is_guarded, AreGuarded, Keeps, KeepAll, KeepArms, assign}
+use Rattle.c_tree.specs.LockNames.{Held, holds, none_held, lock_names, number_in}
+use Rattle.c_tree.specs.LockDiscipline.{Use, expr_uses, assign_uses, guard_name, is_guarded, AreGuarded, Keeps, KeepAll, KeepArms, assign}
 use Rattle.c_tree.specs.LockDiscipline.{choose, repeat, again, lock, unlock, no_more, then, no_more_arms, arm, IsDisciplined}
 use Rattle.lock_discipline.specs.Masks.{mask_of}
 use Rattle.lock_discipline.specs.HeldSetsByStep.{steps, steps_of_all, steps_of_arms, AreSetsOf, AreAllSetsOf}
@@ -48,117 +49,111 @@ yes false e = absurd (cc)
 
 -- ---- Nodes and the sets before them
 
--- the node stores a variable whose mutex is in the set
-record Stores (vs : List Variable) (h : Held) (x : Node) : Type 0 where
-  pub variable : ℕ
+-- the node stores a variable that is used, and the name of the lock that guards this use is in the set
+record Stores (vs : List Variable) (names : List e.LockName) (h : Held) (x : Node) : Type 0 where
+  pub used : Use
   pub kind : Kind
   pub next : ℕ
-  pub stores : x.action ≡ Store variable kind next
-  pub locked : holds h (guard_of vs variable) ≡ true
+  pub stores : x.action ≡ Store used.variable kind next
+  pub locked : is_guarded vs names h used ≡ true
 
 -- if it writes
-abbrev Guarded : List Variable → Held → Node → Type 0
-Guarded vs h x = (written : Location) → x.writes ≡ Some written → Stores vs h x
+abbrev Guarded : List Variable → List e.LockName → Held → Node → Type 0
+Guarded vs names h x = (written : Location) → x.writes ≡ Some written → Stores vs names h x
 
-abbrev AllGuarded : List Variable → List Held → List Node → Type 0
-AllGuarded vs [] [] = Unit {0}
-AllGuarded vs [] (x ∷ xs) = ⊥
-AllGuarded vs (h ∷ hs) [] = ⊥
-AllGuarded vs (h ∷ hs) (x ∷ xs) = Guarded vs h x × AllGuarded vs hs xs
+abbrev AllGuarded : List Variable → List e.LockName → List Held → List Node → Type 0
+AllGuarded vs names [] [] = Unit {0}
+AllGuarded vs names [] (x ∷ xs) = ⊥
+AllGuarded vs names (h ∷ hs) [] = ⊥
+AllGuarded vs names (h ∷ hs) (x ∷ xs) = Guarded vs names h x × AllGuarded vs names hs xs
 
-quiet : (vs : List Variable) (h : Held) (x : Node) → x.writes ≡ None → Guarded vs h x
-quiet vs h x none w is = absurd (let both : None ≡ Some w = sym none ∙ is in cc)
+quiet : (vs : List Variable) (names : List e.LockName) (h : Held) (x : Node) → x.writes ≡ None → Guarded vs names h x
+quiet vs names h x none w is = absurd (let both : None ≡ Some w = sym none ∙ is in cc)
 
-joined : (vs : List Variable) (hs ks : List Held) (xs ys : List Node) → AllGuarded vs hs xs → AllGuarded vs ks ys → AllGuarded vs (hs ++ ks) (xs ++ ys)
-joined vs [] ks [] ys a b = b
-joined vs [] ks (x ∷ xs) ys a b = absurd a
-joined vs (h ∷ hs) ks [] ys a b = absurd a
-joined vs (h ∷ hs) ks (x ∷ xs) ys a b = (a.0, joined vs hs ks xs ys a.1 b)
+joined : (vs : List Variable) (names : List e.LockName) (hs ks : List Held) (xs ys : List Node) → AllGuarded vs names hs xs → AllGuarded vs names ks ys →
+    AllGuarded vs names (hs ++ ks) (xs ++ ys)
+joined vs names [] ks [] ys a b = b
+joined vs names [] ks (x ∷ xs) ys a b = absurd a
+joined vs names (h ∷ hs) ks [] ys a b = absurd a
+joined vs names (h ∷ hs) ks (x ∷ xs) ys a b = (a.0, joined vs names hs ks xs ys a.1 b)
 
-guarded_at : (vs : List Variable) (hs : List Held) (xs : List Node) (n : ℕ) (h : Held) (x : Node) → AllGuarded vs hs xs → slice_get hs n ≡ Some h →
-    slice_get xs n ≡ Some x → Guarded vs h x
-guarded_at vs [] xs n h x a at at' = absurd (cc)
-guarded_at vs (k ∷ hs) [] n h x a at at' = absurd a
-guarded_at vs (k ∷ hs) (y ∷ xs) zero h x a at at' =
+guarded_at : (vs : List Variable) (names : List e.LockName) (hs : List Held) (xs : List Node) (n : ℕ) (h : Held) (x : Node) → AllGuarded vs names hs xs →
+    slice_get hs n ≡ Some h →
+    slice_get xs n ≡ Some x → Guarded vs names h x
+guarded_at vs names [] xs n h x a at at' = absurd (cc)
+guarded_at vs names (k ∷ hs) [] n h x a at at' = absurd a
+guarded_at vs names (k ∷ hs) (y ∷ xs) zero h x a at at' =
     let one : k ≡ h = cc in
     let two : y ≡ x = cc in
-    subst (λ (z : Node). Guarded vs h z) two (subst (λ (z : Held). Guarded vs z y) one a.0)
-guarded_at vs (k ∷ hs) (y ∷ xs) (suc n) h x a at at' = guarded_at vs hs xs n h x a.1 at at'
+    subst (λ (z : Node). Guarded vs names h z) two (subst (λ (z : Held). Guarded vs names z y) one a.0)
+guarded_at vs names (k ∷ hs) (y ∷ xs) (suc n) h x a at at' = guarded_at vs names hs xs n h x a.1 at at'
 
-guarded_long : (vs : List Variable) (hs : List Held) (xs : List Node) → AllGuarded vs hs xs → length xs ≡ length hs
-guarded_long vs [] [] a = refl
-guarded_long vs [] (x ∷ xs) a = absurd a
-guarded_long vs (h ∷ hs) [] a = absurd a
-guarded_long vs (h ∷ hs) (x ∷ xs) a = ap suc (guarded_long vs hs xs a.1)
+guarded_long : (vs : List Variable) (names : List e.LockName) (hs : List Held) (xs : List Node) → AllGuarded vs names hs xs → length xs ≡ length hs
+guarded_long vs names [] [] a = refl
+guarded_long vs names [] (x ∷ xs) a = absurd a
+guarded_long vs names (h ∷ hs) [] a = absurd a
+guarded_long vs names (h ∷ hs) (x ∷ xs) a = ap suc (guarded_long vs names hs xs a.1)
 
-module _ (vs : List Variable) where
-  stored : (h : Held) (us rest : List Use) (u : Use) → AreGuarded vs h (us ++ u ∷ rest) → holds h (guard_of vs u.variable) ≡ true
-  stored h us rest u g = yes (is_guarded vs h u) (none_there (λ (w : Use). not (is_guarded vs h w)) us rest u g)
+module _ (vs : List Variable) (names : List e.LockName) where
+  stored : (h : Held) (us rest : List Use) (u : Use) → AreGuarded vs names h (us ++ u ∷ rest) → is_guarded vs names h u ≡ true
+  stored h us rest u g = yes (is_guarded vs names h u) (none_there (λ (w : Use). not (is_guarded vs names h w)) us rest u g)
 
-  guarded_assign : (place : Place) (target : e.Lvalue) (value : e.Placed) (h : Held) (first next : ℕ) → AreGuarded vs h (assign_uses target value) →
-      AllGuarded vs (sets_in h (f.Assign place target value)) (assign_nodes place target value first next)
-  guarded_assign place (e.ToLocal name local kind) value h first next g = (quiet vs h _ refl, tt)
+  guarded_assign : (place : Place) (target : e.Lvalue) (value : e.Placed) (h : Held) (first next : ℕ) → AreGuarded vs names h (assign_uses target value) →
+      AllGuarded vs names (sets_in names h (f.Assign place target value)) (assign_nodes place target value first next)
+  guarded_assign place (e.ToLocal name local kind) value h first next g = (quiet vs names h _ refl, tt)
   guarded_assign place (e.ToVariable name variable kind) value h first next g = (
-    quiet vs h _ refl,
+    quiet vs names h _ refl,
     (
-      (λ w is. record {
-        variable = variable;
-        kind = kind;
-        next = next;
-        stores = refl;
-        locked =
-            stored h (expr_uses value.expr) [] (record { variable = variable; place = name }) g;
-      }),
+      (λ w is.
+          let u : Use = record { variable = variable; place = name; index = None } in
+          record { used = u; kind = kind; next = next; stores = refl; locked = stored h (expr_uses value.expr) [] u g }),
       tt,
     ),
   )
   guarded_assign place (e.ToElement name variable kind index) value h first next g = (
-    quiet vs h _ refl,
+    quiet vs names h _ refl,
     (
-      (λ w is. record {
-        variable = variable;
-        kind = kind;
-        next = next;
-        stores = refl;
-        locked =
-            stored h (expr_uses value.expr) (expr_uses index.expr) (record { variable = variable; place = name }) g;
-      }),
+      (λ w is.
+          let u : Use = record { variable = variable; place = name; index = Some index } in
+          record { used = u; kind = kind; next = next; stores = refl; locked = stored h (expr_uses value.expr) (expr_uses index.expr) u g }),
       tt,
     ),
   )
 
   mutual
-    guarded : {h after : Held} {s : f.Statement} → Keeps vs h s after → (first next : ℕ) → AllGuarded vs (sets_in h s) (statement_nodes s first next)
-    guarded (assign {h = h} place target value g) first next = guarded_assign place target value h first next g
+    guarded : {h after : Held} {s : f.Statement} → Keeps vs names h s after → (first next : ℕ) →
+        AllGuarded vs names (sets_in names h s) (statement_nodes s first next)
+    guarded (assign {h = h} place target value g free) first next = guarded_assign place target value h first next g
     guarded (choose {h = h} place arms otherwise p q) first next =
         let last = entry (statements_count otherwise) (first + arms_count arms) next in
-        joined vs (sets_in_arms h arms) (sets_in_all h otherwise) (arms_nodes arms place last first next)
+        joined vs names (sets_in_arms names h arms) (sets_in_all names h otherwise) (arms_nodes arms place last first next)
         (statements_nodes otherwise (first + arms_count arms) next)
         (guarded_arms p place last first next) (guarded_all q (first + arms_count arms) next)
-    guarded (repeat {h = h} place condition body g p) first next = (quiet vs h _ refl, guarded_all p (suc first) first)
+    guarded (repeat {h = h} place condition body g p) first next = (quiet vs names h _ refl, guarded_all p (suc first) first)
     guarded (again {h = h} place body condition p g) first next =
-        joined vs (sets_in_all h body) (held_after_all h body ∷ []) (statements_nodes body first (first + statements_count body))
+        joined vs names (sets_in_all names h body) (held_after_all names h body ∷ []) (statements_nodes body first (first + statements_count body))
         (test_node place condition first next ∷ [])
-        (guarded_all p first (first + statements_count body)) (quiet vs (held_after_all h body) _ refl, tt)
-    guarded (lock {h = h} place name free) first next = (quiet vs h _ refl, tt)
-    guarded (unlock {h = h} place name held) first next = (quiet vs h _ refl, tt)
+        (guarded_all p first (first + statements_count body)) (quiet vs names (held_after_all names h body) _ refl, tt)
+    guarded (lock {h = h} place name free) first next = (quiet vs names h _ refl, tt)
+    guarded (unlock {h = h} place name held) first next = (quiet vs names h _ refl, tt)
 
-    guarded_all : {h after : Held} {ss : f.Statements} → KeepAll vs h ss after → (first next : ℕ) →
-        AllGuarded vs (sets_in_all h ss) (statements_nodes ss first next)
+    guarded_all : {h after : Held} {ss : f.Statements} → KeepAll vs names h ss after → (first next : ℕ) →
+        AllGuarded vs names (sets_in_all names h ss) (statements_nodes ss first next)
     guarded_all no_more first next = tt
     guarded_all (then {h = h} x rest p q) first next =
         let further = entry (statements_count rest) (first + count x) next in
         let tail = statements_nodes rest (first + count x) next in
-        joined vs (sets_in h x) _ (statement_nodes x first further) tail (guarded p first further)
-        (subst (λ (k : Held). AllGuarded vs (sets_in_all k rest) tail) (sym (boundary_after_is vs p)) (guarded_all q (first + count x) next))
+        joined vs names (sets_in names h x) _ (statement_nodes x first further) tail (guarded p first further)
+        (subst (λ (k : Held). AllGuarded vs names (sets_in_all names k rest) tail) (sym (boundary_after_is vs names p)) (guarded_all q (first + count x) next))
 
-    guarded_arms : {h after : Held} {arms : f.Arms} → KeepArms vs h arms after → (place : Place) (last first next : ℕ) →
-        AllGuarded vs (sets_in_arms h arms) (arms_nodes arms place last first next)
+    guarded_arms : {h after : Held} {arms : f.Arms} → KeepArms vs names h arms after → (place : Place) (last first next : ℕ) →
+        AllGuarded vs names (sets_in_arms names h arms) (arms_nodes arms place last first next)
     guarded_arms no_more_arms place last first next = tt
     guarded_arms (arm {h = h} condition body rest g p q) place last first next =
         let further = suc first + statements_count body in (
-          quiet vs h _ refl,
-          joined vs (sets_in_all h body) (sets_in_arms h rest) (statements_nodes body (suc first) next) (arms_nodes rest place last further next)
+          quiet vs names h _ refl,
+          joined vs names (sets_in_all names h body) (sets_in_arms names h rest) (statements_nodes body (suc first) next)
+              (arms_nodes rest place last further next)
               (guarded_all p (suc first) next) (guarded_arms q place last further next),
         )
 
@@ -190,20 +185,22 @@ mutual
 
 module _ (x : f.Flat) where
   abbrev own_sets : f.Thread → List Held
-  own_sets t = thread_sets (length x.mutexes) t
+  own_sets t = thread_sets (lock_names x t) t
 
-  guarded_thread : (t : f.Thread) (first : ℕ) → IsDisciplined x t → AllGuarded x.variables (own_sets t) (thread_nodes t first)
+  guarded_thread : (t : f.Thread) (first : ℕ) → IsDisciplined x t → AllGuarded x.variables (lock_names x t) (own_sets t) (thread_nodes t first)
   guarded_thread t first d =
-      let start = none_held (length x.mutexes) in
-      joined x.variables (sets_in_all start t.body) (held_after_all start t.body ∷ []) (statements_nodes t.body first (first + statements_count t.body))
+      let start = none_held (length (lock_names x t)) in
+      joined x.variables (lock_names x t) (sets_in_all (lock_names x t) start t.body) (held_after_all (lock_names x t) start t.body ∷ [])
+      (statements_nodes t.body first (first + statements_count t.body))
       (plain_node t.closing End ∷ [])
-      (guarded_all x.variables d first (first + statements_count t.body)) (quiet x.variables (held_after_all start t.body) _ refl, tt)
+      (guarded_all x.variables (lock_names x t) d first (first + statements_count t.body))
+      (quiet x.variables (lock_names x t) (held_after_all (lock_names x t) start t.body) _ refl, tt)
 
   sets_long : (t : f.Thread) (sets : List Held) → AreSetsOf x t sets → length sets ≡ thread_count t
   sets_long t sets are = omega (arith, are.each_step, steps_all t.body)
 
   nodes_long : (t : f.Thread) (first : ℕ) → IsDisciplined x t → length (thread_nodes t first) ≡ thread_count t
-  nodes_long t first d = guarded_long x.variables (own_sets t) (thread_nodes t first) (guarded_thread t first d) ∙
+  nodes_long t first d = guarded_long x.variables (lock_names x t) (own_sets t) (thread_nodes t first) (guarded_thread t first d) ∙
       sets_long t (own_sets t) (thread_sets_are x t d)
 
 -- ---- Parts of the graph
@@ -297,7 +294,7 @@ module _ (x : f.Flat) where
   thread_of table n sets are at = found_in x.threads n (omega (arith, slice_get_within table n sets at, are.each_thread))
 
   guarded_step : (table : List (List Held)) (thread step node : ℕ) (held : Held) (y : Node) → AreAllSetsOf x table → IsHeldAt x table thread step node held →
-      NodeAt (lowered x) node y → Guarded x.variables held y
+      NodeAt (lowered x) node y → (t : f.Thread) × (slice_get x.threads thread ≡ Some t) × Guarded x.variables (lock_names x t) held y
   guarded_step table thread step node held y are h at =
       let t = thread_of table thread h.sets are h.row in
       let sets = are.sets thread t.0 h.sets t.1 h.row in
@@ -306,10 +303,14 @@ module _ (x : f.Flat) where
       let within = slice_get_within h.sets step held h.before in
       let part' : slice_get (parts x.threads 0) thread ≡ Some h.part =
       subst (λ (ps : List Part). slice_get ps thread ≡ Some h.part) (lowered_threads x) h.own in
-      let node' : slice_get (threads_nodes x.threads 0) node ≡ Some y = subst (λ (ns : List Node). slice_get ns node ≡ Some y) (lowered_nodes x) at in
-      guarded_at x.variables (own_sets x t.0) (thread_nodes t.0 h.part.first) step held y (guarded_thread x t.0 h.part.first sets.disciplined) own
-      (own_node x.threads 0 thread node step h.part t.0 y (disciplined table are) part' t.1 (omega (arith, h.is))
-      (omega (arith, within, sets_long x t.0 h.sets sets)) node')
+      let node' : slice_get (threads_nodes x.threads 0) node ≡ Some y = subst (λ (ns : List Node). slice_get ns node ≡ Some y) (lowered_nodes x) at in (
+        t.0,
+        t.1,
+        guarded_at x.variables (lock_names x t.0) (own_sets x t.0) (thread_nodes t.0 h.part.first) step held y
+            (guarded_thread x t.0 h.part.first sets.disciplined) own
+            (own_node x.threads 0 thread node step h.part t.0 y (disciplined table are) part' t.1 (omega (arith, h.is))
+            (omega (arith, within, sets_long x t.0 h.sets sets)) node'),
+      )
 
 -- ---- The laws
 
@@ -317,16 +318,19 @@ pub chosen_are_locked : ChosenAreLocked
 chosen_are_locked x table b thread step node held are places chosen h = elim (places.before node chosen.stands) [
   | inl gives ↦ absurd (chosen.free gives)
   | inr w ↦ (
-      let s = guarded_step x table thread step node held w.is are h w.at w.written w.writes in
+      let g = guarded_step x table thread step node held w.is are h w.at in
+      let s = g.2 w.written w.writes in
       record {
+        text = g.0;
+        its = g.1;
         is = w.is;
         at = w.at;
-        variable = s.variable;
+        used = s.used;
         kind = s.kind;
         next = s.next;
         stores = s.stores;
         locked = s.locked;
-        some = masked held (guard_of x.variables s.variable) s.locked;
+        some = masked held (number_in (lock_names x g.0) (guard_name x.variables s.used)) s.locked;
       })
 ]
 

@@ -1,8 +1,9 @@
--- What threads hold at boundaries: one that stands by choice stands before a store, whose mutex is held there.
+-- What threads hold at boundaries: one that stands by choice stands before a store, whose lock is held there.
 use Rattle.std.specs.Prelude.{◌≡◌, ◌≢◌, ℕ, ◌+◌, List, slice_get, Some, true}
 use Rattle.ido_ints.specs.declared.kinds.Kind.{Kind}
 use Rattle.c_tree.specs.Flats as f
-use Rattle.c_tree.specs.LockDiscipline.{Held, holds, guard_of}
+use Rattle.c_tree.specs.LockNames.{Held, lock_names}
+use Rattle.c_tree.specs.LockDiscipline.{Use, is_guarded}
 use Rattle.lock_discipline.specs.Masks.{mask_of}
 use Rattle.lock_discipline.specs.HeldSetsByStep.{AreAllSetsOf}
 use Rattle.flow_graph.specs.declared.graph.Part.{Part}
@@ -20,21 +21,23 @@ pub record IsHeldAt (x : f.Flat) (table : List (List Held)) (thread step node : 
   pub row : slice_get table thread ≡ Some sets
   pub before : slice_get sets step ≡ Some held
 
--- the node stores a variable whose mutex is in the set, which so isn't empty
-pub record StoresLocked (x : f.Flat) (node : ℕ) (held : Held) : Type 0 where
+-- the node of this thread stores a variable, and the name of the lock that guards a use of it is in the set, which so isn't empty
+pub record StoresLocked (x : f.Flat) (thread node : ℕ) (held : Held) : Type 0 where
+  pub text : f.Thread
+  pub its : slice_get x.threads thread ≡ Some text
   pub is : Node
   pub at : NodeAt (lowered x) node is
-  pub variable : ℕ
+  pub used : Use
   pub kind : Kind
   pub next : ℕ
-  pub stores : is.action ≡ Store variable kind next
-  pub locked : holds held (guard_of x.variables variable) ≡ true
+  pub stores : is.action ≡ Store used.variable kind next
+  pub locked : is_guarded x.variables (lock_names x text) held used ≡ true
   pub some : mask_of held ≢ 0
 
 -- a boundary that stands by choice stands before a store of a variable whose mutex its thread holds
 abbrev pub ChosenAreLocked : Type 0
 ChosenAreLocked = (x : f.Flat) (table : List (List Held)) (b : Boundaries) (thread step node : ℕ) (held : Held) → AreAllSetsOf x table →
-    AreAtWrites (lowered x) b → IsChosen (lowered x) b node → IsHeldAt x table thread step node held → StoresLocked x node held
+    AreAtWrites (lowered x) b → IsChosen (lowered x) b node → IsHeldAt x table thread step node held → StoresLocked x thread node held
 
 -- the set that the table has before a node
 pub record IsHeldBefore (x : f.Flat) (table : List (List Held)) (node : ℕ) : Type 0 where

@@ -120,12 +120,19 @@ pub(crate) fn writes_same(graph: &Graph, element: Location, number: usize, node:
     }
 }
 
+/// Whether both are the same elements.
+fn equal(a: Location, b: Location) -> bool
+    ensures { IsTrue result ↔ (a ≡ b) }
+{
+    a == b
+}
+
 /// Whether these are among the locations.
 pub(crate) fn is_among(locations: &[Location], elements: Location) -> bool
     ensures { IsTrue result ↔ Contains locations.now elements }
 {
     for other in locations {
-        if *other == elements {
+        if equal(*other, elements) {
             return true;
         }
     }

@@ -16,19 +16,28 @@ fn with_digit(number: u64, digit: u8) -> u64
     (number * 10 + u64::from(digit - b'0')).min(NUMBER_LIMIT)
 }
 
-/// The number that the digits at the front of a text spell, or the limit where it is no less, and how many digits these are.
-pub(crate) fn leading_number(text: &[u8]) -> (u64, usize)
-    ensures number { result.0 ≡ min (digits_value 10 (take result.1 text.now)) 4294967296 }
-    ensures digits { result.1 ≡ prefix_len is_digit text.now }
-    ensures bound { result.1 ≤ length text.now }
+/// The digits at the front of a text.
+#[derive(Clone, Copy, Drop)]
+pub(crate) struct Digits {
+    /// The number that they spell, or the limit where it is no less.
+    pub number: u64,
+    /// How many they are.
+    pub count: usize,
+}
+
+/// The digits at the front of a text, counted and summed at once.
+pub(crate) fn leading_digits(text: &[u8]) -> Digits
+    ensures number { result.number ≡ min (digits_value 10 (take result.count text.now)) 4294967296 }
+    ensures count { result.count ≡ prefix_len is_digit text.now }
+    ensures bound { result.count ≤ length text.now }
 {
     let mut number = 0;
-    let mut digits = 0;
-    while digits < text.len() && text[digits].is_ascii_digit() {
-        number = with_digit(number, text[digits]);
-        digits += 1;
+    let mut count = 0;
+    while count < text.len() && text[count].is_ascii_digit() {
+        number = with_digit(number, text[count]);
+        count += 1;
     }
-    (number, digits)
+    Digits { number, count }
 }
 
 /// The number that a text spells, or the limit where it is no less; none where it spells none.

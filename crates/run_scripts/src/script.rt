@@ -8,7 +8,7 @@ ghost use Rattle.run_scripts.specs.declared.script.Command.TheVariants as c;
 ghost use Rattle.run_scripts.specs.links.ScriptViews as views;
 ghost use Rattle.run_scripts.specs.links.ScriptViews.{ending};
 
-use crate::number::{NUMBER_LIMIT, leading_number};
+use crate::number::{NUMBER_LIMIT, leading_digits};
 use crate::piece::{Gap, next_piece, piece_at};
 use ido_base::limits::VARIABLE_LINES;
 use ido_base::log::Log;
@@ -146,15 +146,15 @@ fn number(line: &[u8], place: u32, at: usize, rule: Rule) -> Result<Taken, Scrip
         (after : ℕ → ℕ → List ℕ → LineRead) → number_then (views.rule_of rule) (place + at) (drop at line.now) after ≡ Fails (views.fault_of e)) }
 {
     let here = Place(place + at as u32);
-    let (number, digits) = leading_number(&line[at..]);
-    if digits == 0 {
+    let digits = leading_digits(&line[at..]);
+    if digits.count == 0 {
         return Err(ScriptFault::Word(here));
     }
-    match refused(rule, here, number) {
+    match refused(rule, here, digits.number) {
         Some(fault) => Err(fault),
         None => Ok(Taken {
-            number: number as u32,
-            end: at + digits,
+            number: digits.number as u32,
+            end: at + digits.count,
         }),
     }
 }

@@ -1,5 +1,5 @@
 -- What stands of a local run as it goes ahead, and where a life adopts it.
-use Rattle.std.proofs.Common.{◌≡◌, ℕ, suc, ◌+◌, ◌≤◌, List, length, Option}
+use Rattle.std.proofs.Common.{◌≡◌, ℕ, suc, ◌+◌, ◌≤◌, List, Option}
 use Rattle.std.proofs.Common.{Some, None, Bool, true, false, cond, ◌==◌, refl, ap, sym, subst, ◌∙◌, arith}
 use Rattle.std.specs.List.{list_any}
 use Rattle.rv64_isa.specs.declared.object.Slot.{Slot}
@@ -11,11 +11,11 @@ use Rattle.hart_core.specs.declared.local.LocalState.{LocalState}
 use Rattle.hart_core.specs.LocalSteps.{PlacedCode, executed_locally, fetched_in, local_run, local_step, then_locally}
 use Rattle.ido_machine.specs.Harts.{local_state_of}
 use Rattle.run_tracker.specs.declared.local.LocalRun.TheInside.{Inside}
-use Rattle.run_tracker.specs.declared.signs.Sign.{Sign}
+use Rattle.run_tracker.specs.declared.signs.Entry.{Entry}
 use Rattle.run_tracker.specs.declared.signs.SignTable.{SignTable}
 use Rattle.run_tracker.specs.LocalRuns.{LocalCourse, IsAtBeginning, state_in}
 use Rattle.run_tracker.specs.links.LocalRepresentation.{LocalInv, marks_at, marks_passed}
-use Rattle.run_tracker.specs.links.SignTables.{IsTableOf, is_plain, sign_at, sign_in}
+use Rattle.run_tracker.specs.links.SignTables.{IsTableOf, is_plain, placed_in, sign_at, sign_in, slots_in}
 use Rattle.run_tracker.proofs.SignObservations.{word_mark}
 
 pub running_phase : (phase : Phase) → is_running phase ≡ true → phase ≡ Run
@@ -35,23 +35,24 @@ some_slot code s t e = by_slot (fetched_in code s.pc) refl e
     by_slot (Some slot) is e = (slot, is)
 
 -- one instruction more, which passes a mark or not
-pub goes_on : (run : Inside) (state : LocalState) (mark : Bool) (passed : ℕ) → LocalInv run → local_step run.code run.state ≡ Some state →
+pub goes_on : (run : Inside) (state : LocalState) (mark : Bool) (passed : ℕ) → LocalInv run → local_step (placed_in run.table) run.state ≡ Some state →
     mark ≡ (sign_at run.table run.state.pc).mark → passed ≡ run.passed + cond mark 1 0 → is_running run.phase ≡ true →
     LocalInv (record run { state = state; made = run.made + 1; passed = passed })
 goes_on run state mark passed stands step mark_is passed_is running =
     let marks : List ℕ = run.addresses.items in
     let one : run.made + 1 ≡ suc run.made = omega arith in
-    let slot = some_slot run.code run.state state step in
+    let code : PlacedCode = placed_in run.table in
+    let slot = some_slot code run.state state step in
     let tells : mark ≡ list_any (λ m. m == run.state.pc) marks =
-    mark_is ∙ word_mark run.code run.state.pc slot.0 slot.1 run.table marks stands.table in
+    mark_is ∙ word_mark code run.state.pc slot.0 slot.1 run.table marks stands.table in
     record {
       table = stands.table;
-      state = ap (local_run run.code run.first) one ∙ ap (then_locally run.code) stands.state ∙ step;
+      state = ap (local_run code run.first) one ∙ ap (then_locally code) stands.state ∙ step;
       passed =
           passed_is ∙ ap (λ (b : Bool). run.passed + cond b 1 0) tells
           ∙ ap (λ (n : ℕ). n + marks_at marks (Some run.state)) stands.passed
-          ∙ ap (λ (found : Option LocalState). marks_passed marks run.code run.first run.made + marks_at marks found) (sym stands.state)
-          ∙ ap (marks_passed marks run.code run.first) (sym one);
+          ∙ ap (λ (found : Option LocalState). marks_passed marks code run.first run.made + marks_at marks found) (sym stands.state)
+          ∙ ap (marks_passed marks code run.first) (sym one);
       few = few mark passed_is;
       running = λ _. running_phase run.phase running;
     }
@@ -60,16 +61,16 @@ goes_on run state mark passed stands step mark_is passed_is running =
     few true e = omega (arith, e, stands.few)
     few false e = omega (arith, e, stands.few)
 
--- a table with the same signs
-pub copied : (old new : SignTable) (start : ℕ) (code : List Slot) (addresses : List ℕ) → new.start ≡ old.start → new.signs.items ≡ old.signs.items →
+-- a table of the same code words
+pub copied : (old new : SignTable) (start : ℕ) (code : List Slot) (addresses : List ℕ) → new.start ≡ old.start → new.entries.items ≡ old.entries.items →
     IsTableOf old start code addresses → IsTableOf new start code addresses
-copied old new start code addresses starts signs is = record {
+copied old new start code addresses starts entries is = record {
   starts = starts ∙ is.starts;
-  size = ap length signs ∙ is.size;
-  marks = λ k below. ap (λ (xs : List Sign). (sign_in xs k).mark) signs ∙ is.marks k below;
-  fences = λ k slot there. ap (λ (xs : List Sign). (sign_in xs k).fence) signs ∙ is.fences k slot there;
-  stores = λ k slot there. ap (λ (xs : List Sign). (sign_in xs k).store) signs ∙ is.stores k slot there;
-  plains = λ k. subst (λ (xs : List Sign). (sign_in xs k).plain ≡ is_plain (sign_in xs k)) (sym signs) (is.plains k);
+  slots = ap slots_in entries ∙ is.slots;
+  marks = λ k below. ap (λ (xs : List Entry). (sign_in xs k).mark) entries ∙ is.marks k below;
+  fences = λ k slot there. ap (λ (xs : List Entry). (sign_in xs k).fence) entries ∙ is.fences k slot there;
+  stores = λ k slot there. ap (λ (xs : List Entry). (sign_in xs k).store) entries ∙ is.stores k slot there;
+  plains = λ k. subst (λ (xs : List Entry). (sign_in xs k).plain ≡ is_plain (sign_in xs k)) (sym entries) (is.plains k);
 }
 
 -- ---- A run whose hart is still as it was at its beginning

@@ -18,9 +18,11 @@ use Rattle.rv64_isa.specs.Programs.{fetched, code_of, code_start}
 use Rattle.rv64_isa.specs.Machine.{Hart, World, reply_to, happens, stepped, phase_step, executed}
 use Rattle.rv64_isa.specs.Schedule.{completes, completing, effect_at, has_moved, is_fence, is_point_store, is_running, passes_mark, is_mark}
 use Rattle.hart_core.specs.LocalSteps.{PlacedCode, placed_code, fetched_in}
+use Rattle.run_tracker.specs.declared.signs.Entry.{Entry}
 use Rattle.run_tracker.specs.declared.signs.Sign.{Sign}
 use Rattle.run_tracker.specs.declared.signs.SignTable.{SignTable}
-use Rattle.run_tracker.specs.links.SignTables.{is_fence_slot, is_store_slot, is_word_at, sign_at, sign_in, IsTableOf}
+use Rattle.run_tracker.specs.links.SignTables.{entry_at, is_fence_slot, is_plain, is_store_slot, is_word_at, placed_in, sign_at, sign_in, sign_of}
+use Rattle.run_tracker.specs.links.SignTables.{slot_at, slots_in, IsTableOf}
 
 -- ---- Tables
 
@@ -60,6 +62,46 @@ in_length [] k x e = cc
 in_length (y ∷ ys) zero x e = omega arith
 in_length (y ∷ ys) (suc k) x e = let rest = in_length ys k x e in omega arith
 
+-- a word of a table whose first word has this address
+pub entry_at-is : (start : ℕ) (table : SignTable) (pc : ℕ) → table.start ≡ start →
+    entry_at table pc ≡ (if nat_le start pc && (pc % 4 == 0) then slice_get table.entries.items ((pc - start) / 4) else None)
+entry_at-is start table pc starts =
+    ap (λ (s : ℕ). if nat_le s pc && (pc % 4 == 0) then slice_get table.entries.items ((pc - s) / 4) else None) starts
+
+sign_found : (entries : List Entry) (k : ℕ) → sign_of (slice_get entries k) ≡ sign_in entries k
+sign_found [] k = refl
+sign_found (entry ∷ entries) zero = refl
+sign_found (entry ∷ entries) (suc k) = sign_found entries k
+
+slots_found : (entries : List Entry) (k : ℕ) → slice_get (slots_in entries) k ≡ slot_at (slice_get entries k)
+slots_found [] k = refl
+slots_found (entry ∷ entries) zero = refl
+slots_found (entry ∷ entries) (suc k) = slots_found entries k
+
+-- what a table has at a pc stands in its code
+pub own_stands : (table : SignTable) (pc : ℕ) → fetched_in (placed_in table) pc ≡ slot_at (entry_at table pc)
+own_stands table pc = by_test (nat_le table.start pc && (pc % 4 == 0))
+  where
+    by_test : (b : Bool) → (if b then slice_get (slots_in table.entries.items) ((pc - table.start) / 4) else None)
+        ≡ slot_at (if b then slice_get table.entries.items ((pc - table.start) / 4) else None)
+    by_test false = refl
+    by_test true = slots_found table.entries.items ((pc - table.start) / 4)
+
+module _ (table : SignTable) (start : ℕ) (code : List Slot) (addresses : List ℕ) (is : IsTableOf table start code addresses) where
+  pub placed_is : let placed : PlacedCode = record { slots = code; start = start } in placed_in table ≡ placed
+  placed_is =
+      let at : List Slot → ℕ → PlacedCode = λ slots first. record { slots = slots; start = first } in
+      ap (λ (slots : List Slot). at slots table.start) is.slots ∙ ap (at code) is.starts
+
+  -- it is the table of its own code
+  pub own_table : IsTableOf table table.start (slots_in table.entries.items) addresses
+  own_table =
+      subst (λ (slots : List Slot). IsTableOf table table.start slots addresses) (sym is.slots)
+      (subst (λ (first : ℕ). IsTableOf table first code addresses) (sym is.starts) is)
+
+  pub entry_stands : (pc : ℕ) → let placed : PlacedCode = record { slots = code; start = start } in fetched_in placed pc ≡ slot_at (entry_at table pc)
+  entry_stands pc = ap (λ (placed : PlacedCode). fetched_in placed pc) (sym placed_is) ∙ own_stands table pc
+
 -- where a word of the code stands
 module _ (code : PlacedCode) (pc : ℕ) (slot : Slot) (there : fetched_in code pc ≡ Some slot) where
   pub word_place : (code.start ≤ pc) × (pc % 4 ≡ 0) × (slice_get code.slots ((pc - code.start) / 4) ≡ Some slot)
@@ -79,9 +121,15 @@ module _ (code : PlacedCode) (pc : ℕ) (slot : Slot) (there : fetched_in code p
           (leb-true code.start pc parts.0, eqb-true (pc % 4) 0 parts.1, sym (fetched_if true e) ∙ there)
 
   module _ (table : SignTable) (addresses : List ℕ) (is : IsTableOf table code.start code.slots addresses) where
+    within : (nat_le code.start pc && (pc % 4 == 0)) ≡ true
+    within = rw (le-leb code.start pc word_place.0, eq-eqb (pc % 4) 0 word_place.1) refl
+
     -- the sign of the word
-    sign_is : sign_at table pc ≡ sign_in table.signs.items ((pc - code.start) / 4)
-    sign_is = ap (λ (start : ℕ). sign_in table.signs.items ((pc - start) / 4)) is.starts
+    sign_is : sign_at table pc ≡ sign_in table.entries.items ((pc - code.start) / 4)
+    sign_is =
+        ap sign_of (entry_at-is code.start table pc is.starts)
+        ∙ ap (λ (b : Bool). sign_of (if b then slice_get table.entries.items ((pc - code.start) / 4) else None)) within
+        ∙ sign_found table.entries.items ((pc - code.start) / 4)
 
     pub word_mark : (sign_at table pc).mark ≡ list_any (λ m. m == pc) addresses
     word_mark =
@@ -95,6 +143,9 @@ module _ (code : PlacedCode) (pc : ℕ) (slot : Slot) (there : fetched_in code p
     word_store : (sign_at table pc).store ≡ is_store_slot slot
     word_store = ap (λ (x : Sign). x.store) sign_is ∙ is.stores _ slot word_place.2
 
+    word_plain : (sign_at table pc).plain ≡ is_plain (sign_at table pc)
+    word_plain = subst (λ (x : Sign). x.plain ≡ is_plain x) (sym sign_is) (is.plains ((pc - code.start) / 4))
+
 -- where a word of a thread's code stands
 module _ (program : List (List Slot)) (h pc : ℕ) (slot : Slot) (there : fetched program h pc ≡ Some slot) (table : SignTable) (addresses : List ℕ)
     (is : IsTableOf table (code_start program h) (code_of program h) addresses) where
@@ -106,6 +157,9 @@ module _ (program : List (List Slot)) (h pc : ℕ) (slot : Slot) (there : fetche
 
   pub store_tells : (sign_at table pc).store ≡ is_store_slot slot
   store_tells = word_store (placed_code program h) pc slot there table addresses is
+
+  pub plain_tells : (sign_at table pc).plain ≡ is_plain (sign_at table pc)
+  plain_tells = word_plain (placed_code program h) pc slot there table addresses is
 
 -- ---- A hart that goes on has an instruction
 

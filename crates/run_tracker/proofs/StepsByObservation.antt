@@ -1,5 +1,5 @@
 -- What a step of a hart has done, by what was seen of the hart before it.
-use Rattle.std.proofs.Common.{◌≡◌, ◌⊎◌, ℕ, ◌+◌, ◌-◌, ◌/◌, ◌<◌, ◌≤◌, List, length, slice_get, slice_index_or, []}
+use Rattle.std.proofs.Common.{◌≡◌, ◌⊎◌, ℕ, ◌+◌, ◌-◌, ◌<◌, List, length, slice_index_or, []}
 use Rattle.std.proofs.Common.{Some, None, Bool, true, false, not, cond, ◌==◌, ◌||◌, refl, ap, sym, subst, ◌∙◌, arith, inl, inr}
 use Rattle.std.proofs.lemmas.Bool.{cases_eq, cases_Bool}
 use Rattle.ido_base.specs.declared.log.Log.{Log}
@@ -10,26 +10,25 @@ use Rattle.rv64_isa.specs.declared.object.Slot.{Slot}
 use Rattle.rv64_isa.specs.Rows.{Effect}
 use Rattle.rv64_isa.specs.Programs.{fetched, code_of, code_start}
 use Rattle.rv64_isa.specs.Machine.{World, after_event, reply_to}
-use Rattle.rv64_isa.specs.Schedule.{Steps, completes, completing, has_moved, is_fence, is_mark, is_point_store, is_running}
+use Rattle.rv64_isa.specs.Schedule.{Steps, completes, completing, has_moved, is_fence, is_point_store, is_running}
 use Rattle.rv64_isa.specs.Schedule.{passes_mark, stores_point, finishes_fence, steps_after, with_step, with_all_kept}
 use Rattle.ido_machine.specs.declared.machine.Machine.{Machine}
 use Rattle.run_tracker.specs.declared.counts.Counts.{Counts}
-use Rattle.run_tracker.specs.declared.signs.SignTable.{SignTable}
+use Rattle.run_tracker.specs.declared.signs.Sign.{Sign}
 use Rattle.run_tracker.specs.declared.stepping.Observation.{Observation}
 use Rattle.run_tracker.specs.links.AccountRepresentation.{AreOpen, point_word}
-use Rattle.run_tracker.specs.links.SignTables.{sign_at, IsTableOf}
+use Rattle.run_tracker.specs.links.SignTables.{is_plain, IsTableOf}
 use Rattle.run_tracker.specs.links.LifeParts.{is_drained, seen_step, HasStepped, HaveCounted}
 use Rattle.run_tracker.proofs.EventCounts.{completes-other, counted-none}
 use Rattle.run_tracker.proofs.DurableWordsStay.{undrained}
 use Rattle.run_tracker.proofs.Events.{noted, noted_is}
 use Rattle.run_tracker.proofs.PointPositions.{differs, grown}
 use Rattle.run_tracker.proofs.StepsStayOpen.{all_kept_none, open-noted}
-use Rattle.run_tracker.proofs.SignObservations.{completes_none, completes_one, fence_is, fence_tells, mark_tells, store_tells, stores_none}
+use Rattle.run_tracker.proofs.SignObservations.{completes_none, completes_one, fence_is, fence_tells, mark_tells, plain_tells, store_tells, stores_none}
 use Rattle.run_tracker.proofs.SignObservations.{moved_fetched, none_moved, none_running, one_moved, passes_none, passes_one}
 
-module _ (program : List (List Slot)) (tables : List SignTable) (marks : List (List ℕ)) (machine : Machine) (h : ℕ) (observation : Observation)
-    (reply : Reply) (w : World)
-    (stepped : HasStepped program tables marks machine (seen_step h observation reply) w) where
+module _ (program : List (List Slot)) (marks : List (List ℕ)) (machine : Machine) (h : ℕ) (observation : Observation) (reply : Reply) (w : World)
+    (stepped : HasStepped program marks machine (seen_step h observation reply) w) where
   abbrev pub next : World
   next = after_event program w (Step h)
 
@@ -119,68 +118,69 @@ module _ (program : List (List Slot)) (tables : List SignTable) (marks : List (L
     some_slot : (slot : Slot) × (fetched program h stepped.seen.hart.pc ≡ Some slot)
     some_slot = moved_fetched program w h stepped.seen.hart stepped.seen.found (running_is true running) (moved_is true moves)
 
-    there : fetched program h observation.pc ≡ Some some_slot.0
-    there = ap (fetched program h) stepped.seen.pc ∙ some_slot.1
+    table_is : IsTableOf stepped.seen.table (code_start program h) (code_of program h) (slice_index_or marks h [])
+    table_is = stepped.tables_are.each h stepped.seen.table stepped.seen.owned
 
-    module _ (table : SignTable) (found : slice_get tables h ≡ Some table) where
-      table_is : IsTableOf table (code_start program h) (code_of program h) (slice_index_or marks h [])
-      table_is = stepped.tables_are.each h table found
+    pub mark_is : observation.sign.mark ≡ passes_mark marks program w h
+    mark_is =
+        ap (λ (x : Sign). x.mark) stepped.seen.sign
+        ∙ mark_tells program h stepped.seen.hart.pc some_slot.0 some_slot.1 stepped.seen.table (slice_index_or marks h []) table_is
+        ∙ sym (passes_one program w h marks stepped.seen.hart one)
 
-      pub mark_is : (sign_at table observation.pc).mark ≡ passes_mark marks program w h
-      mark_is =
-          mark_tells program h observation.pc some_slot.0 there table (slice_index_or marks h []) table_is
-          ∙ sym (passes_one program w h marks stepped.seen.hart one ∙ sym (ap (is_mark marks h) stepped.seen.pc))
+    pub fence_done : observation.sign.fence ≡ finishes_fence program w (Step h) h
+    fence_done =
+        ap (λ (x : Sign). x.fence) stepped.seen.sign
+        ∙ fence_tells program h stepped.seen.hart.pc some_slot.0 some_slot.1 stepped.seen.table (slice_index_or marks h []) table_is
+        ∙ sym (completes_one program w h is_fence stepped.seen.hart (Some some_slot.0) one some_slot.1 ∙ fence_is stepped.seen.hart some_slot.0)
 
-      pub fence_done : (sign_at table observation.pc).fence ≡ finishes_fence program w (Step h) h
-      fence_done =
-          fence_tells program h observation.pc some_slot.0 there table (slice_index_or marks h []) table_is
-          ∙ sym (completes_one program w h is_fence stepped.seen.hart (Some some_slot.0) one some_slot.1 ∙ fence_is stepped.seen.hart some_slot.0)
+    -- no point is stored where nothing is
+    pub no_point : observation.sign.store ≡ false → stores_point program w (Step h) h ≡ false
+    no_point e =
+        let tells = store_tells program h stepped.seen.hart.pc some_slot.0 some_slot.1 stepped.seen.table (slice_index_or marks h []) table_is in
+        completes_one program w h (is_point_store w.log h) stepped.seen.hart (Some some_slot.0) one some_slot.1
+        ∙ stores_none w.log h stepped.seen.hart some_slot.0 (sym (ap (λ (x : Sign). x.store) stepped.seen.sign ∙ tells) ∙ e)
 
-      -- no point is stored where nothing is
-      pub no_point : (sign_at table observation.pc).store ≡ false → stores_point program w (Step h) h ≡ false
-      no_point e =
-          let tells = store_tells program h observation.pc some_slot.0 there table (slice_index_or marks h []) table_is in
-          completes_one program w h (is_point_store w.log h) stepped.seen.hart (Some some_slot.0) one some_slot.1
-          ∙ stores_none w.log h stepped.seen.hart some_slot.0 (sym tells ∙ e)
+    -- the newest value of the point stands there
+    pub position_is : (position : ℕ) (store : Bool) → store ≡ observation.sign.store →
+        (store ≡ true → position ≡ last_position (word_at next.words (point_word next.log h))) →
+        (store ≡ false → position ≡ observation.position) → position ≡ last_in next
+    position_is position true is stored unstored =
+        stored refl ∙ ap (λ (l : Log). last_position (word_at next.words (point_word l h))) stepped.log
+    position_is position false is stored unstored =
+        let more = grown h w stepped.seen.point some_value program stepped.seen.hart stepped.seen.found (running_is true running) (moved_is true moves) in
+        omega (arith, unstored refl, stepped.seen.position, more ∙ ap (λ (b : Bool). last_in w + cond b 1 0) (no_point (sym is)))
 
-      -- the newest value of the point stands there
-      pub position_is : (position : ℕ) (store : Bool) → store ≡ (sign_at table observation.pc).store →
-          (store ≡ true → position ≡ last_position (word_at next.words (point_word next.log h))) →
-          (store ≡ false → position ≡ observation.position) → position ≡ last_in next
-      position_is position true is stored unstored =
-          stored refl ∙ ap (λ (l : Log). last_position (word_at next.words (point_word l h))) stepped.log
-      position_is position false is stored unstored =
-          let more = grown h w stepped.seen.point some_value program stepped.seen.hart stepped.seen.found (running_is true running) (moved_is true moves) in
-          omega (arith, unstored refl, stepped.seen.position, more ∙ ap (λ (b : Bool). last_in w + cond b 1 0) (no_point (sym is)))
+    -- a plain word changes nothing that is accounted for
+    module _ (plain : observation.sign.plain ≡ true) where
+      plain_is : observation.sign.plain ≡ is_plain observation.sign
+      plain_is = subst (λ (x : Sign). x.plain ≡ is_plain x) (sym stepped.seen.sign)
+          (plain_tells program h stepped.seen.hart.pc some_slot.0 some_slot.1 stepped.seen.table (slice_index_or marks h []) table_is)
 
-      -- a plain word changes nothing that is accounted for
-      module _ (plain : (sign_at table observation.pc).plain ≡ true) where
-        parts : ((sign_at table observation.pc).mark ≡ false) × ((sign_at table observation.pc).fence ≡ false) × ((sign_at table observation.pc).store ≡ false)
-        parts = of_plain (sign_at table observation.pc).mark (sign_at table observation.pc).fence (sign_at table observation.pc).store
-            (sym (table_is.plains ((observation.pc - table.start) / 4)) ∙ plain)
-          where
-            of_plain : (mark fence store : Bool) → not (mark || fence || store) ≡ true → (mark ≡ false) × (fence ≡ false) × (store ≡ false)
-            of_plain false false false e = (refl, refl, refl)
-            of_plain false false true e = cc
-            of_plain false true store e = cc
-            of_plain true fence store e = cc
+      parts : (observation.sign.mark ≡ false) × (observation.sign.fence ≡ false) × (observation.sign.store ≡ false)
+      parts = of_plain observation.sign.mark observation.sign.fence observation.sign.store (sym plain_is ∙ plain)
+        where
+          of_plain : (mark fence store : Bool) → not (mark || fence || store) ≡ true → (mark ≡ false) × (fence ≡ false) × (store ≡ false)
+          of_plain false false false e = (refl, refl, refl)
+          of_plain false false true e = cc
+          of_plain false true store e = cc
+          of_plain true fence store e = cc
 
-        pub plain_steps : (s : Steps) → with_step marks program w h s ≡ s
-        plain_steps s = sym (noted_is marks program w h s false false (last_in next) (sym parts.0 ∙ mark_is) (sym (no_point parts.2)) refl)
+      pub plain_steps : (s : Steps) → with_step marks program w h s ≡ s
+      plain_steps s = sym (noted_is marks program w h s false false (last_in next) (sym parts.0 ∙ mark_is) (sym (no_point parts.2)) refl)
 
-        pub plain_counts : (counts : Counts) → HaveCounted counts counts program w (Step h)
-        plain_counts counts = record {
-          points = counted-none counts.points.items (λ g. stores_point program w (Step h) g) (of_all (λ g. is_point_store w.log g) (no_point parts.2));
-          fences = counted-none counts.fences.items (λ g. finishes_fence program w (Step h) g) (of_all (λ g. is_fence) (sym fence_done ∙ parts.1));
-        }
-          where
-            of_all : (test : ℕ → Effect → Bool) → completes (test h) program w (Step h) h ≡ false →
-                (g : ℕ) → completes (test g) program w (Step h) g ≡ false
-            of_all test none g = by_place (cases_eq g h)
-              where
-                by_place : (g ≡ h) ⊎ (g ≡ h → ⊥) → completes (test g) program w (Step h) g ≡ false
-                by_place (inl same) = subst (λ (k : ℕ). completes (test k) program w (Step h) k ≡ false) (sym same) none
-                by_place (inr ne) = completes-other (test g) program w h g ne
+      pub plain_counts : (counts : Counts) → HaveCounted counts counts program w (Step h)
+      plain_counts counts = record {
+        points = counted-none counts.points.items (λ g. stores_point program w (Step h) g) (of_all (λ g. is_point_store w.log g) (no_point parts.2));
+        fences = counted-none counts.fences.items (λ g. finishes_fence program w (Step h) g) (of_all (λ g. is_fence) (sym fence_done ∙ parts.1));
+      }
+        where
+          of_all : (test : ℕ → Effect → Bool) → completes (test h) program w (Step h) h ≡ false →
+              (g : ℕ) → completes (test g) program w (Step h) g ≡ false
+          of_all test none g = by_place (cases_eq g h)
+            where
+              by_place : (g ≡ h) ⊎ (g ≡ h → ⊥) → completes (test g) program w (Step h) g ≡ false
+              by_place (inl same) = subst (λ (k : ℕ). completes (test k) program w (Step h) k ≡ false) (sym same) none
+              by_place (inr ne) = completes-other (test g) program w h g ne
 
     pub point_is : (position : ℕ) → position ≡ last_in next → not (position == observation.position) ≡ stores_point program w (Step h) h
     point_is position e =

@@ -26,7 +26,6 @@ use crate::points::{durable_point, live_point};
 use crate::sections::Sections;
 use crate::signs::{SignTable, copy_of, tables_of};
 use crate::stepping::make;
-use hart_core::local::ThreadCode;
 use ido_base::event::{Event, Reply};
 use ido_base::limits::VARIABLE_WORDS;
 use ido_base::machine::Core;
@@ -332,7 +331,6 @@ impl Life {
         ensures own { IfOk result (λ local. IsLocalOf (opening_of self.now) hart local × (local.made ≡ 0)) }
     {
         Ok(LocalRun::new(
-            ThreadCode::of(alloc, self.machine.program(), hart)?,
             self.marks.threads[hart as usize].nodes.to_vec(alloc)?,
             self.tables[hart as usize].copy(alloc)?,
             self.machine.phase(hart),

@@ -3,11 +3,11 @@ ghost use Rattle.std.specs.Prelude.{◌≡◌, ◌<◌, ◌≤◌, Some, if◌th
 ghost use Rattle.rv64_isa.specs.declared.phase.Phase.TheVariants.{Run};
 ghost use Rattle.run_tracker.specs.LocalRuns.{LocalCourse, goes_ahead, one_ahead, state_in};
 ghost use Rattle.run_tracker.specs.links.LocalRepresentation.{marks_passed};
-ghost use Rattle.run_tracker.specs.links.SignTables.{IsTableOf};
+ghost use Rattle.run_tracker.specs.links.SignTables.{placed_in, slots_in, IsTableOf};
 
 use crate::signs::SignTable;
 use crate::stepping::is_running;
-use hart_core::local::{LocalState, ThreadCode};
+use hart_core::local::LocalState;
 use rv64_isa::phase::Phase;
 use std::marker::Model;
 
@@ -15,8 +15,7 @@ use std::marker::Model;
 /// and its pc. It has the hart's own code and marks, and runs apart from the life.
 #[derive(Debug, Drop)]
 pub struct LocalRun {
-    code: ThreadCode,
-    /// The addresses of its marks, and the signs of its code words.
+    /// The addresses of its marks, and its code words with their signs.
     addresses: Vec<u64>,
     table: SignTable,
     /// The hart at the beginning. No such instruction changes the phase.
@@ -44,17 +43,15 @@ impl Model for LocalRun {
 impl LocalRun {
     /// Begins at a hart with this code.
     pub(crate) fn new(
-        code: ThreadCode,
         addresses: Vec<u64>,
         table: SignTable,
         phase: Phase,
         state: LocalState,
     ) -> LocalRun
-        requires { IsTableOf table code.start code.slots addresses.items }
-        ensures { result ≡ record { code = code; marks = addresses.items; phase = phase; first = state; made = 0 } }
+        requires { IsTableOf table table.start (slots_in table.entries.items) addresses.items }
+        ensures { result ≡ record { code = placed_in table; marks = addresses.items; phase = phase; first = state; made = 0 } }
     {
         LocalRun {
-            code,
             addresses,
             table,
             phase,
@@ -123,14 +120,15 @@ impl LocalRun {
         if !is_running(self.phase) || self.made == u32::MAX {
             return false;
         }
-        let pc = self.state.pc;
-        if !self.code.step(&mut self.state) {
-            return false;
+        match self.table.step(&mut self.state) {
+            None => false,
+            Some(sign) => {
+                if sign.mark {
+                    self.passed += 1;
+                }
+                self.made += 1;
+                true
+            }
         }
-        if self.table.sign_at(pc).mark {
-            self.passed += 1;
-        }
-        self.made += 1;
-        true
     }
 }

@@ -1,11 +1,13 @@
-//! The signs of code words: which of them are marks, which are fences, and which store.
-ghost use Rattle.std.specs.Prelude.{◌≡◌, ◌-◌, ◌/◌, ◌<◌, ◌≤◌, ◌^◌, ◌||◌, ℕ, length, map, IfOk};
+//! The code words of threads, decoded once, with their signs: which of them are marks, which are fences, and which store.
+ghost use Rattle.std.specs.Prelude.{◌≡◌, ◌-◌, ◌/◌, ◌<◌, ◌≤◌, ◌^◌, ◌||◌, ℕ, None, Some, length, map, IfOk, IfSome, IfNone};
 ghost use Rattle.rv64_isa.specs.Executables.{node_marks, resume_marks};
 ghost use Rattle.rv64_isa.specs.Programs.{program_of, slot_of};
+ghost use Rattle.hart_core.specs.LocalSteps.{local_step};
 ghost use Rattle.hart_core.specs.Objects.{IsWithinLimits};
-ghost use Rattle.run_tracker.specs.links.SignTables.{is_fence_slot, is_local_slot, is_plain, is_store_slot, is_word_at};
-ghost use Rattle.run_tracker.specs.links.SignTables.{plain_sign, sign_in, sign_at, IsTableOf, AreTables};
+ghost use Rattle.run_tracker.specs.links.SignTables.{is_fence_slot, is_plain, is_store_slot, is_word_at};
+ghost use Rattle.run_tracker.specs.links.SignTables.{plain_entry, placed_in, sign_in, slot_in, sign_at, sign_of, entry_at, IsTableOf, AreTables};
 
+use hart_core::local::{self, LocalState};
 use hart_core::program::Program;
 use ido_base::memory::OutOfMemory;
 use rv64_isa::instr::Instr;
@@ -21,8 +23,6 @@ pub(crate) struct Sign {
     pub fence: bool,
     /// The code word stores.
     pub store: bool,
-    /// It touches nothing but registers and the pc. Its step is tried as such first.
-    pub local: bool,
     /// It is none of these: there is nothing to account for. This alone is looked at after most steps.
     pub plain: bool,
 }
@@ -32,16 +32,33 @@ const NO_SIGN: Sign = Sign {
     mark: false,
     fence: false,
     store: false,
-    local: false,
     plain: true,
 };
 
-/// The signs of a thread's code words.
+/// A code word, decoded, and what is told of it: all that a step of its hart looks up.
+#[derive(Clone, Copy, Debug, Drop)]
+pub(crate) struct Entry {
+    pub slot: Slot,
+    pub sign: Sign,
+}
+
+/// A thread's code words.
 #[derive(Debug, Drop)]
 pub(crate) struct SignTable {
     /// The address of the first one.
     pub start: u64,
-    pub signs: Vec<Sign>,
+    pub entries: Vec<Entry>,
+}
+
+/// What is told of a code word, where there is one.
+#[inline(always)]
+pub(crate) fn sign_of(entry: &Option<Entry>) -> Sign
+    ensures { result ≡ sign_of entry.now }
+{
+    match entry {
+        Some(entry) => entry.sign,
+        None => NO_SIGN,
+    }
 }
 
 /// What stands there is a fence.
@@ -58,59 +75,47 @@ fn is_store(slot: &Slot) -> bool
     matches!(slot, Slot::Row(Instr::Store { .. }))
 }
 
-/// What stands there touches nothing but registers and the pc.
-fn is_local(slot: &Slot) -> bool
-    ensures { result ≡ is_local_slot slot.now }
-{
-    match slot {
-        Slot::NoRow(_) => false,
-        Slot::Row(Instr::Load { .. } | Instr::Store { .. } | Instr::CboClean { .. }) => false,
-        Slot::Row(Instr::Fence | Instr::Ecall) => false,
-        Slot::Row(_) => true,
-    }
-}
-
-/// The sign of a word that isn't a mark.
-fn plain_sign(word: u32) -> Sign
-    ensures { result ≡ plain_sign word }
+/// A word that isn't a mark.
+fn plain_entry(word: u32) -> Entry
+    ensures { result ≡ plain_entry word }
 {
     let slot = Slot::of_word(word);
     let fence = is_fence(&slot);
     let store = is_store(&slot);
-    Sign {
+    let sign = Sign {
         mark: false,
         fence,
         store,
-        local: is_local(&slot),
         plain: !(fence || store),
-    }
+    };
+    Entry { slot, sign }
 }
 
-/// The signs of words of which none is a mark.
-fn plain_signs(alloc: Global, words: &[u32]) -> Result<Vec<Sign>, OutOfMemory>
-    ensures { IfOk result (λ signs. signs.items ≡ map plain_sign words.now) }
+/// Words of which none is a mark.
+fn plain_entries(alloc: Global, words: &[u32]) -> Result<Vec<Entry>, OutOfMemory>
+    ensures { IfOk result (λ entries. entries.items ≡ map plain_entry words.now) }
 {
-    let signs: Vec<Sign> = words.iter().map(|word| plain_sign(*word)).collect(alloc)?;
-    Ok(signs)
+    let entries: Vec<Entry> = words.iter().map(|word| plain_entry(*word)).collect(alloc)?;
+    Ok(entries)
 }
 
 /// Makes the word of this address a mark, where it is one.
-fn mark_word(signs: &mut [Sign], start: u64, address: u64)
-    ensures size { length signs.new ≡ length signs.old }
-    ensures marks { (k : ℕ) → k < length signs.old → (sign_in signs.new k).mark ≡ ((sign_in signs.old k).mark || is_word_at start k address) }
-    ensures fences { (k : ℕ) → (sign_in signs.new k).fence ≡ (sign_in signs.old k).fence }
-    ensures stores { (k : ℕ) → (sign_in signs.new k).store ≡ (sign_in signs.old k).store }
-    ensures locals { (k : ℕ) → (sign_in signs.new k).local ≡ (sign_in signs.old k).local }
-    ensures plains { ((k : ℕ) → (sign_in signs.old k).plain ≡ is_plain (sign_in signs.old k)) → (k : ℕ)
-        → (sign_in signs.new k).plain ≡ is_plain (sign_in signs.new k) }
+fn mark_word(entries: &mut [Entry], start: u64, address: u64)
+    ensures size { length entries.new ≡ length entries.old }
+    ensures slots { (k : ℕ) → slot_in entries.new k ≡ slot_in entries.old k }
+    ensures marks { (k : ℕ) → k < length entries.old → (sign_in entries.new k).mark ≡ ((sign_in entries.old k).mark || is_word_at start k address) }
+    ensures fences { (k : ℕ) → (sign_in entries.new k).fence ≡ (sign_in entries.old k).fence }
+    ensures stores { (k : ℕ) → (sign_in entries.new k).store ≡ (sign_in entries.old k).store }
+    ensures plains { ((k : ℕ) → (sign_in entries.old k).plain ≡ is_plain (sign_in entries.old k)) → (k : ℕ)
+        → (sign_in entries.new k).plain ≡ is_plain (sign_in entries.new k) }
 {
     if address < start || address % 4 != 0 {
         return;
     }
     let word = (address - start) / 4;
-    if word < signs.len() as u64 {
-        signs[word as usize].mark = true;
-        signs[word as usize].plain = false;
+    if word < entries.len() as u64 {
+        entries[word as usize].sign.mark = true;
+        entries[word as usize].sign.plain = false;
     }
 }
 
@@ -124,31 +129,52 @@ impl SignTable {
     ) -> Result<SignTable, OutOfMemory>
         ensures { IfOk result (λ table. IsTableOf table start (map slot_of words.now) addresses.now) }
     {
-        let mut signs = plain_signs(alloc, words)?;
+        let mut entries = plain_entries(alloc, words)?;
         for address in addresses {
-            mark_word(&mut signs, start, *address);
+            mark_word(&mut entries, start, *address);
         }
-        Ok(SignTable { start, signs })
+        Ok(SignTable { start, entries })
     }
 
-    /// Another table with the same signs.
+    /// Another table of the same code words.
     pub fn copy(&self, alloc: Global) -> Result<SignTable, OutOfMemory>
-        ensures { IfOk result (λ table. (table.start ≡ self.now.start) × (table.signs.items ≡ self.now.signs.items)) }
+        ensures { IfOk result (λ table. (table.start ≡ self.now.start) × (table.entries.items ≡ self.now.entries.items)) }
     {
         Ok(SignTable {
             start: self.start,
-            signs: self.signs.to_vec(alloc)?,
+            entries: self.entries.to_vec(alloc)?,
         })
     }
 
-    /// The sign of the code word at this address. Of one before all code words it tells that of the first.
+    /// What stands at a pc; none where it has no word.
     #[inline(always)]
-    pub fn sign_at(&self, pc: u64) -> Sign
-        ensures { result ≡ sign_at self.now pc }
+    pub fn entry_at(&self, pc: u64) -> Option<Entry>
+        ensures { result ≡ entry_at self.now pc }
     {
-        match self.signs.get((pc.saturating_sub(self.start) / 4) as usize) {
-            Some(sign) => *sign,
-            None => NO_SIGN,
+        if pc < self.start || pc % 4 != 0 {
+            return None;
+        }
+        self.entries.get(((pc - self.start) / 4) as usize).copied()
+    }
+
+    /// Executes the instruction that stands at the pc, where it is local: its sign; none where it isn't, and nothing changes.
+    #[inline(always)]
+    pub fn step(&self, state: &mut LocalState) -> Option<Sign>
+        ensures some { IfSome result (λ sign. (sign ≡ sign_at self.now state.old.pc) × (local_step (placed_in self.now) state.old ≡ Some state.new)) }
+        ensures none { IfNone result ((local_step (placed_in self.now) state.old ≡ None) × (state.new ≡ state.old)) }
+    {
+        match self.entry_at(state.pc) {
+            None => None,
+            Some(Entry { slot, sign }) => match slot {
+                Slot::NoRow(_) => None,
+                Slot::Row(instr) => {
+                    if local::step(instr, state) {
+                        Some(sign)
+                    } else {
+                        None
+                    }
+                }
+            },
         }
     }
 }

@@ -1,27 +1,33 @@
 //! What an event does to the machine, to the account and to the counts. What a step goes through is marked inline: a run
 //! makes millions of them.
-ghost use Rattle.std.specs.Prelude.{◌≡◌, ◌+◌, ◌<◌, ◌≤◌, ◌^◌, List, true, false, ℕ, length};
+ghost use Rattle.std.specs.Prelude.{◌≡◌, ◌+◌, ◌<◌, ◌≤◌, ◌^◌, List, true, false, ℕ, length, slice_get, None, Some, IfSome, IfNone};
 ghost use Rattle.std.specs.Vec.{vec_capacity, vec_len};
 ghost use Rattle.ido_base.specs.declared.event.Event.TheVariants.{Step, Evict, Crash};
 ghost use Rattle.ido_base.specs.declared.event.Reply.TheVariants.{Moved};
 ghost use Rattle.ido_base.specs.Layout.{line_count};
 ghost use Rattle.ido_base.specs.Words.{word_at, last_position};
 ghost use Rattle.rv64_isa.specs.declared.object.Slot.{Slot};
-ghost use Rattle.rv64_isa.specs.Machine.{World, IsValidEvent, happens};
+ghost use Rattle.rv64_isa.specs.declared.phase.Phase.TheVariants.{Run};
+ghost use Rattle.rv64_isa.specs.Machine.{Hart, World, IsValidEvent, happens};
 ghost use Rattle.rv64_isa.specs.Schedule.{Steps, hart_steps, is_running, with_step, steps_after, with_all_kept, with_kept};
+ghost use Rattle.hart_core.specs.LocalSteps.{local_step, placed_code};
+ghost use Rattle.ido_machine.specs.Harts.{local_state_of, GoesLocally};
 ghost use Rattle.ido_machine.specs.Machines.{RepresentsMachine, IsAfter, program_in, log_by, events_of};
 ghost use Rattle.run_tracker.specs.links.AccountRepresentation.{AccountInv, AllFrom, AreOpen, point_word};
 ghost use Rattle.run_tracker.specs.links.SectionRepresentation.{AreAbove, AreSeen, section_at};
-ghost use Rattle.run_tracker.specs.links.SignTables.{AreTables};
-ghost use Rattle.run_tracker.specs.links.LifeParts.{IsSeen, IsNextSign, seen_step, HasStepped, WasTracked, IsTrackerReady, HasSteps, HasCounts, HaveCounted};
+ghost use Rattle.run_tracker.specs.links.SignTables.{AreTables, sign_at};
+ghost use Rattle.run_tracker.specs.links.LifeParts.{IsSeen, IsNextEntry, seen_step, HasStepped, WasTracked, IsTrackerReady, HasSteps, HasCounts, HaveCounted};
+ghost use Rattle.run_tracker.specs.declared.signs.SignTable.{SignTable};
 
 use crate::account::Account;
 use crate::counts::Counts;
 use crate::points::{point_durable, point_position};
 use crate::sections::Sections;
-use crate::signs::{Sign, SignTable};
+use crate::signs::{Entry, Sign, SignTable, sign_of};
+use hart_core::local::LocalWrite;
 use ido_base::event::{Event, Reply};
 use ido_machine::machine::Machine;
+use rv64_isa::object::Slot;
 use rv64_isa::phase::Phase;
 
 /// What is seen of a hart before its step.
@@ -29,8 +35,8 @@ use rv64_isa::phase::Phase;
 pub(crate) struct Observation {
     /// The hart executes instructions.
     pub running: bool,
-    /// The address of the instruction that it executes next.
-    pub pc: u64,
+    /// What is told of the code word that stands at its pc.
+    pub sign: Sign,
     /// Where the newest value of its point stands among those that the point's word has had.
     pub position: u64,
 }
@@ -43,15 +49,16 @@ pub(crate) fn is_running(phase: Phase) -> bool
     matches!(phase, Phase::Run)
 }
 
-/// What is seen of a hart.
+/// What is seen of a hart at whose pc a code word with this sign stands.
 #[inline(always)]
-fn look(machine: &Machine, hart: u32) -> Observation
+fn look(machine: &Machine, hart: u32, sign: Sign) -> Observation
     requires { hart < length (program_in machine.now) }
-    ensures { (w : World) → RepresentsMachine machine.now w → IsSeen w hart result }
+    ensures { (tables : List SignTable) (table : SignTable) (w : World) → RepresentsMachine machine.now w → slice_get tables hart ≡ Some table →
+        ((model : Hart) → slice_get w.harts hart ≡ Some model → sign ≡ sign_at table model.pc) → IsSeen w hart tables result }
 {
     Observation {
         running: is_running(machine.phase(hart)),
-        pc: machine.pc(hart),
+        sign,
         position: point_position(machine, hart),
     }
 }
@@ -93,15 +100,16 @@ fn keep_all(machine: &Machine, account: &mut Account, sections: &Sections)
     }
 }
 
-/// Where the newest value of a hart's point stands after an instruction with this sign, before which that was seen: where it
-/// doesn't store, the point has no newer value.
+/// Where the newest value of a hart's point stands after an instruction before which that was seen: where it doesn't store, the point
+/// has no newer value.
 #[inline(always)]
-fn position_after(machine: &Machine, hart: u32, sign: Sign, observation: Observation) -> u64
+fn position_after(machine: &Machine, hart: u32, observation: Observation) -> u64
     requires { hart < length (program_in machine.now) }
-    ensures stored { sign.store ≡ true → (w : World) → RepresentsMachine machine.now w → result ≡ last_position (word_at w.words (point_word w.log hart)) }
-    ensures unstored { sign.store ≡ false → result ≡ observation.position }
+    ensures stored { observation.sign.store ≡ true → (w : World) → RepresentsMachine machine.now w
+        → result ≡ last_position (word_at w.words (point_word w.log hart)) }
+    ensures unstored { observation.sign.store ≡ false → result ≡ observation.position }
 {
-    if sign.store {
+    if observation.sign.store {
         point_position(machine, hart)
     } else {
         observation.position
@@ -115,34 +123,32 @@ fn complete(
     machine: &Machine,
     account: &mut Account,
     counts: &mut Counts,
-    tables: &[SignTable],
     observation: Observation,
     hart: u32,
 )
     requires exists { hart < length (program_in machine.now) }
-    requires after { WasTracked tables.now machine.now account.old (seen_step hart observation Moved) }
+    requires after { WasTracked machine.now account.old (seen_step hart observation Moved) }
     requires running { observation.running ≡ true }
     requires harts { length account.old.harts.items ≡ length (program_in machine.now) }
     requires counts { HasCounts counts.old (length (program_in machine.now)) }
     requires room { vec_len account.old.stores < vec_capacity account.old.stores }
     ensures steps { (program : List (List Slot)) (marks : List (List ℕ)) (w : World) (s : Steps)
-        → HasStepped program tables.now marks machine.now (seen_step hart observation Moved) w → AccountInv account.old s
+        → HasStepped program marks machine.now (seen_step hart observation Moved) w → AccountInv account.old s
         → AccountInv account.new (with_step marks program w hart s) }
     ensures counts { (program : List (List Slot)) (marks : List (List ℕ)) (w : World)
-        → HasStepped program tables.now marks machine.now (seen_step hart observation Moved) w → HaveCounted counts.old counts.new program w (Step hart) }
+        → HasStepped program marks machine.now (seen_step hart observation Moved) w → HaveCounted counts.old counts.new program w (Step hart) }
     ensures stores { vec_len account.new.stores ≤ vec_len account.old.stores + 1 }
     ensures reserved { vec_capacity account.new.stores ≡ vec_capacity account.old.stores }
     ensures capacity { vec_capacity account.new.kept ≡ vec_capacity account.old.kept }
 {
-    let sign = tables[hart as usize].sign_at(observation.pc);
-    if sign.plain {
+    if observation.sign.plain {
         return;
     }
-    let position = position_after(machine, hart, sign, observation);
+    let position = position_after(machine, hart, observation);
     let point = position != observation.position;
-    account.begin_if(sign.mark, hart);
+    account.begin_if(observation.sign.mark, hart);
     account.bind_if(point, hart, position);
-    counts.add(hart, point, sign.fence);
+    counts.add(hart, point, observation.sign.fence);
 }
 
 /// Accounts for the step of a hart of which this was seen, by the reply to it.
@@ -152,23 +158,22 @@ fn note(
     account: &mut Account,
     counts: &mut Counts,
     sections: &Sections,
-    tables: &[SignTable],
     observation: Observation,
     reply: Reply,
     hart: u32,
 )
     requires exists { hart < length (program_in machine.now) }
-    requires after { WasTracked tables.now machine.now account.old (seen_step hart observation reply) }
+    requires after { WasTracked machine.now account.old (seen_step hart observation reply) }
     requires seen { length sections.now.harts.items ≡ length (program_in machine.now) }
     requires harts { length account.old.harts.items ≡ length (program_in machine.now) }
     requires counts { HasCounts counts.old (length (program_in machine.now)) }
     requires room { vec_len account.old.stores < vec_capacity account.old.stores }
     ensures steps { (program : List (List Slot)) (marks : List (List ℕ)) (w : World) (s : Steps)
-        → HasStepped program tables.now marks machine.now (seen_step hart observation reply) w → AccountInv account.old s → AreOpen w.log w.words s
+        → HasStepped program marks machine.now (seen_step hart observation reply) w → AccountInv account.old s → AreOpen w.log w.words s
         → AreSeen sections.now (length (program_in machine.now)) w
         → AccountInv account.new (steps_after marks program w (Step hart) s) }
     ensures counts { (program : List (List Slot)) (marks : List (List ℕ)) (w : World)
-        → HasStepped program tables.now marks machine.now (seen_step hart observation reply) w → HaveCounted counts.old counts.new program w (Step hart) }
+        → HasStepped program marks machine.now (seen_step hart observation reply) w → HaveCounted counts.old counts.new program w (Step hart) }
     ensures stores { vec_len account.new.stores ≤ vec_len account.old.stores + 1 }
     ensures reserved { vec_capacity account.new.stores ≡ vec_capacity account.old.stores }
     ensures capacity { vec_capacity account.new.kept ≡ vec_capacity account.old.kept }
@@ -176,7 +181,7 @@ fn note(
     match reply {
         Reply::Moved => {
             if observation.running {
-                complete(machine, account, counts, tables, observation, hart);
+                complete(machine, account, counts, observation, hart);
             }
         }
         Reply::Drained => keep_all(machine, account, sections),
@@ -184,59 +189,34 @@ fn note(
     }
 }
 
-/// A step of a hart, whichever it is.
+/// What stands at a hart's pc in its own code.
 #[inline(always)]
-fn step_any(
-    machine: &mut Machine,
-    account: &mut Account,
-    counts: &mut Counts,
-    sections: &Sections,
-    tables: &[SignTable],
-    hart: u32,
-) -> Reply
-    requires exists { hart < length (program_in machine.old) }
-    requires harts { length account.old.harts.items ≡ length (program_in machine.old) }
-    requires counts { HasCounts counts.old (length (program_in machine.old)) }
-    requires events { events_of machine.old < 2 ^ 63 }
-    requires room { vec_len account.old.stores < vec_capacity account.old.stores }
-    requires at { IsTrackerReady tables.now machine.old account.old }
-    requires seen { length sections.now.harts.items ≡ length (program_in machine.old) }
-    ensures world { (w : World) → RepresentsMachine machine.old w → IsAfter machine.new result (happens (program_in machine.old) w (Step hart)) }
-    ensures steps { (marks : List (List ℕ)) (w : World) (s : Steps) → AreTables tables.now (program_in machine.old) marks
-        → RepresentsMachine machine.old w → AccountInv account.old s → AreOpen w.log w.words s
-        → AreSeen sections.now (length (program_in machine.old)) w
-        → AccountInv account.new (steps_after marks (program_in machine.old) w (Step hart) s) }
-    ensures counts { (w : World) → RepresentsMachine machine.old w → HaveCounted counts.old counts.new (program_in machine.old) w (Step hart) }
-    ensures program { program_in machine.new ≡ program_in machine.old }
-    ensures log { log_by machine.new ≡ log_by machine.old }
-    ensures events { events_of machine.new ≡ events_of machine.old + 1 }
-    ensures stores { vec_len account.new.stores ≤ vec_len account.old.stores + 1 }
-    ensures reserved { vec_capacity account.new.stores ≡ vec_capacity account.old.stores }
-    ensures capacity { vec_capacity account.new.kept ≡ vec_capacity account.old.kept }
-{
-    let observation = look(machine, hart);
-    let reply = machine.step(hart);
-    note(
-        machine,
-        account,
-        counts,
-        sections,
-        tables,
-        observation,
-        reply,
-        hart,
-    );
-    reply
-}
-
-/// The sign of the code word that stands at a hart's pc.
-#[inline(always)]
-fn next_sign(machine: &Machine, tables: &[SignTable], hart: u32) -> Sign
+fn next_entry(machine: &Machine, tables: &[SignTable], hart: u32) -> Option<Entry>
     requires exists { hart < length (program_in machine.now) }
     requires tables { length tables.now ≡ length (program_in machine.now) }
-    ensures { (w : World) → RepresentsMachine machine.now w → IsNextSign w hart tables.now result }
+    ensures { (w : World) → RepresentsMachine machine.now w → IsNextEntry w hart tables.now result }
 {
-    tables[hart as usize].sign_at(machine.pc(hart))
+    tables[hart as usize].entry_at(machine.pc(hart))
+}
+
+/// What the next step of a hart writes, at whose pc this stands: where that touches nothing but registers and pc.
+#[inline(always)]
+fn local_write(machine: &Machine, hart: u32, next: &Option<Entry>) -> Option<LocalWrite>
+    requires { hart < length (program_in machine.now) }
+    ensures some { (tables : List SignTable) (marks : List (List ℕ)) (w : World) (model : Hart) → AreTables tables (program_in machine.now) marks
+        → IsNextEntry w hart tables next.now → RepresentsMachine machine.now w → slice_get w.harts hart ≡ Some model
+        → IfSome result (λ write. GoesLocally (program_in machine.now) hart model write) }
+    ensures none { (tables : List SignTable) (marks : List (List ℕ)) (w : World) (model : Hart) → AreTables tables (program_in machine.now) marks
+        → IsNextEntry w hart tables next.now → RepresentsMachine machine.now w → slice_get w.harts hart ≡ Some model
+        → IfNone result (model.phase ≡ Run → local_step (placed_code (program_in machine.now) hart) (local_state_of model) ≡ None) }
+{
+    match next {
+        None => None,
+        Some(entry) => match entry.slot {
+            Slot::NoRow(_) => None,
+            Slot::Row(instr) => machine.local_write(hart, instr),
+        },
+    }
 }
 
 /// A step of a hart. One that touches nothing but its registers and its pc is made at once.
@@ -269,15 +249,17 @@ fn step(
     ensures reserved { vec_capacity account.new.stores ≡ vec_capacity account.old.stores }
     ensures capacity { vec_capacity account.new.kept ≡ vec_capacity account.old.kept }
 {
-    let sign = next_sign(machine, tables, hart);
-    if sign.local {
-        if let Some(write) = machine.local_write(hart) {
-            machine.step_locally(hart, write);
-            account.begin_if(sign.mark, hart);
-            return Reply::Moved;
-        }
+    let next = next_entry(machine, tables, hart);
+    let sign = sign_of(&next);
+    if let Some(write) = local_write(machine, hart, &next) {
+        machine.step_locally(hart, write);
+        account.begin_if(sign.mark, hart);
+        return Reply::Moved;
     }
-    step_any(machine, account, counts, sections, tables, hart)
+    let observation = look(machine, hart, sign);
+    let reply = machine.step(hart);
+    note(machine, account, counts, sections, observation, reply, hart);
+    reply
 }
 
 /// An eviction.

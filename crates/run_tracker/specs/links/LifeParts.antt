@@ -1,5 +1,5 @@
 -- What the parts of a life represent before and after an event.
-use Rattle.std.specs.Prelude.{◌≡◌, ℕ, ◌+◌, ◌<◌, ◌≤◌, ◌^◌, List, length, slice_get, slice_index, Some, Bool, true, false, if◌then◌else◌}
+use Rattle.std.specs.Prelude.{◌≡◌, ℕ, ◌+◌, ◌<◌, ◌≤◌, ◌^◌, List, length, slice_get, slice_index, Option, Some, Bool, true, false, if◌then◌else◌}
 use Rattle.std.specs.Vec.{vec_capacity}
 use Rattle.ido_base.specs.declared.event.Event.{Event}
 use Rattle.ido_base.specs.declared.event.Event.TheVariants.{Step}
@@ -14,10 +14,10 @@ use Rattle.ido_machine.specs.declared.machine.Machine.{Machine}
 use Rattle.ido_machine.specs.Machines.{RepresentsMachine, program_in}
 use Rattle.run_tracker.specs.declared.account.Account.{Account}
 use Rattle.run_tracker.specs.declared.counts.Counts.{Counts}
-use Rattle.run_tracker.specs.declared.signs.Sign.{Sign}
+use Rattle.run_tracker.specs.declared.signs.Entry.{Entry}
 use Rattle.run_tracker.specs.declared.signs.SignTable.{SignTable}
 use Rattle.run_tracker.specs.declared.stepping.Observation.{Observation}
-use Rattle.run_tracker.specs.links.SignTables.{AreTables, sign_at}
+use Rattle.run_tracker.specs.links.SignTables.{AreTables, entry_at, sign_at}
 use Rattle.run_tracker.specs.links.AccountRepresentation.{AccountInv, AreOrdered, weight, IsAscending, point_word}
 
 -- a queued entry was written back
@@ -41,19 +41,21 @@ may_persist (Stuck cause) = false
 may_persist Device = true
 
 -- what was seen of hart h at a world, in which the word of its point exists, and is durable at one of its positions
-pub record IsSeen (w : World) (h : ℕ) (observation : Observation) : Type 0 where
+pub record IsSeen (w : World) (h : ℕ) (tables : List SignTable) (observation : Observation) : Type 0 where
   pub hart : Hart
   pub found : slice_get w.harts h ≡ Some hart
   pub running : observation.running ≡ is_running hart.phase
-  pub pc : observation.pc ≡ hart.pc
+  pub table : SignTable
+  pub owned : slice_get tables h ≡ Some table
+  pub sign : observation.sign ≡ sign_at table hart.pc
   pub position : observation.position ≡ last_position (word_at w.words (point_word w.log h))
   pub point : point_word w.log h < length w.words
   pub durable : (word_at w.words (point_word w.log h)).durable < length (word_at w.words (point_word w.log h)).values
 
--- the sign is that of the code word at the pc of hart h
-abbrev pub IsNextSign : World → (h : ℕ) → List SignTable → Sign → Type 0
-IsNextSign w h tables sign =
-    (hart : Hart) (table : SignTable) → slice_get w.harts h ≡ Some hart → slice_get tables h ≡ Some table → sign ≡ sign_at table hart.pc
+-- that stands at the pc of hart h
+abbrev pub IsNextEntry : World → (h : ℕ) → List SignTable → Option Entry → Type 0
+IsNextEntry w h tables next =
+    (hart : Hart) (table : SignTable) → slice_get w.harts h ≡ Some hart → slice_get tables h ≡ Some table → next ≡ entry_at table hart.pc
 
 -- a step of a hart: what was seen of it before, and the reply
 pub record SeenStep : Type 0 where
@@ -65,10 +67,10 @@ abbrev pub seen_step : (hart : ℕ) → Observation → Reply → SeenStep
 seen_step hart observation reply = record { hart = hart; observation = observation; reply = reply }
 
 -- the step, of which that was seen at a world, has led to that of the machine, and was replied to so
-pub record HasStepped (program : List (List Slot)) (tables : List SignTable) (marks : List (List ℕ)) (machine : Machine) (step : SeenStep)
-    (w : World) : Type 0 where
+pub record HasStepped (program : List (List Slot)) (marks : List (List ℕ)) (machine : Machine) (step : SeenStep) (w : World) : Type 0 where
+  pub tables : List SignTable
   pub tables_are : AreTables tables program marks
-  pub seen : IsSeen w step.hart step.observation
+  pub seen : IsSeen w step.hart tables step.observation
   pub replied : step.reply ≡ reply_to program w (Step step.hart)
   pub log : (after_event program w (Step step.hart)).log ≡ w.log
   pub stands : RepresentsMachine machine (after_event program w (Step step.hart))
@@ -84,10 +86,10 @@ pub record HasSteps (machine : Machine) (account : Account) : Type 0 where
   pub few : weight steps < 2 ^ 63
 
 -- the machine has made a step from some world, and the account has steps, in order, as before it
-pub record WasTracked (tables : List SignTable) (machine : Machine) (account : Account) (step : SeenStep) : Type 0 where
+pub record WasTracked (machine : Machine) (account : Account) (step : SeenStep) : Type 0 where
   pub marks : List (List ℕ)
   pub world : World
-  pub stepped : HasStepped (program_in machine) tables marks machine step world
+  pub stepped : HasStepped (program_in machine) marks machine step world
   pub has : HasSteps machine account
 
 -- machine and account are at a world and at steps, in order, with room for one more step

@@ -7,7 +7,7 @@ use Rattle.hart_core.specs.declared.local.LocalState.{LocalState}
 use Rattle.hart_core.specs.LocalSteps.{PlacedCode, local_run}
 use Rattle.run_tracker.specs.declared.local.LocalRun.TheInside.{Inside}
 use Rattle.run_tracker.specs.LocalRuns.{LocalCourse, state_in}
-use Rattle.run_tracker.specs.links.SignTables.{IsTableOf}
+use Rattle.run_tracker.specs.links.SignTables.{placed_in, slots_in, IsTableOf}
 
 -- whether a mark stands at the pc: 1 or 0
 abbrev pub marks_at : (marks : List ℕ) → Option LocalState → ℕ
@@ -26,7 +26,7 @@ with_more_begun h (suc count) s = with_begun h (with_more_begun h count s)
 
 abbrev pub local_course_of : Inside → LocalCourse
 local_course_of run = record {
-  code = run.code;
+  code = placed_in run.table;
   marks = run.addresses.items;
   phase = run.phase;
   first = run.first;
@@ -35,8 +35,8 @@ local_course_of run = record {
 
 -- registers and pc are those after the instructions, of which so many have passed a mark
 pub record LocalInv (run : Inside) : Type 0 where
-  pub table : IsTableOf run.table run.code.start run.code.slots run.addresses.items
+  pub table : IsTableOf run.table run.table.start (slots_in run.table.entries.items) run.addresses.items
   pub state : state_in (local_course_of run) ≡ Some run.state
-  pub passed : run.passed ≡ marks_passed run.addresses.items run.code run.first run.made
+  pub passed : run.passed ≡ marks_passed run.addresses.items (placed_in run.table) run.first run.made
   pub few : run.passed ≤ run.made
   pub running : 0 < run.made → run.phase ≡ Run

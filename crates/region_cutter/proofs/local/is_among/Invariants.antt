@@ -1,7 +1,5 @@
-use Rattle.std.proofs.Common.{◌≡◌, ℕ, ◌<◌, Some}
-use Rattle.std.specs.Prelude.{slice_get}
-use Rattle.ido_base.specs.declared.location.Location.{Location}
+use Rattle.std.proofs.Common.{◌≡◌, ℕ, ◌<◌, get_or}
 use Rattle.region_cutter.proofs.local.is_among.Given as goal
 
 abbrev pub invariant-loop-other : goal.invariant-loop-other
-invariant-loop-other l = (k : ℕ) (x : Location) → k < l.other-index → slice_get l.locations k ≡ Some x → ¬ (x ≡ l.elements)
+invariant-loop-other l = (k : ℕ) → k < l.other-index → get_or l.locations k l.elements ≡ l.elements → ⊥

@@ -11,4 +11,4 @@ returns-then-digits-eq0-clause-refused c = λ after.
     let text = c.args.line.now in
     let rest = up_to_end text c.args.at in
     no_number (rule_of c.args.rule) (drop c.args.at text) (c.args.place + c.args.at) after
-    (sym (ap (prefix_len is_digit) rest) ∙ (sym c.leading_number-number.ensures.digits ∙ c.if-digits-eq0.true))
+    (sym (ap (prefix_len is_digit) rest) ∙ (sym c.leading_digits-digits.ensures.count ∙ c.if-digits-eq0.true))

@@ -1,77 +1,59 @@
-use Rattle.std.proofs.Common.{◌<◌, ◌==◌, not, refl, length, Some, ap, sym, subst, ◌∙◌, arith}
+use Rattle.std.proofs.Common.{◌==◌, not, refl, sym, subst, arith}
 use Rattle.ido_base.specs.declared.event.Reply.TheVariants.{Moved}
 use Rattle.ido_base.specs.declared.event.Event.TheVariants.{Step}
 use Rattle.rv64_isa.specs.Machine.{after_event}
 use Rattle.rv64_isa.specs.Schedule.{is_fence, is_point_store, finishes_fence, stores_point}
-use Rattle.ido_machine.proofs.Public.{get_is}
-use Rattle.run_tracker.specs.declared.signs.Sign.{Sign}
 use Rattle.run_tracker.specs.links.AccountRepresentation.{AccountInv}
 use Rattle.run_tracker.proofs.StepsByObservation.{fence_done, mark_is, plain_counts, plain_steps, point_is, position_is}
 use Rattle.run_tracker.proofs.EventCounts.{completes-other, counted-one}
 use Rattle.run_tracker.proofs.Events.{begun_if, noted_is}
 use Rattle.run_tracker.proofs.stepping.complete.Goals as goal
 
-pub returns-then-sign-clause-steps : goal.returns-then-sign-clause-steps
-returns-then-sign-clause-steps c = λ program marks w s stepped a.
+pub returns-then-observation-clause-steps : goal.returns-then-observation-clause-steps
+returns-then-observation-clause-steps c = λ program marks w s stepped a.
     let h = c.args.hart in
-    let within : h < length c.args.tables.now = omega (arith, c.requires.after.stepped.tables_are.count, c.requires.exists) in
-    let found = get_is c.args.tables.now h c.index-tables-hart.result within ∙ ap Some (sym c.index-tables-hart.is) in
-    let plain = sym (ap (λ (x : Sign). x.plain) c.sign_at-sign.ensures) ∙ c.if-sign.true in
     subst (AccountInv c.args.account.now)
-    (sym (plain_steps program c.args.tables.now marks c.args.machine.now h c.args.observation Moved w stepped c.requires.running refl
-    c.index-tables-hart.result found
-    plain s)) a
+    (sym (plain_steps program marks c.args.machine.now h c.args.observation Moved w stepped c.requires.running refl c.if-observation.true s)) a
 
-pub returns-then-sign-clause-counts : goal.returns-then-sign-clause-counts
-returns-then-sign-clause-counts c = λ program marks w stepped.
+pub returns-then-observation-clause-counts : goal.returns-then-observation-clause-counts
+returns-then-observation-clause-counts c = λ program marks w stepped.
     let h = c.args.hart in
-    let within : h < length c.args.tables.now = omega (arith, c.requires.after.stepped.tables_are.count, c.requires.exists) in
-    let found = get_is c.args.tables.now h c.index-tables-hart.result within ∙ ap Some (sym c.index-tables-hart.is) in
-    let plain = sym (ap (λ (x : Sign). x.plain) c.sign_at-sign.ensures) ∙ c.if-sign.true in
-    plain_counts program c.args.tables.now marks c.args.machine.now h c.args.observation Moved w stepped c.requires.running refl
-    c.index-tables-hart.result found
-    plain c.args.counts.now
+    plain_counts program marks c.args.machine.now h c.args.observation Moved w stepped c.requires.running refl c.if-observation.true
+    c.args.counts.now
 
 pub returns-clause-steps : goal.returns-clause-steps
 returns-clause-steps c = λ program marks w s stepped a.
     let h = c.args.hart in
-    let within : h < length c.args.tables.now = omega (arith, c.requires.after.stepped.tables_are.count, c.requires.exists) in
-    let found = get_is c.args.tables.now h c.index-tables-hart.result within ∙ ap Some (sym c.index-tables-hart.is) in
-    let mark = c.sign_at-sign.result.mark in
+    let mark = c.args.observation.sign.mark in
     let position = c.position_after-position.result in
-    let at = position_is program c.args.tables.now marks c.args.machine.now h c.args.observation Moved w stepped c.requires.running refl
-    c.index-tables-hart.result found position c.sign_at-sign.result.store (ap (λ (x : Sign). x.store) c.sign_at-sign.ensures)
+    let at = position_is program marks c.args.machine.now h c.args.observation Moved w stepped c.requires.running refl position
+    c.args.observation.sign.store refl
     (λ stores. c.position_after-position.ensures.stored stores (after_event program w (Step h)) stepped.stands) c.position_after-position.ensures.unstored in
     subst (AccountInv c.bind_if.new.self)
     (noted_is marks program w h s mark (not (position == c.args.observation.position)) position
-    (ap (λ (x : Sign). x.mark) c.sign_at-sign.ensures
-    ∙ mark_is program c.args.tables.now marks c.args.machine.now h c.args.observation Moved w stepped c.requires.running refl c.index-tables-hart.result found)
-    (point_is program c.args.tables.now marks c.args.machine.now h c.args.observation Moved w stepped c.requires.running refl position at)
+    (mark_is program marks c.args.machine.now h c.args.observation Moved w stepped c.requires.running refl)
+    (point_is program marks c.args.machine.now h c.args.observation Moved w stepped c.requires.running refl position at)
     at)
     (c.bind_if.ensures.stands (begun_if mark h s) (c.begin_if.ensures.stands s a))
 
 pub returns-clause-counts : goal.returns-clause-counts
 returns-clause-counts c = λ program marks w stepped.
     let h = c.args.hart in
-    let within : h < length c.args.tables.now = omega (arith, c.requires.after.stepped.tables_are.count, c.requires.exists) in
-    let found = get_is c.args.tables.now h c.index-tables-hart.result within ∙ ap Some (sym c.index-tables-hart.is) in
     let position = c.position_after-position.result in
-    let at = position_is program c.args.tables.now marks c.args.machine.now h c.args.observation Moved w stepped c.requires.running refl
-    c.index-tables-hart.result found position c.sign_at-sign.result.store (ap (λ (x : Sign). x.store) c.sign_at-sign.ensures)
+    let at = position_is program marks c.args.machine.now h c.args.observation Moved w stepped c.requires.running refl position
+    c.args.observation.sign.store refl
     (λ stores. c.position_after-position.ensures.stored stores (after_event program w (Step h)) stepped.stands) c.position_after-position.ensures.unstored in
     record {
       points =
           counted-one c.args.counts.now.points.items c.add.new.self.points.items h (not (position == c.args.observation.position))
           (λ g. stores_point program w (Step h) g) c.add.ensures.points
           (omega (arith, c.requires.counts.points, c.requires.exists))
-          (point_is program c.args.tables.now marks c.args.machine.now h c.args.observation Moved w stepped c.requires.running refl position at)
+          (point_is program marks c.args.machine.now h c.args.observation Moved w stepped c.requires.running refl position at)
           (λ g ne. completes-other (is_point_store w.log g) program w h g ne);
       fences =
-          counted-one c.args.counts.now.fences.items c.add.new.self.fences.items h c.sign_at-sign.result.fence (λ g. finishes_fence program w (Step h) g)
+          counted-one c.args.counts.now.fences.items c.add.new.self.fences.items h c.args.observation.sign.fence (λ g. finishes_fence program w (Step h) g)
           c.add.ensures.fences
           (omega (arith, c.requires.counts.fences, c.requires.exists))
-          (ap (λ (x : Sign). x.fence) c.sign_at-sign.ensures
-          ∙ fence_done program c.args.tables.now marks c.args.machine.now h c.args.observation Moved w stepped c.requires.running refl
-          c.index-tables-hart.result found)
+          (fence_done program marks c.args.machine.now h c.args.observation Moved w stepped c.requires.running refl)
           (λ g ne. completes-other is_fence program w h g ne);
     }

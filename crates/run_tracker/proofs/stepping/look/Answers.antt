@@ -7,7 +7,7 @@ use Rattle.run_tracker.proofs.PointWords.{point_exists}
 use Rattle.run_tracker.proofs.stepping.look.Goals as goal
 
 pub returns : goal.returns
-returns c = λ w stands.
+returns c = λ tables table w stands owned next.
     let machine = c.args.machine.now in
     let h = c.args.hart in
     let some : (hart : Hart) × (slice_get w.harts h ≡ Some hart) =
@@ -18,7 +18,9 @@ returns c = λ w stands.
       hart = hart;
       found = some.1;
       running = c.is_running.ensures ∙ ap is_running (c.phase.ensures w hart stands some.1);
-      pc = c.pc.ensures w hart stands some.1;
+      table = table;
+      owned = owned;
+      sign = next hart some.1;
       position = c.point_position.ensures w stands;
       point = point;
       durable = (stands.words.cells.each (point_word w.log h) (omega (arith, stands.words.cells.size, point))).order;

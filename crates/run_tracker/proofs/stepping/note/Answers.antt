@@ -31,9 +31,9 @@ undrained Device ne = refl
 
 pub returns-then-observation-clause-steps : goal.returns-then-observation-clause-steps
 returns-then-observation-clause-steps c = λ program marks w s stepped a is_open seen.
-    let kept = kept_none program c.args.tables.now marks c.args.machine.now c.args.hart c.args.observation c.args.reply w stepped
+    let kept = kept_none program marks c.args.machine.now c.args.hart c.args.observation c.args.reply w stepped
     (ap is_drained c.in-Moved.is) s is_open in
-    let moved = subst (λ (r : Reply). HasStepped program c.args.tables.now marks c.args.machine.now (seen_step c.args.hart c.args.observation r) w)
+    let moved = subst (λ (r : Reply). HasStepped program marks c.args.machine.now (seen_step c.args.hart c.args.observation r) w)
     c.in-Moved.is
     stepped in
     subst (AccountInv c.complete.new.account) (sym kept) (c.complete.ensures.steps program marks w s moved a)
@@ -41,26 +41,26 @@ returns-then-observation-clause-steps c = λ program marks w s stepped a is_open
 pub returns-then-observation-clause-counts : goal.returns-then-observation-clause-counts
 returns-then-observation-clause-counts c = λ program marks w stepped.
     c.complete.ensures.counts program marks w
-    (subst (λ (r : Reply). HasStepped program c.args.tables.now marks c.args.machine.now (seen_step c.args.hart c.args.observation r) w) c.in-Moved.is stepped)
+    (subst (λ (r : Reply). HasStepped program marks c.args.machine.now (seen_step c.args.hart c.args.observation r) w) c.in-Moved.is stepped)
 
 pub returns-else-observation-clause-steps : goal.returns-else-observation-clause-steps
 returns-else-observation-clause-steps c = λ program marks w s stepped a is_open seen.
-    let none = idle program c.args.tables.now marks c.args.machine.now c.args.hart c.args.observation c.args.reply w stepped c.if-observation.false in
-    let kept = kept_none program c.args.tables.now marks c.args.machine.now c.args.hart c.args.observation c.args.reply w stepped
+    let none = idle program marks c.args.machine.now c.args.hart c.args.observation c.args.reply w stepped c.if-observation.false in
+    let kept = kept_none program marks c.args.machine.now c.args.hart c.args.observation c.args.reply w stepped
     (ap is_drained c.in-Moved.is) s is_open in
-    let same = steps_none program c.args.tables.now marks c.args.machine.now c.args.hart c.args.observation c.args.reply w stepped none s in
+    let same = steps_none program marks c.args.machine.now c.args.hart c.args.observation c.args.reply w stepped none s in
     subst (AccountInv c.args.account.now) (sym (kept ∙ same)) a
 
 pub returns-else-observation-clause-counts : goal.returns-else-observation-clause-counts
 returns-else-observation-clause-counts c = λ program marks w stepped.
-    let none = idle program c.args.tables.now marks c.args.machine.now c.args.hart c.args.observation c.args.reply w stepped c.if-observation.false in
-    counts_none program c.args.tables.now marks c.args.machine.now c.args.hart c.args.observation c.args.reply w stepped none c.args.counts.now
+    let none = idle program marks c.args.machine.now c.args.hart c.args.observation c.args.reply w stepped c.if-observation.false in
+    counts_none program marks c.args.machine.now c.args.hart c.args.observation c.args.reply w stepped none c.args.counts.now
 
 pub returns-in-Drained-clause-steps : goal.returns-in-Drained-clause-steps
 returns-in-Drained-clause-steps c = λ program marks w s stepped a is_open seen.
-    let none = held_up program c.args.tables.now marks c.args.machine.now c.args.hart c.args.observation c.args.reply w stepped
+    let none = held_up program marks c.args.machine.now c.args.hart c.args.observation c.args.reply w stepped
     (ap has_moved c.in-Drained.is) in
-    let after = kept_after program c.args.tables.now marks c.args.machine.now c.args.hart c.args.observation c.args.reply w stepped none s _ (sym a.count) in
+    let after = kept_after program marks c.args.machine.now c.args.hart c.args.observation c.args.reply w stepped none s _ (sym a.count) in
     let next = after_event program w (Step c.args.hart) in
     subst (AccountInv c.keep_all.new.account) after
     (subst (λ (l : Log). AccountInv c.keep_all.new.account (with_all_kept l next.words (length c.args.account.now.harts.items) s)) stepped.log
@@ -68,21 +68,21 @@ returns-in-Drained-clause-steps c = λ program marks w s stepped a is_open seen.
 
 pub returns-in-Drained-clause-counts : goal.returns-in-Drained-clause-counts
 returns-in-Drained-clause-counts c = λ program marks w stepped.
-    let none = held_up program c.args.tables.now marks c.args.machine.now c.args.hart c.args.observation c.args.reply w stepped
+    let none = held_up program marks c.args.machine.now c.args.hart c.args.observation c.args.reply w stepped
     (ap has_moved c.in-Drained.is) in
-    counts_none program c.args.tables.now marks c.args.machine.now c.args.hart c.args.observation c.args.reply w stepped none c.args.counts.now
+    counts_none program marks c.args.machine.now c.args.hart c.args.observation c.args.reply w stepped none c.args.counts.now
 
 pub returns-in_default-clause-steps : goal.returns-in_default-clause-steps
 returns-in_default-clause-steps c = λ program marks w s stepped a is_open seen.
-    let none = held_up program c.args.tables.now marks c.args.machine.now c.args.hart c.args.observation c.args.reply w stepped
+    let none = held_up program marks c.args.machine.now c.args.hart c.args.observation c.args.reply w stepped
     (unmoved c.args.reply c.in_default.not-Moved) in
-    let kept = kept_none program c.args.tables.now marks c.args.machine.now c.args.hart c.args.observation c.args.reply w stepped
+    let kept = kept_none program marks c.args.machine.now c.args.hart c.args.observation c.args.reply w stepped
     (undrained c.args.reply c.in_default.not-Drained) s is_open in
-    let same = steps_none program c.args.tables.now marks c.args.machine.now c.args.hart c.args.observation c.args.reply w stepped none s in
+    let same = steps_none program marks c.args.machine.now c.args.hart c.args.observation c.args.reply w stepped none s in
     subst (AccountInv c.args.account.now) (sym (kept ∙ same)) a
 
 pub returns-in_default-clause-counts : goal.returns-in_default-clause-counts
 returns-in_default-clause-counts c = λ program marks w stepped.
-    let none = held_up program c.args.tables.now marks c.args.machine.now c.args.hart c.args.observation c.args.reply w stepped
+    let none = held_up program marks c.args.machine.now c.args.hart c.args.observation c.args.reply w stepped
     (unmoved c.args.reply c.in_default.not-Moved) in
-    counts_none program c.args.tables.now marks c.args.machine.now c.args.hart c.args.observation c.args.reply w stepped none c.args.counts.now
+    counts_none program marks c.args.machine.now c.args.hart c.args.observation c.args.reply w stepped none c.args.counts.now

@@ -1,5 +1,4 @@
 use Rattle.std.proofs.Common.{◌≡◌, ℕ, ◌<◌, List, [], length, slice_get, slice_index_or, Some, sym, ap, subst, ◌∙◌, arith, rules}
-use Rattle.rv64_isa.specs.declared.object.Slot.{Slot}
 use Rattle.rv64_isa.specs.declared.object.ThreadMarks.{ThreadMarks}
 use Rattle.rv64_isa.specs.declared.phase.Phase.{Phase}
 use Rattle.rv64_isa.specs.Executables.{node_marks}
@@ -8,11 +7,12 @@ use Rattle.hart_core.specs.declared.local.LocalState.{LocalState}
 use Rattle.hart_core.specs.LocalSteps.{PlacedCode, placed_code}
 use Rattle.ido_machine.specs.Machines.{program_in}
 use Rattle.ido_machine.proofs.Public.{get_is, get_map}
-use Rattle.run_tracker.specs.ObjectLives.{Course, world_of}
-use Rattle.run_tracker.specs.LocalRuns.{LocalCourse, local_at}
+use Rattle.run_tracker.specs.ObjectLives.{Course, opening_of, world_of}
+use Rattle.run_tracker.specs.LocalRuns.{LocalCourse, IsLocalOf, local_at}
 use Rattle.run_tracker.specs.links.LifeRepresentation.{course_of}
-use Rattle.run_tracker.specs.links.SignTables.{IsTableOf}
+use Rattle.run_tracker.specs.links.SignTables.{placed_in, IsTableOf}
 use Rattle.run_tracker.proofs.LocalInvariants.{copied}
+use Rattle.run_tracker.proofs.SignObservations.{own_table, placed_is}
 use Rattle.run_tracker.proofs.life.Life.local.Goals as goal
 
 pub new-requires : goal.new-requires
@@ -21,7 +21,6 @@ new-requires c =
     let h = c.args.hart in
     let program = program_in life.machine in
     let exists : h < length program = subst (λ (x : Course). h < length x.runs.program) (sym c.self.view_is) c.requires in
-    let code : c.in_ok-of.field-0 ≡ placed_code program h = c.in_ok-of.ensures ∙ ap (λ (p : List (List Slot)). placed_code p h) c.program.ensures in
     let table = c.index-2.result.now in
     let found : slice_get life.tables.items h ≡ Some table =
     get_is life.tables.items h table (omega (arith, exists, c.self.invariant.tables.count)) ∙ ap Some (sym c.index-2.ensures) in
@@ -31,26 +30,34 @@ new-requires c =
     let marks : slice_index_or (node_marks life.marks.threads.items) h [] ≡ c.in_ok-to_vec.field-0.items =
     get_map (λ (t : ThreadMarks). t.nodes.items) life.marks.threads.items h c.index.result.now [] here ∙ sym same in
     let copy = c.in_ok-copy.field-0 in
-    subst (λ (x : PlacedCode). IsTableOf copy x.start x.slots c.in_ok-to_vec.field-0.items) (sym code)
+    own_table copy (code_start program h) (code_of program h) c.in_ok-to_vec.field-0.items
     (subst (IsTableOf copy (code_start program h) (code_of program h)) marks
     (copied table copy (code_start program h) (code_of program h) (slice_index_or (node_marks life.marks.threads.items) h []) c.in_ok-copy.ensures.0
     c.in_ok-copy.ensures.1
     (c.self.invariant.tables.each h table found)))
 
 pub returns-clause-hart : goal.returns-clause-hart
-returns-clause-hart c = λ it there.
+returns-clause-hart c = λ it hart.
     let life = c.self.inside in
     let h = c.args.hart in
     let program = program_in life.machine in
     let exists : h < length program = subst (λ (x : Course). h < length x.runs.program) (sym c.self.view_is) c.requires in
-    let code : c.in_ok-of.field-0 ≡ placed_code program h = c.in_ok-of.ensures ∙ ap (λ (p : List (List Slot)). placed_code p h) c.program.ensures in
+    let copy = c.in_ok-copy.field-0 in
+    let table = c.index-2.result.now in
+    let there : slice_get life.tables.items h ≡ Some table =
+    get_is life.tables.items h table (omega (arith, exists, c.self.invariant.tables.count)) ∙ ap Some (sym c.index-2.ensures) in
+    let code : placed_in copy ≡ placed_code program h =
+    placed_is copy (code_start program h) (code_of program h) (slice_index_or (node_marks life.marks.threads.items) h [])
+    (copied table copy (code_start program h) (code_of program h) (slice_index_or (node_marks life.marks.threads.items) h []) c.in_ok-copy.ensures.0
+    c.in_ok-copy.ensures.1
+    (c.self.invariant.tables.each h table there)) in
     let here : slice_get life.marks.threads.items h ≡ Some c.index.result.now =
     get_is life.marks.threads.items h c.index.result.now (omega (arith, exists, c.self.invariant.marked)) ∙ ap Some (sym c.index.ensures) in
     let same : c.in_ok-to_vec.field-0.items ≡ c.index.result.now.nodes.items = search rules in
     let marks : c.in_ok-to_vec.field-0.items ≡ slice_index_or (node_marks life.marks.threads.items) h [] =
     same ∙ sym (get_map (λ (t : ThreadMarks). t.nodes.items) life.marks.threads.items h c.index.result.now [] here) in
     let w = world_of (course_of life) in
-    let found : slice_get w.harts h ≡ Some it = subst (λ (x : Course). slice_get (world_of x).harts h ≡ Some it) (sym c.self.view_is) there in
+    let found : slice_get w.harts h ≡ Some it = subst (λ (x : Course). slice_get (world_of x).harts h ≡ Some it) (sym c.self.view_is) hart in
     let phase = c.phase.ensures w it c.self.invariant.machine found in
     let state = c.local_state.ensures w it c.self.invariant.machine found in
     let at : PlacedCode → List ℕ → Phase → LocalState → LocalCourse =
@@ -61,3 +68,30 @@ returns-clause-hart c = λ it there.
     ∙ ap (λ (ms : List ℕ). at (placed_code program h) ms c.phase.result c.local_state.result) marks
     ∙ ap (λ (p : Phase). at (placed_code program h) marked p c.local_state.result) phase
     ∙ ap (at (placed_code program h) marked it.phase) state)
+
+pub returns-clause-own : goal.returns-clause-own
+returns-clause-own c =
+    let life = c.self.inside in
+    let h = c.args.hart in
+    let program = program_in life.machine in
+    let exists : h < length program = subst (λ (x : Course). h < length x.runs.program) (sym c.self.view_is) c.requires in
+    let copy = c.in_ok-copy.field-0 in
+    let table = c.index-2.result.now in
+    let there : slice_get life.tables.items h ≡ Some table =
+    get_is life.tables.items h table (omega (arith, exists, c.self.invariant.tables.count)) ∙ ap Some (sym c.index-2.ensures) in
+    let code : placed_in copy ≡ placed_code program h =
+    placed_is copy (code_start program h) (code_of program h) (slice_index_or (node_marks life.marks.threads.items) h [])
+    (copied table copy (code_start program h) (code_of program h) (slice_index_or (node_marks life.marks.threads.items) h []) c.in_ok-copy.ensures.0
+    c.in_ok-copy.ensures.1
+    (c.self.invariant.tables.each h table there)) in
+    let here : slice_get life.marks.threads.items h ≡ Some c.index.result.now =
+    get_is life.marks.threads.items h c.index.result.now (omega (arith, exists, c.self.invariant.marked)) ∙ ap Some (sym c.index.ensures) in
+    let same : c.in_ok-to_vec.field-0.items ≡ c.index.result.now.nodes.items = search rules in
+    let marks : c.in_ok-to_vec.field-0.items ≡ slice_index_or (node_marks life.marks.threads.items) h [] =
+    same ∙ sym (get_map (λ (t : ThreadMarks). t.nodes.items) life.marks.threads.items h c.index.result.now [] here) in (
+      subst (λ (x : Course). IsLocalOf (opening_of x) h c.new.result) c.self.view_is (record {
+        code = ap (λ (x : LocalCourse). x.code) c.new.ensures ∙ code;
+        marks = ap (λ (x : LocalCourse). x.marks) c.new.ensures ∙ marks;
+      }),
+      ap (λ (x : LocalCourse). x.made) c.new.ensures,
+    )

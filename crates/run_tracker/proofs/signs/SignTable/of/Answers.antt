@@ -4,8 +4,8 @@ use Rattle.std.specs.List.{list_any}
 use Rattle.rv64_isa.specs.declared.object.Slot.{Slot}
 use Rattle.rv64_isa.specs.Programs.{slot_of}
 use Rattle.ido_machine.proofs.Public.{get_map, get_some}
-use Rattle.run_tracker.specs.declared.signs.Sign.{Sign}
-use Rattle.run_tracker.specs.links.SignTables.{is_fence_slot, is_plain, is_store_slot, is_word_at, no_sign, plain_sign, sign_in}
+use Rattle.run_tracker.specs.declared.signs.Entry.{Entry}
+use Rattle.run_tracker.specs.links.SignTables.{is_fence_slot, is_plain, is_store_slot, is_word_at, no_entry, plain_entry, sign_in, slot_in, slots_in}
 use Rattle.run_tracker.proofs.SignObservations.{in_length}
 use Rattle.run_tracker.proofs.signs.SignTable.of.Goals as goal
 
@@ -14,21 +14,37 @@ get_found [] k x e = refl
 get_found (y ∷ ys) zero x e = cc
 get_found (y ∷ ys) (suc k) x e = get_found ys k x e
 
-mapped_plains : (words : List ℕ) (k : ℕ) → (sign_in (map plain_sign words) k).plain ≡ is_plain (sign_in (map plain_sign words) k)
+mapped_plains : (words : List ℕ) (k : ℕ) → (sign_in (map plain_entry words) k).plain ≡ is_plain (sign_in (map plain_entry words) k)
 mapped_plains [] k = refl
 mapped_plains (word ∷ words) zero = refl
 mapped_plains (word ∷ words) (suc k) = mapped_plains words k
 
+same_slots : (entries : List Entry) (words : List ℕ) → length entries ≡ length words →
+    ((k : ℕ) (word : ℕ) → slice_get words k ≡ Some word → slot_in entries k ≡ slot_of word) → slots_in entries ≡ map slot_of words
+same_slots [] [] same each = refl
+same_slots [] (word ∷ words) same each = cc
+same_slots (entry ∷ entries) [] same each = cc
+same_slots (entry ∷ entries) (word ∷ words) same each =
+    let first : entry.slot ≡ slot_of word = each 0 word refl in
+    let rest : slots_in entries ≡ map slot_of words = same_slots entries words (omega (arith, same)) (λ k x there. each (suc k) x there) in
+    ap (λ (slot : Slot). slot ∷ slots_in entries) first ∙ ap (λ (slots : List Slot). slot_of word ∷ slots) rest
+
 pub loop-address-init : goal.loop-address-init
 loop-address-init c =
     let words = c.args.words.now in
-    let plain = c.in_ok-signs.ensures in
+    let plain = c.in_ok-entries.ensures in
     record {
-      size = ap length plain ∙ length-map words plain_sign;
-      marks = λ k below. ap (λ (xs : List Sign). (sign_in xs k).mark) plain ∙ ap (λ (x : Sign). x.mark) (get_or-map plain_sign words k 0 no_sign below);
-      fences = λ k word found. ap (λ (xs : List Sign). (sign_in xs k).fence) plain ∙ ap (λ (x : Sign). x.fence) (get_map plain_sign words k word no_sign found);
-      plains = λ k. subst (λ (xs : List Sign). (sign_in xs k).plain ≡ is_plain (sign_in xs k)) (sym plain) (mapped_plains words k);
-      stores = λ k word found. ap (λ (xs : List Sign). (sign_in xs k).store) plain ∙ ap (λ (x : Sign). x.store) (get_map plain_sign words k word no_sign found);
+      size = ap length plain ∙ length-map words plain_entry;
+      slots = λ k word found. ap (λ (xs : List Entry). slot_in xs k) plain ∙ ap (λ (x : Entry). x.slot) (get_map plain_entry words k word no_entry found);
+      marks =
+          λ k below. ap (λ (xs : List Entry). (sign_in xs k).mark) plain ∙ ap (λ (x : Entry). x.sign.mark) (get_or-map plain_entry words k 0 no_entry below);
+      fences =
+          λ k word found. ap (λ (xs : List Entry). (sign_in xs k).fence) plain
+          ∙ ap (λ (x : Entry). x.sign.fence) (get_map plain_entry words k word no_entry found);
+      plains = λ k. subst (λ (xs : List Entry). (sign_in xs k).plain ≡ is_plain (sign_in xs k)) (sym plain) (mapped_plains words k);
+      stores =
+          λ k word found. ap (λ (xs : List Entry). (sign_in xs k).store) plain
+          ∙ ap (λ (x : Entry). x.sign.store) (get_map plain_entry words k word no_entry found);
     }
 
 pub returns : goal.returns
@@ -45,7 +61,7 @@ returns c =
     record {
       starts = refl;
       plains = inv.plains;
-      size = inv.size ∙ sym long;
+      slots = same_slots c.loop-address.entries.items words inv.size inv.slots;
       marks = λ k below. inv.marks k (omega (arith, below, long)) ∙ ap (list_any (is_word_at c.args.start k)) all;
       fences = λ k slot found.
           let word = word_of k slot found in
