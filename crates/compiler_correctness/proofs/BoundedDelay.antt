@@ -69,7 +69,7 @@ module _ (fragments_step : FragmentsStep) (cores_step : CoresStep) (law : Fragme
 
       running : IsRunningThread y w stands.abstract (s.codes.each h below) (stands.ghosts h) hart
           (stands.each h below).graph_thread → ahead w stands ≤ most_ahead y h
-      running (on_fragment o) = let most = o.soon.1 in let same = number in omega (arith, most, same)
+      running (on_fragment exit steps o) = let most = o.soon.1 in let same = number in omega (arith, most, same)
       running (at_core o) = let most = o.soon.1 in let same = number in omega (arith, most, same)
 
       by : (p : Phase) → hart.phase ≡ p → IsStopped w h ⊎ (ahead w stands ≤ most_ahead y h)

@@ -13,7 +13,7 @@ use Rattle.ido_base.specs.declared.log.Log.{Log}
 use Rattle.ido_ints.specs.declared.kinds.Kind.{Kind}
 use Rattle.std.proofs.lemmas.List.Sums.{sum_by-cons}
 use Rattle.c_tree.specs.Flats as f
-use Rattle.c_tree.specs.LockDiscipline.{Held, holds}
+use Rattle.c_tree.specs.LockNames.{Held, holds}
 use Rattle.c_tree.specs.Prices.{thread_price}
 use Rattle.lock_discipline.specs.HeldSetsByStep.{AreSetsOf}
 use Rattle.flow_graph.specs.declared.graph.Part.{Part}
@@ -520,6 +520,7 @@ compiled_code_has_form locked y s minimal fewest =
     let many : threads_of y ≡ length (flat_of y).threads =
     ap (λ (xs : List Part). length xs) (threads_are y.plan s.plan) ∙ length_parts (flat_of y).threads 0 in
     record {
+      single = s.plan.formed.single;
       initial = s.initial;
       mutexes = s.mutexes;
       count = s.count ∙ many;

@@ -61,7 +61,7 @@ module _ (fragments_step : FragmentsStep) (cores_step : CoresStep) (y : System) 
       let i : IsInPhase w g Run = record { hart = hart; here = is.here; phase_is = is_run hart.phase is.runs } in
       let r = runs_ready y s w g stands i in
       subst (λ (b : AbstractRun y). MayStore y b g effect) r.similar.abstract
-      ((own_by fragments_step cores_step y s w g r.stands r.below i r.ready).stores_own hart effect is)
+      ((own_by fragments_step cores_step y s w g r.site i r.ready).stores_own hart effect is)
 
 -- ---- No hart stores between the variables and the logs
 

@@ -1,5 +1,5 @@
 -- At a call that takes a lock, the thread stands at that lock.
-use Rattle.std.proofs.Common.{◌≡◌, ◌⊎◌, inl, inr, refl, ℕ, List, ap, arith, sym, ◌∙◌, subst, Some, false}
+use Rattle.std.proofs.Common.{◌≡◌, ◌⊎◌, inl, inr, ℕ, List, ap, arith, sym, ◌∙◌, subst, Some}
 use Rattle.std.specs.Prelude.{slice_get}
 use Rattle.std.proofs.lemmas.Option.{none-some, same_Some}
 use Rattle.source_machine.specs.Mutexes.{locks}
@@ -14,15 +14,15 @@ use Rattle.hart_runs.specs.HartsOnRuns.{instr_at}
 use Rattle.hart_runs.specs.Calls.{IsAtCall, IsInPhase, lock_asked}
 use Rattle.recovery_semantics.specs.Configs.{now}
 use Rattle.thread_runs.specs.Laws.{MarksPass}
-use Rattle.thread_runs.specs.CodeFragments.{ExitPoint, Asks, Gives, Ends}
+use Rattle.thread_runs.specs.CodeFragments.{ExitPoint, Asks}
 use Rattle.recovered_threads.proofs.Public.{same_there}
 use Rattle.crash_simulation.specs.Systems.{System, IsSystem}
 use Rattle.crash_simulation.specs.AbstractRuns.{AbstractRun, now_of}
-use Rattle.crash_simulation.specs.ThreadGhosts.{GoesClean, ExitInv}
 use Rattle.crash_simulation.specs.SimulationRelation.{AreHeld, IsGiving, Simulates}
 use Rattle.crash_simulation.specs.InstructionSteps as moving
-use Rattle.crash_simulation.specs.InstructionSteps.{OnFragmentNow, thread_of}
-use Rattle.crash_simulation.proofs.Public.{Site, view, same_number, fragment, lock, locks_it, runs_held, runs_ready, RunsOn, IsWhere, on_run, at_call, is_where}
+use Rattle.crash_simulation.specs.InstructionSteps.{OnFragmentNow}
+use Rattle.crash_simulation.specs.InstructionSteps.{Site}
+use Rattle.crash_simulation.proofs.Public.{view, same_number, fragment, lock, locks_it, runs_held, runs_ready, RunsOn, IsWhere, on_run, at_call, is_where}
 
 -- no instruction on a run is a call
 pub no_pass : (around : _) (m to : LocalConfig) (instr : Instr) → instr ≡ Ecall → passed around m (row instr m.registers m.pc) ≡ Some to → ⊥
@@ -53,57 +53,53 @@ module _ {y : System} {s : IsSystem y} {w : World} {h : ℕ} (site : Site y s w 
 
   -- ---- At the end of a fragment
 
-  module _ (exit : ExitPoint) (o : OnFragmentNow y s w h stands below) (zero_left : o.steps ≡ 0) (exit_is : o.exit ≡ exit)
-      (a : IsAtCall y.runs.program w n 1) where
-    registers_are : a.hart.registers ≡ (fragment y s w h stands below held exit o zero_left exit_is).registers
+  module _ {exit : ExitPoint} (o : OnFragmentNow site exit 0) (a : IsAtCall y.runs.program w n 1) where
+    registers_are : a.hart.registers ≡ (fragment site held o).registers
     registers_are =
-        let there = fragment y s w h stands below held exit o zero_left exit_is in
+        let there = fragment site held o in
         ap (λ (x : Hart). x.registers) (same_there (slice_get w.harts n) a.hart there.on.hart a.here there.on.here)
         ∙ ap (λ (x : LocalConfig). x.registers) there.on.walks.0
 
-    asks_one : read (fragment y s w h stands below held exit o zero_left exit_is).registers 17 ≡ 1
+    asks_one : read (fragment site held o).registers 17 ≡ 1
     asks_one = ap (λ (x : List ℕ). read x 17) (sym registers_are) ∙ a.asks
 
-  none_given : (mutex next : ℕ) (o : OnFragmentNow y s w h stands below) → o.exit ≡ Asks mutex next → (lock : ℕ) →
+  none_given : (mutex next : ℕ) → OnFragmentNow site (Asks mutex next) 0 → (lock : ℕ) →
       (slice_get (now_of y b).holders lock ≡ Some (Some n)) ⊎ IsGiving stands.ghosts (now_of y b) lock n →
       slice_get (now_of y b).holders lock ≡ Some (Some n)
-  none_given mutex next o exit_is one (inl has) = has
-  none_given mutex next o exit_is one (inr gives) =
-      let clean : GoesClean y b code ghost false thread.graph_thread = subst (λ (x : ExitPoint). ExitInv y b code ghost thread.graph_thread x) exit_is o.fits in
-      absurd (none-some one (sym (ap (λ (k : ℕ). (stands.ghosts k).giving) (s.codes.number h below) ∙ clean.goes.giving) ∙ gives.gives))
+  none_given mutex next o one (inl has) = has
+  none_given mutex next o one (inr gives) =
+      absurd (none-some one (sym (ap (λ (k : ℕ). (stands.ghosts k).giving) (s.codes.number h below) ∙ o.fits.goes.giving) ∙ gives.gives))
 
-  by_call : (exit : ExitPoint) (o : OnFragmentNow y s w h stands below) → o.steps ≡ 0 → moving.IsCalling y s w h stands below exit →
-      o.exit ≡ exit → Takes y w b n
-  by_call _ o zero_left (moving.asks mutex next) exit_is a =
-      let there = fragment y s w h stands below held (Asks mutex next) o zero_left exit_is in
-      let is : lock_asked a.hart ≡ mutex = ap (λ (x : List ℕ). read x 10) (registers_are (Asks mutex next) o zero_left exit_is a) ∙ there.has.lock in
+  by_call : (exit : ExitPoint) → OnFragmentNow site exit 0 → moving.IsCalling exit → Takes y w b n
+  by_call _ o (moving.asks mutex next) a =
+      let there = fragment site held o in
+      let is : lock_asked a.hart ≡ mutex = ap (λ (x : List ℕ). read x 10) (registers_are o a) ∙ there.has.lock in
       record {
-        locks_it = locks_it y s b code thread.graph_thread thread.walks mutex next (lock y s w h stands below held mutex next o zero_left exit_is)
-            ∙ ap (λ (x : ℕ). Some x) (sym is);
-        holds_only = λ one has. none_given mutex next o exit_is one (held.held one n has);
+        locks_it = locks_it y s b code thread.graph_thread thread.walks mutex next (lock site held o) ∙ ap (λ (x : ℕ). Some x) (sym is);
+        holds_only = λ one has. none_given mutex next o one (held.held one n has);
       }
-  by_call _ o zero_left (moving.gives from mutex) exit_is a =
-      let there = fragment y s w h stands below held (Gives from mutex) o zero_left exit_is in
-      let one = asks_one (Gives from mutex) o zero_left exit_is a in
+  by_call _ o (moving.gives from mutex) a =
+      let there = fragment site held o in
+      let one = asks_one o a in
       let two = there.has.call in
       absurd (omega (arith, one, two))
-  by_call _ o zero_left moving.ends exit_is a =
-      let there = fragment y s w h stands below held Ends o zero_left exit_is in
-      let one = asks_one Ends o zero_left exit_is a in
+  by_call _ o moving.ends a =
+      let there = fragment site held o in
+      let one = asks_one o a in
       let three = there.has in
       absurd (omega (arith, one, three))
 
-  where_takes : IsWhere y s w h stands below → Takes y w b n
+  where_takes : IsWhere site → Takes y w b n
   where_takes (on_run r) a = absurd (no_call y w n 1 r a)
-  where_takes (at_call o zero_left calling) a = by_call o.exit o zero_left calling refl a
+  where_takes (at_call exit o calling) a = by_call exit o calling a
 
 -- a hart that takes a mutex does so where its thread is at that lock, whatever abstract run the machine simulates
 pub takes_as : MarksPass → (y : System) (s : IsSystem y) (w : World) (h : ℕ) (stands : Simulates y s w) → Takes y w stands.abstract h
 takes_as marks y s w h stands a =
     let i : IsInPhase w h Run = record { hart = a.hart; here = a.here; phase_is = a.runs } in
     let r = runs_ready y s w h stands i in
-    let held = (runs_held y s w r.stands.abstract r.stands.ghosts h r.stands.machine.log r.stands.machine.sound i
-    r.stands.locks).1 in
-    let site : Site y s w h = record { stands = r.stands; below = r.below } in
-    let takes = subst (λ (k : ℕ). Takes y w r.stands.abstract k) (same_number site) (where_takes site held (is_where y s w h r.stands r.below marks r.ready)) in
+    let site = r.site in
+    let z = site.stands in
+    let held = (runs_held y s w z.abstract z.ghosts h z.machine.log z.machine.sound i z.locks).1 in
+    let takes = subst (λ (k : ℕ). Takes y w z.abstract k) (same_number site) (where_takes site held (is_where site marks r.ready)) in
     subst (λ (b : AbstractRun y). TakesAs y w b h a) r.similar.abstract (takes a)

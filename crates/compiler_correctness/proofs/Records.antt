@@ -17,7 +17,8 @@ use Rattle.crash_simulation.specs.Systems.{System, IsSystem, thread_count, flat_
 use Rattle.crash_simulation.specs.AbstractRuns.{kept_of, now_of}
 use Rattle.crash_simulation.specs.ThreadGhosts.{ThreadGhost, InPhase}
 use Rattle.crash_simulation.specs.SimulationRelation.{Simulates, IsGiving, AreHeld, AreLocked, gathering, gathered, records_of}
-use Rattle.crash_simulation.proofs.Public.{left, left_describes, left_point, log_of, orderly, unlocked_last, takes_move, as_source, Site, view, same_number}
+use Rattle.crash_simulation.specs.InstructionSteps.{Site}
+use Rattle.crash_simulation.proofs.Public.{left, left_describes, left_point, log_of, orderly, unlocked_last, takes_move, as_source, view, same_number}
 use Rattle.crash_simulation.proofs.Public.{giving_of, resumed, phase_of}
 use Rattle.compiler_correctness.proofs.AbstractRunAccount.{points_name, now_runs, now_is, kept_holders, none_points, kept_runs}
 use Rattle.std.proofs.lemmas.Option.{slice_get_within}
@@ -69,13 +70,14 @@ module _ (y : System) (s : IsSystem y) (w : World) (stands : Simulates y s w) (n
   new_describes : Describes y.plan thread_code kept thread_ghost.new ⊎ Describes y.plan thread_code present thread_ghost.new
   new_describes = elim (cases_Bool thread_ghost.committed) [
     | inl done ↦
-        inl (subst (λ (b : Bool). Describes y.plan thread_code kept (if b then thread_ghost.new else thread_ghost.old)) done (stands.each n below).describes)
-    | inr not_yet ↦ inr ((stands.each n below).will_describe not_yet)
+        inl (subst (λ (b : Bool). Describes y.plan thread_code kept (if b then thread_ghost.new else thread_ghost.old)) done
+        (stands.each n below).records.describes)
+    | inr not_yet ↦ inr ((stands.each n below).records.will_describe not_yet)
   ]
 
   old_describes : thread_ghost.committed ≡ false → Describes y.plan thread_code kept thread_ghost.old
   old_describes not_yet =
-      subst (λ (b : Bool). Describes y.plan thread_code kept (if b then thread_ghost.new else thread_ghost.old)) not_yet (stands.each n below).describes
+      subst (λ (b : Bool). Describes y.plan thread_code kept (if b then thread_ghost.new else thread_ghost.old)) not_yet (stands.each n below).records.describes
 
   -- what is so of all such records is so of the live point, and of the durable one
   module _ (P : ℕ → Type 0) (of_kept : (r : Record) → Describes y.plan thread_code kept r → P r.point)

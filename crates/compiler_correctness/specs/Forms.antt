@@ -1,17 +1,17 @@
 -- The form of compiled code: the code of each thread is that of its nodes, one after another, and boundaries stand where the graph is cut.
 use Rattle.std.specs.Prelude.{◌≡◌, ◌↔◌, ℕ, ℤ, pos, ◌+◌, ◌-◌, ◌*◌, ◌<◌, ◌≤◌, List, [], ◌∷◌, ◌++◌, length, slice_get, slice_index_or, Contains}
 use Rattle.std.specs.Prelude.{Some, Bool, true, map}
-use Rattle.std.specs.List.{list_any}
+use Rattle.std.specs.List.{AllByRecursion, list_any}
 use Rattle.std.specs.List.Sorted.{IsStrictlyIncreasing}
 use Rattle.ido_ints.specs.declared.kinds.Kind.{Kind}
 use Rattle.ido_ints.specs.TypedNumbers.{typed}
 use Rattle.c_tree.specs.Flats as f
-use Rattle.c_tree.specs.LockDiscipline.{Held}
+use Rattle.c_tree.specs.LockNames.{Held}
 use Rattle.c_tree.specs.Prices.{thread_price}
 use Rattle.rv64_isa.specs.declared.instr.Instr.TheVariants.{Ecall}
 use Rattle.rv64_isa.specs.Programs.{code_of, code_start}
 use Rattle.rv64_link.specs.LinkedCode.{IsInstructionAt, AreInstructions}
-use Rattle.c_tree.specs.WellFormed.{shape_of, initial_numbers}
+use Rattle.c_tree.specs.WellFormed.{IsSingle, shape_of, initial_numbers}
 use Rattle.memory_layout.specs.Roles.{pending_address, pending_value}
 use Rattle.memory_layout.specs.Variables.{AreInitial}
 use Rattle.boundary_code.specs.Boundaries.{IsOnSide}
@@ -161,6 +161,8 @@ pub record HasThreadForm (c : Translation) (colours : Colouring) (thread : ℕ) 
 -- ---- Programs
 
 pub record HasForm (c : Translation) : Type 0 where
+  -- no mutex of the source is in an array
+  pub single : AllByRecursion IsSingle c.flat.mutexes
   -- the initial bytes are the source's, and there is a lock for each mutex
   pub initial : AreInitial (map shape_of c.flat.variables) (map initial_numbers c.flat.variables) c.runs.initial
   pub mutexes : c.runs.mutexes ≡ length c.flat.mutexes

@@ -1,34 +1,30 @@
 -- The machine simulates an abstract run after all events, and its account is that run's.
-use Rattle.std.proofs.Common.{◌≡◌, ◌≢◌, inl, inr, refl, ℕ, suc, ◌+◌, ◌<◌, ◌≤◌, Bool, arith, List, [], ◌∷◌, ◌++◌, length, sym, ◌∙◌, ap, ap₂, subst, true, false}
-use Rattle.std.proofs.Common.{Option, Some, None}
-use Rattle.std.specs.Prelude.{slice_get, not, ◌&&◌, ◌==◌}
-use Rattle.std.proofs.lemmas.Bool.{true≢false}
+use Rattle.std.proofs.Common.{◌≡◌, ◌≢◌, inl, inr, refl, ℕ, ◌+◌, ◌<◌, ◌≤◌, Bool, arith, List, [], ◌∷◌, ◌++◌, length, sym, ◌∙◌, ap, ap₂, subst, true, false}
+use Rattle.std.proofs.Common.{Option, Some, None, slice_get, not, ◌&&◌, ◌==◌, true≢false}
 use Rattle.rv64_isa.proofs.Public.{log_stays}
 use Rattle.ido_base.specs.declared.event.Event.{Event}
 use Rattle.ido_base.specs.declared.event.Event.TheVariants.{Step, Evict, Crash}
 use Rattle.ido_base.specs.Words.{last_position}
 use Rattle.rv64_isa.specs.declared.phase.Phase.{Phase}
 use Rattle.rv64_isa.specs.declared.phase.Phase.TheVariants.{Take, Wait, Resume, Run, Done, Ended}
-use Rattle.rv64_isa.specs.Machine.{Hart, World, stepped, happens, after_event, after_events, durable_point}
-use Rattle.rv64_isa.specs.Schedule.{Steps, is_running, completing, passes_mark, stores_point, with_step, with_all_kept, steps_after, steps_along, releases_last}
+use Rattle.rv64_isa.specs.Machine.{Hart, World, stepped, happens, after_event, after_events, durable_point, after_crash_of}
+use Rattle.rv64_isa.specs.Schedule.{Steps, is_running, completing, passes_mark, with_step, with_all_kept, steps_after, steps_along, releases_last}
 use Rattle.rv64_isa.specs.Schedule.{released_count}
 use Rattle.recovery_semantics.specs.Configs.{now}
 use Rattle.log_states.specs.Logs.{point_in}
 use Rattle.code_runs.specs.CodeTraces.{Program}
 use Rattle.hart_runs.specs.Calls.{IsInPhase}
-use Rattle.thread_runs.specs.CodeFragments.{ExitPoint, IsOnFragment, on_machine}
 use Rattle.thread_runs.specs.Laws.{AreMarksOf, FragmentsGoOn}
 use Rattle.crash_simulation.specs.Systems.{System, IsSystem, thread_count, flat_of}
 use Rattle.crash_simulation.specs.AbstractRuns.{AbstractRun, kept_of}
-use Rattle.crash_simulation.specs.ThreadGhosts.{ThreadGhost, ExitInv}
+use Rattle.crash_simulation.specs.ThreadGhosts.{ThreadGhost}
 use Rattle.crash_simulation.specs.SimulationRelation.{SimulatesBut, Simulates, anybody}
-use Rattle.crash_simulation.specs.InstructionSteps.{is_bound, is_leaving, begins, IsUnlocked, was_unlocked, OnFragmentNow, IsCalling, asks, gives, ends}
+use Rattle.crash_simulation.specs.InstructionSteps.{is_bound, begins, IsUnlocked, was_unlocked, Site}
 use Rattle.crash_simulation.specs.InstructionSteps.{IsReadyToStep, on_fragment, calls, at_core, OwnStep, FragmentsStep, CoresStep, Nears}
-use Rattle.crash_simulation.specs.InstructionSteps.{begins_step, waits, is_nearer, halts}
 use Rattle.crash_simulation.specs.AccountRelation.{AreCounted, SimulatesCounted, MachinesResume, Beginning, first_beginning}
 use Rattle.crash_simulation.specs.RecoveredWords.{RecoveredAreCounted}
-use Rattle.crash_simulation.specs.ReleasedSections.{one_if, sections_kept, IsReleasedOf, in_step, cut_off, ended_in_machine, SectionsAreKept}
-use Rattle.crash_simulation.proofs.AccountsBeforeCommit.{none_more, released_by, none_released, stays_done, phase_releases, kept_crashed, none_bound}
+use Rattle.crash_simulation.specs.ReleasedSections.{one_if, sections_kept, IsReleasedOf, ended_in_machine, SectionsAreKept}
+use Rattle.crash_simulation.proofs.AccountsBeforeCommit.{released_by, none_released, stays_done, phase_releases, kept_crashed, none_bound}
 use Rattle.crash_simulation.proofs.AccountsBeforeCommit.{recovered_counted, start_counted, crash_counted, evicted_counted, own_step_counted, GoesOnBy, led_now}
 use Rattle.crash_simulation.proofs.LastReleases.{holders_stay_none, describes_test, at_most_one}
 use Rattle.flow_graph.proofs.Public.{below_or_past}
@@ -44,11 +40,10 @@ use Rattle.crash_simulation.proofs.StepSimulation.{simulates_after, evicted_simu
 use Rattle.crash_simulation.proofs.LongestAttempts.{AreFurthest, led_of}
 use Rattle.crash_simulation.proofs.CommitSimulation.{all_caught_up, none_waits}
 use Rattle.crash_simulation.proofs.Sections.{AreSameSections, EndAsLeft, led_sections, same_end, same_then_end, kept_between}
-use Rattle.crash_simulation.proofs.AccountUpdates.{begun_by, count_same, account_stays}
+use Rattle.crash_simulation.proofs.AccountUpdates.{begun_by, account_stays, no_mark, nothing_counted, AgreeOnSteps}
 use Rattle.crash_simulation.proofs.LocksAfterStep.{own_ghost, other_ghost}
-use Rattle.crash_simulation.proofs.OwnHartSteps.{Site, view, same_number}
-use Rattle.crash_simulation.proofs.PointPositions as positions
-use Rattle.crash_simulation.proofs.PointPositions.{no_mark, nothing_counted}
+use Rattle.crash_simulation.proofs.OwnHartSteps.{view, same_number}
+use Rattle.crash_simulation.proofs.AccountUpdates as positions
 use Rattle.std.proofs.lemmas.Option.{none-some, same_Some}
 use Rattle.ido_base.specs.Locks.{holds_none}
 use Rattle.c_tree.specs.Source as m
@@ -69,25 +64,15 @@ module _ (law : FragmentsGoOn) {y : System} {s : IsSystem y} {w : World} {h : �
   never_bound : c.committed ≡ true → PassesNone
   never_bound committed bound = absurd (true≢false (sym bound ∙ none_bound c committed))
 
-  call_passes_none : (exit : ExitPoint) → IsCalling y s w h stands below exit → ExitInv y stands.abstract code c graph_thread exit → c.rest ≡ [] → PassesNone
-  call_passes_none _ (asks mutex next) fits over = never_bound fits.goes.committed
-  call_passes_none _ (gives from mutex) fits over = never_bound (caught_is_over y w stands.abstract code c t over (stands.caught_up h below (λ e. e)))
-  call_passes_none _ ends fits over = never_bound fits.goes.committed
-
-  abbrev FragmentOf : OnFragmentNow y s w h stands below → (steps : ℕ) → Type 0
-  FragmentOf o steps = IsOnFragment y.plan code.thread places (on_machine y.runs.program w n o.environment)
-      (record { exit = o.exit; node = graph_thread.at; seen = seen; side = o.side }) steps (c.cleans ++ c.rest)
-
-  passes_none : IsReadyToStep y s w h stands below → PassesNone
-  passes_none (on_fragment o steps is) bound =
+  passes_none : IsReadyToStep site → PassesNone
+  passes_none (on_fragment exit steps o) bound =
       let marks : AreMarksOf y.runs.marks n o.environment =
       sym (o.fragment.meets.marks ∙ ap (λ (p : Program). p.nodes) (code.is.of_program ∙ (s.own h below).program)) in
-      let fragment = subst (FragmentOf o) is o.fragment in
       subst (λ (k : ℕ). passes_mark y.runs.marks y.runs.program w k ≡ false) (same_number site)
-      ((law y.plan code.thread places y.runs.program w n o.environment _ steps _ stands.machine.sound fragment).1 y.runs.marks marks)
-  passes_none (calls o none is) bound =
-      let fragment = subst (FragmentOf o) none o.fragment in
-      call_passes_none o.exit is o.fits (right_empty c.cleans c.rest (none_ahead y s w h below o.environment _ _ fragment)) bound
+      ((law y.plan code.thread places y.runs.program w n o.environment _ steps _ stands.machine.sound o.fragment).1 y.runs.marks marks)
+  passes_none (calls exit o is) bound =
+      let over : c.rest ≡ [] = right_empty c.cleans c.rest (none_ahead y s w h below o.environment _ _ o.fragment) in
+      never_bound (caught_is_over y w stands.abstract code c t over (stands.caught_up h below (λ e. e))) bound
   passes_none (at_core o free) bound = never_bound o.goes.goes.committed bound
 
 -- ---- Harts and their marks
@@ -95,17 +80,8 @@ module _ (law : FragmentsGoOn) {y : System} {s : IsSystem y} {w : World} {h : �
 pub step_of : (h n : ℕ) → Step h ≡ Step n → h ≡ n
 step_of h n e = cc
 
--- of the same counts
-nears_by : (y : System) (w : World) (h : ℕ) {begun marked : Bool} {old other new later : ℕ} → marked ≡ begun → old ≡ other → later ≡ new →
-    Nears y w h begun old new → Nears y w h marked other later
-nears_by y w h marks before after (begins_step e) = begins_step (marks ∙ e)
-nears_by y w h marks before after (waits mutex holder does same) = waits mutex holder does (after ∙ (same ∙ before))
-nears_by y w h marks before after (is_nearer e) = is_nearer (sym before ∙ (e ∙ ap suc (sym after)))
-nears_by y w h marks before after (halts hart here stopped) = halts hart here stopped
-
 pub not_running : (w : World) (h : ℕ) (hart : Hart) → slice_get w.harts h ≡ Some hart → is_running hart.phase ≡ false → IsInPhase w h Run → ⊥
-not_running w h hart here off i =
-    true≢false (sym (ap is_running (ap (λ (x : Hart). x.phase) (same_Some hart i.hart (sym here ∙ i.here)) ∙ i.phase_is)) ∙ off)
+not_running w h hart here off i = true≢false (sym (ap is_running (ap (λ (x : Hart). x.phase) (same_Some hart i.hart (sym here ∙ i.here)) ∙ i.phase_is)) ∙ off)
 
 -- ---- What an event does
 
@@ -115,66 +91,80 @@ begun_in y w (Step h) = begun_by (passes_mark y.runs.marks y.runs.program w h) h
 begun_in y w (Evict line mask) = []
 begun_in y w Crash = []
 
--- while power stays on, the source goes on by these steps, and each attempt comes as far as any before; a thread has to give back what it had, or what its
--- step unlocks; and a hart that executes instructions is one step nearer to its next mark by its own steps
-pub record Continues (y : System) (s : IsSystem y) (w : World) (event : Event) (old : Simulates y s w)
-    {waiting : ℕ → Type 0} (new : SimulatesBut y s (after_event y.runs.program w event) waiting) : Type 0 where
-  pub source : now new.abstract.config ≡ after_from (now old.abstract.config) (begun_in y w event)
-  pub runs : runs_from (now old.abstract.config) (begun_in y w event) ≡ true
-  pub tried : AreFurthest old.abstract.config → AreFurthest new.abstract.config
-  pub unlocked : (n mutex : ℕ) → event ≡ Step n → (new.ghosts n).giving ≡ Some mutex →
-      IsUnlocked (now old.abstract.config) n (passes_mark y.runs.marks y.runs.program w n) (old.ghosts n).giving mutex
-  pub others : (n : ℕ) → event ≢ Step n → (new.ghosts n).giving ≡ (old.ghosts n).giving
-  pub stays : (n : ℕ) → (event ≡ Step n → IsInPhase w n Run → ⊥) → (new.ghosts n).before_mark ≡ (old.ghosts n).before_mark
-  pub nears : (n : ℕ) → event ≡ Step n → IsInPhase w n Run →
-      Nears y w n (passes_mark y.runs.marks y.runs.program w n) (old.ghosts n).before_mark (new.ghosts n).before_mark
+-- the account of the steps then, but for those that are kept by it
+abbrev account_by : System → World → Event → Steps → Steps
+account_by y w (Step h) steps = with_step y.runs.marks y.runs.program w h steps
+account_by y w event steps = steps
 
--- the machine simulates an abstract run then, with that account of the steps and with what it released, but commits may still be to be taken; sections are
--- kept as they were
-record Moves (y : System) (s : IsSystem y) (w : World) (event : Event) (old : Simulates y s w) (account : Steps → Steps) : Type 0 where
-  next : SimulatesBut y s (after_event y.runs.program w event) anybody
-  counted : (g : Beginning) (steps : Steps) (r : ℕ → ℕ) → AreCounted y g w old.abstract old.ghosts steps r →
-      AreCounted y g (after_event y.runs.program w event) next.abstract next.ghosts (account steps) (released_by y.runs.program w event r)
-  sections : (n : ℕ) → AreSameSections y old.abstract next.abstract n
-  on : Continues y s w event old next
+-- what is kept by an event but a crash
+kept_by : (y : System) (w : World) (event : Event) (steps : Steps) → event ≢ Crash →
+    with_all_kept w.log (after_event y.runs.program w event).words (length steps.harts) (account_by y w event steps)
+    ≡ steps_after y.runs.marks y.runs.program w event steps
+unfolding steps_after
+kept_by y w (Step h) steps no_crash = refl
+kept_by y w (Evict line mask) steps no_crash = refl
+kept_by y w Crash steps no_crash = absurd (no_crash refl)
 
--- the machine simulates an abstract run then, with its account and its releases, and sections of each thread end as it has left them
-pub record GoesOn (y : System) (s : IsSystem y) (w : World) (event : Event) (old : Simulates y s w) : Type 0 where
-  pub next : Simulates y s (after_event y.runs.program w event)
-  pub counted : (g : Beginning) (steps : Steps) (r : ℕ → ℕ) → AreCounted y g w old.abstract old.ghosts steps r →
-      AreCounted y g (after_event y.runs.program w event) next.abstract next.ghosts (steps_after y.runs.marks y.runs.program w event steps)
-      (released_by y.runs.program w event r)
-  pub ends : (n : ℕ) → EndAsLeft y old.abstract next.abstract n
-  pub on : event ≢ Crash → Continues y s w event old next
+module _ (y : System) (s : IsSystem y) (w : World) (event : Event) (old : Simulates y s w) where
+  open y.runs use {marks, program}
 
--- what is committed then is taken so
-commits_move : (y : System) (s : IsSystem y) (w : World) (event : Event) (old : Simulates y s w) (account : Steps → Steps) →
-    Moves y s w event old account →
-    ((steps : Steps) → with_all_kept w.log (after_event y.runs.program w event).words (length (account steps).harts) (account steps)
-    ≡ steps_after y.runs.marks y.runs.program w event steps) → GoesOn y s w event old
-commits_move y s w event old account moves is =
-    let after : World = after_event y.runs.program w event in
-    let c = all_caught_up y s after moves.next in
-    let logs = log_stays y.runs.program w event old.machine.sound in
-    record {
-      next = none_waits y s after moves.next c;
-      counted = λ g steps r counted.
-          let made = moves.counted g steps r counted in
-          subst (λ (z : Steps). AreCounted y g after c.stands.abstract c.stands.ghosts z (released_by y.runs.program w event r))
-          ((λ i. with_all_kept (logs i) after.words ((sym made.count) i) (account steps)) ∙ is steps)
-          (c.counted g (account steps) (released_by y.runs.program w event r) made);
-      ends = λ n. same_then_end y old.abstract moves.next.abstract n c.stands.abstract (moves.sections n) (c.ends n);
-      on = λ no_crash. record {
-        source = c.source ∙ moves.on.source;
-        runs = moves.on.runs;
-        tried = λ furthest. c.tried (moves.on.tried furthest);
-        unlocked = λ n mutex own gives. moves.on.unlocked n mutex own (sym (c.giving n) ∙ gives);
-        others = λ n other. c.giving n ∙ moves.on.others n other;
-        stays = λ n other. c.ahead n ∙ moves.on.stays n other;
-        nears = λ n own i.
-            subst (Nears y w n (passes_mark y.runs.marks y.runs.program w n) (old.ghosts n).before_mark) (sym (c.ahead n)) (moves.on.nears n own i);
-      };
-    }
+  abbrev later_world : World
+  later_world = after_event program w event
+
+  -- while power stays on, the source goes on by these steps, and each attempt comes as far as any before; a thread has to give back what it had, or what its
+  -- step unlocks; and a hart that executes instructions is one step nearer to its next mark by its own steps
+  pub record Continues {waiting : ℕ → Type 0} (new : SimulatesBut y s later_world waiting) : Type 0 where
+    pub source : now new.abstract.config ≡ after_from (now old.abstract.config) (begun_in y w event)
+    pub runs : runs_from (now old.abstract.config) (begun_in y w event) ≡ true
+    pub tried : AreFurthest old.abstract.config → AreFurthest new.abstract.config
+    pub unlocked : (n mutex : ℕ) → event ≡ Step n → (new.ghosts n).giving ≡ Some mutex →
+        IsUnlocked (now old.abstract.config) n (passes_mark marks program w n) (old.ghosts n).giving mutex
+    pub others : (n : ℕ) → event ≢ Step n → (new.ghosts n).giving ≡ (old.ghosts n).giving
+    pub stays : (n : ℕ) → (event ≡ Step n → IsInPhase w n Run → ⊥) → (new.ghosts n).before_mark ≡ (old.ghosts n).before_mark
+    pub nears : (n : ℕ) → event ≡ Step n → IsInPhase w n Run → Nears y w n (passes_mark marks program w n) (old.ghosts n).before_mark (new.ghosts n).before_mark
+
+  -- the steps are accounted so, and what the machine released
+  abbrev IsCountedThen : {waiting : ℕ → Type 0} → SimulatesBut y s later_world waiting → (account : Steps → Steps) → Type 0
+  IsCountedThen new account = (g : Beginning) (steps : Steps) (r : ℕ → ℕ) → AreCounted y g w old.abstract old.ghosts steps r →
+      AreCounted y g later_world new.abstract new.ghosts (account steps) (released_by program w event r)
+
+  -- the machine simulates an abstract run then, but commits may still be to be taken; sections are kept as they were
+  record Moves : Type 0 where
+    next : SimulatesBut y s later_world anybody
+    counted : IsCountedThen next (account_by y w event)
+    sections : (n : ℕ) → AreSameSections y old.abstract next.abstract n
+    on : Continues next
+
+  -- the machine simulates an abstract run then, and sections of each thread end as it has left them
+  pub record GoesOn : Type 0 where
+    pub next : Simulates y s later_world
+    pub counted : IsCountedThen next (steps_after marks program w event)
+    pub ends : (n : ℕ) → EndAsLeft y old.abstract next.abstract n
+    pub on : event ≢ Crash → Continues next
+
+  -- what is committed then is taken so
+  commits_move : event ≢ Crash → Moves → GoesOn
+  commits_move no_crash moves =
+      let c = all_caught_up y s later_world moves.next in
+      let logs = log_stays program w event old.machine.sound in
+      record {
+        next = none_waits y s later_world moves.next c;
+        counted = λ g steps r counted.
+            subst (λ (z : Steps). AreCounted y g later_world c.stands.abstract c.stands.ghosts z (released_by program w event r))
+            ((λ i. with_all_kept (logs i) later_world.words ((sym counted.count) i) (account_by y w event steps)) ∙ kept_by y w event steps no_crash)
+            (c.counted g (account_by y w event steps) (released_by program w event r) (moves.counted g steps r counted));
+        ends = λ n. same_then_end y old.abstract moves.next.abstract n c.stands.abstract (moves.sections n) (c.ends n);
+        on = λ no_crash. record {
+          source = c.source ∙ moves.on.source;
+          runs = moves.on.runs;
+          tried = λ furthest. c.tried (moves.on.tried furthest);
+          unlocked = λ n mutex own gives. moves.on.unlocked n mutex own (sym (c.giving n) ∙ gives);
+          others = λ n other. c.giving n ∙ moves.on.others n other;
+          stays = λ n other. c.ahead n ∙ moves.on.stays n other;
+          nears = λ n own i.
+              coe 0 1 (j. Nears y w n (passes_mark marks program w n) (old.ghosts n).before_mark (sym (c.ahead n) j)) (moves.on.nears n own i);
+        };
+      }
 
 -- ---- Whatever happens
 
@@ -183,16 +173,15 @@ unfolding happens
 not_there y w h none = sym (ap (λ (o : Option Hart). (stepped y.runs.program w h o).0) none)
 
 module _ (fragments_step : FragmentsStep) (cores_step : CoresStep) where
-  pub own_by : (y : System) (s : IsSystem y) (w : World) (h : ℕ) (stands : Simulates y s w) (below : h < thread_count y) → IsInPhase w h Run →
-      IsReadyToStep y s w h stands below → OwnStep y s w h stands
-  own_by y s w h stands below i (on_fragment o steps is) = fragments_step y s w h stands below i o steps is
-  own_by y s w h stands below i (calls o none is) = calls_step y s w h stands below i o none is
-  own_by y s w h stands below i (at_core o free) = cores_step y s w h stands below i o free
+  pub own_by : (y : System) (s : IsSystem y) (w : World) (h : ℕ) (site : Site y s w h) → IsInPhase w h Run → IsReadyToStep site → OwnStep y s w h site.stands
+  own_by y s w h site i (on_fragment exit steps o) = fragments_step y s w h site i exit steps o
+  own_by y s w h site i (calls exit o is) = calls_step y s w h site i exit o is
+  own_by y s w h site i (at_core o free) = cores_step y s w h site i o free
 
   pub runs_simulate : RunsSimulate
   runs_simulate y s w h stands i =
       let r = runs_ready y s w h stands i in
-      simulates_after y s w h r.stands i (own_by y s w h r.stands r.below i r.ready)
+      simulates_after y s w h r.site.stands i (own_by y s w h r.site i r.ready)
 
   module _ (law : FragmentsGoOn) where
     -- ---- A step
@@ -205,7 +194,7 @@ module _ (fragments_step : FragmentsStep) (cores_step : CoresStep) where
       marked = passes_mark y.runs.marks y.runs.program w h
 
       abbrev StepMoves : Type 0
-      StepMoves = Moves y s w (Step h) old (with_step y.runs.marks y.runs.program w h)
+      StepMoves = Moves y s w (Step h) old
 
       -- one that counts nothing, releases nothing and leaves the abstract run
       still_moves : SimulatesStill y s w after old → completing y.runs.program w h ≡ None → releases_last y.runs.program w (Step h) h ≡ false →
@@ -238,30 +227,27 @@ module _ (fragments_step : FragmentsStep) (cores_step : CoresStep) where
       runs_move : IsInPhase w h Run → StepMoves
       runs_move i =
           let r = runs_ready y s w h old i in
-          let o = own_by y s w h r.stands r.below i r.ready in
-          let site : Site y s w h = record { stands = r.stands; below = r.below } in
-          let ghosts = r.stands.ghosts in
-          let later : SimulatesBut y s after anybody = simulates_after y s w h r.stands i o in
+          let site = r.site in
+          let o = own_by y s w h site i r.ready in
+          let ghosts = site.stands.ghosts in
+          let later : SimulatesBut y s after anybody = simulates_after y s w h site.stands i o in
           let marks : begins o.led ≡ marked = sym o.counted.marks in
           let on =
           coe 0 1 (j. GoesOnBy (now (r.similar.abstract j).config) (now o.next.config) (begun_by (marks j) h []))
-          (led_now y s r.stands.abstract h o.next o.led) in
+          (led_now y s site.stands.abstract h o.next o.led) in
           record {
             next = later;
             counted = λ g steps releases counted.
-                own_step_counted y s w h r.stands i o (account_stays y (record {
-                  source = ap (λ (b : AbstractRun y). b.origin.source) r.similar.abstract;
-                  schedule = ap (λ (b : AbstractRun y). b.schedule) r.similar.abstract;
-                  uncommitted = ap (λ (b : AbstractRun y). b.config.uncommitted) r.similar.abstract;
-                }) r.similar.same (λ n d. d) (λ n. refl) (λ n. refl) counted) (passes_none law site r.ready);
-            sections = λ n.
-                subst (λ (b : AbstractRun y). AreSameSections y b o.next n) r.similar.abstract
-                (led_sections y r.stands.abstract h o.next o.led n);
+                let agree =
+                coe 0 1 (j. AgreeOnSteps y old.abstract ((sym r.similar.abstract) j)) (record { source = refl; schedule = refl; uncommitted = refl }) in
+                own_step_counted y s w h site.stands i o (account_stays y agree r.similar.same (λ n d. d) (λ n. refl) (λ n. refl) counted)
+                (passes_none law site r.ready);
+            sections = λ n. coe 0 1 (j. AreSameSections y (r.similar.abstract j) o.next n) (led_sections y site.stands.abstract h o.next o.led n);
             on = record {
               source = on.0;
               runs = on.1;
-              tried = λ furthest. (led_of y r.stands.abstract h o.next o.led).config.tried
-                  (subst (λ (b : AbstractRun y). AreFurthest b.config) (sym r.similar.abstract) furthest);
+              tried = λ furthest.
+                  (led_of y site.stands.abstract h o.next o.led).config.tried (coe 0 1 (j. AreFurthest ((sym r.similar.abstract) j).config) furthest);
               unlocked = λ n mutex is.
                   subst (λ (k : ℕ). (later.ghosts k).giving ≡ Some mutex → IsUnlocked (now old.abstract.config) k
                   (passes_mark y.runs.marks y.runs.program w k) (old.ghosts k).giving mutex) (step_of h n is)
@@ -275,8 +261,7 @@ module _ (fragments_step : FragmentsStep) (cores_step : CoresStep) where
               nears = λ n is running.
                   subst (λ (k : ℕ). Nears y w k (passes_mark y.runs.marks y.runs.program w k) (old.ghosts k).before_mark
                   (later.ghosts k).before_mark) (step_of h n is)
-                  (nears_by y w h o.counted.marks ((r.similar.same h).ahead) (ap (λ (c : ThreadGhost). c.before_mark) (own_ghost ghosts h o.ghost))
-                  o.counted.nears);
+                  (coe 0 1 (j. Nears y w h (marks j) ((r.similar.same h).ahead j) ((sym (own_ghost ghosts h o.ghost)) j).before_mark) o.counted.nears);
             };
           }
 
@@ -302,17 +287,9 @@ module _ (fragments_step : FragmentsStep) (cores_step : CoresStep) where
           (λ i. none-some i.hart (sym none ∙ i.here))
       step_moves (Some hart) here = in_phase_moves hart.phase (record { hart = hart; here = here; phase_is = refl })
 
-      step_counts : (steps : Steps) →
-          with_all_kept w.log after.words (length (with_step y.runs.marks y.runs.program w h steps).harts) (with_step y.runs.marks y.runs.program w h steps)
-          ≡ steps_after y.runs.marks y.runs.program w (Step h) steps
-      unfolding steps_after
-      step_counts steps =
-          ap (λ (n : ℕ). with_all_kept w.log after.words n (with_step y.runs.marks y.runs.program w h steps))
-          (count_same marked (stores_point y.runs.program w (Step h) h) h (last_position (point_in w.log after.words h)) steps)
-
     -- ---- Whatever happens
 
-    eviction_moves : (y : System) (s : IsSystem y) (w : World) (line mask : ℕ) (old : Simulates y s w) → Moves y s w (Evict line mask) old (λ steps. steps)
+    eviction_moves : (y : System) (s : IsSystem y) (w : World) (line mask : ℕ) (old : Simulates y s w) → Moves y s w (Evict line mask) old
     eviction_moves y s w line mask old = record {
       next = evicted_simulates y s w line mask old;
       counted = λ g steps r counted. evicted_counted y s w line mask old steps r counted;
@@ -328,18 +305,9 @@ module _ (fragments_step : FragmentsStep) (cores_step : CoresStep) where
       };
     }
 
-    evict_counts : (y : System) (w : World) (line mask : ℕ) (steps : Steps) →
-        with_all_kept w.log (after_event y.runs.program w (Evict line mask)).words (length steps.harts) steps
-        ≡ steps_after y.runs.marks y.runs.program w (Evict line mask) steps
-    unfolding steps_after
-    evict_counts y w line mask steps = refl
-
     pub event_goes_on : (y : System) (s : IsSystem y) (w : World) (event : Event) (old : Simulates y s w) → GoesOn y s w event old
-    event_goes_on y s w (Step h) old =
-        commits_move y s w (Step h) old (with_step y.runs.marks y.runs.program w h) (step_moves y s w h old (slice_get w.harts h) refl)
-        (step_counts y s w h old)
-    event_goes_on y s w (Evict line mask) old =
-        commits_move y s w (Evict line mask) old (λ steps. steps) (eviction_moves y s w line mask old) (evict_counts y w line mask)
+    event_goes_on y s w (Step h) old = commits_move y s w (Step h) old (λ e. cc) (step_moves y s w h old (slice_get w.harts h) refl)
+    event_goes_on y s w (Evict line mask) old = commits_move y s w (Evict line mask) old (λ e. cc) (eviction_moves y s w line mask old)
     event_goes_on y s w Crash old = record {
       next = starting.stands_after y s w old;
       counted = λ g steps r counted. crash_counted y s w old steps r counted;
@@ -359,37 +327,23 @@ module _ (fragments_step : FragmentsStep) (cores_step : CoresStep) where
     event_carried y s {g} w event steps r is =
         let o = event_goes_on y s w event is.stands in record { stands = o.next; counted = o.counted g steps r is.counted }
 
-    -- the releases after events, one by one
-    all_released : (program : List (List Slot)) (w : World) (event : Event) (events : List Event) (r : ℕ → ℕ) (n : ℕ) →
-        released_by program w event r n + released_count program (after_event program w event) events n ≡ r n + released_count program w (event ∷ events) n
-    all_released program w event events r n = omega arith
-
-    events_carried : (y : System) (s : IsSystem y) {g : Beginning} (events : List Event) (w : World) (steps : Steps) (r : ℕ → ℕ) →
-        SimulatesCounted y s g w steps r →
-        SimulatesCounted y s g (after_events y.runs.program w events) (steps_along y.runs.marks y.runs.program w events steps)
-        (λ n. r n + released_count y.runs.program w events n)
-    events_carried y s {g} [] w steps r is = subst (SimulatesCounted y s g w steps) (λ i n. none_more (r n) i) is
-    events_carried y s {g} (event ∷ events) w steps r is =
-        subst (SimulatesCounted y s g (after_events y.runs.program w (event ∷ events)) (steps_along y.runs.marks y.runs.program w (event ∷ events) steps))
-        (λ i n. all_released y.runs.program w event events r n i)
-        (events_carried y s events (after_event y.runs.program w event) (steps_after y.runs.marks y.runs.program w event steps)
-        (released_by y.runs.program w event r)
-        (event_carried y s w event steps r is))
-
-    pub all_counted : (y : System) (s : IsSystem y) {g : Beginning} (events : List Event) (w : World) (steps : Steps) →
-        SimulatesCounted y s g w steps (λ n. 0) →
-        SimulatesCounted y s g (after_events y.runs.program w events) (steps_along y.runs.marks y.runs.program w events steps)
-        (released_count y.runs.program w events)
-    all_counted y s {g} events w steps is =
-        subst (SimulatesCounted y s g (after_events y.runs.program w events) (steps_along y.runs.marks y.runs.program w events steps))
-        (λ i n. (let e : 0 + released_count y.runs.program w events n ≡ released_count y.runs.program w events n = omega arith in e) i)
-        (events_carried y s events w steps (λ n. 0) is)
+    -- along events, with the releases up to then and those that come
+    events_carried : (y : System) (s : IsSystem y) {g : Beginning} (events : List Event) (w : World) (steps : Steps) (r later : ℕ → ℕ) →
+        ((n : ℕ) → r n + released_count y.runs.program w events n ≡ later n) → SimulatesCounted y s g w steps r →
+        SimulatesCounted y s g (after_events y.runs.program w events) (steps_along y.runs.marks y.runs.program w events steps) later
+    events_carried y s {g} [] w steps r later all is = subst (SimulatesCounted y s g w steps) (λ i n. (let e : r n ≡ later n = omega (arith, all n) in e) i) is
+    events_carried y s (event ∷ events) w steps r later all is =
+        events_carried y s events (after_event y.runs.program w event) _ (released_by y.runs.program w event r) later (λ n. omega (arith, all n))
+        (event_carried y s w event steps r is)
 
     pub machines_resume : MachinesResume
-    machines_resume y s events = all_counted y s events _ _ (start_counted y s)
+    machines_resume y s events =
+        events_carried y s events _ _ (λ n. 0) (released_count y.runs.program (first_world y.runs) events) (λ n. omega arith) (start_counted y s)
 
     pub recovered_are_counted : RecoveredAreCounted
-    recovered_are_counted y s o words kept is events = all_counted y s events _ _ (recovered_counted y s o words kept is)
+    recovered_are_counted y s o words kept is events =
+        let w = after_crash_of y.runs.log y.runs.program y.runs.mutexes words in
+        events_carried y s events w _ (λ n. 0) (released_count y.runs.program w events) (λ n. omega arith) (recovered_counted y s o words kept is)
 
     -- ---- Its sections are kept
 
@@ -399,8 +353,7 @@ module _ (fragments_step : FragmentsStep) (cores_step : CoresStep) where
 
     near_of : (y : System) (w : World) (b : AbstractRun y) (n : ℕ) (c : ThreadGhost) (released : ℕ) → IsReleasedOf y w b n c released →
         IsNear released (sections_kept y b n)
-    near_of y w b n c released (in_step e) = let one = at_most_one (is_leaving c) in (omega (arith, e, one), omega (arith, e, one))
-    near_of y w b n c released (cut_off i e) = (omega (arith, e), omega (arith, e))
+    near_of y w b n c released h6 = grind (arith, at_most_one)
 
     pub sections_are_kept : SectionsAreKept
     sections_are_kept y s events h =
@@ -413,8 +366,6 @@ module _ (fragments_step : FragmentsStep) (cores_step : CoresStep) where
         subst (IsNear (ended_in_machine y events h))
         (ap₂ (λ (from : State) (us : List ℕ). ended_from from us h) z.counted.begins (sym z.counted.kept)) near
 
--- ---- By each event a section ends in the kept schedule exactly where the durable point of its hart becomes 0
-
 -- ---- Along two lists of events
 
 pub worlds_join : (program : List (List Slot)) (events more : List Event) (w : World) →
@@ -425,8 +376,7 @@ worlds_join program (event ∷ events) more w = worlds_join program events more 
 pub steps_join : (marks : List (List ℕ)) (program : List (List Slot)) (events more : List Event) (w : World) (s : Steps) →
     steps_along marks program w (events ++ more) s ≡ steps_along marks program (after_events program w events) more (steps_along marks program w events s)
 steps_join marks program [] more w s = refl
-steps_join marks program (event ∷ events) more w s =
-    steps_join marks program events more (after_event program w event) (steps_after marks program w event s)
+steps_join marks program (event ∷ events) more w s = steps_join marks program events more (after_event program w event) (steps_after marks program w event s)
 
 -- ---- The durable point is 0 exactly where the thread stands between sections in what is kept
 

@@ -1,7 +1,6 @@
 -- The machine's account and its releases after an event, where commits are still to be taken.
 use Rattle.std.proofs.Common.{◌≡◌, ◌≢◌, inl, inr, refl, ℕ, suc, ◌+◌, ◌<◌, List, ap, sym, ◌∙◌, subst, arith, Some, None, Bool, true, false, [], ◌∷◌, ◌++◌}
-use Rattle.std.proofs.Common.{length, ap₂}
-use Rattle.std.specs.Prelude.{slice_get, is_some, ◌&&◌, ◌==◌, if◌then◌else◌, not}
+use Rattle.std.proofs.Common.{length, ap₂, slice_get, is_some, ◌&&◌, ◌==◌, if◌then◌else◌, not}
 use Rattle.std.proofs.lemmas.Bool.{true≢false, cases_Bool, and_parts, eqb-true}
 use Rattle.std.proofs.lemmas.List.{append-nil, length-replicate}
 use Rattle.ido_base.specs.declared.event.Event.{Event}
@@ -10,7 +9,7 @@ use Rattle.c_tree.specs.Source.{ended_from}
 use Rattle.rv64_isa.specs.declared.object.Slot.{Slot}
 use Rattle.rv64_isa.specs.declared.phase.Phase.{Phase}
 use Rattle.rv64_isa.specs.declared.phase.Phase.TheVariants.{Take, Wait, Resume, Run, Done, Ended}
-use Rattle.rv64_isa.specs.Machine.{Hart, World, Outcome, happens, after_event, after_crash_of}
+use Rattle.rv64_isa.specs.Machine.{World, Outcome, happens, after_event, after_crash_of}
 use Rattle.rv64_isa.specs.Schedule.{is_running, releases_last, HartSteps, LifeSchedules, Steps, only_life, no_steps, hart_steps, first_steps, passes_mark}
 use Rattle.rv64_isa.specs.Schedule.{stores_point, with_step, steps_after}
 use Rattle.rv64_isa.specs.Frames.{IsWellFormedWorld}
@@ -30,7 +29,6 @@ use Rattle.crash_simulation.proofs.RecordsAfterCrash.{left, left_kept}
 use Rattle.crash_simulation.proofs.ThreadsOfMachines.{phase_of, each_placed}
 use Rattle.crash_simulation.proofs.Sections.{led_sections}
 use Rattle.std.specs.List.{list_any}
-use Rattle.ido_base.specs.declared.log.Log.{Log}
 use Rattle.ido_base.specs.Words.{last_position}
 use Rattle.rv64_isa.specs.Executables.{first_world}
 use Rattle.c_tree.specs.Source as m
@@ -43,14 +41,14 @@ use Rattle.crash_simulation.specs.AbstractRuns.{AbstractRun}
 use Rattle.crash_simulation.specs.ThreadGhosts.{ThreadGhost}
 use Rattle.region_attempts.specs.Origins.{Origin}
 use Rattle.crash_simulation.specs.RecoveredWords.{IsRecoveredFrom}
-use Rattle.crash_simulation.specs.AccountRelation.{IsCountedOf, IsAccountedOf, AreCounted, SimulatesCounted, Beginning, first_beginning}
+use Rattle.crash_simulation.specs.AccountRelation.{IsCountedOf, IsAccountedOf, AreCounted, SimulatesCounted, Beginning, first_beginning, counted_steps}
+use Rattle.crash_simulation.specs.AccountRelation.{last_stored}
 use Rattle.crash_simulation.proofs.DisjointStores.{elsewhere}
 use Rattle.crash_simulation.proofs.StepSimulation.{evicted_simulates}
 use Rattle.crash_simulation.proofs.StatesMatchSource.{resumed, repeated_or}
 use Rattle.crash_simulation.proofs.LongestAttempts.{StepsInRun, led_of}
 use Rattle.crash_simulation.proofs.AccountUpdates.{begun_by, more_by, kept_same, pending_is, count_same, own_by, own_is, other_is, still_accounted}
-use Rattle.crash_simulation.proofs.AccountUpdates.{account_stays, own_counted}
-use Rattle.crash_simulation.proofs.PointPositions.{own_last_stays, other_last_stays, evicted_last_stays}
+use Rattle.crash_simulation.proofs.AccountUpdates.{account_stays, own_counted, own_last_stays, other_last_stays, evicted_last_stays}
 use Rattle.crash_simulation.proofs.SimulationAtStart as starting
 
 -- ---- Sections that are kept, and the machine's releases
@@ -102,20 +100,15 @@ module _ (program : List (List Slot)) (w : World) (h : ℕ) where
     | inr other ↦ record { hart = i.hart; here = (steps_touch program w h sound).others n other ∙ i.here; phase_is = i.phase_is }
   ]
 
+  pub other_released : (released : ℕ → ℕ) (n : ℕ) → n ≢ h → released_by program w (Step h) released n ≡ released n
+  other_released released n other = omega (arith, ap one_if (other_release program w h n other))
+
   -- each thread's, where the hart's own step releases none
   pub none_released : ReleasesNone → (released : ℕ → ℕ) (n : ℕ) → released_by program w (Step h) released n ≡ released n
-  none_released none released n =
-      let none_of_it : releases_last program w (Step h) n ≡ false = elim (same_or_other n h) [
-        | inl same ↦ subst (λ (k : ℕ). releases_last program w (Step h) k ≡ false) (sym same) none
-        | inr other ↦ other_release program w h n other
-      ] in
-      let zero = ap (λ (b : Bool). one_if b) none_of_it in
-      omega (arith, zero)
-
-  pub other_released : (released : ℕ → ℕ) (n : ℕ) → n ≢ h → released_by program w (Step h) released n ≡ released n
-  other_released released n other =
-      let zero = ap (λ (b : Bool). one_if b) (other_release program w h n other) in
-      omega (arith, zero)
+  none_released none released n = elim (same_or_other n h) [
+    | inl same ↦ omega (arith, ap one_if (subst (λ (k : ℕ). releases_last program w (Step h) k ≡ false) (sym same) none))
+    | inr other ↦ other_released released n other
+  ]
 
 -- ---- A step of a hart that executes instructions
 
@@ -127,58 +120,35 @@ module _ (y : System) (s : IsSystem y) (w : World) (h : ℕ) (stands : Simulates
   pub kept_own : (n : ℕ) → sections_kept y o.next n ≡ sections_kept y stands.abstract n
   kept_own n = (led_sections y stands.abstract h o.next o.led n).sections
 
-  own_lag : Releases y w h (stands.ghosts h) o.ghost →
-      r h + one_if (is_leaving (stands.ghosts h)) ≡ then_own h + one_if (is_leaving o.ghost)
-  own_lag (nothing_released none same) =
-      let zero = ap one_if none in
-      let as_before = ap one_if same in
-      omega (arith, zero, as_before)
-  own_lag (last_released releases was is) =
-      let one = ap one_if releases in
-      let before = ap one_if was in
-      let after_it = ap one_if is in
-      omega (arith, one, before, after_it)
+  own_lag : Releases y w h (stands.ghosts h) o.ghost → r h + one_if (is_leaving (stands.ghosts h)) ≡ then_own h + one_if (is_leaving o.ghost)
+  own_lag (nothing_released none same) = omega (arith, ap one_if none, ap one_if same)
+  own_lag (last_released releases was is) = omega (arith, ap one_if releases, ap one_if was, ap one_if is)
 
   pub released_own : IsReleasedOf y w stands.abstract h (stands.ghosts h) (r h) →
       IsReleasedOf y (after_event y.runs.program w (Step h)) o.next h o.ghost (then_own h)
-  released_own (in_step e) = in_step (kept_own h ∙ (e ∙ own_lag o.released))
-  released_own (cut_off d e) =
-      let same : d.hart ≡ i.hart = same_there (slice_get w.harts h) d.hart i.hart d.here i.here in
-      absurd (true≢false (sym (ap is_running (sym d.phase_is ∙ (ap (λ (x : Hart). x.phase) same ∙ i.phase_is)))))
-
--- ---- An eviction
-
-pub evicted_done : (program : List (List Slot)) (w : World) (line mask n : ℕ) → IsInPhase w n Done → IsInPhase (after_event program w (Evict line mask)) n Done
-evicted_done program w line mask n i =
-    record { hart = i.hart; here = ap (λ (v : World). slice_get v.harts n) (evictions_touch program w line mask).1 ∙ i.here; phase_is = i.phase_is }
+  released_own h0 = grind (arith, same_there, slice_get, true≢false, kept_own, own_lag)
 
 -- ---- A crash
 
 pub kept_crashed : (y : System) (s : IsSystem y) (w : World) (stands : Simulates y s w) (n : ℕ) →
     sections_kept y (starting.stands_after y s w stands).abstract n ≡ sections_kept y stands.abstract n
-kept_crashed y s w stands n =
-    ap (λ (us : List ℕ). ended_from stands.abstract.origin.source us n) (append-nil stands.abstract.schedule)
+kept_crashed y s w stands n = ap (λ (us : List ℕ). ended_from stands.abstract.origin.source us n) (append-nil stands.abstract.schedule)
 
 module _ (y : System) (s : IsSystem y) (w : World) (stands : Simulates y s w) (r : ℕ → ℕ) where
   abbrev crashed : World
   crashed = after_event y.runs.program w Crash
 
   phase_none : (n : ℕ) (phase : Phase) → (left y s w stands n).point ≡ 0 → Gathers crashed n (left y s w stands n) phase → phase ≡ Done
-  phase_none n Take none g = absurd (g none)
-  phase_none n Wait none g = absurd (g.0 none)
-  phase_none n Done none g = refl
-  phase_none n phase none g = absurd g
+  phase_none n phase h2 h3 = grind (arith)
 
   -- where a record without a point is kept, the hart is left with nothing to do
-  crashed_done : (n : ℕ) → n < thread_count y → (stands.ghosts n).committed ≡ true → (stands.ghosts n).new.point ≡ 0 →
-      IsInPhase crashed n Done
+  crashed_done : (n : ℕ) → n < thread_count y → (stands.ghosts n).committed ≡ true → (stands.ghosts n).new.point ≡ 0 → IsInPhase crashed n Done
   crashed_done n below committed none =
       let c = stands.ghosts n in
       let point : (left y s w stands n).point ≡ 0 =
       ap (λ (r : Record). r.point) (left_kept y s w stands n below) ∙ (ap (λ (done : Bool). (if done then c.new else c.old).point) committed ∙ none) in
       let gathers = starting.gathers y s w stands in
-      let count = (starting.machine y s w stands).count in
-      let log = gathers.logs n (omega (arith, below, count)) in
+      let log = gathers.logs n (omega (arith, below, (starting.machine y s w stands).count)) in
       record { hart = log.hart; here = log.here; phase_is = phase_none n log.hart.phase point (gathers.each n log.hart log.here) }
 
   pub crashed_by : (n : ℕ) → n < thread_count y → IsReleasedOf y w stands.abstract n (stands.ghosts n) (r n) →
@@ -192,13 +162,8 @@ module _ (y : System) (s : IsSystem y) (w : World) (stands : Simulates y s w) (r
         | inl leaves ↦
             let one = and_parts c.committed (is_some c.giving && (c.new.point == 0)) leaves in
             let two = and_parts (is_some c.giving) (c.new.point == 0) one.1 in
-            let kept = kept_crashed y s w stands n in
-            let more = ap one_if leaves in
-            cut_off (crashed_done n below one.0 (eqb-true c.new.point 0 two.1)) (omega (arith, kept, e, more))
-        | inr stays ↦
-            let kept = kept_crashed y s w stands n in
-            let none = ap one_if stays in
-            in_step (omega (arith, kept, e, none))
+            cut_off (crashed_done n below one.0 (eqb-true c.new.point 0 two.1)) (omega (arith, kept_crashed y s w stands n, e, ap one_if leaves))
+        | inr stays ↦ in_step (omega (arith, kept_crashed y s w stands n, e, ap one_if stays))
       ]
 
 -- ---- The account
@@ -211,10 +176,7 @@ none_bound c is = ap (λ (b : Bool). not b && not (list_any is_store c.rest)) is
 
 pub none_counted : (y : System) (w : World) (b : AbstractRun y) (n : ℕ) (c : ThreadGhost) (one : HartSteps) → c.committed ≡ true → steps_begun b.config n ≡ 0 →
     one ≡ no_steps → IsCountedOf y w b n c one
-none_counted y w b n c one committed begun none = record {
-  free = λ e. (ap (λ (x : HartSteps). x.free) none ∙ sym begun, ap (λ (x : HartSteps). x.bound) none);
-  bound = λ e. absurd (true≢false (sym e ∙ none_bound c committed));
-}
+none_counted y w b n c one committed begun none = none ∙ (λ i. counted_steps ((sym (none_bound c committed)) i) (last_stored w n) ((sym begun) i))
 
 -- the account of a machine that begins, after what was kept before
 abbrev pub first_counted : (y : System) (s : IsSystem y) (g : Beginning) {w : World} (stands : Simulates y s w) → stands.abstract.origin.source ≡ g.from →
@@ -264,7 +226,8 @@ crash_counted y s {g} w stands steps r counted = record {
   pending = refl;
   count = length-replicate (length steps.harts) no_steps ∙ counted.count;
   each = λ n below. record {
-    counted = none_counted y (after_event y.runs.program w Crash) _ n _ _ refl refl (repeated_or (length steps.harts) n no_steps);
+    counted = let z = starting.stands_after y s w stands in
+        none_counted y (after_event y.runs.program w Crash) z.abstract n (z.ghosts n) _ refl refl (repeated_or (length steps.harts) n no_steps);
     released = crashed_by y s w stands r n below (counted.each n below).released;
   };
   beyond = λ n outside. kept_crashed y s w stands n ∙ (counted.beyond n outside ∙ none_more (r n));
@@ -278,7 +241,9 @@ pub evicted_counted : (y : System) (s : IsSystem y) {g : Beginning} (w : World) 
     (released_by y.runs.program w (Evict line mask) r)
 evicted_counted y s w line mask stands steps r counted =
     account_stays y (record { source = refl; schedule = refl; uncommitted = refl })
-    (λ n. record { bound = refl; leaving = refl; giving = refl; ahead = refl }) (evicted_done y.runs.program w line mask)
+    (λ n. record { bound = refl; leaving = refl; giving = refl; ahead = refl })
+    (λ n i. let here = ap (λ (v : World). slice_get v.harts n) (evictions_touch y.runs.program w line mask).1 ∙ i.here in
+    record { hart = i.hart; here = here; phase_is = i.phase_is })
     (evicted_last_stays y.runs.program w line mask) (λ n. sym (none_more (r n))) counted
 
 -- ---- What happens to the source by a thread
@@ -300,14 +265,11 @@ led_now y s b thread next led = let l = (led_of y b thread next led).config in l
 
 more_own : (m next : Config) (thread : ℕ) (begun : Bool) → next.uncommitted ≡ begun_by begun thread m.uncommitted →
     steps_begun next thread ≡ more_by begun (steps_begun m thread)
-more_own m next thread true e = ap (λ (p : List ℕ). steps_begun (record m { uncommitted = p }) thread) e ∙ counted_own thread m.uncommitted
-more_own m next thread false e = ap (λ (p : List ℕ). steps_begun (record m { uncommitted = p }) thread) e
+more_own m next thread begun e = grind (arith, counted_own, e)
 
 same_other : (m next : Config) (thread n : ℕ) (begun : Bool) → n ≢ thread → next.uncommitted ≡ begun_by begun thread m.uncommitted →
     steps_begun next n ≡ steps_begun m n
-same_other m next thread n true differs e =
-    ap (λ (p : List ℕ). steps_begun (record m { uncommitted = p }) n) e ∙ counted_other thread n m.uncommitted (λ same. differs (sym same))
-same_other m next thread n false differs e = ap (λ (p : List ℕ). steps_begun (record m { uncommitted = p }) n) e
+same_other m next thread n begun differs e = grind (arith, counted_other, e)
 
 -- ---- A step of a hart that executes instructions
 
@@ -340,23 +302,19 @@ module _ (y : System) (s : IsSystem y) (w : World) (h : ℕ) (stands : Simulates
   pending : o.next.config.uncommitted ≡ begun_by begun h b.config.uncommitted
   pending = lead.config.pending ∙ ap (λ (x : Bool). begun_by x h b.config.uncommitted) (sym o.counted.marks)
 
-  inside : h < length steps.harts
-  inside = let count = counted.count in let below = o.below in omega (arith, count, below)
-
   -- the hart's point is the last that it stored
-  own_stays : is_bound old ≡ true → last_position (point_in after.log after.words h) ≡ last_position (point_in w.log w.words h)
-  own_stays e =
-      own_last_stays y.runs.program w h i.hart stands.machine.sound i.here (o.counted.points ∙ ap (λ (x : Bool). not x && is_bound o.ghost) e)
+  own_stays : is_bound old ≡ true → last_stored after h ≡ last_stored w h
+  own_stays e = own_last_stays y.runs.program w h i.hart stands.machine.sound i.here (o.counted.points ∙ ap (λ (x : Bool). not x && is_bound o.ghost) e)
 
   own : IsCountedOf y after o.next h o.ghost (hart_steps then_steps h)
   own =
-      subst (λ (one : HartSteps). IsCountedOf y after o.next h o.ghost one) (sym (own_is begun points h position steps inside))
-      (subst (λ (x : Bool). IsCountedOf y after o.next h o.ghost (own_by begun x position (hart_steps steps h))) (sym o.counted.points)
-      (subst (λ (l : Log). IsCountedOf y after o.next h o.ghost
-      (own_by begun (not (is_bound old) && is_bound o.ghost) (last_position (point_in l after.words h)) (hart_steps steps h)))
-      (log_stays y.runs.program w (Step h) stands.machine.sound)
-      (own_counted y after o.next h o.ghost (counted.each h o.below).counted o.counted.bound own_stays begun
-      (more_own b.config o.next.config h begun pending) none)))
+      let now_last = last_stored after h in
+      let more = more_own b.config o.next.config h begun pending in
+      own_is begun points h position steps (omega (arith, counted.count, o.below))
+      ∙ (λ j. own_by begun (o.counted.points j) (last_position (point_in (sym (log_stays y.runs.program w (Step h) stands.machine.sound) j) after.words h))
+      ((counted.each h o.below).counted j))
+      ∙ own_counted (is_bound old) (is_bound o.ghost) begun _ now_last _ o.counted.bound own_stays none
+      ∙ ap (counted_steps (is_bound o.ghost) now_last) (sym more)
 
   abbrev then_released : ℕ → ℕ
   then_released = released_by y.runs.program w (Step h) r
@@ -382,8 +340,6 @@ module _ (y : System) (s : IsSystem y) (w : World) (h : ℕ) (stands : Simulates
     each = each_placed (thread_count y) stands.ghosts h o.below o.ghost
         (λ (n : ℕ) (below : n < thread_count y) (c : ThreadGhost). IsAccountedOf y after o.next n c (hart_steps then_steps n) (then_released n))
         (record { counted = own; released = released_own y s w h stands i o r (counted.each h o.below).released }) other;
-    beyond = λ n outside.
-        let inside = o.below in
-        kept_own y s w h stands i o r n
-        ∙ (counted.beyond n outside ∙ sym (other_released y.runs.program w h r n (λ e. omega (arith, outside, inside, e))));
+    beyond = λ n outside. kept_own y s w h stands i o r n
+        ∙ (counted.beyond n outside ∙ sym (other_released y.runs.program w h r n (λ e. omega (arith, outside, o.below, e))));
   }

@@ -1,11 +1,9 @@
 -- Boundaries that a thread's code begins: they can be recovered from, and their records describe the state.
-use Rattle.std.proofs.Common.{◌≡◌, ◌≢◌, refl, ℕ, zero, suc, ◌+◌, ◌-◌, ◌*◌, ◌%◌, ◌^◌, ◌<◌, ◌≤◌, List}
-use Rattle.std.proofs.Common.{[], length, map, sym, ◌∙◌, ap, subst, arith, Option, Some, inl, inr}
-use Rattle.std.proofs.Common.{true}
+use Rattle.std.proofs.Common.{◌≡◌, ◌≢◌, refl, ℕ, zero, suc, ◌+◌, ◌-◌, ◌*◌, ◌%◌, ◌^◌, ◌<◌, ◌≤◌, List, [], length, map, sym, ◌∙◌, ap, subst, arith, Some}
+use Rattle.std.proofs.Common.{true, slice_get, sum_by, take, false, nat_le, slice_index_or, pos}
 use Rattle.std.proofs.lemmas.Bool.{and_parts, leb-true, eqb-true, cond_both}
 use Rattle.std.proofs.lemmas.Bool.Decides.{nat_tests}
 use Rattle.std.proofs.lemmas.Option.{none-some, slice_get_within}
-use Rattle.std.specs.Prelude.{slice_get, sum_by, take, false, None, nat_le, ◌/◌, ◌==◌, ◌&&◌, slice_index_or, pos}
 use Rattle.ido_base.specs.declared.log.Log.TheVariants.{V1}
 use Rattle.ido_base.specs.Layout.{in_range, variable_at}
 use Rattle.ido_ints.specs.declared.kinds.Kind.{Kind}
@@ -18,16 +16,14 @@ use Rattle.c_tree.specs.Source.{Pending}
 use Rattle.c_tree.specs.WellFormed.{shape_of}
 use Rattle.c_ranges.specs.RunInvariants.{IsThreadOf, IsStoreInRange}
 use Rattle.c_ranges.proofs.Public.{zip_found}
-use Rattle.rv64_isa.specs.Programs.{code_base, code_start, code_of}
 use Rattle.rv64_isa.specs.declared.instr.Instr.{Instr}
 use Rattle.rv64_isa.specs.Rows.{read}
-use Rattle.rv64_isa.specs.declared.object.Slot.{Slot}
 use Rattle.rv64_isa.specs.Machine.{World}
 use Rattle.rv64_link.specs.LinkedCode.{IsInstructionAt}
 use Rattle.operator_code.specs.ComputingCode.{Carries}
 use Rattle.code_runs.specs.ComputingRuns.{LocalConfig, config}
 use Rattle.code_runs.specs.CodeTraces.{Program, MarkedEnvironment, Meets, Trace}
-use Rattle.hart_runs.specs.HartsOnRuns.{Agrees, instr_of, instr_at}
+use Rattle.hart_runs.specs.HartsOnRuns.{Agrees, instr_at}
 use Rattle.flow_graph.specs.Nodes.{Action, Store, Node, Graph}
 use Rattle.flow_graph.specs.Lowering.{lowered}
 use Rattle.flow_graph.specs.IdempotentCuts.{stores}
@@ -46,6 +42,7 @@ use Rattle.recovered_threads.specs.RecordDescriptions.{Code, IsOrderly, ResumesA
 use Rattle.recovered_threads.specs.Laws.{AtBoundary}
 use Rattle.recovered_threads.proofs.Public.{boundaries_recover, commits_describe}
 use Rattle.crash_simulation.specs.Systems.{System, IsSystem, thread_count}
+use Rattle.crash_simulation.proofs.StepsAfterMarks.{room}
 use Rattle.expr_code.specs.declared.home.Home.{Home}
 use Rattle.expr_code.specs.EvaluationCode.{HomeCarries}
 
@@ -66,87 +63,32 @@ module _ (y : System) (s : IsSystem y) (n : ℕ) (below : n < thread_count y) wh
 
   -- a word of it, or its end
   pub in_code : (i : ℕ) → i ≤ length c.program.code → IsAddress (c.program.start + 4 * i)
-  in_code i within =
-      let words : ℕ = sum_by length (take code.thread.number y.runs.program) in
-      let begins : c.program.start ≡ code_base + 4 * words = ap (λ (p : Program). p.start) (code.is.of_program ∙ (s.own n below).program) in
-      let room : c.program.start + 4 * length c.program.code < 2 ^ 64 =
-      subst (λ (p : Program). p.start + 4 * length p.code < 2 ^ 64) (sym code.is.of_program) (s.own n below).room in
-      record { aligned = omega (arith, begins); somewhere = omega (arith, begins); below = omega (arith, within, room) }
+  in_code i within = grind (arith, room, sum_by, take)
 
   pub stands_in : (address : ℕ) (instr : Instr) → IsInstructionAt c.program.start c.program.code address instr → IsAddress address
-  stands_in address instr st =
-      subst (λ (a : ℕ). IsAddress a) (sym st.1) (in_code st.0 (omega (arith, slice_get_within c.program.code st.0 _ st.2)))
+  stands_in address instr st = subst (λ (a : ℕ). IsAddress a) (sym st.1) (in_code st.0 (omega (arith, slice_get_within c.program.code st.0 _ st.2)))
 
   -- where a thread is resumed after an unlock
   pub after_unlock_in : (from mutex next : ℕ) → IsUnlockOf y.plan code.thread from mutex next → IsAddress (c.after from)
   after_unlock_in from mutex next u =
       let calls = subst (λ (a : Action). IsCalling y.plan code.thread c a from) u.unlocks (code.is.code from u.is u.own u.at).calls in
       let st = calls.0 in
-      let after = calls.2 in
-      subst (λ (a : ℕ). IsAddress a) (let e : c.program.start + 4 * suc st.0 ≡ c.after from = omega (arith, after) in e)
+      subst (λ (a : ℕ). IsAddress a) (let e : c.program.start + 4 * suc st.0 ≡ c.after from = omega (arith, calls.2) in e)
       (in_code (suc st.0) (omega (arith, slice_get_within c.program.code st.0 _ st.2)))
 
-  -- ---- Entries of nodes
-
-  entries : (j : ℕ) → code.thread.part.first + j ≤ code.thread.part.end → (k : ℕ) × (c.entry (code.thread.part.first + j) ≡ c.program.start + 4 * k)
-  entries zero within =
-      let first : code.thread.part.first + 0 ≡ code.thread.part.first = omega arith in
-      let at : c.entry (code.thread.part.first + 0) ≡ code.program.start = ap c.entry first ∙ code.is.begins in
-      (0, omega (arith, at, ap (λ (p : Program). p.start) code.is.of_program))
-  entries (suc j) within =
-      let before = entries j (omega (arith, within)) in
-      let own : IsNodeOf code.thread (code.thread.part.first + j) = record { from_first = omega arith; below_end = omega (arith, within) } in
-      let next : code.thread.part.first + j + 1 ≡ code.thread.part.first + suc j = omega arith in
-      let at : c.entry (code.thread.part.first + suc j) ≡ c.entry (code.thread.part.first + j) + 4 * c.words (code.thread.part.first + j) =
-      ap c.entry (sym next) ∙ code.is.follows (code.thread.part.first + j) own in
-      let k = before.0 in
-      (k + c.words (code.thread.part.first + j), omega (arith, at))
-
-  -- no node's entry is after the code's end
-  persists : (d node : ℕ) → code.thread.part.first ≤ node → node + d ≡ code.thread.part.end → c.entry node ≤ c.entry code.thread.part.end
-  persists zero node from is = let e : node ≡ code.thread.part.end = omega (arith, is) in let at = ap c.entry e in omega (arith, at)
-  persists (suc d) node from is =
-      let own : IsNodeOf code.thread node = record { from_first = from; below_end = omega (arith, is) } in
-      let at = code.is.follows node own in
-      let more = persists d (node + 1) (omega (arith, from)) (omega (arith, is)) in
-      omega (arith, at, more)
-
+  -- a node's entry
   pub entry_in : (node : ℕ) → IsNodeOf code.thread node → IsAddress (c.entry node)
   entry_in node own =
-      let from = own.from_first in
-      let there : code.thread.part.first + (node - code.thread.part.first) ≡ node = omega (arith, from) in
-      let at = entries (node - code.thread.part.first) (omega (arith, from)) in
-      let k = at.0 in
-      let is : c.entry node ≡ c.program.start + 4 * k = ap c.entry (sym there) ∙ at.1 in
-      let most = persists (code.thread.part.end - node) node from (omega arith) in
+      let r = room y.plan code.thread code.program code.is node own in
       let starts = ap (λ (p : Program). p.start) code.is.of_program in
       let sizes = ap (λ (p : Program). length p.code) code.is.of_program in
-      subst (λ (a : ℕ). IsAddress a) (sym is) (in_code k (omega (arith, is, most, code.is.ends, starts, sizes)))
+      subst (λ (a : ℕ). IsAddress a) (let e : c.program.start + 4 * r.from ≡ c.entry node = omega (arith, r.place, starts) in e)
+      (in_code r.from (omega (arith, r.within, sizes)))
 
   -- ---- Where an instruction is fetched
 
   fetched_in : (address : ℕ) (instr : Instr) → instr_at y.runs.program code.thread.number address ≡ Some instr → IsAddress address
-  fetched_in address instr h =
-      cond_both (nat_le (code_start y.runs.program code.thread.number) address && (address % 4 == 0)) _ None
-      (λ (o : Option Slot). instr_of o ≡ Some instr → IsAddress address)
-      (λ yes there. elim (get_cases (code_of y.runs.program code.thread.number) ((address - code_start y.runs.program code.thread.number) / 4)) [
-        | inl none ↦ absurd (none-some instr (sym (ap instr_of none) ∙ there))
-        | inr found ↦
-            let within = slice_get_within (code_of y.runs.program code.thread.number) ((address - code_start y.runs.program code.thread.number) / 4)
-            found.0 found.1 in
-            let parts = and_parts (nat_le (code_start y.runs.program code.thread.number) address) (address % 4 == 0) yes in
-            let from = leb-true (code_start y.runs.program code.thread.number) address parts.0 in
-            let four = eqb-true (address % 4) 0 parts.1 in
-            let same : c.program.start ≡ code_start y.runs.program code.thread.number =
-            ap (λ (p : Program). p.start) (code.is.of_program ∙ (s.own n below).program) in
-            let size : length c.program.code ≡ length (code_of y.runs.program code.thread.number) =
-            ap (λ (p : Program). length p.code) (code.is.of_program ∙ (s.own n below).program) in
-            let i : ℕ = (address - c.program.start) / 4 in
-            let begins = (in_code 0 (omega arith)).aligned in
-            let at : c.program.start + 4 * i ≡ address = omega (arith, from, four, begins, same) in
-            subst (λ (a : ℕ). IsAddress a) at (in_code i (omega (arith, within, size, same)))
-      ])
-      (λ no there. absurd (none-some instr there)) h
+  fetched_in address instr h = grind (arith, and_parts, cond_both, eqb-true, get_cases, leb-true, nat_le, none-some, slice_get_within, in_code)
 
   -- where a thread is resumed after a lock: the code leads from there to the entry of the next node
   pub after_lock_in : (w : World) (environment : MarkedEnvironment) (side : ℕ) (seen : Seen) (x : List ℕ) (from mutex next : ℕ) → Meets c.program environment →

@@ -5,10 +5,9 @@ use Rattle.std.proofs.Common.{slice_set, suc, length, ◌+◌}
 use Rattle.std.proofs.lemmas.Bool.{true≢false, cond-true, cond-false, cases_Bool, and_parts}
 use Rattle.std.proofs.lemmas.Option.{none-some, same_Some}
 use Rattle.std.specs.Prelude.{slice_get, is_none, is_some, ◌&&◌, ◌==◌, if◌then◌else◌, ◌-◌}
-use Rattle.rv64_isa.proofs.Public.{log_stays, get-set_same, get-set_other, steps_touch}
-use Rattle.ido_base.specs.declared.log.Log.{Log}
+use Rattle.rv64_isa.proofs.Public.{get-set_same, get-set_other, steps_touch}
 use Rattle.ido_base.specs.declared.event.Event.TheVariants.{Step}
-use Rattle.ido_base.specs.Words.{Word, Entry}
+use Rattle.ido_base.specs.Words.{Entry}
 use Rattle.ido_base.specs.Locks.{holds_none}
 use Rattle.rv64_isa.specs.declared.phase.Phase.TheVariants.{Run, Done, Ended}
 use Rattle.rv64_isa.specs.Machine.{Hart, World, with_holder, moved, gone_on, happens}
@@ -19,19 +18,17 @@ use Rattle.flow_graph.specs.Nodes.{Action}
 use Rattle.hart_runs.specs.Calls.{IsAtCall, phase_after}
 use Rattle.hart_runs.specs.RunSteps.{cleans_in, steps_left}
 use Rattle.hart_runs.proofs.Public.{calls_count}
-use Rattle.recovery_semantics.specs.Configs.{attempt_of}
+use Rattle.recovery_semantics.specs.Configs.{attempt_of, now}
 use Rattle.recovery_semantics.specs.Events.{steps_begun}
 use Rattle.recovery_semantics.specs.Laws.{HasUnlocked}
 use Rattle.recovery_semantics.proofs.Public.{held_now}
-use Rattle.log_states.specs.Stages as stages
-use Rattle.log_states.specs.Stages.{LogIs}
 use Rattle.thread_code.specs.Programs.{IsCalling}
 use Rattle.thread_runs.specs.CodeFragments.{ExitPoint, Arrives, Gives, Ends, IsOnFragment, IsUnlockOf, IsEndOf, on_machine}
 use Rattle.thread_runs.specs.Laws.{GivesMutex}
 use Rattle.thread_runs.specs.Laws as runs
 use Rattle.thread_runs.proofs.Public.{unlocks_go_on, call_there, unlocks_give, ends_end}
 use Rattle.recovered_threads.proofs.Public.{same_there, same_or_other, holds_none_is}
-use Rattle.crash_simulation.specs.ThreadGhosts.{ThreadGhost, InFragment, on_fragment, InPhase, ThreadInv}
+use Rattle.crash_simulation.specs.ThreadGhosts.{ThreadGhost, InPhase, ThreadInv, IsRunningThread}
 use Rattle.crash_simulation.specs.InstructionSteps.{stays, is_bound, is_leaving, was_unlocked, Releases, nothing_released, last_released, CallsStep, halts}
 use Rattle.crash_simulation.specs.InstructionSteps.{is_nearer}
 use Rattle.crash_simulation.specs.StepsToMark.{entry_ahead, most_ahead, IsSoon}
@@ -42,11 +39,10 @@ use Rattle.crash_simulation.specs.ThreadGhosts as courses
 use Rattle.crash_simulation.specs.InstructionSteps as moving
 use Rattle.crash_simulation.proofs.LastReleases.{holds_some, no_release, holders_stay_none, is_release, none_leaving, describes_test}
 use Rattle.crash_simulation.proofs.LocksAfterStep.{GoneOn, runs_held, held_given}
-use Rattle.crash_simulation.proofs.OwnHartSteps.{step_to, Site, view, StepOf, own_step, own_giving, locks_to, held_still}
-use Rattle.crash_simulation.proofs.PendingFlushes.{Passage, flushed_same, still_reached, reaches_same}
+use Rattle.crash_simulation.proofs.OwnHartSteps.{view, StepOf, own_step, own_giving, locks_to, held_still}
 use Rattle.crash_simulation.proofs.LockCallSteps.{none_from, point_none, AtEnd, MovesHart, FragmentTo, z, invariant, placed_here, exists_now, now_holders}
-use Rattle.crash_simulation.proofs.LockCallSteps.{kept_held, fragment_over, none_left, rest_over, fits, hart_is, committed_over, call_stores, points_none}
-use Rattle.crash_simulation.proofs.LockCallSteps.{words_after, holders_after, there_after, memory_after, describes_new, asks_step}
+use Rattle.crash_simulation.proofs.LockCallSteps.{kept_held, fragment_over, none_left, rest_over, hart_is, committed_over, call_stores, points_none}
+use Rattle.crash_simulation.proofs.LockCallSteps.{alone, holders_after, memory_after, describes_new, asks_step}
 use Rattle.crash_simulation.proofs.StatesMatchSource.{kept_matches}
 use Rattle.crash_simulation.proofs.KeptThreads.{phase_moves}
 use Rattle.crash_simulation.proofs.LoadFreeEnvironment.{bare_answers, placed}
@@ -54,6 +50,7 @@ use Rattle.crash_simulation.proofs.LocksAtCalls.{not_held, ends_free}
 use Rattle.crash_simulation.proofs.StepsAfterMarks.{less_soon}
 use Rattle.crash_simulation.proofs.FragmentSteps.{not_twice}
 use Rattle.code_runs.specs.CodeTraces.{seen_effects}
+use Rattle.rv64_isa.specs.declared.phase.Phase.{Phase}
 
 -- ---- An unlock
 
@@ -63,8 +60,8 @@ module _ {y : System} {s : IsSystem y} {w : World} {h from mutex : ℕ} (at : At
   abbrev pub giving : FragmentTo at (z at) (Gives from mutex) 0 []
   giving = fragment_over at
 
-  bounded : courses.IsBounded y b code c graph_thread (Some mutex) (HasUnlocked b.config n mutex)
-  bounded = fits at
+  bounded : courses.IsBounded y b.config n c graph_thread (Some mutex) (HasUnlocked b.config n mutex)
+  bounded = at.o.fits
 
   unlock : IsUnlockOf y.plan code.thread from mutex graph_thread.at
   unlock = giving.of_graph
@@ -100,11 +97,11 @@ module _ {y : System} {s : IsSystem y} {w : World} {h from mutex : ℕ} (at : At
   abbrev given_hart : Hart
   given_hart = record (gone_on giving.on.hart) { phase = phase_after w n left_holders }
 
-  abbrev given_move : MovesHart at
-  given_move = record { u = with_holder w mutex None; new = given_hart; does = given.does; words = refl; harts = refl }
-
   given_queue : given_hart.queue ≡ t.log.hart.queue
   given_queue = ap (λ (x : Hart). x.queue) (hart_is at)
+
+  abbrev given_move : MovesHart at
+  given_move = record { u = with_holder w mutex None; new = given_hart; does = given.does; words = refl; harts = refl; queue = given_queue }
 
   not_now : slice_get (now_of y b).holders mutex ≢ Some (Some n)
   not_now = not_held y s b code graph_thread t.walks from mutex unlock
@@ -124,7 +121,7 @@ module _ {y : System} {s : IsSystem y} {w : World} {h from mutex : ℕ} (at : At
         | inr other ↦ holds_none_is n left_holders lock none (get-set_other w.holders mutex lock None other ∙ at.held.holds lock n has)
       ])
 
-  is_settled : is_over ≡ true → courses.Rests y b code given_ghost
+  is_settled : is_over ≡ true → courses.Rests y b.config n given_ghost
   is_settled over = record {
     begun = none_begun;
     done = none_done;
@@ -140,23 +137,18 @@ module _ {y : System} {s : IsSystem y} {w : World} {h from mutex : ℕ} (at : At
       (length t.log.hart.queue + (places.words from + entry_ahead y.plan places graph_thread.at))
   nearer = grind (arith, nat_tests)
 
-  given_logs : v.log ≡ w.log
-  given_logs = log_stays y.runs.program w (Step n) at.site.stands.machine.sound
-
-  goes_on_running : is_over ≡ false → phase_after w n left_holders ≡ Run → InFragment y v b code given_ghost given_hart graph_thread
+  goes_on_running : is_over ≡ false → phase_after w n left_holders ≡ Run → IsRunningThread y v b code given_ghost given_hart graph_thread
   goes_on_running more run =
       let on = unlocks_go_on y.plan code.thread from mutex graph_thread.at unlock y.runs.program code.program code.is v n (z at)
       seen at.o.side giving.registers
-      (placed y s v h at.site.below (at.site.stands.machine.log ∙ sym given_logs)
+      (placed y s v h at.site.below (at.site.stands.machine.log ∙ sym (alone at given_move).log)
       ((steps_touch y.runs.program w n at.site.stands.machine.sound).count ∙ at.site.stands.machine.count))
       giving.meets given.agrees (given.at run) given.enters in
-      record {
+      courses.on_fragment Arrives on.steps (record {
         environment = z at;
-        answers = bare_answers y s w h at.site.below b given_ghost;
-        exit = Arrives;
+        answers = bare_answers y s w h at.site.below (now b.config);
         side = at.o.side;
         at_side = at.o.at_side;
-        steps = on.steps;
         fragment = subst (λ (es : List Effect). IsOnFragment y.plan code.thread places (on_machine y.runs.program v n (z at))
             (record { exit = Arrives; node = graph_thread.at; seen = seen; side = at.o.side }) on.steps es) (sym (none_left at)) on.on;
         fits = (
@@ -169,38 +161,22 @@ module _ {y : System} {s : IsSystem y} {w : World} {h from mutex : ℕ} (at : At
             subst (λ (k : ℕ). IsSoon y n k (steps_left on.steps (seen_effects (c.cleans ++ c.rest)) given_hart.queue
             + entry_ahead y.plan places graph_thread.at)) (sym (cond-false is_over (most_ahead y n) (c.before_mark - 1) more))
             (less_soon y n (c.before_mark - 1) _ _ nearer.1 (omega (arith, queue, no_cleans)));
-      }
+      })
 
   given_phase : InPhase y v b code given_ghost given_hart graph_thread given_hart.phase × GoneOn given_hart.phase
-  given_phase = grind (arith, and_parts, cases_Bool, cond-false, cond-true, describes_new, point_none, goes_on_running, is_settled, kept_none)
-
-  abbrev passage : Passage y code
-  passage = step_to at.site v b.config.uncommitted b.config.memory b.config.attempts (b.execution, b.respects) given_ghost given_hart
+  given_phase = elim (cases_Bool is_over) [
+    | inl over ↦
+        by Done (cond-true is_over Done Run over)
+        ((is_settled over, point_none y code (kept_of y b) c.new (describes_new at) (kept_none (and_parts w.recovering _ over).1)), tt)
+    | inr more ↦ let run = cond-false is_over Done Run more in by Run run (goes_on_running more run, tt)
+  ]
+    where
+      by : (phase : Phase) → given_hart.phase ≡ phase → InPhase y v b code given_ghost given_hart graph_thread phase × GoneOn phase →
+          InPhase y v b code given_ghost given_hart graph_thread given_hart.phase × GoneOn given_hart.phase
+      by phase is both = subst (λ (p : Phase). InPhase y v b code given_ghost given_hart graph_thread p × GoneOn p) (sym is) both
 
   given_thread : ThreadInv y v b code given_ghost
-  given_thread = record {
-    log = record {
-      hart = given_hart;
-      here = there_after at given_move;
-      log = subst (λ (q : List Entry). LogIs v.log n c.old c.new (record { words = v.words; queue = q; rest = c.rest })) (sym given_queue)
-          (subst (λ (l : Log). LogIs l n c.old c.new (record { words = v.words; queue = t.log.hart.queue; rest = c.rest })) (sym given_logs)
-          (subst (λ (ws : List Word). LogIs w.log n c.old c.new (record { words = ws; queue = t.log.hart.queue; rest = c.rest }))
-          (sym (words_after at given_move)) t.log.log));
-    };
-    no_sooner = λ yes.
-        ap (λ (l : Log). stages.is_committed l n (record { words = v.words; queue = given_hart.queue; rest = c.rest })) given_logs
-        ∙ (ap (λ (ws : List Word). stages.is_committed w.log n (record { words = ws; queue = given_hart.queue; rest = c.rest })) (words_after at given_move)
-        ∙ t.no_sooner yes);
-    describes = t.describes;
-    will_describe = t.will_describe;
-    unlocked = λ lock gives over. absurd (none-some lock gives);
-    cleans = t.cleans;
-    graph_thread = graph_thread;
-    walks = t.walks;
-    phase = given_phase.0;
-    flushed = λ u e writes. flushed_same passage (still_reached passage bounded.cleans (reaches_same passage (words_after at given_move) given_queue)) u e
-        (λ position since. since) (t.flushed u e writes) (t.flushed u e writes).fenced refl;
-  }
+  given_thread = phase_moves v None given_ghost.before_mark (λ lock gives. absurd (none-some lock gives)) t given_hart (alone at given_move) given_phase.0
 
   -- ---- What it releases
 
@@ -244,7 +220,6 @@ module _ {y : System} {s : IsSystem y} {w : World} {h from mutex : ℕ} (at : At
       ]
 
   gives_step : StepOf at.site n
-  unfolding given_thread
   gives_step = record {
     next = b;
     led = stays;
@@ -252,7 +227,8 @@ module _ {y : System} {s : IsSystem y} {w : World} {h from mutex : ℕ} (at : At
     stores_own = call_stores at at_unlock;
     new = given_ghost;
     own = given_thread;
-    gone = given_phase.1;
+    gone = subst (λ (x : Hart). GoneOn x.phase)
+        (same_there (slice_get v.harts n) given_hart given_thread.log.hart (alone at given_move).here given_thread.log.here) given_phase.1;
     held = λ held. held_given (locks_to at.site b given_ghost refl) held mutex owns not_now (holders_after at given_move) refl gives_it refl;
     counted = record {
       marks = given.no_mark y.runs.marks refl;
@@ -260,7 +236,7 @@ module _ {y : System} {s : IsSystem y} {w : World} {h from mutex : ℕ} (at : At
       points = given.counts.0 ∙ not_twice (is_bound c);
       bound = λ e. e;
       nears = elim (cases_Bool is_over) [
-        | inl over ↦ halts given_hart (there_after at given_move) (inl (cond-true is_over Done Run over))
+        | inl over ↦ halts given_hart (alone at given_move).here (inl (cond-true is_over Done Run over))
         | inr more ↦ is_nearer (nearer.0 ∙ ap suc (sym (cond-false is_over (most_ahead y n) (c.before_mark - 1) more)))
       ];
     };
@@ -275,8 +251,8 @@ module _ {y : System} {s : IsSystem y} {w : World} {h : ℕ} (at : AtEnd y s w h
   abbrev pub ending : FragmentTo at (z at) Ends 0 []
   ending = fragment_over at
 
-  ends_clean : courses.GoesClean y b code c true graph_thread
-  ends_clean = fits at
+  ends_clean : courses.GoesClean y b.config n c true graph_thread
+  ends_clean = at.o.fits
 
   last : IsEndOf y.plan code.thread graph_thread.at
   last = ending.of_graph
@@ -302,14 +278,20 @@ module _ {y : System} {s : IsSystem y} {w : World} {h : ℕ} (at : AtEnd y s w h
       seen at.o.side [] ending (none_from n 0 w.holders none_here)
 
   abbrev ended_move : MovesHart at
-  ended_move = record { u = w; new = record (gone_on ending.on.hart) { phase = Ended }; does = ended.0; words = refl; harts = refl }
+  ended_move = record {
+    u = w;
+    new = record (gone_on ending.on.hart) { phase = Ended };
+    does = ended.0;
+    words = refl;
+    harts = refl;
+    queue = ap (λ (x : Hart). x.queue) (hart_is at);
+  }
 
   ended_thread : ThreadInv y v b code c
   ended_thread =
       let point = point_none y code (kept_of y b) c.new (describes_new at)
       (kept_held at (λ m u. let begun = u.begun in let going = ends_clean.goes.going in omega (arith, begun, going)) none_now) in
-      phase_moves y w v b code c (words_after at ended_move) (log_stays y.runs.program w (Step n) at.site.stands.machine.sound) t ended_move.new
-      (there_after at ended_move) (ap (λ (x : Hart). x.queue) (hart_is at)) (ends_clean, point)
+      phase_moves v c.giving c.before_mark (λ lock gives. gives) t ended_move.new (alone at ended_move) (ends_clean, point)
 
   ends_step : StepOf at.site n
   ends_step = record {
@@ -320,14 +302,14 @@ module _ {y : System} {s : IsSystem y} {w : World} {h : ℕ} (at : AtEnd y s w h
     new = c;
     own = ended_thread;
     gone = subst (λ (x : Hart). GoneOn x.phase)
-        (same_there (slice_get v.harts n) ended_move.new ended_thread.log.hart (there_after at ended_move) ended_thread.log.here) tt;
+        (same_there (slice_get v.harts n) ended_move.new ended_thread.log.hart (alone at ended_move).here ended_thread.log.here) tt;
     held = held_still at.site b c (holders_after at ended_move) refl refl refl;
     counted = record {
       marks = ended.1 y.runs.marks refl;
       unlocked = λ lock gives. was_unlocked refl gives;
       points = points_none at at_end;
       bound = λ e. e;
-      nears = halts ended_move.new (there_after at ended_move) (inr refl);
+      nears = halts ended_move.new (alone at ended_move).here (inr refl);
     };
     released = nothing_released (holders_stay_none y.runs.program w n (holders_after at ended_move)) refl;
   }
@@ -335,14 +317,13 @@ module _ {y : System} {s : IsSystem y} {w : World} {h : ℕ} (at : AtEnd y s w h
 -- ---- Whichever it is
 
 by_call : {y : System} {s : IsSystem y} {w : World} {h : ℕ} (exit : ExitPoint) (at : AtEnd y s w h exit) →
-    moving.IsCalling y s w h at.site.stands at.site.below exit → StepOf at.site (view at.site).n
+    moving.IsCalling exit → StepOf at.site (view at.site).n
 by_call _ at (moving.asks mutex next) = asks_step at
 by_call _ at (moving.gives from mutex) = gives_step at
 by_call _ at moving.ends = ends_step at
 
 pub calls_step : CallsStep
-calls_step y s w h stands below i o zero_left calls =
-    let held = (runs_held y s w stands.abstract stands.ghosts h stands.machine.log stands.machine.sound i
-    stands.locks).1 in
-    let site : Site y s w h = record { stands = stands; below = below } in
-    own_step site i (by_call o.exit (record { site = site; held = held; o = o; zero_left = zero_left; exit_is = refl }) calls)
+calls_step y s w h site i exit o calls =
+    let z = site.stands in
+    let held = (runs_held y s w z.abstract z.ghosts h z.machine.log z.machine.sound i z.locks).1 in
+    own_step site i (by_call exit (record { site = site; held = held; o = o }) calls)

@@ -1,15 +1,12 @@
 -- Where boundaries have been committed, the steps before them are kept.
 use Rattle.std.proofs.Common.{◌≡◌, ◌≢◌, ◌⊎◌, inl, inr, refl, ℕ, zero, suc, ◌<◌, ◌≤◌, ◌==◌, List, [], ◌++◌, replicate, not, ◌&&◌, sym, ◌∙◌, ap, append_assoc}
 use Rattle.std.proofs.Common.{subst, arith, Bool, true, false, slice_set}
-use Rattle.std.specs.Prelude.{◌+◌, slice_get, nat_le, is_some, if◌then◌else◌}
-use Rattle.std.specs.Option.{option_map}
+use Rattle.std.specs.Prelude.{◌+◌, nat_le, is_some, if◌then◌else◌}
 use Rattle.std.proofs.lemmas.Bool.{true≢false, cond-true, cond-false}
-use Rattle.c_tree.specs.Source as m
-use Rattle.rv64_isa.specs.declared.phase.Phase.TheVariants.{Done}
 use Rattle.ido_base.specs.Words.{last_position}
-use Rattle.rv64_isa.specs.Schedule.{Steps, HartSteps, hart_steps, with_kept, with_all_kept}
+use Rattle.rv64_isa.specs.Schedule.{Steps, hart_steps, with_kept, with_all_kept}
 use Rattle.rv64_isa.specs.Machine.{World}
-use Rattle.flow_graph.specs.Actions.{GraphThread, FlowState}
+use Rattle.flow_graph.specs.Actions.{FlowState}
 use Rattle.source_machine.specs.StepExchanges.{steps_of, without}
 use Rattle.recovery_semantics.specs.ElementHistories.{IsStable, history_at, number_at}
 use Rattle.recovery_semantics.specs.Attempts.{Writes, no_attempt}
@@ -18,7 +15,6 @@ use Rattle.recovery_semantics.specs.Events.{IsSettled, steps_begun}
 use Rattle.recovery_semantics.specs.Laws.{HasUnlocked, LastUnlocks}
 use Rattle.recovery_semantics.proofs.Public.{equal_self, unequal_of, since_settles}
 use Rattle.region_attempts.specs.Origins.{Origin}
-use Rattle.region_attempts.specs.GraphStates.{flow_solo}
 use Rattle.region_attempts.specs.AttemptsInRegion.{HasCome, IsBeforeBoundary}
 use Rattle.region_attempts.proofs.Public.{attempts_are_whole}
 use Rattle.std.specs.List.{list_any}
@@ -35,8 +31,8 @@ use Rattle.crash_simulation.specs.AbstractRuns.{AbstractRun, kept_of, now_of}
 use Rattle.crash_simulation.specs.ThreadGhosts.{ThreadGhost, ExitInv, ThreadInv, HasCommittedLog, committed}
 use Rattle.crash_simulation.specs.SimulationRelation.{AreHeld, AreLocked, gathering, gathered, SimulatesBut, Simulates, anybody, nobody}
 use Rattle.crash_simulation.specs.InstructionSteps.{is_bound}
-use Rattle.crash_simulation.specs.AccountRelation.{IsCountedOf, IsAccountedOf, AreCounted, Beginning}
-use Rattle.crash_simulation.specs.ReleasedSections.{one_if, sections_kept, IsReleasedOf, in_step, cut_off}
+use Rattle.crash_simulation.specs.AccountRelation.{IsCountedOf, IsAccountedOf, AreCounted, Beginning, counted_steps}
+use Rattle.crash_simulation.specs.ReleasedSections.{one_if, sections_kept, IsReleasedOf}
 use Rattle.crash_simulation.specs.Laws.{CommitStutters}
 use Rattle.crash_simulation.proofs.AccountUpdates.{not_kept, kept_is, kept_pending_is, kept_count_same, kept_own_is, kept_other_is, still_accounted}
 use Rattle.crash_simulation.proofs.StatesMatchSource.{resumed, as_source}
@@ -58,13 +54,13 @@ data HasToSettle (y : System) (b : AbstractRun y) (thread : ℕ) : Type 0 where
   attempt : MaySettle y b thread → HasToSettle y b thread
 
 module _ (y : System) (s : IsSystem y) (w : World) (b : AbstractRun y) (code : Code y.plan) (c : ThreadGhost) (t : ThreadInv y w b code c)
-    (not_yet : c.committed ≡ false) (sooner : committed y w b code c t.log.hart ≡ true) where
+    (not_yet : c.committed ≡ false) (sooner : committed w code.thread.number c t.log.hart ≡ true) where
   open code.thread use {number as u}
   open y.plan use {flat as x}
 
   durable : (v e : ℕ) → Writes b.config.kept u (attempt_of b.config u).done v e → IsStable (history_at b.config.memory v e) (number_at (now b.config) v e)
   durable v e writes =
-      let one = t.flushed v e writes in
+      let one = t.stored.flushed v e writes in
       let fenced = log_facts.bank_before_point.fenced w.log u c.old c.new (config_of w t.log.hart c.rest) t.log.log sooner in
       since_settles x b.config u v e one.position (invariant y s b) writes one.since (one.fenced not_yet fenced)
 
@@ -76,34 +72,24 @@ module _ (y : System) (s : IsSystem y) (w : World) (b : AbstractRun y) (code : C
   }
 
   -- at a chosen boundary
-  come : ExitInv y b code c t.graph_thread Keeps → 0 < (attempt_of b.config u).done → HasCome x y.plan.boundaries (kept_of y b) b.config u
-  come h some = record {
-    node = t.graph_thread.at;
-    steps = some;
-    at =
-        let alone = (as_source y s b).alone u in
-        ap (option_map (λ (z : GraphThread). z.at))
-        (ap (λ (n : ℕ). slice_get (flow_solo x (kept_of y b) u n).graph_threads u) (sym h.1) ∙ (sym alone ∙ t.walks));
-    stands = h.0.stands;
-  }
+  come : ExitInv y b.config u c t.graph_thread Keeps → 0 < (attempt_of b.config u).done → HasCome x y.plan.boundaries (kept_of y b) b.config u
+  come h0 h1 = grind (arith, as_source)
 
-  keeps_settle : ExitInv y b code c t.graph_thread Keeps → (done : ℕ) → (attempt_of b.config u).done ≡ done → HasToSettle y b u
-  keeps_settle h zero none = nothing (h.1 ∙ none) none
-  keeps_settle h (suc done) some =
-      let has_come = come h (omega (arith, some)) in attempt (record { settled = settled_before (inl has_come); there = λ going. inr has_come })
+  keeps_settle : ExitInv y b.config u c t.graph_thread Keeps → (done : ℕ) → (attempt_of b.config u).done ≡ done → HasToSettle y b u
+  keeps_settle h0 done h2 = grind (arith, come, settled_before)
 
   -- past a mutex
   past_settles : IsBeforeBoundary x y.plan.boundaries (kept_of y b) b.config u → steps_begun b.config u ≡ suc (attempt_of b.config u).done →
       HasToSettle y b u
   past_settles before begun = attempt (record { settled = settled_before before; there = λ going. absurd (omega (arith, begun, going)) })
 
-  settles_by : (exit : ExitPoint) → IsAtBoundary exit → ExitInv y b code c t.graph_thread exit → HasToSettle y b u
+  settles_by : (exit : ExitPoint) → IsAtBoundary exit → ExitInv y b.config u c t.graph_thread exit → HasToSettle y b u
   settles_by _ at_keeps h = keeps_settle h (attempt_of b.config u).done refl
   settles_by _ (at_took from) h = let locked = h.before not_yet in past_settles (inr (locked.0, inl locked.1.locks_it)) locked.1.begun
   settles_by _ (at_gives from mutex) h = let unlocked = h.before not_yet in past_settles (inr (mutex, inr unlocked.unlocks_it)) unlocked.begun
 
   has_to_settle : HasToSettle y b u
-  has_to_settle = let under = under_way y w b code c t not_yet in settles_by under.on.exit under.exit under.on.fits
+  has_to_settle = let under = under_way y w b code c t not_yet in settles_by under.to under.exit under.on.fits
 
 -- ---- One thread's commit
 
@@ -156,9 +142,14 @@ module _ (y : System) (s : IsSystem y) (w : World) (k : ℕ) (below : k < thread
       tried = λ furthest. furthest;
       own =
           let begun : steps_begun b.config code.thread.number ≡ 0 = subst (λ (n : ℕ). steps_begun b.config n ≡ 0) (sym number) none in
-          own_stands y w b b code c refl refl (stands.each k below) not_yet sooner_at begun
-          (subst (λ (n : ℕ). (attempt_of b.config n).done ≡ 0) (sym number) done) (none_describes y s b code c.new begun)
-          (λ mutex u. absurd (let one = u.begun in omega (arith, one, begun)));
+          own_stands y w b b code c (record {
+            states = refl;
+            sources = refl;
+            begun = begun;
+            done = subst (λ (n : ℕ). (attempt_of b.config n).done ≡ 0) (sym number) done;
+            describes = none_describes y s b code c.new begun;
+            unlocks = λ mutex u. absurd (let one = u.begun in omega (arith, one, begun));
+          }) (stands.each k below) not_yet sooner_at;
       others = λ n inside apart. stands.each n inside;
     }
     taken_by (attempt may) =
@@ -174,12 +165,15 @@ module _ (y : System) (s : IsSystem y) (w : World) (k : ℕ) (below : k < thread
           states = now_same y s b k may;
           source = source_same y s b k may;
           tried = settled_furthest b.config k (slice_set b.config.attempts k no_attempt) may.settled;
-          own = own_stands y w b next code c (now_same y s b k may) (source_same y s b k may) (stands.each k below) not_yet sooner_at
-              (subst (λ (n : ℕ). steps_begun next.config n ≡ 0) (sym number) (own_begun y s b k may))
-              (subst (λ (n : ℕ). (attempt_of next.config n).done ≡ 0) (sym number) (own_done y s b k may))
-              (own_describes y s b k may code c.new number)
-              (subst (λ (n : ℕ). (mutex : ℕ) → HasUnlocked b.config n mutex → LastUnlocks next.origin.source next.schedule n mutex) (sym number)
-              (unlock_kept y s b k may));
+          own = own_stands y w b next code c (record {
+            states = now_same y s b k may;
+            sources = source_same y s b k may;
+            begun = subst (λ (n : ℕ). steps_begun next.config n ≡ 0) (sym number) (own_begun y s b k may);
+            done = subst (λ (n : ℕ). (attempt_of next.config n).done ≡ 0) (sym number) (own_done y s b k may);
+            describes = own_describes y s b k may code c.new number;
+            unlocks = subst (λ (n : ℕ). (mutex : ℕ) → HasUnlocked b.config n mutex → LastUnlocks next.origin.source next.schedule n mutex) (sym number)
+                (unlock_kept y s b k may);
+          }) (stands.each k below) not_yet sooner_at;
           others = λ n inside apart.
               other_stands y s b k may (s.codes.each n inside) (λ e. apart (sym (s.codes.number n inside) ∙ e)) (stands.ghosts n) w (stands.each n inside);
         }
@@ -230,22 +224,13 @@ module _ (y : System) (s : IsSystem y) (w : World) (k : ℕ) (below : k < thread
 
       own_counted : IsCountedOf y w one.next k (taken c) (hart_steps (with_kept w.log w.words k steps) k)
       own_counted =
-          let is = kept_own_is y w b k c steps mine_counted bound reached (let n = counted.count in omega (arith, below, n)) in
-          subst (λ (z : HartSteps). IsCountedOf y w one.next k (taken c) z) (sym is)
-          (record { free = λ e. (sym one.own_begun, refl); bound = λ e. absurd (true≢false (sym e)) })
+          kept_own_is y w b k c steps mine_counted bound reached (omega (arith, below, counted.count)) ∙ ap (counted_steps false 0) (sym one.own_begun)
 
       kept_own : sections_kept y one.next k ≡ sections_kept y b k + one_if (is_some c.giving && (c.new.point == 0))
-      kept_own =
-          let ends : m.ended_from b.config.kept (replicate (steps_begun b.config k) k) k ≡ one_if (is_some c.giving && (c.new.point == 0)) =
-          subst (λ (n : ℕ). m.ended_from b.config.kept (replicate (steps_begun b.config n) n) n ≡ one_if (is_some c.giving && (c.new.point == 0)))
-          number (leaves y s w b code c (stands.each k below) not_yet) in
-          kept_more y s b one.next k one.origin one.schedule k ∙ ap (λ (n : ℕ). sections_kept y b k + n) ends
+      kept_own = grind (arith, kept_more, leaves, replicate, number)
 
       own_released : IsReleasedOf y w b k c (r k) → IsReleasedOf y w one.next k (taken c) (r k)
-      own_released (in_step e) =
-          let before : sections_kept y b k ≡ r k = (let none = ap one_if (uncommitted_leaving c not_yet) in omega (arith, e, none)) in
-          in_step (kept_own ∙ ap (λ (n : ℕ). n + one_if (is_some c.giving && (c.new.point == 0))) before)
-      own_released (cut_off i e) = absurd (true≢false (sym (phase_of y s w k stands Done i below).0.committed ∙ not_yet))
+      own_released h0 = grind (arith, phase_of, true≢false, uncommitted_leaving, kept_own)
 
       counted_after : AreCounted y g w one.next ghosts (with_kept w.log w.words k steps) r
       counted_after = record {
@@ -356,7 +341,7 @@ module _ (y : System) (s : IsSystem y) (w : World) (first : SimulatesBut y s w a
     }
 
     no_sooner : mine.committed ≡ true → is_committed w.log k (seen w mine) ≡ true
-    no_sooner e = ap (λ (n : ℕ). is_committed w.log n (seen w mine)) (sym (s.codes.number k below)) ∙ (h.stands.each k below).no_sooner e
+    no_sooner e = ap (λ (n : ℕ). is_committed w.log n (seen w mine)) (sym (s.codes.number k below)) ∙ (h.stands.each k below).records.no_sooner e
 
     -- where its point has been stored
     committed_where : list_any is_store mine.rest ≡ false → is_committed w.log k (seen w mine) ≡ is_reached

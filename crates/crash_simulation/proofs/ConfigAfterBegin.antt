@@ -1,6 +1,7 @@
 -- A step of a thread is begun: the config after it.
 use Rattle.std.proofs.Common.{◌≡◌, ◌≢◌, ◌⊎◌, inl, inr, refl, ℕ, zero, suc, List, [], ◌∷◌, ap, sym, ◌∙◌, subst, arith, Option, Some, None}
-use Rattle.std.specs.Prelude.{slice_get}
+use Rattle.std.specs.Prelude.{slice_get, slice_set, replicate, ◌++◌}
+use Rattle.std.proofs.lemmas.List.{get_or-set_same, get_or-set_other, length-append, length-replicate}
 use Rattle.c_tree.specs.Flats as f
 use Rattle.c_tree.specs.Source as m
 use Rattle.c_tree.specs.Source.{Pending}
@@ -11,31 +12,25 @@ use Rattle.recovery_semantics.specs.Events.{IsGoing, begun, stepped}
 use Rattle.recovery_semantics.specs.ElementHistories.{Memory}
 use Rattle.recovery_semantics.proofs.Public.{counted_own, goes_alone}
 use Rattle.flow_graph.proofs.Public.{below_or_past}
+use Rattle.crash_simulation.proofs.StatesMatchSource.{repeated_or}
 
 -- ---- Attempts
 
 -- the attempts with that one of the thread
 abbrev pub with_attempt : List Attempt → (thread : ℕ) → Attempt → List Attempt
-with_attempt [] zero a = a ∷ []
-with_attempt [] (suc n) a = no_attempt ∷ with_attempt [] n a
-with_attempt (x ∷ xs) zero a = a ∷ xs
-with_attempt (x ∷ xs) (suc n) a = x ∷ with_attempt xs n a
+with_attempt attempts thread a = slice_set (attempts ++ replicate (suc thread) no_attempt) thread a
+
+same_padded : (attempts : List Attempt) (more n : ℕ) → attempt_at (attempts ++ replicate more no_attempt) n ≡ attempt_at attempts n
+same_padded [] more n = repeated_or more n no_attempt
+same_padded (x ∷ xs) more zero = refl
+same_padded (x ∷ xs) more (suc n) = same_padded xs more n
 
 own_attempt : (attempts : List Attempt) (n : ℕ) (a : Attempt) → attempt_at (with_attempt attempts n a) n ≡ a
-own_attempt [] zero a = refl
-own_attempt [] (suc n) a = own_attempt [] n a
-own_attempt (x ∷ xs) zero a = refl
-own_attempt (x ∷ xs) (suc n) a = own_attempt xs n a
+own_attempt attempts n a = get_or-set_same (attempts ++ replicate (suc n) no_attempt) n a no_attempt
+    (omega (arith, length-append attempts (replicate (suc n) no_attempt), length-replicate (suc n) no_attempt))
 
 other_attempt : (attempts : List Attempt) (n u : ℕ) (a : Attempt) → u ≢ n → attempt_at (with_attempt attempts n a) u ≡ attempt_at attempts u
-other_attempt [] zero zero a other = absurd (other refl)
-other_attempt [] zero (suc u) a other = refl
-other_attempt [] (suc n) zero a other = refl
-other_attempt [] (suc n) (suc u) a other = other_attempt [] n u a (λ e. other (ap suc e))
-other_attempt (x ∷ xs) zero zero a other = absurd (other refl)
-other_attempt (x ∷ xs) zero (suc u) a other = refl
-other_attempt (x ∷ xs) (suc n) zero a other = refl
-other_attempt (x ∷ xs) (suc n) (suc u) a other = other_attempt xs n u a (λ e. other (ap suc e))
+other_attempt attempts n u a other = get_or-set_other (attempts ++ replicate (suc n) no_attempt) n u a no_attempt other ∙ same_padded attempts (suc n) u
 
 pub attempted : (attempts : List Attempt) (n : ℕ) (a : Attempt) → IsAttempted attempts (with_attempt attempts n a) n a
 attempted attempts n a = record { own = own_attempt attempts n a; others = λ u other. other_attempt attempts n u a other }
@@ -56,17 +51,16 @@ goes_still old t memory going = counted_own t old.uncommitted ∙ ap suc going �
 pub wrote : (s : m.State) (t done v e : ℕ) → Writes s t (suc done) v e → Writes s t done v e ⊎ WritesAt s t done v e
 wrote s t done v e writes = elim (below_or_past writes.before done) [
   | inl less ↦ inl (record { before = writes.before; within = less; at = writes.at })
-  | inr past ↦ inr (let same : writes.before ≡ done = (let l = writes.within in omega (arith, l, past)) in
-      subst (λ (n : ℕ). WritesAt s t n v e) same writes.at)
+  | inr past ↦ inr (subst (λ (n : ℕ). WritesAt s t n v e) (let e : writes.before ≡ done = omega (arith, writes.within, past) in e) writes.at)
 ]
 
 -- the thread alone is what it is now
 module _ (x : f.Flat) (old : Config) (invariant : Invariant x old) (t : ℕ) (going : IsGoing old t) where
-  alone_threads : slice_get (now old).threads t ≡ slice_get (solo old.kept t (attempt_of old t).done).threads t
-  alone_threads = (goes_alone x old t invariant going).own
+  alone_threads : slice_get (solo old.kept t (attempt_of old t).done).threads t ≡ slice_get (now old).threads t
+  alone_threads = sym (goes_alone x old t invariant going).own
 
   pub alone_ahead : store_ahead (solo old.kept t (attempt_of old t).done) t ≡ store_ahead (now old) t
-  alone_ahead = ap (λ (o : Option m.Thread). elim o as (λ _. Option Pending) [ Some z ↦ z.pending | None ↦ None ]) (sym alone_threads)
+  alone_ahead = ap (λ (o : Option m.Thread). elim o as (λ _. Option Pending) [ Some z ↦ z.pending | None ↦ None ]) alone_threads
 
   pub alone_unlocks : unlocks (solo old.kept t (attempt_of old t).done) t ≡ unlocks (now old) t
-  alone_unlocks = ap (λ (o : Option m.Thread). elim o as (λ _. Option ℕ) [ Some z ↦ unlock_ahead z | None ↦ None ]) (sym alone_threads)
+  alone_unlocks = ap (λ (o : Option m.Thread). elim o as (λ _. Option ℕ) [ Some z ↦ unlock_ahead z | None ↦ None ]) alone_threads

@@ -1,9 +1,7 @@
 -- What a hart may store is in no other thread's log, and beside all that other threads read.
-use Rattle.std.proofs.Common.{◌≡◌, ◌≢◌, inl, inr, refl, ℕ, ◌+◌, ◌/◌, ◌<◌, ◌≤◌, List, ◌∷◌, length, ap, arith, sym, ◌∙◌, subst, Some, true, ⊎_elim}
-use Rattle.std.proofs.Common.{map}
+use Rattle.std.proofs.Common.{◌≡◌, ◌≢◌, inl, inr, refl, ℕ, ◌+◌, ◌/◌, ◌<◌, ◌≤◌, List, ◌∷◌, length, ap, arith, sym, ◌∙◌, subst, Some, true, ⊎_elim, slice_get}
 use Rattle.std.proofs.lemmas.Bool.{true≢false, and_from}
 use Rattle.std.proofs.lemmas.Option.{same_Some}
-use Rattle.std.specs.Prelude.{slice_get}
 use Rattle.ido_base.specs.Layout.{log_words, variable_at, byte_number}
 use Rattle.ido_base.specs.declared.log.Log.{Log}
 use Rattle.ido_base.specs.declared.event.Event.TheVariants.{Step}
@@ -13,10 +11,7 @@ use Rattle.rv64_isa.proofs.Public.{log_stays}
 use Rattle.ido_base.proofs.Public.{are_persisted_refl, write_backs_raise}
 use Rattle.ido_ints.specs.Kinds.{bytes_of}
 use Rattle.source_machine.specs.Discipline.{Guards}
-use Rattle.c_tree.specs.Programs.{Variable}
-use Rattle.c_tree.specs.WellFormed.{elements_in, shape_of}
-use Rattle.memory_layout.specs.Variables.{HaveRoom}
-use Rattle.variable_words.proofs.Public.{by_size, well_formed_placed, steps_work}
+use Rattle.variable_words.proofs.Public.{by_size, steps_work}
 use Rattle.variable_words.specs.MemoryEffects.{MayMakeStore, IsWork, Rests, Queues, WritesBack, Makes}
 use Rattle.rv64_isa.specs.declared.object.Slot.{Slot}
 use Rattle.rv64_isa.specs.Rows.{Effect, Stores}
@@ -35,8 +30,8 @@ use Rattle.recovered_threads.specs.RecordDescriptions.{Code}
 use Rattle.crash_simulation.specs.Systems.{System, IsSystem, flat_of, shapes_of}
 use Rattle.crash_simulation.specs.InstructionSteps.{MayStore, nothing, in_log, element}
 use Rattle.crash_simulation.specs.AbstractRuns.{AbstractRun}
-use Rattle.crash_simulation.specs.ThreadGhosts.{ThreadGhost, AnswersGuarded}
-use Rattle.crash_simulation.proofs.DisjointElements.{variables_end, element_ends, element_below, elements_apart, log_after}
+use Rattle.crash_simulation.specs.ThreadGhosts.{AnswersGuarded, IsGuarded}
+use Rattle.crash_simulation.proofs.Elements.{room, variables_end, element_ends, element_below, elements_apart, log_after}
 
 -- how many bytes an effect stores
 abbrev width_of : Effect → ℕ
@@ -54,9 +49,6 @@ module _ (y : System) (s : IsSystem y) (w : World) (h : ℕ) (b : AbstractRun y)
   abbrev after : World
   after = after_event y.runs.program w (Step h)
 
-  room : HaveRoom (map shape_of (flat_of y).variables)
-  room = (well_formed_placed (flat_of y) s.plan.formed).room
-
   -- ---- Logs
 
   module _ (n : ℕ) (other : h ≢ n) (address bytes value i : ℕ) (below : i < log_words w.log) where
@@ -68,7 +60,8 @@ module _ (y : System) (s : IsSystem y) (w : World) (h : ℕ) (b : AbstractRun y)
         (sym (subst (λ (l : Log). byte_number a / 8 ≡ log_word l h k) logs word) ∙ meets))
     not_in_log _ same (element variable number v is there within guards) =
         subst (λ (x : ℕ). byte_number x / 8 ≢ log_word w.log n i) (ap address_of same)
-        (variables_are_apart w.log n (variable_at (shapes_of y) variable number) i (element_below (flat_of y).variables room variable number is there within))
+        (variables_are_apart w.log n (variable_at (shapes_of y) variable number) i
+        (element_below (flat_of y).variables (room y s) variable number is there within))
 
   -- the step stores nothing to another thread's log
   pub elsewhere : (n : ℕ) → h ≢ n → IsElsewhere y.runs.program w h n
@@ -77,26 +70,20 @@ module _ (y : System) (s : IsSystem y) (w : World) (h : ℕ) (b : AbstractRun y)
 
   -- ---- What others read
 
-  -- an access of an element that the hart doesn't guard
-  pub record IsUnguarded (address bytes : ℕ) : Type 0 where
-    pub variable : ℕ
-    pub element : ℕ
-    pub is : Variable
-    pub there : slice_get (flat_of y).variables variable ≡ Some is
-    pub within : element < elements_in is.length
-    pub address_is : address ≡ variable_at (shapes_of y) variable element
-    pub bytes_are : bytes ≡ bytes_of is.kind
-    pub apart : (v e : ℕ) → Guards (flat_of y) (now b.config) h v e → v ≡ variable → e ≡ element → ⊥
-
   -- a store of a width that there is, beside all that the environment answers
   record IsAbstractAll (z : MarkedEnvironment) (address bytes : ℕ) : Type 0 where
     width : is_width bytes ≡ true
     apart : IsApart z address bytes
 
-  module _ (n : ℕ) (other : h ≢ n) (z : MarkedEnvironment)
-      (answers : (address bytes value : ℕ) → z.around.loads address bytes ≡ Some value → IsUnguarded address bytes) where
-    answer_ends : (at count : ℕ) → IsUnguarded at count → at + count ≤ variables_end
+  module _ (code : Code y.plan) (other : h ≢ code.thread.number) (z : MarkedEnvironment) (answers : AnswersGuarded y (now b.config) code.thread.number z) where
+    open code.thread use {number as n}
+
+    answer_ends : (at count : ℕ) → IsGuarded y (now b.config) n at count → at + count ≤ variables_end
     answer_ends at count g = grind (arith, element_ends, room)
+
+    -- two threads guard no element both
+    not_both : {at count v e : ℕ} (g : IsGuarded y (now b.config) n at count) → Guards (flat_of y) (now b.config) h v e → v ≡ g.variable → e ≡ g.element → ⊥
+    not_both g own same equal = grind (arith, same_Some)
 
     module _ (address bytes value : ℕ) where
       abstract_all : (effect : Effect) → effect ≡ Stores address bytes value → MayStore y b h effect → IsAbstractAll z address bytes
@@ -119,9 +106,9 @@ module _ (y : System) (s : IsSystem y) (w : World) (h : ℕ) (b : AbstractRun y)
                 ⊎_elim
                 (λ l. inl (omega (arith, l, place)))
                 (λ l. inr (omega (arith, l, place, size)))
-                (elements_apart (flat_of y).variables room {v = g.variable} {e = g.element} {i = variable} {j = number}
+                (elements_apart (flat_of y).variables (room y s) {v = g.variable} {e = g.element} {i = variable} {j = number}
                 (record { is = g.is; there = g.there; within = g.within }) (record { is = is; there = there; within = within })
-                (g.apart variable number guards));
+                (not_both g guards));
           }
 
     module _ (sound : IsWellFormedWorld w) (agrees : Agrees y.runs.program w n z) where
@@ -147,26 +134,6 @@ module _ (y : System) (s : IsSystem y) (w : World) (h : ℕ) (b : AbstractRun y)
           beside_agrees y.runs.program w after n z address bytes value count (log_stays y.runs.program w (Step h) sound) is
           (and_from (is_width bytes) _ all.width (and_from _ _ st.inside st.is_aligned)) all.apart agrees
 
-      -- memory goes on to agree with what is read of those
-      pub agrees_beside : (hart : Hart) → slice_get w.harts h ≡ Some hart → Agrees y.runs.program after n z
-      agrees_beside hart here = let does = steps_work y.runs.program w h hart here in worked_on hart does.after.queue here does.work
-
-  -- two threads guard no element both, and so memory goes on to agree with what another thread reads
-  pub agrees_after : (code : Code y.plan) (c : ThreadGhost) → h ≢ code.thread.number → (z : MarkedEnvironment) → AnswersGuarded y b code c z →
-      IsWellFormedWorld w → Agrees y.runs.program w code.thread.number z → (hart : Hart) → slice_get w.harts h ≡ Some hart →
-      Agrees y.runs.program after code.thread.number z
-  agrees_after code c other z answers = agrees_beside code.thread.number other z (λ address bytes value e.
-      let g = answers address bytes value e in
-      record {
-        variable = g.variable;
-        element = g.element;
-        is = g.is;
-        there = g.there;
-        within = g.within;
-        address_is = g.address_is;
-        bytes_are = g.bytes_are;
-        apart = λ v e own same equal.
-            let mine : Guards (flat_of y) (now b.config) h g.variable g.element = subst (λ (x : ℕ). Guards (flat_of y) (now b.config) h x g.element) same
-            (subst (λ (k : ℕ). Guards (flat_of y) (now b.config) h v k) equal own) in
-            other (same_Some h code.thread.number (same_Some (Some h) (Some code.thread.number) (sym mine ∙ g.guards)));
-      })
+      -- memory goes on to agree with what another thread reads
+      pub agrees_after : (hart : Hart) → slice_get w.harts h ≡ Some hart → Agrees y.runs.program after n z
+      agrees_after hart here = let does = steps_work y.runs.program w h hart here in worked_on hart does.after.queue here does.work

@@ -1,13 +1,13 @@
 -- A step of a hart in a fragment: it makes the next of the effects ahead, or none, or writes an entry back.
 use Rattle.std.proofs.lemmas.Bool.Decides.{nat_tests}
 use Rattle.std.proofs.Common.{◌≡◌, ◌⊎◌, inl, inr, ⊎_elim, refl, ℕ, suc, ◌+◌, ◌*◌, ◌/◌, ◌%◌, ◌<◌, ◌≤◌, List, [], ◌∷◌, ◌++◌, length, ap, sym, ◌∙◌, subst, arith}
-use Rattle.std.proofs.Common.{Option, Some, None, Bool, true, false}
+use Rattle.std.proofs.Common.{Some, Bool, true, false}
 use Rattle.std.proofs.lemmas.Bool.{true≢false}
 use Rattle.std.specs.Prelude.{slice_get, Contains, if◌then◌else◌, not, ◌&&◌, ◌-◌}
 use Rattle.std.specs.List.{list_any}
 use Rattle.std.specs.Option.{option_map}
 use Rattle.log_states.specs.Machines.{config_of, MovesTo, IsNext, IsLogEffect, StoresWord, CleansLine, PassesFence, is_boundary_effect}
-use Rattle.log_states.specs.Stages.{LogIs, Moves, fences_ahead, is_store, is_committed}
+use Rattle.log_states.specs.Stages.{fences_ahead, is_store}
 use Rattle.log_states.specs.Logs.{log_word}
 use Rattle.ido_base.specs.Words.{Word, Entry, word_at, last_position}
 use Rattle.ido_base.specs.Layout.{byte_number, variable_at, log_of, log_words}
@@ -32,10 +32,11 @@ use Rattle.crash_simulation.specs.InstructionSteps.{goes, MayStore, nothing, in_
 use Rattle.crash_simulation.specs.InstructionSteps.{FragmentsStep}
 use Rattle.crash_simulation.specs.StepsToMark.{beyond, IsSoon}
 use Rattle.crash_simulation.specs.AbstractRuns.{AbstractRun, kept_of}
-use Rattle.crash_simulation.proofs.OwnHartSteps.{step_to, Site, view, StepOf, own_step, held_still}
-use Rattle.crash_simulation.proofs.PendingFlushes.{Passage, StillComes, run_after, flushed_same, fence_settles}
+use Rattle.crash_simulation.proofs.OwnHartSteps.{step_to, view, StepOf, own_step, held_still}
+use Rattle.crash_simulation.specs.InstructionSteps.{Site}
+use Rattle.crash_simulation.proofs.PendingFlushes.{Passage, StillComes, run_after, stored_same, fence_settles}
+use Rattle.crash_simulation.proofs.ThreadViews.{IsStill, committed_on, exit_on, log_moved, moves_at}
 use Rattle.crash_simulation.proofs.Elements.{room, word_of_element, position_within}
-use Rattle.crash_simulation.proofs.KeptThreads.{answers_kept}
 use Rattle.crash_simulation.proofs.LastReleases.{holders_stay_none, and_none}
 use Rattle.crash_simulation.proofs.UncommittedSteps.{leads_on}
 use Rattle.crash_simulation.proofs.StatesMatchSource.{resumed}
@@ -53,10 +54,9 @@ use Rattle.region_attempts.specs.GraphStates.{flow_solo}
 use Rattle.region_attempts.specs.AttemptsInRegion.{IsBeforeBoundary}
 use Rattle.region_attempts.proofs.Public.{graph_stands}
 use Rattle.variable_words.proofs.Public.{variables_apart}
-use Rattle.log_states.proofs.Public.{stores_nothing, one_effect, stays_committed, point_store_is_last, boundaries_stay_in, keeps, not_done, address_of}
+use Rattle.log_states.proofs.Public.{stores_nothing, one_effect, point_store_is_last, boundaries_stay_in, not_done, address_of}
 use Rattle.log_states.proofs.Public.{contains_cases, contains_first, contains_later, own_steps_move, steps_move, word_of_log, beyond_variables}
 use Rattle.recovered_threads.proofs.Public.{same_there}
-use Rattle.crash_simulation.specs.ThreadGhosts as courses
 
 -- ---- Which of the effects ahead a step makes
 
@@ -137,20 +137,20 @@ log_memory y s w n effect queue new changes (PassesFence same) =
 
 -- ---- What a step in a fragment makes of the thread
 
-module _ {y : System} {s : IsSystem y} {w : World} {h : ℕ} (site : Site y s w h) (o : OnFragmentNow y s w h site.stands site.below) (left : ℕ)
-    (is : o.steps ≡ suc left) (law : FragmentsGoOn) where
+module _ {y : System} {s : IsSystem y} {w : World} {h : ℕ} (site : Site y s w h) (exit : ExitPoint) (left : ℕ)
+    (o : OnFragmentNow site exit (suc left)) (law : FragmentsGoOn) where
   open view site use {b, code, c, t, n, v, places, graph_thread, seen}
   open site.stands use {memory as memory_is}
   open site.stands.machine use {log as logs, sound}
 
   abbrev stage : Stage
-  stage = record { exit = o.exit; node = graph_thread.at; seen = seen; side = o.side }
+  stage = record { exit = exit; node = graph_thread.at; seen = seen; side = o.side }
 
   abbrev FragmentIn : World → (steps : ℕ) → List Effect → Type 0
   FragmentIn u steps effects = IsOnFragment y.plan code.thread places (on_machine y.runs.program u n o.environment) stage steps effects
 
   fragment : FragmentIn w (suc left) (c.cleans ++ c.rest)
-  fragment = subst (λ (k : ℕ). FragmentIn w k (c.cleans ++ c.rest)) is o.fragment
+  fragment = o.fragment
 
   abbrev run : OnRun w n
   run = run_of y.plan code.thread places fragment
@@ -220,14 +220,8 @@ module _ {y : System} {s : IsSystem y} {w : World} {h : ℕ} (site : Site y s w 
     abbrev next : AbstractRun y
     next = run_after passage
 
-    logs_stay : v.log ≡ w.log
-    logs_stay = move.log
-
-    moves : Moves w.log n (config_of w t.log.hart c.rest) (config_of v hart rest)
-    moves =
-        subst (λ (x : Hart). Moves w.log n (config_of w t.log.hart c.rest) (config_of v x rest))
-        (same_there (slice_get v.harts n) move.next hart move.there d.on.on.here)
-        (subst (λ (x : Hart). Moves w.log n (config_of w x c.rest) (config_of v move.next rest)) (sym hart_is) move.moves)
+    abbrev moves : MovesTo n w t.log.hart c.rest v rest
+    moves = moves_at move t.log.hart hart (sym hart_is) d.on.on.here
 
     coming : StillComes passage
     coming u e position within (is_reached r) =
@@ -246,61 +240,30 @@ module _ {y : System} {s : IsSystem y} {w : World} {h : ℕ} (site : Site y s w 
         (ahead.still (variable_at (shapes_of y) variable element) found)
 
     nearer : (c.before_mark ≡ suc (c.before_mark - 1)) × IsSoon y n (c.before_mark - 1)
-        (steps_left d.more (seen_effects d.later) hart.queue + beyond y.plan places o.exit graph_thread.at)
+        (steps_left d.more (seen_effects d.later) hart.queue + beyond y.plan places exit graph_thread.at)
     nearer = grind (arith, nat_tests)
 
     -- what holds at the fragment's exit point goes on to hold
-    goes_on : courses.IsInAttempt y b code c → courses.IsInAttempt y next code new
-    goes_on g = record { going = g.going; rest = ahead.no_rest g.rest; giving = g.giving; committed = g.committed }
+    still : IsStill b.config next.config n c new
+    still = grind arith
 
-    goes_clean : (ended : Bool) → courses.GoesClean y b code c ended graph_thread → courses.GoesClean y next code new ended graph_thread
-    goes_clean ended g = record { goes = goes_on g.goes; cleans = ahead.no_cleans g.cleans; execution = g.execution }
-
-    bounded_on : (giving : Option ℕ) (Before After : Type 0) → (Before → After) → courses.IsBounded y b code c graph_thread giving Before →
-        courses.IsBounded y next code new graph_thread giving After
-    bounded_on giving Before After on g = grind (arith)
-
-    fits_on : (exit : ExitPoint) → ExitInv y b code c graph_thread exit → ExitInv y next code new graph_thread exit
-    fits_on Arrives f = (goes_on f.0, f.1)
-    fits_on Keeps f = (f.0, f.1, bounded_on None _ _ (λ u. u) f.2)
-    fits_on (Asks mutex _) f = goes_clean false f
-    fits_on (Took from) f = bounded_on None _ _ (λ l. (l.0, record { begun = l.1.begun; locks_it = l.1.locks_it })) f
-    fits_on (Gives from mutex) f = bounded_on (Some mutex) _ _ (λ l. record { begun = l.begun; unlocks_it = l.unlocks_it }) f
-    fits_on Ends f = goes_clean true f
-
-    fragment_after : InFragment y v next code new hart graph_thread
-    fragment_after = record {
-      environment = o.environment;
-      answers = answers_kept b next code c new (λ v e guards. guards) o.environment o.answers;
-      exit = o.exit;
-      side = o.side;
-      at_side = o.at_side;
-      steps = d.more;
-      fragment = subst (FragmentIn v d.more) ahead.later_is d.on;
-      fits = fits_on o.exit o.fits;
-      soon = subst (λ (es : List Effect). IsSoon y n (c.before_mark - 1) (steps_left d.more (seen_effects es) hart.queue
-          + beyond y.plan places o.exit graph_thread.at)) ahead.later_is nearer.1;
-    }
+    fragment_after : InFragment y v next code new hart graph_thread exit d.more
+    fragment_after = grind (arith, exit_on, fragment, nearer, still)
 
     thread_after : ThreadInv y v next code new
     thread_after = record {
-      log = record {
-        hart = hart;
-        here = d.on.on.here;
-        log = subst (λ (l : Log). LogIs l n c.old c.new (config_of v hart rest)) (sym logs_stay)
-            (keeps w.log n c.old c.new (config_of w t.log.hart c.rest) (config_of v hart rest) t.log.log moves);
+      log = log_moved t.log moves;
+      records = record {
+        no_sooner = λ is. committed_on t.log moves (t.records.no_sooner is);
+        describes = t.records.describes;
+        will_describe = t.records.will_describe;
+        unlocked = t.records.unlocked;
       };
-      no_sooner = λ is. ap (λ (l : Log). is_committed l n (config_of v hart rest)) logs_stay
-          ∙ stays_committed w.log n c.old c.new (config_of w t.log.hart c.rest) (config_of v hart rest) t.log.log moves (t.no_sooner is);
-      describes = t.describes;
-      will_describe = t.will_describe;
-      unlocked = t.unlocked;
-      cleans = ahead.all;
       graph_thread = graph_thread;
       walks = t.walks;
-      phase = subst (λ (p : Phase). InPhase y v next code new hart graph_thread p) (sym d.on.on.runs) (on_fragment fragment_after);
-      flushed = λ u e writes. flushed_same passage coming u e (λ position since. since_is_persisted b.config.memory new_memory u e position persisting since)
-          (t.flushed u e writes) (λ un few. settled u e un few (t.flushed u e writes)) refl;
+      phase = subst (λ (p : Phase). InPhase y v next code new hart graph_thread p) (sym d.on.on.runs) (on_fragment exit d.more fragment_after);
+      stored = stored_same passage ahead.all coming (λ u e position since. since_is_persisted b.config.memory new_memory u e position persisting since)
+          (λ u e f un few. settled u e un few f) refl t.stored;
     }
 
     step_made : StepOf site n
@@ -343,7 +306,15 @@ module _ {y : System} {s : IsSystem y} {w : World} {h : ℕ} (site : Site y s w 
 
   abbrev all_ahead : (d : Does) → d.later ≡ c.cleans ++ c.rest → Ahead d
   all_ahead d is =
-      record { rest = c.rest; cleans = c.cleans; later_is = is; all = t.cleans; no_rest = λ e. e; no_cleans = λ e. e; still = λ address found. inl found }
+      record {
+        rest = c.rest;
+        cleans = c.cleans;
+        later_is = is;
+        all = t.stored.cleans;
+        no_rest = λ e. e;
+        no_cleans = λ e. e;
+        still = λ address found. inl found;
+      }
 
   -- ---- A step that is held up
 
@@ -413,7 +384,7 @@ module _ {y : System} {s : IsSystem y} {w : World} {h : ℕ} (site : Site y s w 
       rest = c.rest;
       cleans = others;
       later_is = later;
-      all = λ e found. t.cleans e (subst (λ (es : List Effect). Contains es e) (sym cleans) (contains_later (Cleans address) others e found));
+      all = λ e found. t.stored.cleans e (subst (λ (es : List Effect). Contains es e) (sym cleans) (contains_later (Cleans address) others e found));
       no_rest = λ e. e;
       no_cleans = λ e. absurd (not_done (Cleans address) others (sym e ∙ cleans));
       still = λ place found. ⊎_elim
@@ -446,7 +417,7 @@ module _ {y : System} {s : IsSystem y} {w : World} {h : ℕ} (site : Site y s w 
       some_rest none = not_done effect g.later (sym none ∙ rest)
 
       -- the attempt stands before the boundary
-      before_by : (exit : ExitPoint) → ExitInv y b code c graph_thread exit → c.committed ≡ false → 0 < (attempt_of b.config n).done →
+      before_by : (exit : ExitPoint) → ExitInv y b.config n c graph_thread exit → c.committed ≡ false → 0 < (attempt_of b.config n).done →
           IsBeforeBoundary (flat_of y) y.plan.boundaries (kept_of y b) b.config n
       before_by Arrives f un some = absurd (some_rest f.0.rest)
       before_by Keeps f un some =
@@ -463,7 +434,7 @@ module _ {y : System} {s : IsSystem y} {w : World} {h : ℕ} (site : Site y s w 
       -- what the attempt has stored is durable after the fence
       fence_settled : effect ≡ Fences → Settles g.later
       fence_settled is_fence u e un few f =
-          fence_settles here s memory_is no_cleans (before_by o.exit o.fits un (let within = f.within in omega (arith, within)))
+          fence_settles here s memory_is no_cleans (before_by exit o.fits un (let within = f.within in omega (arith, within)))
           (λ j position r. fences_settle y.runs.program w n run g.forward is_fence j position
           (subst (λ (x : Hart). PersistsThrough w.words x.queue j position) hart_is r)) u e f
 
@@ -482,7 +453,7 @@ module _ {y : System} {s : IsSystem y} {w : World} {h : ℕ} (site : Site y s w 
         rest = g.later;
         cleans = c.cleans;
         later_is = ap (λ (es : List Effect). es ++ g.later) (sym no_cleans);
-        all = t.cleans;
+        all = t.stored.cleans;
         no_rest = λ none. absurd (some_rest none);
         no_cleans = λ e. e;
         still = λ address found. inl found;
@@ -546,7 +517,7 @@ module _ {y : System} {s : IsSystem y} {w : World} {h : ℕ} (site : Site y s w 
     made (bounds_first none rest) = makes_log none rest (inside none rest).0
 
     goes_forward : StepOf site n
-    goes_forward = made (made_by c.cleans c.rest g.later effect t.cleans g.effects_are)
+    goes_forward = made (made_by c.cleans c.rest g.later effect t.stored.cleans g.effects_are)
 
   pub one_step : StepOf site n
   one_step = ⊎_elim goes_forward held_up
@@ -555,6 +526,4 @@ module _ {y : System} {s : IsSystem y} {w : World} {h : ℕ} (site : Site y s w 
 -- ---- In the machine
 
 pub fragments_step : FragmentsGoOn → FragmentsStep
-fragments_step law y s w h stands below i o left is =
-    let site : Site y s w h = record { stands = stands; below = below } in
-    own_step site i (one_step site o left is law)
+fragments_step law y s w h site i exit left o = own_step site i (one_step site exit left o law)

@@ -1,15 +1,13 @@
 -- A step of a thread that is begun, in the graph.
-use Rattle.std.proofs.Common.{◌≡◌, refl, ℕ, List, [], ◌++◌, length, ap, sym, ◌∙◌, subst, arith, Option, Some, None, Bool, true, false}
-use Rattle.std.proofs.lemmas.List.{append-nil, length-set}
+use Rattle.std.proofs.Common.{◌≡◌, ℕ, List, [], ◌++◌, length, ap, ◌∙◌, subst, arith, Some, None, Bool, true, false, append-nil, length-set}
 use Rattle.std.proofs.lemmas.Option.{same_Some}
-use Rattle.std.specs.Prelude.{slice_get, slice_set, if◌then◌else◌}
-use Rattle.std.specs.Option.{option_map}
+use Rattle.std.specs.Prelude.{slice_get, slice_set}
 use Rattle.flow_graph.specs.Actions.{GraphThread, FlowState, Effect, seen_by, effect_of}
-use Rattle.flow_graph.specs.Nodes.{Node, Action, Graph}
+use Rattle.flow_graph.specs.Nodes.{Node}
 use Rattle.flow_graph.specs.Lowering.{lowered}
 use Rattle.flow_graph.specs.Liveness.{NodeAt}
 use Rattle.flow_graph.specs.Lockstep.{Matches}
-use Rattle.flow_graph.specs.IdempotentCuts.{IsChosen, IsUnlock, unlocks}
+use Rattle.flow_graph.specs.IdempotentCuts.{IsChosen}
 use Rattle.flow_graph.specs.Actions as a
 use Rattle.flow_graph.proofs.Public.{moved, set_same}
 use Rattle.recovery_semantics.specs.Configs.{Config, now, attempt_of}
@@ -39,18 +37,14 @@ after_effect s t graph_thread e = a.with_graph_thread s t (moved graph_thread e)
 module _ (s : FlowState) (t : ℕ) (graph_thread : GraphThread) where
   pub done_is : (effect : Effect) → takes_none effect ≡ true → graph_thread.ended ≡ false →
       a.done s t graph_thread effect ≡ Some (after_effect s t graph_thread effect)
-  done_is (a.Takes mutex next) free execution = cc
-  done_is a.Ends free execution = ap (λ (b : Bool). let o : Option FlowState = if b then None else Some (after_effect s t graph_thread a.Ends) in o) execution
-  done_is effect free execution = refl
+  done_is effect h1 h2 = grind (arith)
 
   pub graph_threads_are : (effect : Effect) → (after_effect s t graph_thread effect).graph_threads ≡ slice_set s.graph_threads t (moved graph_thread effect)
-  graph_threads_are a.Ends = refl
-  graph_threads_are effect = refl
+  graph_threads_are effect = grind (arith)
 
   pub graph_thread_is : (effect : Effect) → slice_get s.graph_threads t ≡ Some graph_thread →
       slice_get (after_effect s t graph_thread effect).graph_threads t ≡ Some (moved graph_thread effect)
-  graph_thread_is effect found =
-      ap (λ (ws : List GraphThread). slice_get ws t) (graph_threads_are effect) ∙ set_same s.graph_threads t (moved graph_thread effect) graph_thread found
+  graph_thread_is effect found = grind (arith, moved, set_same, graph_threads_are)
 
   pub graph_threads_count : (effect : Effect) → length (after_effect s t graph_thread effect).graph_threads ≡ length s.graph_threads
   graph_threads_count effect = ap (λ (ws : List GraphThread). length ws) (graph_threads_are effect) ∙ length-set s.graph_threads t (moved graph_thread effect)
@@ -77,30 +71,12 @@ module _ (y : System) (s : IsSystem y) (b : AbstractRun y) where
   -- where the attempt goes on, it is at the node of its graph thread
   pub boundary_after_is : (t : ℕ) (graph_thread : GraphThread) → IsGoing b.config t → slice_get (now_of y b).graph_threads t ≡ Some graph_thread →
       node_after (flat_of y) (kept_of y b) t (attempt_of b.config t).done ≡ Some graph_thread.at
-  boundary_after_is t graph_thread going found =
-      let there : slice_get (flow_solo (flat_of y) (kept_of y b) t (attempt_of b.config t).done).graph_threads t ≡ Some graph_thread =
-      ap (λ (n : ℕ). slice_get (flow_solo (flat_of y) (kept_of y b) t n).graph_threads t) (sym going) ∙ sym (alone t) ∙ found in
-      ap (option_map (λ (w : GraphThread). w.at)) there
+  boundary_after_is t graph_thread going found = grind (arith, alone)
 
   -- an attempt that goes on has come to no boundary, unless at an unlock
   pub not_come : (t : ℕ) {graph_thread : GraphThread} {node : Node} {effect : Effect} → IsGoing b.config t →
-      slice_get (now_of y b).graph_threads t ≡ Some graph_thread →
-      NodeAt (lowered (flat_of y)) graph_thread.at node → effect_of node.action (seen_by (now_of y b) graph_thread) ≡ Some effect →
-      ((mutex next : ℕ) → effect ≡ a.Gives mutex next → ⊥) →
+      slice_get (now_of y b).graph_threads t ≡ Some graph_thread → NodeAt (lowered (flat_of y)) graph_thread.at node →
+      effect_of node.action (seen_by (now_of y b) graph_thread) ≡ Some effect → ((mutex next : ℕ) → effect ≡ a.Gives mutex next → ⊥) →
       (IsChosen y.plan.graph y.plan.boundaries graph_thread.at → (attempt_of b.config t).done ≡ 0) →
       HasCome (flat_of y) y.plan.boundaries (kept_of y b) b.config t → ⊥
-  not_come t {graph_thread} {node} {effect} going found at does apart fresh come =
-      let same : come.node ≡ graph_thread.at = same_Some _ _ (sym come.at ∙ boundary_after_is t graph_thread going found) in
-      let none : (attempt_of b.config t).done ≡ 0 =
-      fresh (record {
-        stands = subst (λ (n : ℕ). slice_get y.plan.boundaries.before n ≡ Some true) same come.stands;
-        free = λ u. by (subst (λ (g : Graph). IsUnlock g graph_thread.at) s.plan.lowered u);
-      }) in
-      omega (arith, none)
-    where
-      by : IsUnlock (lowered (flat_of y)) graph_thread.at → ⊥
-      by (unlocks x mutex next here action) =
-          let is : x.action ≡ node.action = ap (λ (n : Node). n.action) (one_node (lowered (flat_of y)) graph_thread.at x node here at) in
-          let gives : Some (a.Gives mutex next) ≡ Some effect =
-          ap (λ (z : Action). effect_of z (seen_by (now_of y b) graph_thread)) (sym action ∙ is) ∙ does in
-          apart mutex next (sym (same_Some _ _ gives))
+  not_come t {graph_thread} {node} {effect} going found at does apart fresh come = grind (arith, one_node, same_Some, boundary_after_is)

@@ -1,23 +1,23 @@
 -- A thread whose hart makes no step: after what others do, and where nobody does anything, its invariant still holds.
-use Rattle.std.proofs.Common.{◌≡◌, ◌≢◌, refl, ℕ, suc, ◌≤◌, List, [], ◌++◌, sym, ◌∙◌, ap, subst, arith, Some, inl, inr, ℤ, ◌/◌, Option, Bool, true, false}
+use Rattle.std.proofs.Common.{◌≡◌, ◌≢◌, refl, ℕ, suc, ◌≤◌, List, [], ◌++◌, sym, ◌∙◌, ap, subst, arith, Some, ℤ, ◌/◌, Option, true, false}
 use Rattle.std.proofs.Common.{length}
 use Rattle.std.specs.Prelude.{slice_get, List, ◌++◌, ◌<◌, ◌≤◌}
 use Rattle.std.proofs.Math.Nat.{le-max_right}
 use Rattle.c_tree.specs.Flats as f
 use Rattle.c_tree.specs.Source as m
 use Rattle.c_tree.specs.WellFormed.{IsWellFormed}
-use Rattle.source_machine.specs.Mutexes.{held_by, locks, unlocks}
+use Rattle.source_machine.specs.Mutexes.{held_by}
 use Rattle.source_machine.proofs.Public.{run_keeps, leaves_held}
 use Rattle.flow_graph.specs.Lowering.{lowered}
 use Rattle.flow_graph.specs.Actions.{GraphThread, FlowState, graph_step, Seen}
 use Rattle.flow_graph.proofs.Public as keeping
 use Rattle.flow_graph.proofs.Public.{graph_threads_after, set_other}
-use Rattle.recovery_semantics.specs.ElementHistories.{Memory, History, IsSince, IsStored, history_at}
+use Rattle.recovery_semantics.specs.ElementHistories.{Memory, IsSince, IsStored, history_at}
 use Rattle.recovery_semantics.specs.Attempts.{Attempt, solo, Writes, WritesAt}
 use Rattle.recovery_semantics.specs.Configs.{Config, Invariant, now, attempt_of}
 use Rattle.recovery_semantics.specs.Events as events
-use Rattle.recovery_semantics.specs.Events.{begun, Stores, ConfigStep, steps_locally, stores, synchronises, persists, commits, crashes, IsGoing, steps_begun}
-use Rattle.recovery_semantics.specs.Laws.{IsKeptBy, HasLocked, HasUnlocked, LastUnlocks}
+use Rattle.recovery_semantics.specs.Events.{begun, Stores, ConfigStep, steps_locally, stores, synchronises, persists, commits, crashes, steps_begun}
+use Rattle.recovery_semantics.specs.Laws.{IsKeptBy, LastUnlocks}
 use Rattle.recovery_semantics.proofs.Public.{store_same, store_inner, writes_more, counted_other, after_more, more_empty, events_keep, writers_apart}
 use Rattle.recovery_semantics.proofs.Public.{goes_alone, since_stays, since_is_persisted, held_same}
 use Rattle.region_attempts.specs.Origins.{Origin}
@@ -25,19 +25,17 @@ use Rattle.region_attempts.specs.GraphStates.{flow_kept, flow_now, node_after}
 use Rattle.region_attempts.proofs.Public.{graph_stands, graph_follows}
 use Rattle.recovered_threads.proofs.Public.{same_or_other, others_describe, same_there}
 use Rattle.crash_simulation.specs.InstructionSteps.{IsDoneBy, StepsOrStutters, stays, goes, abstract_next}
-use Rattle.ido_base.specs.declared.log.Log.{Log}
 use Rattle.ido_base.specs.Layout.{byte_number, variable_at}
 use Rattle.source_machine.specs.Discipline.{Guards}
 use Rattle.rv64_isa.specs.declared.phase.Phase.{Phase}
 use Rattle.rv64_isa.specs.declared.phase.Phase.TheVariants.{Run, Done, Ended}
 use Rattle.rv64_isa.specs.Machine.{Hart, World, after_event}
-use Rattle.ido_base.specs.Words.{Entry, Word, loaded}
+use Rattle.ido_base.specs.Words.{Entry, Word}
 use Rattle.region_attempts.specs.PendingCleans.{line_of, CleansSince}
-use Rattle.log_states.specs.Stages.{LogIs, is_committed, Moves, Elsewhere}
+use Rattle.log_states.specs.Stages.{Moves, Elsewhere}
 use Rattle.log_states.specs.Machines.{config_of, MovesTo}
-use Rattle.log_states.proofs.Public.{keeps, stays_committed}
 use Rattle.code_runs.specs.CodeTraces.{MarkedEnvironment}
-use Rattle.thread_runs.specs.CodeFragments.{ExitPoint, Arrives, Keeps, Asks, Took, Gives, Ends, Stage, IsOnFragment, IsAtCore, on_machine}
+use Rattle.thread_runs.specs.CodeFragments.{Stage, IsOnFragment, IsAtCore, on_machine}
 use Rattle.thread_runs.proofs.Public.{fragments_see_all, cores_see_all, others_keep_fragments, others_keep_cores}
 use Rattle.ido_base.specs.Growth.{PersistsThrough, AreChanged}
 use Rattle.ido_base.proofs.Public.{are_persisted_refl, changed_refl}
@@ -47,19 +45,19 @@ use Rattle.std.proofs.lemmas.List.{append-nil}
 use Rattle.recovered_threads.specs.RecordDescriptions.{Code, Describes}
 use Rattle.crash_simulation.specs.Systems.{System, flat_of, shapes_of, IsSystem}
 use Rattle.crash_simulation.specs.AbstractRuns.{AbstractRun, kept_of, now_of, attempts_of}
-use Rattle.crash_simulation.specs.ThreadGhosts.{ThreadGhost, AnswersGuarded, IsInAttempt, GoesClean, IsBounded, ExitInv, Rests, IsRunningThread, on_fragment}
-use Rattle.crash_simulation.specs.ThreadGhosts.{at_core, InPhase, IsComing, is_reached, is_ahead, ThreadInv, record_kept}
+use Rattle.crash_simulation.specs.ThreadGhosts.{ThreadGhost, AnswersGuarded, IsRunningThread, on_fragment, at_core, InPhase, IsComing, is_reached, is_ahead}
+use Rattle.crash_simulation.specs.ThreadGhosts.{HasStored, ThreadInv, record_kept}
 use Rattle.rv64_isa.proofs.Public.{log_stays}
 use Rattle.ido_base.specs.declared.event.Event.{Event}
 use Rattle.ido_base.specs.declared.event.Event.TheVariants.{Step}
-use Rattle.source_machine.specs.ElementLocks.{element_lock}
 use Rattle.rv64_isa.specs.Frames.{IsWellFormedWorld}
 use Rattle.recovery_semantics.specs.Executions.{Execution}
 use Rattle.region_attempts.specs.AttemptsInRegion.{RespectsAll}
-use Rattle.hart_runs.specs.HartsOnRuns.{is_access, Agrees}
+use Rattle.hart_runs.specs.HartsOnRuns.{Agrees}
 use Rattle.hart_runs.specs.Laws.{IsOfOthers}
 use Rattle.hart_runs.proofs.Public.{others_leave, others_reach}
 use Rattle.crash_simulation.proofs.StatesMatchSource.{resumed}
+use Rattle.crash_simulation.proofs.ThreadViews.{IsQuiet, IsStill, clean_on, committed_on, exit_on, log_moved, rests_on}
 
 -- ---- A step of one thread leaves the others where they are
 
@@ -79,37 +77,13 @@ pub record IsUnmoved (x : f.Flat) (o : Origin x) (schedule : List ℕ) (old next
 
 -- as it is where nothing happens
 pub stays_unmoved : (x : f.Flat) (o : Origin x) (schedule : List ℕ) (old : Config) (thread : ℕ) → IsUnmoved x o schedule old old thread
-stays_unmoved x o schedule old thread = record {
-  kept = refl;
-  begun = refl;
-  attempt = refl;
-  graph_thread = refl;
-  held = refl;
-  holds = refl;
-  since = λ v e q written s. s;
-  durable = λ v e. omega arith;
-}
+stays_unmoved x o schedule old thread = grind arith
 
 -- ---- Durable positions
 
 -- a store leaves them
 stored_low : (old new : Memory) (i j : ℕ) (number : ℤ) → IsStored old new i j number → (v e : ℕ) → (history_at old v e).durable ≤ (history_at new v e).durable
-stored_low old new i j number s v e = elim (same_or_other v i) [
-  | inl same ↦ elim (same_or_other e j) [
-    | inl equal ↦
-        let own : (history_at new i j).durable ≡ (history_at old i j).durable = ap (λ (h : History). h.durable) s.own in
-        let is : (history_at new v e).durable ≡ (history_at old v e).durable = cc in
-        omega (arith, is)
-    | inr apart ↦ others (λ same equal. apart equal)
-  ]
-  | inr apart ↦ others (λ same equal. apart same)
-]
-  where
-    others : (v ≡ i → e ≡ j → ⊥) → (history_at old v e).durable ≤ (history_at new v e).durable
-    others apart = elim (s.others v e apart) [
-      | inl is ↦ let same = ap (λ (h : History). h.durable) is in omega (arith, same)
-      | inr is ↦ let same = ap (λ (h : History). h.durable) is in omega (arith, same)
-    ]
+stored_low old new i j number h5 v e = grind (arith, same_or_other)
 
 -- ---- Steps of another thread
 
@@ -164,19 +138,7 @@ module _ (x : f.Flat) (w : IsWellFormed x) (o : Origin x) (schedule : List ℕ) 
           (writes_more old.kept n (attempt_of old n).done (attempt_of old n).longest v e within written)
 
       its : Writes old.kept u (attempt_of then_config u).longest h.store.variable h.store.element
-      its =
-          let more = le-max_right (attempt_of old u).longest (suc done) in
-          subst (λ (a : Attempt). Writes old.kept u a.longest h.store.variable h.store.element) (sym h.attempt.own)
-          (record {
-            before = done;
-            within = omega (arith, more);
-            at = record {
-              store = h.store;
-              is = store_same (now old) (solo old.kept u done) u (sym (goes_alone x old u i h.going).own) ∙ h.ahead;
-              variable_is = refl;
-              element_is = refl;
-            };
-          })
+      its = grind (arith, goes_alone, le-max_right, store_same)
 
       apart : (v e : ℕ) → Writes old.kept n (attempt_of old n).done v e → v ≡ h.store.variable → e ≡ h.store.element → ⊥
       apart v e written same equal =
@@ -225,7 +187,7 @@ pub record IsLeftAlone (y : System) (w v : World) (b : AbstractRun y) (code : Co
   pub here : (hart : Hart) → slice_get w.harts code.thread.number ≡ Some hart → slice_get v.harts code.thread.number ≡ Some hart
   pub moves : (hart : Hart) → slice_get w.harts code.thread.number ≡ Some hart →
       Moves w.log code.thread.number (config_of w hart c.rest) (config_of v hart c.rest)
-  pub fragments : (z : MarkedEnvironment) → AnswersGuarded y b code c z → (stage : Stage) (steps : ℕ) →
+  pub fragments : (z : MarkedEnvironment) → AnswersGuarded y (now b.config) code.thread.number z → (stage : Stage) (steps : ℕ) →
       IsOnFragment y.plan code.thread code.is.places (on_machine y.runs.program w code.thread.number z) stage steps (c.cleans ++ c.rest) →
       IsOnFragment y.plan code.thread code.is.places (on_machine y.runs.program v code.thread.number z) stage steps (c.cleans ++ c.rest)
   pub cores : (at : ℕ) (seen : Seen) (side : ℕ) (registers : List ℕ) →
@@ -242,31 +204,16 @@ moves_nowhere w v thread old new rest words queue =
     (queue ∙ sym (append-nil old.queue)) tt
 
 -- what an environment answers is guarded where the thread guards what it did
-pub answers_kept : {y : System} (b next : AbstractRun y) (code : Code y.plan) (c new : ThreadGhost) →
-    ((v e : ℕ) → Guards (flat_of y) (now b.config) code.thread.number v e → Guards (flat_of y) (now next.config) code.thread.number v e) →
-    (z : MarkedEnvironment) → AnswersGuarded y b code c z → AnswersGuarded y next code new z
-answers_kept b next code c new guards z answers address bytes value e =
-    let g = answers address bytes value e in
-    record {
-      variable = g.variable;
-      element = g.element;
-      is = g.is;
-      there = g.there;
-      within = g.within;
-      address_is = g.address_is;
-      bytes_are = g.bytes_are;
-      guards = guards g.variable g.element g.guards;
-    }
+pub answers_kept : (y : System) (s next : m.State) (n : ℕ) → ((v e : ℕ) → Guards (flat_of y) s n v e → Guards (flat_of y) next n v e) →
+    (z : MarkedEnvironment) → AnswersGuarded y s n z → AnswersGuarded y next n z
+answers_kept y s next n guards z answers address bytes value e = grind arith
 
 module _ (y : System) (b next : AbstractRun y) (code : Code y.plan) (c : ThreadGhost) where
   open code.thread use {number as n}
 
-  -- of the source: what the thread has begun, and what it holds; its records, and what it has written, cleaned and stored
+  -- of the source: how far the thread is, and what it holds; its records, and what it has written, cleaned and stored
   pub record IsKept : Type 0 where
-    pub begun : steps_begun next.config n ≡ steps_begun b.config n
-    pub done : (attempt_of next.config n).done ≡ (attempt_of b.config n).done
-    pub locked : (mutex : ℕ) → HasLocked b.config n mutex → HasLocked next.config n mutex
-    pub unlocked : (mutex : ℕ) → HasUnlocked b.config n mutex → HasUnlocked next.config n mutex
+    pub on : IsStill b.config next.config n c c
     pub guards : (v e : ℕ) → Guards (flat_of y) (now b.config) n v e → Guards (flat_of y) (now next.config) n v e
     pub graph_thread : slice_get (now_of y next).graph_threads n ≡ slice_get (now_of y b).graph_threads n
     pub holds : held_by n (now_of y next).holders ≡ held_by n (now_of y b).holders
@@ -282,132 +229,71 @@ module _ (y : System) (b next : AbstractRun y) (code : Code y.plan) (c : ThreadG
   -- ---- Its invariant
 
   module _ (still : IsKept) where
-    going_on : IsGoing b.config n → IsGoing next.config n
-    going_on going = still.begun ∙ (going ∙ sym still.done)
-
-    goes_on : IsInAttempt y b code c → IsInAttempt y next code c
-    goes_on g = record { going = going_on g.going; rest = g.rest; giving = g.giving; committed = g.committed }
-
-    goes_clean : (ended : Bool) (graph_thread : GraphThread) → GoesClean y b code c ended graph_thread → GoesClean y next code c ended graph_thread
-    goes_clean ended graph_thread g = record { goes = goes_on g.goes; cleans = g.cleans; execution = g.execution }
-
-    bounded : (graph_thread : GraphThread) (giving : Option ℕ) (Before After : Type 0) → (Before → After) → IsBounded y b code c graph_thread giving Before →
-        IsBounded y next code c graph_thread giving After
-    bounded graph_thread giving Before After on i = record {
-      execution = i.execution;
-      cleans = i.cleans;
-      gives = i.gives;
-      before = λ un. on (i.before un);
-      after = λ over. still.begun ∙ i.after over;
-    }
-
-    fits_on : (graph_thread : GraphThread) (exit : ExitPoint) → ExitInv y b code c graph_thread exit → ExitInv y next code c graph_thread exit
-    fits_on graph_thread Arrives f = (goes_on f.0, f.1)
-    fits_on graph_thread Keeps f = (f.0, going_on f.1, bounded graph_thread _ _ _ (λ u. u) f.2)
-    fits_on graph_thread (Asks mutex at) f = goes_clean false graph_thread f
-    fits_on graph_thread (Took from) f = bounded graph_thread _ _ _ (λ l. (l.0, still.locked l.0 l.1)) f
-    fits_on graph_thread (Gives from mutex) f = bounded graph_thread _ _ _ (still.unlocked mutex) f
-    fits_on graph_thread Ends f = goes_clean true graph_thread f
-
-    rests_on : Rests y b code c → Rests y next code c
-    rests_on r = record {
-      begun = still.begun ∙ r.begun;
-      done = still.done ∙ r.done;
-      rest = r.rest;
-      cleans = r.cleans;
-      giving = r.giving;
-      committed = r.committed;
-      whole = r.whole;
-    }
-
     written_back : (v e : ℕ) → Writes next.config.kept n (attempt_of next.config n).done v e → Writes b.config.kept n (attempt_of b.config n).done v e
-    written_back v e written =
-        let within = written.within in
-        let same = still.done in
-        let below : written.before < (attempt_of b.config n).done = omega (arith, within, same) in
-        record { before = written.before; within = below; at = still.writes_back written.before v e below written.at }
+    written_back v e written = grind arith
 
     cleaned_back : (first line : ℕ) → CleansSince (attempts_of y next) n first (attempt_of next.config n).done line →
         CleansSince (attempts_of y b) n first (attempt_of b.config n).done line
-    cleaned_back first line cleans =
-        let within = cleans.within in
-        let same = still.done in
-        let below : cleans.last < (attempt_of b.config n).done = omega (arith, within, same) in
-        let at = cleans.at in
-        record {
-          last = cleans.last;
-          since = cleans.since;
-          within = below;
-          at = record {
-            node = at.node;
-            at = sym (still.nodes cleans.last below) ∙ at.at;
-            variable = at.variable;
-            element = at.element;
-            stores = still.writes_back cleans.last at.variable at.element below at.stores;
-            in_line = at.in_line;
-            cleans = at.cleans;
-          };
-        }
+    cleaned_back first line cleans = grind arith
 
-    module _ (w v : World) (log : v.log ≡ w.log)
+    module _ (w v : World)
         (reach : (queue : List Entry) (j position : ℕ) → PersistsThrough w.words queue j position → PersistsThrough v.words queue j position) where
-      coming_on : (hart later : Hart) → later.queue ≡ hart.queue → (u e position : ℕ) → IsComing y w b code c hart u e position →
-          IsComing y v next code c later u e position
+      coming_on : (hart later : Hart) → later.queue ≡ hart.queue → (u e position : ℕ) → IsComing y w c.cleans hart u e position →
+          IsComing y v c.cleans later u e position
       coming_on hart later queue u e position (is_reached r) =
           let word : ℕ = byte_number (variable_at (shapes_of y) u e) / 8 in
           is_reached (subst (λ (q : List Entry). PersistsThrough v.words q word position) (sym queue) (reach hart.queue word position r))
       coming_on hart later queue u e position (is_ahead variable element ahead line) = is_ahead variable element ahead line
 
-      -- whichever its phase, where its hart has the same queue
-      pub stands_with : (t : ThreadInv y w b code c) (hart : Hart) → slice_get v.harts n ≡ Some hart → hart.queue ≡ t.log.hart.queue →
-          Moves w.log n (config_of w t.log.hart c.rest) (config_of v hart c.rest) → InPhase y v next code c hart t.graph_thread hart.phase →
-          ThreadInv y v next code c
-      stands_with t hart here queue on phase =
-          let from = config_of w t.log.hart c.rest in
-          let to = config_of v hart c.rest in
-          record {
-            log = record {
-              hart = hart;
-              here = here;
-              log = subst (λ (l : Log). LogIs l n c.old c.new to) (sym log) (keeps w.log n c.old c.new from to t.log.log on);
+      -- what it has stored, where its hart has the same queue
+      stored_on : (hart later : Hart) → later.queue ≡ hart.queue → (giving : Option ℕ) (before_mark : ℕ) → HasStored y w b code c hart →
+          HasStored y v next code (record c { giving = giving; before_mark = before_mark }) later
+      stored_on hart later queue giving before_mark stored = record {
+        cleans = stored.cleans;
+        flushed = λ u e written.
+            let earlier = written_back u e written in
+            let f = stored.flushed u e earlier in
+            record {
+              before = f.before;
+              within = let within = f.within in let same = still.on.done in omega (arith, within, same);
+              writes = still.writes_on f.before u e f.within f.writes;
+              position = f.position;
+              since = still.since u e f.position earlier f.since;
+              comes = λ cleans. coming_on hart later queue u e f.position (f.comes (cleaned_back f.before (line_of (shapes_of y) u e) cleans));
+              fenced = λ un few. let low = f.fenced un few in let high = still.durable u e in omega (arith, low, high);
             };
-            no_sooner = λ is. ap (λ (l : Log). is_committed l n to) log ∙ stays_committed w.log n c.old c.new from to t.log.log on (t.no_sooner is);
-            describes = still.describes t.describes;
-            will_describe = λ un. others_describe y.plan code (now_of y b) (now_of y next) c.new (t.will_describe un) still.graph_thread still.holds;
-            unlocked = λ mutex gives over. still.last mutex (t.unlocked mutex gives over);
-            cleans = t.cleans;
-            graph_thread = t.graph_thread;
-            walks = still.graph_thread ∙ t.walks;
-            phase = phase;
-            flushed = λ u e written.
-                let earlier = written_back u e written in
-                let f = t.flushed u e earlier in
-                let within = f.within in
-                let same = still.done in
-                record {
-                  before = f.before;
-                  within = omega (arith, within, same);
-                  writes = still.writes_on f.before u e within f.writes;
-                  position = f.position;
-                  since = still.since u e f.position earlier f.since;
-                  comes = λ cleans. coming_on t.log.hart hart queue u e f.position (f.comes (cleaned_back f.before (line_of (shapes_of y) u e) cleans));
-                  fenced = λ un few. let low = f.fenced un few in let high = still.durable u e in omega (arith, low, high);
-                };
-          }
+      }
+
+      -- all of it, whichever its phase, where it has no more to give back
+      pub stands_with : (giving : Option ℕ) (before_mark : ℕ) → ((mutex : ℕ) → giving ≡ Some mutex → c.giving ≡ Some mutex) → (t : ThreadInv y w b code c)
+          (m : MovesTo n w t.log.hart c.rest v c.rest) → m.next.queue ≡ t.log.hart.queue →
+          InPhase y v next code (record c { giving = giving; before_mark = before_mark }) m.next t.graph_thread m.next.phase →
+          ThreadInv y v next code (record c { giving = giving; before_mark = before_mark })
+      stands_with giving before_mark gives t m queue phase = record {
+        log = log_moved t.log m;
+        records = record {
+          no_sooner = λ is. committed_on t.log m (t.records.no_sooner is);
+          describes = still.describes t.records.describes;
+          will_describe = λ un. others_describe y.plan code (now_of y b) (now_of y next) c.new (t.records.will_describe un) still.graph_thread still.holds;
+          unlocked = λ mutex gave over. still.last mutex (t.records.unlocked mutex (gives mutex gave) over);
+        };
+        graph_thread = t.graph_thread;
+        walks = still.graph_thread ∙ t.walks;
+        phase = phase;
+        stored = stored_on t.log.hart m.next queue giving before_mark t.stored;
+      }
 
     module _ (w v : World) (left : IsLeftAlone y w v b code c) where
       runs_on : (hart : Hart) (graph_thread : GraphThread) → IsRunningThread y w b code c hart graph_thread →
           IsRunningThread y v next code c hart graph_thread
-      runs_on hart graph_thread (on_fragment o) = on_fragment (record {
+      runs_on hart graph_thread (on_fragment exit steps o) = on_fragment exit steps (record {
         environment = o.environment;
-        answers = answers_kept b next code c c still.guards o.environment o.answers;
-        exit = o.exit;
+        answers = answers_kept y (now b.config) (now next.config) n still.guards o.environment o.answers;
         side = o.side;
         at_side = o.at_side;
-        steps = o.steps;
-        fragment = fragments_see_all y.plan code.thread code.is.places y.runs.program v n o.environment _ o.steps _ (now_of y next).variables
-            (left.fragments o.environment o.answers _ o.steps o.fragment);
-        fits = fits_on graph_thread o.exit o.fits;
+        fragment = fragments_see_all y.plan code.thread code.is.places y.runs.program v n o.environment _ steps _ (now_of y next).variables
+            (left.fragments o.environment o.answers _ steps o.fragment);
+        fits = exit_on y still.on graph_thread exit o.fits;
         soon = o.soon;
       })
       runs_on hart graph_thread (at_core o) = at_core (record {
@@ -416,21 +302,22 @@ module _ (y : System) (b next : AbstractRun y) (code : Code y.plan) (c : ThreadG
         registers = o.registers;
         core = cores_see_all y.plan code.thread code.is.places v n graph_thread.at _ o.side o.registers (now_of y next).variables
             (left.cores graph_thread.at _ o.side o.registers o.core);
-        goes = goes_clean false graph_thread o.goes;
-        fresh = λ chosen. still.done ∙ o.fresh chosen;
+        goes = clean_on y still.on false graph_thread o.goes;
+        fresh = λ chosen. still.on.done ∙ o.fresh chosen;
         soon = o.soon;
       })
 
       in_phase_on : (hart : Hart) (graph_thread : GraphThread) (phase : Phase) → InPhase y w b code c hart graph_thread phase →
           InPhase y v next code c hart graph_thread phase
       in_phase_on hart graph_thread Run p = runs_on hart graph_thread p
-      in_phase_on hart graph_thread Done p = (rests_on p.0, p.1)
-      in_phase_on hart graph_thread Ended p = (goes_clean true graph_thread p.0, p.1)
-      in_phase_on hart graph_thread phase p = rests_on p
+      in_phase_on hart graph_thread Done p = (rests_on y still.on refl p.0, p.1)
+      in_phase_on hart graph_thread Ended p = (clean_on y still.on true graph_thread p.0, p.1)
+      in_phase_on hart graph_thread phase p = rests_on y still.on refl p
 
       pub stands_kept : ThreadInv y w b code c → ThreadInv y v next code c
       stands_kept t =
-          stands_with w v left.log left.reach t t.log.hart (left.here t.log.hart t.log.here) refl (left.moves t.log.hart t.log.here)
+          stands_with w v left.reach c.giving c.before_mark (λ mutex gives. gives) t
+          (record { next = t.log.hart; there = left.here t.log.hart t.log.here; log = left.log; moves = left.moves t.log.hart t.log.here }) refl
           (in_phase_on t.log.hart t.graph_thread t.log.hart.phase t.phase)
 
 -- ---- After what others do, a step of another hart or an eviction
@@ -454,22 +341,7 @@ module _ (y : System) (b : AbstractRun y) (code : Code y.plan) (c : ThreadGhost)
     solo_same = λ i. solo (still.kept i) n (done_same i)
 
     is_kept : IsKept y b (abstract_next y b next execution respects) code c
-    is_kept = record {
-      begun = still.begun;
-      done = done_same;
-      locked = λ mutex h. record { begun = begun_after h.begun; locks_it = ap (λ (z : m.State). locks z n) solo_same ∙ h.locks_it };
-      unlocked = λ mutex h. record { begun = begun_after h.begun; unlocks_it = ap (λ (z : m.State). unlocks z n) solo_same ∙ h.unlocks_it };
-      guards = λ v e g. held_same n (now b.config).holders (now next).holders (element_lock (flat_of y).variables v e) (sym still.held) g;
-      graph_thread = still.graph_thread;
-      holds = still.holds;
-      describes = λ d. d;
-      last = λ mutex l. l;
-      nodes = λ k within. refl;
-      writes_back = λ k v e within written. subst (λ (z : m.State). WritesAt z n k v e) still.kept written;
-      writes_on = λ steps v e within written. subst (λ (k : m.State). WritesAt k n steps v e) (sym still.kept) written;
-      since = still.since;
-      durable = still.durable;
-    }
+    is_kept = grind (arith, held_same, begun_after, done_same, solo_same)
 
   -- ---- In the machine
 
@@ -478,7 +350,7 @@ module _ (y : System) (b : AbstractRun y) (code : Code y.plan) (c : ThreadGhost)
     pub sound : IsWellFormedWorld w
     pub of_others : IsOfOthers n event
     pub moves : (hart : Hart) → slice_get w.harts n ≡ Some hart → MovesTo n w hart c.rest (after_event y.runs.program w event) c.rest
-    pub agrees : (z : MarkedEnvironment) → AnswersGuarded y b code c z → Agrees y.runs.program w n z →
+    pub agrees : (z : MarkedEnvironment) → AnswersGuarded y (now b.config) n z → Agrees y.runs.program w n z →
         Agrees y.runs.program (after_event y.runs.program w event) n z
 
   module _ (w : World) (event : Event) (of : IsOfOther w event) where
@@ -522,25 +394,19 @@ module _ (y : System) (b : AbstractRun y) (code : Code y.plan) (c : ThreadGhost)
 -- it agrees
 agrees_on : (y : System) (w v : World) (h : ℕ) (s : MarkedEnvironment) → v.words ≡ w.words → length v.harts ≡ length w.harts → v.log ≡ w.log →
     Agrees y.runs.program w h s → Agrees y.runs.program v h s
-agrees_on y w v h s words count logs a = record {
-  fetches = a.fetches;
-  loads = λ address bytes value e.
-      let g = a.loads address bytes value e in
-      record {
-        may = coe 0 1 (i. is_access ((sym logs) i) ((sym count) i) address bytes ≡ true) g.may;
-        is = subst (λ (ws : List Word). loaded ws (byte_number address) bytes ≡ value) (sym words) g.is;
-      };
-}
+agrees_on y w v h s h5 h6 h7 h8 = grind arith
 
--- the thread is as it was but for its phase
-pub phase_moves : (y : System) (w v : World) (b : AbstractRun y) (code : Code y.plan) (c : ThreadGhost) → v.words ≡ w.words → v.log ≡ w.log →
-    (t : ThreadInv y w b code c) (hart : Hart) → slice_get v.harts code.thread.number ≡ Some hart → hart.queue ≡ t.log.hart.queue →
-    InPhase y v b code c hart t.graph_thread hart.phase → ThreadInv y v b code c
-phase_moves y w v b code c words logs t hart here queue phase =
-    stands_with y b b code c
-    (is_kept y b code c b.config b.execution b.respects (stays_unmoved (flat_of y) b.origin b.schedule b.config code.thread.number)) w v logs
-    (λ q j position. subst (λ (ws : List Word). PersistsThrough ws q j position) (sym words)) t hart here queue
-    (moves_nowhere w v code.thread.number t.log.hart hart c.rest words queue) phase
+-- the thread is as it was but for its phase, and for what it has to give back
+pub phase_moves : {y : System} {w : World} (v : World) {b : AbstractRun y} {code : Code y.plan} {c : ThreadGhost} (giving : Option ℕ) (before_mark : ℕ) →
+    ((mutex : ℕ) → giving ≡ Some mutex → c.giving ≡ Some mutex) → (t : ThreadInv y w b code c) (hart : Hart) →
+    IsQuiet w v code.thread.number t.log.hart hart →
+    InPhase y v b code (record c { giving = giving; before_mark = before_mark }) hart t.graph_thread hart.phase →
+    ThreadInv y v b code (record c { giving = giving; before_mark = before_mark })
+phase_moves {y} {w} v {b} {code} {c} giving before_mark gives t hart q phase =
+    let n = code.thread.number in
+    stands_with y b b code c (is_kept y b code c b.config b.execution b.respects (stays_unmoved (flat_of y) b.origin b.schedule b.config n)) w v
+    (λ queue j position. subst (λ (ws : List Word). PersistsThrough ws queue j position) (sym q.words)) giving before_mark gives t
+    (record { next = hart; there = q.here; log = q.log; moves = moves_nowhere w v n t.log.hart hart c.rest q.words q.queue }) q.queue phase
 
 -- a step of another hart that leaves memory leaves the thread
 pub others_stand : {y : System} (w : World) (g : ℕ) (b : AbstractRun y) (code : Code y.plan) (c : ThreadGhost) →

@@ -1,6 +1,7 @@
 -- Releases of a hart's last mutex, and threads that leave a section.
-use Rattle.std.proofs.Common.{◌≡◌, ◌≢◌, inl, inr, refl, ℕ, List, ap, sym, ◌∙◌, Option, Some, None, Bool, true, false, eq-eqb, ◌≤◌, arith}
-use Rattle.std.proofs.lemmas.Bool.{true≢false, cases_Bool, ne_eqb}
+use Rattle.std.proofs.Common.{◌≡◌, ◌≢◌, refl, ℕ, List, ap, sym, ◌∙◌, Option, Some, None, Bool, true, false, eq-eqb, ◌≤◌, arith}
+use Rattle.std.proofs.lemmas.Bool.{and_left, and_right, false_from_ne_true, ne_eqb}
+use Rattle.std.proofs.lemmas.Bool.Decides.{nat_tests}
 use Rattle.std.specs.Prelude.{slice_get, is_some, not, ◌&&◌, ◌==◌}
 use Rattle.ido_base.specs.declared.event.Event.TheVariants.{Step}
 use Rattle.ido_base.specs.Locks.{holds_none}
@@ -9,7 +10,7 @@ use Rattle.rv64_isa.specs.Machine.{World, after_event}
 use Rattle.rv64_isa.specs.Schedule.{releases_last}
 use Rattle.flow_graph.specs.Actions.{FlowState}
 use Rattle.log_states.specs.Logs.{Record}
-use Rattle.recovered_threads.specs.RecordDescriptions.{Code, Describes, between, inside}
+use Rattle.recovered_threads.specs.RecordDescriptions.{Code, Describes}
 use Rattle.recovered_threads.proofs.Public.{holds_none_is}
 use Rattle.crash_simulation.specs.Systems.{System}
 use Rattle.crash_simulation.specs.ThreadGhosts.{ThreadGhost}
@@ -20,18 +21,12 @@ use Rattle.crash_simulation.specs.ReleasedSections.{one_if}
 
 -- a hart that has a mutex doesn't hold none
 pub holds_some : (n : ℕ) (holders : List (Option ℕ)) (lock : ℕ) → slice_get holders lock ≡ Some (Some n) → holds_none holders n ≡ false
-holds_some n holders lock there = elim (cases_Bool (holds_none holders n)) [
-  | inl none ↦ absurd (holds_none_is n holders lock none there)
-  | inr some ↦ some
-]
+holds_some n holders lock there = false_from_ne_true (holds_none holders n) (λ none. holds_none_is n holders lock none there)
 
 -- ---- Releases
 
 none_by : (self before later : Bool) → (later ≡ true → before ≡ true) → (self && (not before && later)) ≡ false
-none_by false before later on = refl
-none_by true true later on = refl
-none_by true false true on = absurd (true≢false (sym (on refl)))
-none_by true false false on = refl
+none_by self before later on = grind (arith, nat_tests)
 
 module _ (program : List (List Slot)) (w : World) (h : ℕ) where
   abbrev after : World
@@ -45,36 +40,29 @@ module _ (program : List (List Slot)) (w : World) (h : ℕ) where
   holders_stay_none same = no_release (λ e. ap (λ (hs : List (Option ℕ)). holds_none hs h) (sym same) ∙ e)
 
   pub is_release : holds_none w.holders h ≡ false → holds_none after.holders h ≡ true → releases_last program w (Step h) h ≡ true
-  is_release some none =
-      let self : (h == h) ≡ true = eq-eqb h h refl in
-      λ i. self i && (not (some i) && none i)
+  is_release some none = λ i. (eq-eqb h h refl) i && (not (some i) && none i)
 
   -- another hart's step releases nothing of its own
   pub other_release : (n : ℕ) → n ≢ h → releases_last program w (Step h) n ≡ false
-  other_release n other =
-      let apart : (h == n) ≡ false = ne_eqb h n (λ e. other (sym e)) in
-      ap (λ (b : Bool). b && (not (holds_none w.holders n) && holds_none (after_event program w (Step n)).holders n)) apart
+  other_release n other = and_left (h == n) _ (ne_eqb h n (λ e. other (sym e)))
 
 -- ---- Ghost states of threads
 
 pub at_most_one : (b : Bool) → one_if b ≤ 1
-at_most_one true = omega arith
-at_most_one false = omega arith
+at_most_one b = grind (arith, nat_tests)
 
 pub and_none : (b : Bool) → (b && false) ≡ false
-and_none true = refl
-and_none false = refl
+and_none b = and_right b false refl
 
 pub none_leaving : (c : ThreadGhost) → c.giving ≡ None → is_leaving c ≡ false
-none_leaving c none = ap (λ (o : Option ℕ). c.committed && (is_some o && (c.new.point == 0))) none ∙ and_none c.committed
+none_leaving c none = and_right c.committed _ (and_left (is_some c.giving) _ (ap is_some none))
 
 pub uncommitted_leaving : (c : ThreadGhost) → c.committed ≡ false → is_leaving c ≡ false
-uncommitted_leaving c is = ap (λ (b : Bool). b && (is_some c.giving && (c.new.point == 0))) is
+uncommitted_leaving c is = and_left c.committed _ is
 
 -- ---- Records
 
 -- the point is 0 exactly where the thread holds nothing
 pub describes_test : (y : System) (code : Code y.plan) (kept : FlowState) (r : Record) → Describes y.plan code kept r →
     (r.point == 0) ≡ holds_none kept.holders code.thread.number
-describes_test y code kept r (between none point) = ap (λ (k : ℕ). k == 0) point ∙ sym none
-describes_test y code kept r (inside some i) = ne_eqb r.point 0 i.point ∙ sym some
+describes_test y code kept r h4 = grind (arith, ne_eqb)

@@ -1,7 +1,5 @@
 pub mod Public
 mod StatesMatchSource
-mod NoSelfLoops
-mod StepsBetweenMarks
 mod StepsAfterMarks
 mod RecordsAfterCrash
 mod Boundaries
@@ -15,7 +13,6 @@ mod UncommittedSteps
 mod Elements
 mod LocksAfterStep
 mod FragmentSteps
-mod HeldBeforeContinuations
 mod LocksAtCalls
 mod PendingReleases
 mod LockCallSteps
@@ -25,6 +22,7 @@ mod NodeEffects
 mod ConfigAfterBegin
 mod GraphAfterBegin
 mod NodeEnvironments
+mod ThreadViews
 mod OwnHartSteps
 mod PendingFlushes
 mod WriteBackSteps
@@ -35,7 +33,6 @@ mod StoreNodeSteps
 mod UnlockNodeSteps
 mod NodeCodeSteps
 mod RunOrCall
-mod DisjointElements
 mod DisjointStores
 mod KeptThreads
 mod StepSimulation
@@ -44,7 +41,6 @@ mod Sections
 mod LongestAttempts
 mod CommitSimulation
 mod AccountUpdates
-mod PointPositions
 mod AccountsBeforeCommit
 mod AccountsAfterEvents
 mod NoStuckHarts

@@ -1,41 +1,20 @@
 -- An environment that answers no loads: a thread's code is met in it in any world, and a fragment that has come to its end is one in it.
-use Rattle.std.proofs.Common.{◌≡◌, refl, ℕ, ◌+◌, ◌-◌, ◌*◌, ◌/◌, ◌%◌, ◌^◌, ◌<◌, List, [], ◌∷◌, length, sym, ◌∙◌, ap, subst, arith, Some, true, false}
+use Rattle.std.proofs.lemmas.Bool.Decides.{nat_tests}
+use Rattle.std.proofs.Common.{◌≡◌, refl, ℕ, ◌+◌, ◌-◌, ◌*◌, ◌^◌, ◌<◌, List, [], ◌∷◌, length, sym, subst, arith, false, slice_index_or, Bool}
 use Rattle.std.proofs.lemmas.Bool.{cond-true}
 use Rattle.std.proofs.lemmas.Option.{none-some}
-use Rattle.std.specs.Prelude.{slice_get, slice_index_or, Bool, nat_le, ◌==◌, ◌&&◌}
-use Rattle.rv64_isa.specs.declared.instr.Instr.{Instr}
-use Rattle.rv64_isa.specs.declared.object.Slot.{Slot}
-use Rattle.rv64_isa.specs.declared.object.Slot.TheVariants.{Row}
-use Rattle.rv64_isa.specs.Programs.{code_start, code_of}
 use Rattle.rv64_isa.specs.Rows.{Effect}
 use Rattle.rv64_isa.specs.Machine.{World}
 use Rattle.code_runs.specs.CodeTraces.{Program, MarkedEnvironment, Meets, seen_effects}
-use Rattle.hart_runs.specs.HartsOnRuns.{instr_of, instr_at, Agrees, environment_of}
-use Rattle.hart_runs.specs.Laws.{EnvironmentsMeet}
+use Rattle.hart_runs.specs.HartsOnRuns.{Agrees, environment_of}
 use Rattle.thread_runs.specs.CodeFragments.{Stage, ReadsVariables, IsOnFragment, IsPlaced, on_machine}
 use Rattle.thread_runs.proofs.Public.{plans_are_placed}
 use Rattle.recovered_threads.specs.RecordDescriptions.{Code}
 use Rattle.crash_simulation.specs.Systems.{IsOwnCode, System, IsSystem, thread_count}
-use Rattle.crash_simulation.specs.AbstractRuns.{AbstractRun}
-use Rattle.crash_simulation.specs.ThreadGhosts.{ThreadGhost, AnswersGuarded}
+use Rattle.crash_simulation.specs.ThreadGhosts.{AnswersGuarded}
+use Rattle.c_tree.specs.Source.{State}
 
 -- ---- A thread's code is met where it stands
-
-fetch_there : (program : List (List Slot)) (h i : ℕ) (instr : Instr) → slice_get (code_of program h) i ≡ Some (Row instr) →
-    instr_at program h (code_start program h + 4 * i) ≡ Some instr
-fetch_there program h i instr there =
-    let start : ℕ = code_start program h in
-    let test : (nat_le start (start + 4 * i) && ((start + 4 * i) % 4 == 0)) ≡ true = grind arith in
-    let index : (start + 4 * i - start) / 4 ≡ i = omega arith in
-    ap instr_of (cond-true _ _ _ test ∙ ap (slice_get (code_of program h)) index ∙ there)
-
-environments_meet : EnvironmentsMeet
-environments_meet program marks resumes reads w h = record {
-  fetches = λ address instr st.
-      let at : code_start program h + 4 * st.0 ≡ address = sym st.1 in
-      subst (λ (a : ℕ). instr_at program h a ≡ Some instr) at (fetch_there program h st.0 instr st.2);
-  marks = refl;
-}
 
 -- ---- An environment that answers no loads
 
@@ -47,11 +26,7 @@ none_seen (effect ∷ effects) h = cc
 -- a thread's own code is met in the environment of each machine, whichever loads it answers
 pub meets_with : (y : System) (code : Code y.plan) → IsOwnCode y code → (w : World) (reads : ℕ → ℕ → Bool) →
     Meets code.is.places.program (environment_of y.runs.program (slice_index_or y.runs.marks code.thread.number []) reads w code.thread.number)
-meets_with y code own w reads =
-    let marks = slice_index_or y.runs.marks code.thread.number [] in
-    let resumes = slice_index_or y.runs.resumes code.thread.number [] in
-    subst (λ (p : Program). Meets p (environment_of y.runs.program marks reads w code.thread.number)) (sym (code.is.of_program ∙ own.program))
-    (environments_meet y.runs.program marks resumes reads w code.thread.number)
+meets_with y code own w reads = grind (arith, nat_tests, cond-true)
 
 module _ (y : System) (s : IsSystem y) (w : World) (n : ℕ) (below : n < thread_count y) where
   abbrev code : Code y.plan
@@ -66,8 +41,8 @@ module _ (y : System) (s : IsSystem y) (w : World) (n : ℕ) (below : n < thread
   pub bare_meets : Meets code.is.places.program bare
   bare_meets = meets_with y code (s.own n below) w (λ address bytes. false)
 
-  pub bare_answers : (b : AbstractRun y) (c : ThreadGhost) → AnswersGuarded y b code c bare
-  bare_answers b c address bytes value e = absurd (none-some value e)
+  pub bare_answers : (state : State) → AnswersGuarded y state code.thread.number bare
+  bare_answers state address bytes value e = absurd (none-some value e)
 
   pub bare_reads : ReadsVariables bare
   bare_reads address bytes value e = absurd (none-some value e)
@@ -85,13 +60,4 @@ module _ (y : System) (s : IsSystem y) (w : World) (n : ℕ) (below : n < thread
     none_ahead = none_seen effects fragment.on.walks.1
 
     pub resettled : IsOnFragment y.plan code.thread code.is.places (on_machine y.runs.program w code.thread.number bare) stage 0 []
-    resettled = record {
-      meets = bare_meets;
-      agrees = bare_agrees;
-      apart = tt;
-      own = fragment.own;
-      of_graph = fragment.of_graph;
-      registers = fragment.registers;
-      on = record { hart = fragment.on.hart; here = fragment.on.here; runs = fragment.on.runs; walks = (fragment.on.walks.0, refl); may = tt };
-      has = fragment.has;
-    }
+    resettled = grind (arith, nat_tests, cond-true, none-some)

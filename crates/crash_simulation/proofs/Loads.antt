@@ -1,6 +1,6 @@
 -- Loads of the elements that a node reads are answered.
 use Rattle.std.proofs.Common.{◌≡◌, ⊎_elim, refl, ℕ, zero, suc, ◌<◌, List, [], ◌∷◌, ◌++◌, map, sym, subst, arith, Option, Some, None, Bool, true, false}
-use Rattle.std.proofs.lemmas.Bool.{and_parts, or_cases}
+use Rattle.std.proofs.lemmas.Bool.{and_parts, or_cases, or_right}
 use Rattle.std.proofs.lemmas.Bool.Decides.{nat_tests}
 use Rattle.std.proofs.lemmas.List.Elements.{Contains-append_left, Contains-append_right}
 use Rattle.std.specs.Prelude.{slice_get, is_some, ℤ, Contains, nat_lt, ◌==◌, ◌&&◌, ◌||◌}
@@ -11,6 +11,7 @@ use Rattle.ido_ints.specs.Kinds.{bytes_of, Holds}
 use Rattle.c_tree.specs.Exprs as e
 use Rattle.c_tree.specs.Flats as f
 use Rattle.c_tree.specs.Source as m
+use Rattle.c_tree.specs.Ranges.{elements_of}
 use Rattle.c_tree.specs.WellFormed.{elements_in, shape_of, IsDeclared, IsExpr, Fits, IsTarget, TargetFits, IsFlatStatement, IsFlatPlaced}
 use Rattle.c_tree.specs.Programs.{Variable}
 use Rattle.c_tree.specs.Values.{value, element_at}
@@ -57,7 +58,7 @@ pub is_read : (vs : List Variable) (ones : List Element) (address bytes : ℕ) �
 is_read vs [] address bytes h = cc
 is_read vs (one ∷ more) address bytes h = ⊎_elim
     (λ a. (one, (0, omega arith, refl), read_first vs one address bytes (slice_get vs one.variable) refl a))
-    (λ b. let r = is_read vs more address bytes b in (r.0, (suc r.1.0, let l = r.1.1 in omega (arith, l), r.1.2), r.2))
+    (λ b. let r = is_read vs more address bytes b in (r.0, (suc r.1.0, omega (arith, r.1.1), r.1.2), r.2))
     (or_cases (reads_one vs one address bytes (slice_get vs one.variable)) (reads_all vs more address bytes) h)
 
 reads_head : (vs : List Variable) (one : Element) (more : List Element) (it : Variable) (o : Option Variable) → o ≡ Some it →
@@ -66,17 +67,14 @@ reads_head : (vs : List Variable) (one : Element) (more : List Element) (it : Va
     reads_all vs more (variable_at (map shape_of vs) one.variable one.element) (bytes_of it.kind)) ≡ true
 reads_head vs one more it o found below = grind (arith, nat_tests)
 
-or_second : (a b : Bool) → b ≡ true → (a || b) ≡ true
-or_second a b h = grind (arith, nat_tests)
-
 pub reads_there : (vs : List Variable) (ones : List Element) (one : Element) (it : Variable) → Contains ones one → slice_get vs one.variable ≡ Some it →
     one.element < elements_in it.length → reads_all vs ones (variable_at (map shape_of vs) one.variable one.element) (bytes_of it.kind) ≡ true
 reads_there vs [] one it (k, l, is) found below = absurd (omega (arith, l))
 reads_there vs (first ∷ more) one it (zero, l, is) found below =
-    let P : Element → Type 0 = λ z. reads_all vs (z ∷ more) (variable_at (map shape_of vs) one.variable one.element) (bytes_of it.kind) ≡ true in
-    subst P (sym is) (reads_head vs one more it (slice_get vs one.variable) found below)
+    subst (λ (z : Element). reads_all vs (z ∷ more) (variable_at (map shape_of vs) one.variable one.element) (bytes_of it.kind) ≡ true) (sym is)
+    (reads_head vs one more it (slice_get vs one.variable) found below)
 reads_there vs (first ∷ more) one it (suc k, l, is) found below =
-    or_second (reads_one vs first (variable_at (map shape_of vs) one.variable one.element) (bytes_of it.kind) (slice_get vs first.variable)) _
+    or_right (reads_one vs first (variable_at (map shape_of vs) one.variable one.element) (bytes_of it.kind) (slice_get vs first.variable)) _
     (reads_there vs more one it (k, omega (arith, l), is) found below)
 
 -- ---- What expressions read
@@ -108,7 +106,7 @@ module _ (vs : List Variable) (ks kinds : List Kind) (ls : List ℤ) (p : Option
   loaded_expr (e.Variable place variable kind) w fit all =
       loaded_declared variable 0 kind false w (scalar_one w.it.length w.array) (all (element variable 0) (0, omega arith, refl))
   loaded_expr (e.Element place variable kind index_place index) w fit all =
-      let named = fits_element vs (record { variable = variable; place = index_place; expr = index }) fit.0 ls ns
+      let named = fits_element (elements_of vs variable) index fit.0 ls ns
       (all_held vs ks ls ns locals variables index w.1) in
       let below = named.below in (
         loaded_declared variable (element_at (value ls ns index)) kind true w.0 (omega (arith, below, elements_is vs variable w.0.it w.0.found w.0.array))

@@ -8,7 +8,7 @@ use Rattle.std.specs.Prelude.{slice_get, length, Contains}
 use Rattle.source_machine.specs.ElementLocks.{element_lock}
 use Rattle.source_machine.specs.Discipline.{Guards}
 use Rattle.rv64_isa.specs.Machine.{World}
-use Rattle.flow_graph.specs.Actions.{FlowState, effect_of}
+use Rattle.flow_graph.specs.Actions.{FlowState, Seen, effect_of}
 use Rattle.flow_graph.specs.Nodes.{Node}
 use Rattle.flow_graph.specs.Lowering.{lowered}
 use Rattle.flow_graph.specs.Liveness.{NodeAt}
@@ -34,16 +34,23 @@ use Rattle.crash_simulation.proofs.MarksAtNodes.{environment, in_graph, graph_st
 use Rattle.crash_simulation.proofs.MarkSteps.{is_plain, plain_holders, flushed_passed, passed_step, is_next}
 use Rattle.crash_simulation.proofs.StatesMatchSource.{resumed}
 use Rattle.crash_simulation.proofs.Loads.{reads_all}
-use Rattle.crash_simulation.proofs.WriteBackSteps.{mark_step, none_clean}
+use Rattle.crash_simulation.proofs.ThreadViews.{none_clean}
+use Rattle.crash_simulation.proofs.WriteBackSteps.{mark_step}
 use Rattle.crash_simulation.proofs.MarkSteps as passing
 
 quiet_plain : (e : a.Effect) → is_quiet e ≡ true → is_plain e ≡ true
 quiet_plain e quiet = grind (arith, nat_tests)
 
+-- what a node does that neither stores nor passes a mutex
+pub record DoesQuietly (node : Node) (seen : Seen) : Type 0 where
+  pub e : a.Effect
+  pub does : effect_of node.action seen ≡ Some e
+  pub quiet : is_quiet e ≡ true
+
 module _ {y : System} {s : IsSystem y} {w : World} {h : ℕ} (site : AtNode y s w h) (node : Node)
-    (at : NodeAt (lowered (flat_of y)) (view site.hart).graph_thread.at node) (e : a.Effect)
-    (does : effect_of node.action (view site.hart).seen ≡ Some e) (quiet : is_quiet e ≡ true) where
+    (at : NodeAt (lowered (flat_of y)) (view site.hart).graph_thread.at node) (quietly : DoesQuietly node (view site.hart).seen) where
   open view site.hart use {b, code, c, t, n, v, places, graph_thread, seen}
+  open quietly use {e, does, quiet}
 
   abbrev doing : Doing site
   doing = record {
@@ -139,7 +146,7 @@ module _ {y : System} {s : IsSystem y} {w : World} {h : ℕ} (site : AtNode y s 
     quiet_passes : StepOf site.hart n
     quiet_passes =
         passed_step site passed
-        (answers_guarded site (reads_of node.action seen) next (passing.new site passed) guards)
+        (answers_guarded site (reads_of node.action seen) (now next.config) guards)
         (λ u i. flushed_passed site passed u i (none_written u i) (λ position since. since)
         (λ now line cleaned. absurd (none_written _ _ cleaned.stores)))
 

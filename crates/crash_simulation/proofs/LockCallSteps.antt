@@ -5,9 +5,8 @@ use Rattle.std.proofs.Common.{Bool, true, false, ℤ, ◌≤◌}
 use Rattle.std.proofs.lemmas.Option.{none-some, same_Some, slice_get_within}
 use Rattle.std.proofs.lemmas.Bool.{true≢false, cond-false}
 use Rattle.std.proofs.lemmas.List.{length-set}
-use Rattle.std.specs.Prelude.{slice_get, Contains, not, is_none, ◌&&◌, ◌==◌, if◌then◌else◌}
-use Rattle.boundary_code.specs.Boundaries.{IsOnSide, Boundary, boundary_effects, side_after}
-use Rattle.ido_base.specs.declared.log.Log.{Log}
+use Rattle.std.specs.Prelude.{slice_get, Contains, not, is_none, ◌&&◌, ◌==◌}
+use Rattle.boundary_code.specs.Boundaries.{Boundary, boundary_effects, side_after}
 use Rattle.ido_base.specs.declared.event.Event.TheVariants.{Step}
 use Rattle.ido_base.specs.Locks.{held_from, holds_none}
 use Rattle.rv64_isa.specs.declared.instr.Instr.TheVariants.{Ecall}
@@ -34,7 +33,7 @@ use Rattle.log_states.specs.Logs.{Record}
 use Rattle.log_states.specs.Machines.{IsNext, IsElsewhere}
 use Rattle.log_states.specs.Laws.{recorded_by}
 use Rattle.log_states.specs.LogInvariant.{LogInv}
-use Rattle.log_states.proofs.Public.{stores_nothing, one_effect, side_follows, contains_none, boundaries_fence, begins_standing, steps_keep, boundary_stores}
+use Rattle.log_states.proofs.Public.{stores_nothing, one_effect, side_follows, boundaries_fence, steps_keep, boundary_stores}
 use Rattle.thread_code.specs.RegistersAtNodes.{Enters}
 use Rattle.thread_code.specs.NodeCodeEffects.{keeping}
 use Rattle.thread_code.specs.Programs.{IsCalling}
@@ -43,12 +42,12 @@ use Rattle.thread_runs.specs.Laws.{TakesMutex}
 use Rattle.thread_runs.proofs.Public.{call_there, fragments_see_all, locks_take, locks_wait, few_cleans}
 use Rattle.recovered_threads.specs.RecordDescriptions.{Code, past_lock, Describes}
 use Rattle.recovered_threads.proofs.Public.{same_there, holds_none_is}
-use Rattle.crash_simulation.specs.ThreadGhosts.{ThreadGhost, ExitInv, InFragment, on_fragment, InPhase, ThreadInv}
+use Rattle.crash_simulation.specs.ThreadGhosts.{ThreadGhost, InFragment, on_fragment, InPhase, ThreadInv}
 use Rattle.crash_simulation.specs.InstructionSteps.{stays, goes, abstract_next, MayStore, nothing, is_bound, was_unlocked, nothing_released, OnFragmentNow}
 use Rattle.crash_simulation.specs.InstructionSteps.{thread_of, begins_step}
 use Rattle.crash_simulation.specs.Systems.{System, IsSystem, flat_of, places_of, thread_count}
 use Rattle.crash_simulation.specs.AbstractRuns.{AbstractRun, kept_of, now_of}
-use Rattle.crash_simulation.specs.SimulationRelation.{AreHeld, Simulates}
+use Rattle.crash_simulation.specs.SimulationRelation.{AreHeld}
 use Rattle.crash_simulation.specs.StepsToMark.{most_ahead}
 use Rattle.crash_simulation.specs.ThreadGhosts as courses
 use Rattle.code_runs.specs.CodeTraces.{MarkedEnvironment}
@@ -58,8 +57,10 @@ use Rattle.crash_simulation.proofs.StatesMatchSource.{resumed, kept_matches, ord
 use Rattle.crash_simulation.proofs.Boundaries.{after_lock_in, IsBeginning, BoundaryIsRecoverable, boundaries_begin}
 use Rattle.crash_simulation.proofs.LoadFreeEnvironment.{bare, bare_answers, bare_reads, placed, none_ahead, resettled}
 use Rattle.crash_simulation.proofs.LocksAtCalls.{locks_it, mutex_there, taken, takes_it, source_takes}
-use Rattle.crash_simulation.proofs.PendingFlushes.{Passage, flushed_same, still_reached, reaches_same}
-use Rattle.crash_simulation.proofs.OwnHartSteps.{log_at, step_to, Site, view, StepOf, held_still, own_giving, locks_to}
+use Rattle.crash_simulation.proofs.PendingFlushes.{Passage, stored_same, still_reached, reaches_same}
+use Rattle.crash_simulation.proofs.OwnHartSteps.{log_begins, step_to, view, StepOf, held_still, own_giving, locks_to}
+use Rattle.crash_simulation.specs.InstructionSteps.{Site}
+use Rattle.crash_simulation.proofs.ThreadViews.{IsQuiet, begins_with, describes_over, log_at, moves_alone, none_clean, records_begin}
 use Rattle.crash_simulation.proofs.UncommittedSteps.{leads_on}
 use Rattle.crash_simulation.proofs.RecordsAfterCrash.{caught_is_over}
 use Rattle.crash_simulation.proofs.LocksAfterStep.{GoneOn, held_taken}
@@ -93,9 +94,7 @@ point_none y code kept r describes free = grind (arith, nat_tests)
 pub record AtEnd (y : System) (s : IsSystem y) (w : World) (h : ℕ) (exit : ExitPoint) : Type 0 where
   pub site : Site y s w h
   pub held : AreHeld w site.stands.ghosts (now_of y site.stands.abstract)
-  pub o : OnFragmentNow y s w h site.stands site.below
-  pub zero_left : o.steps ≡ 0
-  pub exit_is : o.exit ≡ exit
+  pub o : OnFragmentNow site exit 0
 
 module _ {y : System} {s : IsSystem y} {w : World} {h : ℕ} {exit : ExitPoint} (at : AtEnd y s w h exit) where
   open view at.site use {b, code, c, t, n, v, places, graph_thread, seen}
@@ -131,34 +130,25 @@ module _ {y : System} {s : IsSystem y} {w : World} {h : ℕ} {exit : ExitPoint} 
       (λ u. never lock u)
       (held_before (flat_of y) b.config n lock invariant kept)))
 
-  whole : FragmentTo at.o.environment exit 0 (c.cleans ++ c.rest)
-  whole = grind (arith, nat_tests)
-
   -- nothing is ahead, and no answer counts
   pub fragment_over : FragmentTo z exit 0 []
-  fragment_over = resettled y s w h at.site.below at.o.environment _ (c.cleans ++ c.rest) whole
+  fragment_over = resettled y s w h at.site.below at.o.environment _ (c.cleans ++ c.rest) at.o.fragment
 
   pub none_left : c.cleans ++ c.rest ≡ []
-  none_left = none_ahead y s w h at.site.below at.o.environment _ (c.cleans ++ c.rest) whole
+  none_left = none_ahead y s w h at.site.below at.o.environment _ (c.cleans ++ c.rest) at.o.fragment
 
   pub rest_over : c.rest ≡ []
   rest_over = right_empty c.cleans c.rest none_left
 
-  pub fits : ExitInv y b code c graph_thread exit
-  fits = subst (λ (e : ExitPoint). ExitInv y b code c graph_thread e) at.exit_is at.o.fits
-
   pub hart_is : fragment_over.on.hart ≡ t.log.hart
   hart_is = same_there (slice_get w.harts n) fragment_over.on.hart t.log.hart fragment_over.on.here t.log.here
-
-  pub log_over : LogInv n c.old c.new w []
-  log_over = subst (λ (es : List Effect). LogInv n c.old c.new w es) rest_over t.log
 
   pub committed_over : c.committed ≡ true
   committed_over = caught_is_over y w b code c t rest_over (at.site.stands.caught_up h at.site.below (λ e. e))
 
   -- the record that is taken as committed describes the kept state
   pub describes_new : Describes y.plan code (kept_of y b) c.new
-  describes_new = subst (λ (yes : Bool). Describes y.plan code (kept_of y b) (if yes then c.new else c.old)) committed_over t.describes
+  describes_new = describes_over y b code c t.records committed_over
 
   -- the hart's instruction is a call, which stores nothing
   module _ {number : ℕ} (a : IsAtCall y.runs.program w n number) where
@@ -184,19 +174,17 @@ module _ {y : System} {s : IsSystem y} {w : World} {h : ℕ} {exit : ExitPoint} 
     pub does : happens y.runs.program w (Step n) ≡ moved u n new
     pub words : u.words ≡ w.words
     pub harts : u.harts ≡ w.harts
+    pub queue : new.queue ≡ t.log.hart.queue
 
   module _ (m : MovesHart) where
-    pub words_after : v.words ≡ w.words
-    words_after = ap (λ (x : Outcome). x.0.words) m.does ∙ m.words
+    pub alone : IsQuiet w v n t.log.hart m.new
+    alone = moves_alone y.runs.program w m.u n t.log.hart m.new at.site.stands.machine.sound t.log.here m.does m.words m.harts m.queue
 
     pub holders_after : v.holders ≡ m.u.holders
     holders_after = ap (λ (x : Outcome). x.0.holders) m.does
 
-    pub there_after : slice_get v.harts n ≡ Some m.new
-    there_after = grind (arith, get-set_same, fragment_over)
-
     pub memory_after : memory_in (places_of y) v.words ≡ b.config.memory
-    memory_after = ap (memory_in (places_of y)) words_after ∙ at.site.stands.memory
+    memory_after = ap (memory_in (places_of y)) (alone.words) ∙ at.site.stands.memory
 
 -- ---- A lock
 
@@ -206,8 +194,8 @@ module _ {y : System} {s : IsSystem y} {w : World} {h mutex next : ℕ} (at : At
   abbrev pub asks : FragmentTo at (z at) (Asks mutex next) 0 []
   asks = fragment_over at
 
-  goes_clean : courses.GoesClean y b code c false graph_thread
-  goes_clean = fits at
+  goes_clean : courses.GoesClean y b.config n c false graph_thread
+  goes_clean = at.o.fits
 
   pub lock_here : IsLockOf y.plan code.thread graph_thread.at mutex next
   lock_here = asks.of_graph
@@ -343,30 +331,26 @@ module _ {y : System} {s : IsSystem y} {w : World} {h mutex next : ℕ} (at : At
         (now_good y s then_abstract) beginning
 
     abbrev then_ghost : ThreadGhost
-    then_ghost = record {
-      old = c.new;
-      new = recorded_by b_next at.o.side resume asks.registers;
-      rest = boundary_effects b_next at.o.side resume asks.registers;
-      committed = false;
-      cleans = [];
-      giving = None;
-      before_mark = most_ahead y n;
-    }
+    then_ghost = begins_with c (recorded_by b_next at.o.side resume asks.registers) (boundary_effects b_next at.o.side resume asks.registers) None
+        (most_ahead y n)
 
     log_then : LogInv n c.new then_ghost.new v then_ghost.rest
     log_then =
         steps_keep y.runs.program n n c.new then_ghost.new w then_ghost.rest at.site.stands.machine.sound
-        (begins_standing b_next c.old c.new at.o.side resume asks.registers w at.site.stands.machine.log (log_over at)
-        (record {
-          registers = subst (λ (l : Log). IsOnSide l at.o.side asks.registers) at.site.stands.machine.log asks.has.enters.at_side;
-          is = at.o.at_side;
-        }) begins_there.recoverable)
+        (log_begins at.site next at.o.side resume asks.registers (rest_over at) asks.has.enters.at_side at.o.at_side begins_there.recoverable)
         (call_elsewhere at at_lock)
 
     open it.on.on.on use {hart as new}
 
     abbrev moving_hart : MovesHart at
-    moving_hart = record { u = with_holder w mutex (Some n); new = gone_on asks.on.hart; does = it.does; words = refl; harts = refl }
+    moving_hart = record {
+      u = with_holder w mutex (Some n);
+      new = gone_on asks.on.hart;
+      does = it.does;
+      words = refl;
+      harts = refl;
+      queue = ap (λ (x : Hart). x.queue) (hart_is at);
+    }
 
     -- ---- The thread
 
@@ -379,14 +363,12 @@ module _ {y : System} {s : IsSystem y} {w : World} {h mutex next : ℕ} (at : At
               ∙ locks_it y s b code graph_thread t.walks mutex next lock_here;
         }
 
-    then_fragment : InFragment y v then_abstract code then_ghost new moved_thread
+    then_fragment : InFragment y v then_abstract code then_ghost new moved_thread (Took graph_thread.at) it.on.steps
     then_fragment = record {
       environment = z at;
-      answers = bare_answers y s w h at.site.below then_abstract then_ghost;
-      exit = Took graph_thread.at;
+      answers = bare_answers y s w h at.site.below (now then_abstract.config);
       side = side_after b_next at.o.side;
       at_side = side_follows b_next at.o.side resume asks.registers begins_there.recoverable;
-      steps = it.on.steps;
       fragment = fragments_see_all y.plan code.thread places y.runs.program v n (z at)
           (record { exit = Took graph_thread.at; node = next; seen = seen; side = side_after b_next at.o.side }) it.on.steps
           then_ghost.rest (now_of y then_abstract).variables it.on.on;
@@ -412,21 +394,18 @@ module _ {y : System} {s : IsSystem y} {w : World} {h mutex next : ℕ} (at : At
     thread_then : ThreadInv y v then_abstract code then_ghost
     thread_then = record {
       log = log_at log_then new it.on.on.on.here;
-      no_sooner = λ yes. absurd (true≢false (sym yes));
-      describes = describes_new at;
-      will_describe = λ no. begins_there.describes;
-      unlocked = λ mutex gives over. absurd (none-some mutex gives);
-      cleans = λ effect found. absurd (contains_none effect found);
+      records = records_begin y then_abstract code then_ghost refl (describes_new at) begins_there.describes;
       graph_thread = moved_thread;
       walks = walks;
-      phase = subst (λ (p : Phase). InPhase y v then_abstract code then_ghost new moved_thread p) (sym it.on.on.on.runs) (on_fragment then_fragment);
-      flushed = λ u e writes. flushed_same passage
-          (still_reached passage goes_clean.cleans
-          (reaches_same passage (words_after at moving_hart)
-          (ap (λ (x : Hart). x.queue) (same_there (slice_get v.harts n) new (gone_on asks.on.hart) it.on.on.on.here (there_after at moving_hart))
-          ∙ ap (λ (x : Hart). x.queue) (hart_is at)))) u e
-          (λ position since. since) (t.flushed u e writes)
-          (λ un few. let two = boundaries_fence b_next at.o.side resume asks.registers in absurd (omega (arith, two, few))) refl;
+      phase =
+          subst (λ (p : Phase). InPhase y v then_abstract code then_ghost new moved_thread p) (sym it.on.on.on.runs)
+          (on_fragment (Took graph_thread.at) it.on.steps then_fragment);
+      stored = stored_same passage none_clean
+          (still_reached passage goes_clean.cleans (reaches_same passage (alone at moving_hart).words
+          (ap (λ (x : Hart). x.queue) (same_there (slice_get v.harts n) new (gone_on asks.on.hart) it.on.on.on.here (alone at moving_hart).here)
+          ∙ (alone at moving_hart).queue)))
+          (λ u e position since. since)
+          (λ u e f un few. let two = boundaries_fence b_next at.o.side resume asks.registers in absurd (omega (arith, two, few))) refl t.stored;
     }
 
     takes_mutex : StepOf at.site n
@@ -469,16 +448,13 @@ module _ {y : System} {s : IsSystem y} {w : World} {h mutex next : ℕ} (at : At
 
 -- ---- What crates above ask
 
-module _ (y : System) (s : IsSystem y) (w : World) (h : ℕ) (stands : Simulates y s w) (below : h < thread_count y)
-    (held : AreHeld w stands.ghosts (now_of y stands.abstract)) where
-  abbrev pub at_end : (exit : ExitPoint) (o : OnFragmentNow y s w h stands below) → o.steps ≡ 0 → o.exit ≡ exit → AtEnd y s w h exit
-  at_end exit o zero_left exit_is =
-      record { site = record { stands = stands; below = below }; held = held; o = o; zero_left = zero_left; exit_is = exit_is }
+module _ {y : System} {s : IsSystem y} {w : World} {h : ℕ} (site : Site y s w h) (held : AreHeld w site.stands.ghosts (now_of y site.stands.abstract)) where
+  abbrev pub at_end : {exit : ExitPoint} → OnFragmentNow site exit 0 → AtEnd y s w h exit
+  at_end o = record { site = site; held = held; o = o }
 
-  pub fragment : (exit : ExitPoint) (o : OnFragmentNow y s w h stands below) (zero_left : o.steps ≡ 0) (exit_is : o.exit ≡ exit) →
-      FragmentTo (at_end exit o zero_left exit_is) (z (at_end exit o zero_left exit_is)) exit 0 []
-  fragment exit o zero_left exit_is = fragment_over (at_end exit o zero_left exit_is)
+  pub fragment : {exit : ExitPoint} (o : OnFragmentNow site exit 0) → FragmentTo (at_end o) (z (at_end o)) exit 0 []
+  fragment o = fragment_over (at_end o)
 
-  pub lock : (mutex next : ℕ) (o : OnFragmentNow y s w h stands below) → o.steps ≡ 0 → o.exit ≡ Asks mutex next →
-      IsLockOf y.plan (s.codes.each h below).thread (thread_of y s w h stands below).graph_thread.at mutex next
-  lock mutex next o zero_left exit_is = lock_here (at_end (Asks mutex next) o zero_left exit_is)
+  pub lock : {mutex next : ℕ} → OnFragmentNow site (Asks mutex next) 0 →
+      IsLockOf y.plan (s.codes.each h site.below).thread (thread_of site).graph_thread.at mutex next
+  lock o = lock_here (at_end o)

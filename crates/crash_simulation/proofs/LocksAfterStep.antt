@@ -1,9 +1,7 @@
 -- Locks after a step of a hart that executes instructions.
 use Rattle.std.proofs.lemmas.Bool.Decides.{nat_tests}
-use Rattle.std.proofs.Common.{arith}
-use Rattle.std.proofs.Common.{◌≡◌, ◌≢◌, ℕ, ◌<◌, ◌==◌, length, sym, ◌∙◌, subst, Some, None}
+use Rattle.std.proofs.Common.{arith, ◌≡◌, ◌≢◌, ℕ, ◌<◌, ◌==◌, length, sym, ◌∙◌, subst, Some, None, slice_get, slice_set}
 use Rattle.std.proofs.lemmas.Bool.{cond-true, cond-false}
-use Rattle.std.specs.Prelude.{slice_get, slice_set}
 use Rattle.ido_base.specs.declared.event.Event.TheVariants.{Step}
 use Rattle.rv64_isa.specs.declared.phase.Phase.TheVariants.{Take, Wait, Resume, Run}
 use Rattle.rv64_isa.specs.declared.phase.Phase.{Phase}
@@ -40,8 +38,7 @@ other_ghost ghosts thread ghost n other = cond-false (n == thread) ghost (ghosts
 
 -- what is so of the thread's own ghost state and of all others is so of each
 pub each_ghost : (ghosts : ℕ → ThreadGhost) (thread : ℕ) (ghost : ThreadGhost) (P : ℕ → ThreadGhost → Type 0) → P thread ghost →
-    ((n : ℕ) → n ≢ thread → P n (ghosts n)) →
-    (n : ℕ) → P n (with_ghost ghosts thread ghost n)
+    ((n : ℕ) → n ≢ thread → P n (ghosts n)) → (n : ℕ) → P n (with_ghost ghosts thread ghost n)
 each_ghost ghosts thread ghost P own others n = grind (arith, nat_tests)
 
 -- ---- A hart that executes instructions goes on to, or is done, or has ended
@@ -66,8 +63,7 @@ module _ (y : System) (s : IsSystem y) (w : World) (b : AbstractRun y) (ghosts :
   runs_held locks = grind (arith, nat_tests)
 
   gathered_after : (ghost : ThreadGhost) (new : Hart) → slice_get later.harts h ≡ Some new → GoneOn new.phase →
-      ((k : ℕ) → k ≢ h → IsElsewhere y.runs.program w h k) → AreGathered w (records_of ghosts) →
-      AreGathered later (records_of (with_ghost ghosts h ghost))
+      ((k : ℕ) → k ≢ h → IsElsewhere y.runs.program w h k) → AreGathered w (records_of ghosts) → AreGathered later (records_of (with_ghost ghosts h ghost))
   gathered_after ghost new here goes elsewhere ag = record {
     each = each_ghost ghosts h ghost (λ (n : ℕ) (c : ThreadGhost). (hart : Hart) → slice_get later.harts n ≡ Some hart → HasGathered later n c.new hart.phase)
         (λ hart there. gone_gathered later h ghost.new hart.phase
@@ -80,8 +76,7 @@ module _ (y : System) (s : IsSystem y) (w : World) (b : AbstractRun y) (ghosts :
   -- the lock part of the simulation holds after a step of a hart, where harts go on to hold what their threads have
   pub locked_after : (next : AbstractRun y) (ghost : ThreadGhost) (new : Hart) → slice_get later.harts h ≡ Some new → GoneOn new.phase →
       ((hart : Hart) (effect : Effect) → IsNext y.runs.program w h hart effect → MayStore y b h effect) → AreLocked y w b ghosts →
-      (AreHeld w ghosts (now_of y b) → AreHeld later (with_ghost ghosts h ghost) (now_of y next)) →
-      AreLocked y later next (with_ghost ghosts h ghost)
+      (AreHeld w ghosts (now_of y b) → AreHeld later (with_ghost ghosts h ghost) (now_of y next)) → AreLocked y later next (with_ghost ghosts h ghost)
   locked_after next ghost new here goes may locks held =
       let all = runs_held locks in
       gathered (gathered_after ghost new here goes (λ k other. elsewhere y s w h b logs may k (λ e. other (sym e))) all.0) (held all.1)

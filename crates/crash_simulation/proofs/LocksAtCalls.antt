@@ -1,19 +1,27 @@
 -- What a thread holds, locks and unlocks where its graph thread is at a call.
-use Rattle.std.proofs.lemmas.Bool.Decides.{nat_tests}
-use Rattle.std.proofs.Common.{◌≡◌, ◌≢◌, refl, ℕ, zero, suc, ◌-◌, ◌<◌, List, [], ◌∷◌, length, ap, sym, ◌∙◌, subst, arith, Option, Some, None, false}
-use Rattle.std.proofs.lemmas.Bool.{true≢false}
-use Rattle.std.proofs.lemmas.Option.{none-some, same_Some, slice_get_within}
-use Rattle.std.specs.Prelude.{slice_get, is_some}
+use Rattle.std.proofs.Common.{◌≡◌, ◌≢◌, refl, ℕ, zero, suc, ◌<◌, arith, List, [], ◌∷◌, sym, ◌∙◌, ap, subst, Option, Some, None, true, false}
+use Rattle.std.proofs.Common.{length, ◌-◌, slice_get, slice_set, is_some, ℤ, true≢false, eq-eqb}
+use Rattle.std.proofs.lemmas.List.{length-replicate}
 use Rattle.std.specs.List.{AllByRecursion}
+use Rattle.ido_base.specs.declared.place.Place.{Place}
+use Rattle.c_tree.specs.Exprs as e
 use Rattle.c_tree.specs.Flats as f
 use Rattle.c_tree.specs.Source as m
+use Rattle.c_tree.specs.LockNames.{Held, holds, none_held, lock_names, number_in, plain_names}
+use Rattle.c_tree.specs.LockDiscipline.{IsDisciplined}
+use Rattle.c_tree.specs.Values.{lock_number}
+use Rattle.c_tree.specs.WellFormed.{IsSingle}
+use Rattle.c_tree.proofs.Public.{length-plain_names, names_are_plain, plain_known, plain_lock}
+use Rattle.source_machine.specs.Mutexes.{held_by, locks, first_lock}
+use Rattle.source_machine.specs.Discipline.{KeepList, StateKeeps}
+use Rattle.source_machine.proofs.Public.{keeps_unlock, keep_list_length, holds_within, plain_is_given, locks_found, run_keeps}
+use Rattle.lock_discipline.specs.StepContinuations.{thread_lefts}
+use Rattle.lock_discipline.proofs.Public.{set_left}
+use Rattle.std.proofs.lemmas.Bool.Decides.{nat_tests}
+use Rattle.std.proofs.lemmas.Option.{none-some, same_Some, slice_get_within}
 use Rattle.c_tree.specs.Source.{Pending, source_step}
-use Rattle.c_tree.specs.LockDiscipline.{Held, holds, none_held}
 use Rattle.c_ranges.specs.RunInvariants.{IsStatementLeft, IsThreadOf}
 use Rattle.c_ranges.proofs.Public.{zip_found}
-use Rattle.source_machine.specs.Mutexes.{locks, first_lock, held_by}
-use Rattle.source_machine.specs.Discipline.{KeepList, StateKeeps}
-use Rattle.source_machine.proofs.Public.{locks_found, run_keeps}
 use Rattle.flow_graph.specs.Actions.{GraphThread, FlowState, effect_of, seen_by, graph_step}
 use Rattle.flow_graph.specs.Lockstep.{Standing, free, threads_standings, thread_standings, GraphThreadMatches}
 use Rattle.flow_graph.specs.declared.graph.Part.{Part}
@@ -31,9 +39,51 @@ use Rattle.crash_simulation.specs.Systems.{System, IsSystem, flat_of}
 use Rattle.crash_simulation.specs.AbstractRuns.{AbstractRun, now_of}
 use Rattle.crash_simulation.proofs.NodeEffects.{IsAtNode, step_is, source_steps}
 use Rattle.crash_simulation.proofs.NodeEffects as nodes
-use Rattle.crash_simulation.proofs.HeldBeforeContinuations.{holds_it, none_in, not_held_after}
 use Rattle.crash_simulation.proofs.StatesMatchSource.{resumed, now_good}
 use Rattle.crash_simulation.proofs.GraphAfterBegin.{matches_now}
+
+pub holds_it : (t : ℕ) (hs : List (Option ℕ)) (k : ℕ) → slice_get hs k ≡ Some (Some t) → holds (held_by t hs) k ≡ true
+holds_it t [] k h = cc
+holds_it t (None ∷ hs) zero h = cc
+holds_it t (Some u ∷ hs) zero h = eq-eqb t u (let same : Some u ≡ Some t = cc in let is : u ≡ t = cc in sym is)
+holds_it t (o ∷ hs) (suc k) h = holds_it t hs k h
+
+set_away : (h : Held) (mutex : ℕ) → holds (slice_set h mutex false) mutex ≡ false
+set_away [] mutex = refl
+set_away (b ∷ h) zero = refl
+set_away (b ∷ h) (suc mutex) = set_away h mutex
+
+pub none_in : (count mutex : ℕ) → holds (none_held count) mutex ≡ false
+none_in zero mutex = refl
+none_in (suc count) zero = refl
+none_in (suc count) (suc mutex) = none_in count mutex
+
+-- what a thread has left after an unlock it has without the lock
+pub not_held_after : {x : f.Flat} (t : f.Thread) (step : ℕ) {place : Place} {name : e.LockName} {rest : List f.Statement} →
+    AllByRecursion IsSingle x.mutexes → IsDisciplined x t →
+    slice_get (thread_lefts t) step ≡ Some (f.Unlock place name ∷ rest) → {s : m.State} (number : ℕ) {thread : m.Thread} → StateKeeps x s →
+    slice_get x.threads number ≡ Some t → slice_get s.threads number ≡ Some thread → thread.left ≡ rest →
+    slice_get s.holders (lock_number thread.locals name) ≢ Some (Some number)
+not_held_after {x} t step {place} {name} {rest} single keep here {s} number {thread} keeps its there left held =
+    let count = length x.mutexes in
+    let names = lock_names x t in
+    let n = number_in names name in
+    let plain : names ≡ plain_names count = names_are_plain x t single in
+    let found = set_left x t step (f.Unlock place name ∷ rest) keep here in
+    let k = found.2 in
+    let u = keeps_unlock x.variables names k.1 in
+    let given : k.0 ≡ held_by number s.holders = (plain_is_given x s number t thread k.0 single keeps its there).0
+    (subst (λ (y : List f.Statement). KeepList x.variables names k.0 y (none_held (length names))) (sym left) k.2) in
+    let long : length found.0 ≡ length names = keep_list_length x.variables names (f.Unlock place name ∷ rest) found.0 (none_held (length names)) k
+    ∙ length-replicate (length names) false in
+    let below : number_in names name < count = omega (arith, holds_within found.0 n u.0, long, ap length plain, length-plain_names count) in
+    let known = plain_known count name (subst (λ (ns : List e.LockName). number_in ns name < count) plain below) in
+    let number_is : n ≡ name.mutex = ap (λ (ns : List e.LockName). number_in ns name) plain ∙ known.0 in
+    let lock_is : lock_number thread.locals name ≡ n = plain_lock thread.locals name known.1 ∙ sym number_is in
+    let away : holds k.0 n ≡ false = ap (λ (h : Held). holds h n) u.1 ∙ set_away found.0 n in
+    let there_held : holds (held_by number s.holders) n ≡ true =
+    ap (holds (held_by number s.holders)) (sym lock_is) ∙ holds_it number s.holders (lock_number thread.locals name) held in
+    true≢false (sym there_held ∙ (ap (λ (h : Held). holds h n) (sym given) ∙ away))
 
 -- what stands at a node
 pub standing_of : (all : List Standing) (ns : List Node) (ss : List Standing) (k : ℕ) (n : Node) → Agree all ns ss → slice_get ns k ≡ Some n →
@@ -43,9 +93,9 @@ standing_of all (x ∷ ns) [] k n h e = absurd h
 standing_of all (x ∷ ns) (s ∷ ss) zero n h e = (s, refl, subst (λ (y : Node). ActionLeads all y.action s) (same_Some x n e) h.0)
 standing_of all (x ∷ ns) (s ∷ ss) (suc k) n h e = standing_of all ns ss k n h.1 e
 
-ahead_by : (o : Option Pending) (left : List f.Statement) → is_some o ≡ false →
-    (let r : Option ℕ = elim o [ Some p ↦ None | None ↦ first_lock left ] in r) ≡ first_lock left
-ahead_by o left h = grind (arith, nat_tests)
+ahead_by : (o : Option Pending) (ls : List ℤ) (left : List f.Statement) → is_some o ≡ false →
+    (let r : Option ℕ = elim o [ Some p ↦ None | None ↦ first_lock ls left ] in r) ≡ first_lock ls left
+ahead_by o ls left h = grind (arith, nat_tests)
 
 module _ (y : System) (s : IsSystem y) (b : AbstractRun y) (code : Code y.plan) (graph_thread : GraphThread)
     (there : slice_get (now_of y b).graph_threads code.thread.number ≡ Some graph_thread) where
@@ -61,29 +111,26 @@ module _ (y : System) (s : IsSystem y) (b : AbstractRun y) (code : Code y.plan) 
   in_lowered node is at = subst (λ (graph : Graph). NodeAt graph node is) s.plan.lowered at
 
   abbrev at_node : (is : Node) → NodeAt y.plan.graph graph_thread.at is → IsAtNode (flat_of y) (now_of y b) (now b.config) number
-  at_node is at = record {
-    formed = s.plan.formed;
-    matches = matches_now y s b;
-    graph_thread = graph_thread;
-    found = there;
-    node = is;
-    at = in_lowered graph_thread.at is at;
-  }
+  at_node is at =
+      let at_lowered = in_lowered graph_thread.at is at in
+      record { formed = s.plan.formed; matches = matches_now y s b; graph_thread = graph_thread; found = there; node = is; at = at_lowered }
+
+  abbrev standing_now : {z : m.State} {is : Node} → IsThere (flat_of y) z number graph_thread is → Standing
+  standing_now th = record { left = th.thread.left; owes = is_some th.thread.pending }
 
   -- ---- At a lock
 
   module _ (mutex next : ℕ) (lock : IsLockOf y.plan code.thread graph_thread.at mutex next) where
-    locks_there : (z : m.State) (th : IsThere (flat_of y) z number graph_thread lock.is) →
-        Locks all mutex next (record { left = th.thread.left; owes = is_some th.thread.pending })
-    locks_there z th = subst (λ (a : Action). ActionLeads all a (record { left = th.thread.left; owes = is_some th.thread.pending })) lock.locks th.does
+    locks_there : {z : m.State} (th : IsThere (flat_of y) z number graph_thread lock.is) → Locks all mutex next (standing_now th)
+    locks_there th = subst (λ (a : Action). ActionLeads all a (standing_now th)) lock.locks th.does
 
     pub locks_it : locks (now b.config) number ≡ Some mutex
     locks_it =
         let th = nodes.there (at_node lock.is lock.at) in
-        let l = locks_there (now b.config) th in
+        let l = locks_there th in
         locks_found (now b.config) number th.thread th.there
-        ∙ (ahead_by th.thread.pending th.thread.left (ap (λ (z : Standing). z.owes) l.is)
-        ∙ ap first_lock (ap (λ (z : Standing). z.left) l.is))
+        ∙ (ahead_by th.thread.pending th.thread.locals th.thread.left (ap (λ (z : Standing). z.owes) l.is)
+        ∙ ap (first_lock th.thread.locals) (ap (λ (z : Standing). z.left) l.is))
 
     -- the mutex is there
     pub mutex_there : mutex < length (flat_of y).mutexes
@@ -91,7 +138,7 @@ module _ (y : System) (s : IsSystem y) (b : AbstractRun y) (code : Code y.plan) 
         let good = now_good y s b in
         let th = is_there (flat_of y) s.plan.formed number (now_of y b) good.source good.matches graph_thread lock.is there
         (in_lowered graph_thread.at lock.is lock.at) in
-        let l = locks_there good.source th in
+        let l = locks_there th in
         let own = zip_found (λ (t : f.Thread) (k : m.Thread). IsThreadOf (flat_of y) t.locals k) (flat_of y).threads good.source.threads number th.thread
         good.formed.threads th.there in
         let left : AllByRecursion (IsStatementLeft (flat_of y) own.it.locals) (f.Lock l.place (record { mutex = mutex; key = None }) ∷ l.rest) =
@@ -121,7 +168,7 @@ module _ (y : System) (s : IsSystem y) (b : AbstractRun y) (code : Code y.plan) 
         let stands = standing_of all (threads_nodes (flat_of y).threads 0) all from unlock.is (agrees (flat_of y) s.plan.formed.threads) nodes in
         let unlocks : Unlocks all mutex graph_thread.at stands.0 = subst (λ (a : Action). ActionLeads all a stands.0) unlock.unlocks stands.2 in
         let source = found_in (now b.config).threads number
-        (let l = slice_get_within (now_of y b).graph_threads number graph_thread there in let c = (matches_now y s b).count in omega (arith, l, c)) in
+        (omega (arith, slice_get_within (now_of y b).graph_threads number graph_thread there, (matches_now y s b).count)) in
         let match : GraphThreadMatches (flat_of y) graph_thread source.0 = (matches_now y s b).each number graph_thread source.0 there source.1 in
         let left : source.0.left ≡ unlocks.rest = ap (λ (z : Standing). z.left) (same_Some _ _ (sym match.stands ∙ unlocks.follows)) in
         let part_is : slice_get (parts (flat_of y).threads 0) number ≡ Some code.thread.part =
@@ -132,9 +179,9 @@ module _ (y : System) (s : IsSystem y) (b : AbstractRun y) (code : Code y.plan) 
         sym (standing_at (flat_of y) number code.thread.part code.of.text from part_is code.of.of_text unlock.own.from_first unlock.own.below_end) ∙ stands.1 in
         let lefts = left_at code.of.text step stands.0 standing ∙ ap (λ (z : Standing). Some z.left) unlocks.is in
         let sets = found_in y.plan.held number
-        (let l = slice_get_within (flat_of y).threads number code.of.text code.of.of_text in let c = s.plan.held.each_thread in omega (arith, l, c)) in
-        not_held_after code.of.text step (s.plan.held.sets number code.of.text sets.0 code.of.of_text sets.1).disciplined lefts number keeps source.1 left
-        (ap (λ (hs : List (Option ℕ)). slice_get hs mutex) (sym (matches_now y s b).holders) ∙ held)
+        (omega (arith, slice_get_within (flat_of y).threads number code.of.text code.of.of_text, s.plan.held.each_thread)) in
+        not_held_after code.of.text step s.plan.formed.single (s.plan.held.sets number code.of.text sets.0 code.of.of_text sets.1).disciplined
+        lefts number keeps code.of.of_text source.1 left (ap (λ (hs : List (Option ℕ)). slice_get hs mutex) (sym (matches_now y s b).holders) ∙ held)
 
   -- ---- At the end
 
@@ -142,11 +189,11 @@ module _ (y : System) (s : IsSystem y) (b : AbstractRun y) (code : Code y.plan) 
     pub ends_free : (lock : ℕ) → slice_get (now_of y b).holders lock ≢ Some (Some number)
     ends_free lock held =
         let th = nodes.there (at_node last.is last.at) in
-        let is : record { left = th.thread.left; owes = is_some th.thread.pending } ≡ free [] =
-        subst (λ (a : Action). ActionLeads all a (record { left = th.thread.left; owes = is_some th.thread.pending })) last.ends th.does in
-        let none : held_by number (now b.config).holders ≡ none_held (length (flat_of y).mutexes) =
-        subst (λ (ss : List f.Statement). KeepList (flat_of y).variables (held_by number (now b.config).holders) ss (none_held (length (flat_of y).mutexes)))
-        (ap (λ (z : Standing). z.left) is) (keeps.each number th.thread th.there).left in
-        let there_held = holds_it number (now b.config).holders lock
-        (ap (λ (hs : List (Option ℕ)). slice_get hs lock) (sym (matches_now y s b).holders) ∙ held) in
-        true≢false (sym there_held ∙ (ap (λ (h : Held). holds h lock) none ∙ none_in (length (flat_of y).mutexes) lock))
+        let is : standing_now th ≡ free [] = subst (λ (a : Action). ActionLeads all a (standing_now th)) last.ends th.does in
+        let own = keeps.each number th.thread th.there in
+        let names = lock_names (flat_of y) own.text in
+        let none : own.set ≡ none_held (length names) =
+        subst (λ (ss : List f.Statement). KeepList (flat_of y).variables names own.set ss (none_held (length names)))
+        (ap (λ (z : Standing). z.left) is) own.left in
+        let r = own.held.only lock (ap (λ (hs : List (Option ℕ)). slice_get hs lock) (sym (matches_now y s b).holders) ∙ held) in
+        true≢false (sym r.held ∙ (ap (λ (h : Held). holds h r.number) none ∙ none_in (length names) r.number))

@@ -1,35 +1,30 @@
 -- What happens by a thread leaves what is kept, and each attempt as far as any before, where power stays on.
-use Rattle.std.proofs.Common.{◌≡◌, inl, inr, refl, ℕ, suc, List, [], ◌∷◌, ◌++◌, ap, arith, sym, ◌∙◌, subst, Bool}
-use Rattle.std.specs.Prelude.{max}
+use Rattle.std.proofs.lemmas.Bool.Decides.{nat_tests}
+use Rattle.std.proofs.Common.{◌≡◌, refl, ℕ, List, [], ◌∷◌, ◌++◌, ap, arith, Bool, true}
 use Rattle.recovery_semantics.specs.Attempts.{Attempt, IsAttempted, attempt_at}
 use Rattle.recovery_semantics.specs.Configs.{Config, attempt_of}
-use Rattle.recovery_semantics.specs.Events.{ConfigStep, steps_locally, stores, synchronises, persists, commits, crashes, stepped, IsSettled, settled_by}
+use Rattle.recovery_semantics.specs.Events.{ConfigStep, steps_locally, stores, synchronises, persists, commits, crashes, stepped, IsSettled, settled_by, begun}
 use Rattle.recovered_threads.proofs.Public.{same_or_other}
 use Rattle.crash_simulation.specs.Systems.{System}
 use Rattle.crash_simulation.specs.AbstractRuns.{AbstractRun}
 use Rattle.crash_simulation.specs.InstructionSteps.{IsDoneBy, StepsOrStutters, stays, goes, is_begun, begins}
 use Rattle.crash_simulation.proofs.AccountUpdates.{begun_by}
+use Rattle.recovery_semantics.specs.ElementHistories.{Memory}
+
+abbrev pub HasComeFurthest : Attempt → Type 0
+HasComeFurthest a = a.done ≡ a.longest
 
 abbrev pub AreFurthest : Config → Type 0
-AreFurthest m = (thread : ℕ) → (attempt_of m thread).done ≡ (attempt_of m thread).longest
+AreFurthest m = (thread : ℕ) → HasComeFurthest (attempt_of m thread)
 
 -- each attempt has come as far as any before where one has, and all others are as they were
-attempted_furthest : (old new : List Attempt) (k : ℕ) (attempt : Attempt) → IsAttempted old new k attempt → attempt.done ≡ attempt.longest →
-    ((n : ℕ) → (attempt_at old n).done ≡ (attempt_at old n).longest) → (n : ℕ) → (attempt_at new n).done ≡ (attempt_at new n).longest
-attempted_furthest old new k attempt is own furthest n = elim (same_or_other n k) [
-  | inl same ↦
-      subst (λ (j : ℕ). (attempt_at new j).done ≡ (attempt_at new j).longest) (sym same)
-      (ap (λ (a : Attempt). a.done) is.own ∙ (own ∙ sym (ap (λ (a : Attempt). a.longest) is.own)))
-  | inr apart ↦
-      ap (λ (a : Attempt). a.done) (is.others n apart) ∙ (furthest n ∙ sym (ap (λ (a : Attempt). a.longest) (is.others n apart)))
-]
+attempted_furthest : (old new : List Attempt) (k : ℕ) (attempt : Attempt) → IsAttempted old new k attempt → HasComeFurthest attempt →
+    ((n : ℕ) → HasComeFurthest (attempt_at old n)) → (n : ℕ) → HasComeFurthest (attempt_at new n)
+attempted_furthest old new k attempt h4 h5 h6 n = grind (arith, nat_tests, same_or_other)
 
 -- where a thread's steps are kept
 pub settled_furthest : (m : Config) (k : ℕ) (attempts : List Attempt) → IsSettled m k attempts → AreFurthest m → AreFurthest (settled_by m k attempts)
 settled_furthest m k attempts settled furthest = attempted_furthest m.attempts attempts k _ settled.attempt (let e : 0 ≡ 0 = omega arith in e) furthest
-
-stepped_furthest : (a : Attempt) → a.done ≡ a.longest → (stepped a).done ≡ (stepped a).longest
-stepped_furthest a is = let e : suc a.done ≡ max a.longest (suc a.done) = omega (arith, is) in e
 
 -- ---- What happens by a thread
 
@@ -39,19 +34,14 @@ pub record StepsInConfig (m next : Config) (thread : ℕ) (begun : Bool) : Type 
   pub pending : next.uncommitted ≡ begun_by begun thread m.uncommitted
   pub tried : AreFurthest m → AreFurthest next
 
+longer_step : (m : Config) {u thread : ℕ} (memory : Memory) (attempts : List Attempt) → u ≡ thread →
+    IsAttempted m.attempts attempts u (stepped (attempt_of m u)) → StepsInConfig m (begun m u memory attempts) thread true
+longer_step m memory attempts h3 h4 = grind (arith, nat_tests, same_or_other)
+
 config_steps : (m next : Config) (thread : ℕ) (h : ConfigStep m next) → IsDoneBy thread h → StepsInConfig m next thread (is_begun h)
-config_steps m _ thread (steps_locally u attempts g) by = record {
-  kept = refl;
-  pending = ap (λ (k : ℕ). m.uncommitted ++ k ∷ []) by;
-  tried = λ furthest. attempted_furthest m.attempts attempts u _ g.attempt (stepped_furthest (attempt_of m u) (furthest u)) furthest;
-}
-config_steps m _ thread (stores u memory attempts g) by = record {
-  kept = refl;
-  pending = ap (λ (k : ℕ). m.uncommitted ++ k ∷ []) by;
-  tried = λ furthest. attempted_furthest m.attempts attempts u _ g.attempt (stepped_furthest (attempt_of m u) (furthest u)) furthest;
-}
-config_steps m _ thread (synchronises u g) by =
-    record { kept = refl; pending = ap (λ (k : ℕ). m.uncommitted ++ k ∷ []) by; tried = λ furthest. furthest }
+config_steps m _ thread (steps_locally u attempts g) by = longer_step m m.memory attempts by g.attempt
+config_steps m _ thread (stores u memory attempts g) by = longer_step m memory attempts by g.attempt
+config_steps m _ thread (synchronises u g) by = record { kept = refl; pending = ap (λ (k : ℕ). m.uncommitted ++ k ∷ []) by; tried = λ furthest. furthest }
 config_steps m _ thread (persists memory g) by = record { kept = refl; pending = refl; tried = λ furthest. furthest }
 config_steps m _ thread (commits u attempts g) by = absurd by
 config_steps m _ thread (crashes attempts g) by = absurd by

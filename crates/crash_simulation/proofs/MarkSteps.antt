@@ -17,7 +17,7 @@ use Rattle.hart_runs.specs.RunSteps.{is_clean, steps_left}
 use Rattle.recovery_semantics.specs.Events.{ConfigStep, begun}
 use Rattle.recovery_semantics.specs.ElementHistories.{Memory, IsSince, history_at}
 use Rattle.recovery_semantics.specs.Attempts.{WritesAt, Writes}
-use Rattle.recovery_semantics.specs.Configs.{attempt_of}
+use Rattle.recovery_semantics.specs.Configs.{now, attempt_of}
 use Rattle.recovery_semantics.specs.Executions.{kept_steps}
 use Rattle.recovery_semantics.specs.VariableSpots.{memory_in}
 use Rattle.region_attempts.specs.AttemptsInRegion.{RespectsBoundaries}
@@ -28,11 +28,12 @@ use Rattle.thread_runs.specs.CodeFragments.{ExitPoint, Arrives, Ends, Stage, sta
 use Rattle.thread_runs.specs.Laws.{stage_sees, run_at}
 use Rattle.thread_runs.proofs.Public.{fragments_see_all}
 use Rattle.crash_simulation.specs.Systems.{System, IsSystem, flat_of, places_of}
-use Rattle.crash_simulation.specs.ThreadGhosts.{ThreadGhost, AnswersGuarded, IsInAttempt, InPhase, IsFlushed, ExitInv, ThreadInv}
+use Rattle.rv64_isa.specs.declared.phase.Phase.{Phase}
+use Rattle.crash_simulation.specs.ThreadGhosts.{ThreadGhost, AnswersGuarded, on_fragment, IsInAttempt, InPhase, IsFlushed, ExitInv, ThreadInv}
 use Rattle.crash_simulation.specs.InstructionSteps.{begins_step, goes, IsDoneBy, is_begun, MayStore, is_bound, nothing_released}
 use Rattle.crash_simulation.specs.AbstractRuns.{AbstractRun, kept_of, now_of}
 use Rattle.crash_simulation.specs.StepsToMark.{beyond, most_ahead}
-use Rattle.crash_simulation.proofs.OwnHartSteps.{step_to, going, view, StepOf, held_still, thread_going, AtNode}
+use Rattle.crash_simulation.proofs.OwnHartSteps.{step_to, going, view, StepOf, held_still, log_going, records_going, AtNode}
 use Rattle.crash_simulation.proofs.MarksAtNodes.{AtMark, environment, stage_then, graph_step_is, Passes, old_hart, passed_soon}
 use Rattle.crash_simulation.proofs.LocksAfterStep.{GoneOn}
 use Rattle.crash_simulation.proofs.LastReleases.{holders_stay_none, none_leaving, and_none}
@@ -144,18 +145,18 @@ module _ {y : System} {s : IsSystem y} {w : World} {h : ℕ} (site : AtNode y s 
     flushed_passed u i none since comes writes =
         let longer = done_longer b.config n in
         elim (wrote b.config.kept n (attempt_of b.config n).done u i (subst (λ (k : ℕ). Writes b.config.kept n k u i) longer writes)) [
-          | inl old ↦ flushed_still passage (still_reached passage site.core.goes.cleans (reaches_on site o.mark o.passes)) u i since (t.flushed u i old)
+          | inl old ↦ flushed_still passage (still_reached passage site.core.goes.cleans (reaches_on site o.mark o.passes)) u i since (t.stored.flushed u i old)
               (λ un. absurd (true≢false un)) (omega (arith, longer)) (omega (arith, longer)) comes
           | inr at_once ↦ absurd (none at_once)
         ]
 
-    goes_next : IsInAttempt y next code new
+    goes_next : IsInAttempt y next.config n new
     goes_next = record { going = goes_still b.config n o.memory site.core.goes.goes.going; rest = refl; giving = refl; committed = refl }
 
-    fits_by : (f : a.Effect) → is_plain f ≡ true → (f ≡ a.Ends → o.cleans ≡ []) → ExitInv y next code new (moved graph_thread f) (exit_after f)
+    fits_by : (f : a.Effect) → is_plain f ≡ true → (f ≡ a.Ends → o.cleans ≡ []) → ExitInv y next.config n new (moved graph_thread f) (exit_after f)
     fits_by f plain ends = grind (arith, goes_next)
 
-    module _ (answers : AnswersGuarded y next code new (environment site o.mark.doing))
+    module _ (answers : AnswersGuarded y (now next.config) n (environment site o.mark.doing))
         (flushed : (u i : ℕ) → Writes next.config.kept n (attempt_of next.config n).done u i → IsFlushed y v next code new later_hart u i) where
       abbrev FragmentTo : Stage → List Effect → Type 0
       FragmentTo stage effects =
@@ -178,13 +179,28 @@ module _ {y : System} {s : IsSystem y} {w : World} {h : ℕ} (site : AtNode y s 
           places stage.exit stage.node ≤ most_ahead y n) (stage_is (now_of y next).variables effect o.plain) (passed_soon site o.mark o.passes))
 
       phase : InPhase y v next code new later_hart then_thread later_hart.phase
-      phase = grind (arith, environment, fits_by, fragment, soon_after)
+      phase = subst (λ (p : Phase). InPhase y v next code new later_hart then_thread p) (sym o.passes.on.on.runs)
+          (on_fragment (exit_after effect) o.mark.mark.steps (record {
+            environment = environment site o.mark.doing;
+            answers = answers;
+            side = site.core.side;
+            at_side = site.core.at_side;
+            fragment = fragment;
+            fits = fits_by effect o.plain o.ends;
+            soon = (soon_after, omega arith);
+          }))
 
       abbrev own : ThreadInv y v next code new
       own =
-          thread_going site next refl o.cleans (most_ahead y n) o.clean o.elsewhere then_thread
-          (ap (λ (z : FlowState). slice_get z.graph_threads n) state ∙ graph_thread_is (now_of y b) n graph_thread effect t.walks) later_hart
-          o.passes.on.on.here phase flushed
+          let log = log_going site o.elsewhere later_hart o.passes.on.on.here in
+          record {
+            log = log;
+            records = records_going site next refl o.cleans (most_ahead y n) log;
+            graph_thread = then_thread;
+            walks = ap (λ (z : FlowState). slice_get z.graph_threads n) state ∙ graph_thread_is (now_of y b) n graph_thread effect t.walks;
+            phase = phase;
+            stored = record { cleans = o.clean; flushed = flushed };
+          }
 
       pub passed_step : StepOf site.hart n
       passed_step = record {

@@ -1,7 +1,6 @@
 -- A hart at its node's code is at the node's mark.
 use Rattle.std.proofs.lemmas.Bool.Decides.{nat_tests}
-use Rattle.std.proofs.Common.{◌≡◌, ◌≢◌, refl, ℕ, ◌+◌, ◌*◌, ◌≤◌, List, [], ◌++◌, sym, ◌∙◌, subst, arith, Some, Bool, true, false}
-use Rattle.std.specs.Prelude.{length, slice_get}
+use Rattle.std.proofs.Common.{◌≡◌, ◌≢◌, refl, ℕ, ◌+◌, ◌*◌, ◌≤◌, List, [], ◌++◌, sym, ◌∙◌, subst, arith, Some, Bool, true, false, length, slice_get}
 use Rattle.ido_base.specs.declared.log.Log.{Log}
 use Rattle.rv64_isa.specs.Rows.{Effect}
 use Rattle.rv64_isa.specs.Machine.{World}
@@ -27,8 +26,7 @@ use Rattle.crash_simulation.proofs.GraphAfterBegin.{takes_none, after_effect, do
 use Rattle.crash_simulation.proofs.LoadFreeEnvironment.{placed, meets_with}
 use Rattle.crash_simulation.proofs.NodeEnvironments.{environment_with, agrees_here}
 use Rattle.crash_simulation.proofs.NodeEffects.{is_quiet, IsAtNode, step_is}
-use Rattle.crash_simulation.proofs.StepsAfterMarks.{fits_by, most_is}
-use Rattle.crash_simulation.proofs.StepsBetweenMarks.{alone_fits}
+use Rattle.crash_simulation.proofs.StepsAfterMarks.{fits_by, most_is, alone_fits}
 use Rattle.crash_simulation.proofs.OwnHartSteps.{view, AtNode}
 use Rattle.recovered_threads.proofs.Public.{same_there}
 use Rattle.recovery_semantics.specs.Configs.{now}
@@ -142,13 +140,10 @@ module _ {y : System} {s : IsSystem y} {w : World} {h : ℕ} (site : AtNode y s 
       L = length code.program.code
 
       few : left ≤ 2 * words + 15
-      few = omega (
-        arith,
-        p.less,
-        m.mark.short,
-        marks_are_bounded y.plan code.thread places y.runs.program w n (environment m.doing) effect stage
-            m.mark.steps m.mark.effects short m.mark.at,
-      )
+      few =
+          let bounded = marks_are_bounded y.plan code.thread places y.runs.program w n (environment m.doing) effect stage m.mark.steps m.mark.effects
+          short m.mark.at in
+          omega (arith, p.less, m.mark.short, bounded)
 
       cleaned : cleans_in (seen_effects m.mark.effects) ≤ 5 → left ≤ words + 20
       cleaned cleans = grind (arith, nat_tests)
@@ -159,16 +154,17 @@ module _ {y : System} {s : IsSystem y} {w : World} {h : ℕ} (site : AtNode y s 
           AreSeen y.plan code.thread places graph_thread.at side registers e m.mark.effects →
           left + beyond y.plan places (stage_after y.plan code.thread places graph_thread.at seen side e).exit
           (stage_after y.plan code.thread places graph_thread.at seen side e).node ≤ 2 * L + 17
-      soon_by (a.Sets local number next) whole own fit are = let f = fit next own refl in omega (arith, f, few)
-      soon_by (a.Owes store next) whole own fit are = let f = fit next own refl in omega (arith, f, few)
-      soon_by (a.Makes store next) whole own fit are = let f = fit next own refl in omega (arith, f, few)
-      soon_by (a.Goes next) whole own fit are = let f = fit next own refl in omega (arith, f, few)
+      soon_by (a.Sets local number next) whole own fit are = omega (arith, fit next own refl, few)
+      soon_by (a.Owes store next) whole own fit are = omega (arith, fit next own refl, few)
+      soon_by (a.Makes store next) whole own fit are = omega (arith, fit next own refl, few)
+      soon_by (a.Goes next) whole own fit are = omega (arith, fit next own refl, few)
       soon_by (a.Takes mutex next) whole own fit are = omega (arith, few, whole)
-      soon_by (a.Gives mutex next) whole own fit are =
-          let f = fit next own refl in
-          let g = cleaned (subst (λ (es : List Effect). cleans_in (seen_effects es) ≤ 5) (sym are)
-          (few_cleans (keeping y.plan code.thread places next) side (places.after graph_thread.at) registers)) in
-          omega (arith, f, g)
+      soon_by (a.Gives mutex next) whole own fit are = omega (
+        arith,
+        fit next own refl,
+        cleaned (subst (λ (es : List Effect). cleans_in (seen_effects es) ≤ 5)
+            (sym are) (few_cleans (keeping y.plan code.thread places next) side (places.after graph_thread.at) registers)),
+      )
       soon_by a.Ends whole own fit are = omega (arith, few, whole)
 
       not_end : (next : ℕ) → next_by effect ≡ Some next → m.doing.node.action ≢ End

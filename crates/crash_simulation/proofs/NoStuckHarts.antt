@@ -1,6 +1,5 @@
 -- No hart is stuck, and none waits for a lock of its record.
-use Rattle.std.proofs.Common.{◌≡◌, ◌≢◌, inl, inr, refl, ℕ, [], ap, sym, ◌∙◌, subst, arith, Option, Some, None}
-use Rattle.std.specs.Prelude.{slice_get}
+use Rattle.std.proofs.Common.{◌≡◌, ◌≢◌, inl, inr, refl, ℕ, [], ap, sym, ◌∙◌, subst, arith, Option, Some, None, slice_get}
 use Rattle.ido_base.specs.declared.event.Event.TheVariants.{Step}
 use Rattle.ido_base.specs.declared.event.Reply.TheVariants.{Still, Stuck}
 use Rattle.ido_base.specs.declared.event.Cause.{Cause}
@@ -11,7 +10,7 @@ use Rattle.flow_graph.proofs.Public.{get_cases, no_more}
 use Rattle.hart_runs.specs.Calls.{IsInPhase}
 use Rattle.hart_runs.specs.Calls as harts
 use Rattle.hart_runs.proofs.Public as harts_well
-use Rattle.thread_runs.specs.CodeFragments.{ExitPoint, Asks, Gives, Ends}
+use Rattle.thread_runs.specs.CodeFragments.{ExitPoint}
 use Rattle.thread_runs.specs.Laws.{MarksPass}
 use Rattle.thread_runs.proofs.Public.{locks_are_well, unlocks_are_well, ends_are_well}
 use Rattle.recovered_threads.specs.RecoveryStates.{HasGathered}
@@ -20,7 +19,7 @@ use Rattle.crash_simulation.specs.Systems.{System, IsSystem}
 use Rattle.crash_simulation.specs.AbstractRuns.{now_of}
 use Rattle.crash_simulation.specs.SimulationRelation.{AreHeld, gathering, gathered, records_of, Simulates}
 use Rattle.crash_simulation.specs.InstructionSteps as moving
-use Rattle.crash_simulation.specs.InstructionSteps.{OnFragmentNow, AtCoreNow, IsReadyToStep}
+use Rattle.crash_simulation.specs.InstructionSteps.{OnFragmentNow, Site}
 use Rattle.crash_simulation.specs.Laws.{NoneIsStuck, TakesMove}
 use Rattle.crash_simulation.proofs.LoadFreeEnvironment.{bare}
 use Rattle.crash_simulation.proofs.LocksAfterStep.{runs_held}
@@ -30,7 +29,7 @@ use Rattle.crash_simulation.proofs.CallSteps as calls
 use Rattle.crash_simulation.proofs.ReadyHarts.{runs_ready}
 use Rattle.crash_simulation.proofs.SimulationInRecovery as recovering
 use Rattle.crash_simulation.proofs.RunOrCall.{IsWhere, on_run, at_call, is_where}
-use Rattle.crash_simulation.proofs.OwnHartSteps.{Site, view, same_number}
+use Rattle.crash_simulation.proofs.OwnHartSteps.{view, same_number}
 
 -- hart h is not stuck
 abbrev IsFree : System → World → (h : ℕ) → Type 0
@@ -43,43 +42,40 @@ module _ {y : System} {s : IsSystem y} {w : World} {h : ℕ} (site : Site y s w 
   open view site use {b, code, t, n, graph_thread, seen}
 
   -- at its end, where the thread makes a call
-  module _ (held : AreHeld w stands.ghosts (now_of y b)) (o : OnFragmentNow y s w h stands below) (over : o.steps ≡ 0) where
-    by_call : (exit : ExitPoint) → moving.IsCalling y s w h stands below exit → o.exit ≡ exit → IsFree y w n
-    by_call _ (moving.asks mutex next) is =
-        let fragment = at_calls.asks (at_calls.at_end y s w h stands below held (Asks mutex next) o over is) in
+  module _ (held : AreHeld w stands.ghosts (now_of y b)) where
+    by_call : (exit : ExitPoint) → moving.IsCalling exit → OnFragmentNow site exit 0 → IsFree y w n
+    by_call _ (moving.asks mutex next) o =
+        let fragment = at_calls.asks (at_calls.at_end site held o) in
         let within = mutex_there y s b code graph_thread t.walks mutex next fragment.of_graph in
-        let count = stands.machine.mutexes in
         elim (get_cases w.holders mutex) [
-          | inl none ↦ let long = no_more w.holders mutex none in absurd (omega (arith, long, count, within))
+          | inl none ↦ let long = no_more w.holders mutex none in absurd (omega (arith, long, stands.machine.mutexes, within))
           | inr there ↦
               locks_are_well harts_well.none_is_stuck y.plan code.thread y.runs.program code.program code.is w n (bare y s w h below) graph_thread.at mutex
               next seen o.side [] there.0 fragment there.1
         ]
-    by_call _ (moving.gives from mutex) is =
-        let at = at_calls.at_end y s w h stands below held (Gives from mutex) o over is in
+    by_call _ (moving.gives from mutex) o =
+        let at = at_calls.at_end site held o in
         unlocks_are_well harts_well.none_is_stuck y.plan code.thread y.runs.program code.program code.is w n (bare y s w h below) from mutex
         graph_thread.at seen o.side [] (calls.giving at) (calls.owns at)
-    by_call _ moving.ends is =
-        let at = at_calls.at_end y s w h stands below held Ends o over is in
+    by_call _ moving.ends o =
+        let at = at_calls.at_end site held o in
         ends_are_well harts_well.none_is_stuck y.plan code.thread y.runs.program code.program code.is w n (bare y s w h below) graph_thread.at seen o.side []
         (calls.ending at) (at_calls.none_from n 0 w.holders (calls.none_here at))
 
-  by_where : AreHeld w stands.ghosts (now_of y b) → IsWhere y s w h stands below → IsFree y w n
+  by_where : AreHeld w stands.ghosts (now_of y b) → IsWhere site → IsFree y w n
   by_where held (on_run r) = harts_well.none_is_stuck y.runs.program w n (harts.on_run r.run r.agrees)
-  by_where held (at_call o over calling) = by_call held o over o.exit calling refl
+  by_where held (at_call exit o calling) = by_call held exit calling o
 
 -- ---- Whichever hart
 
 module _ (marks : MarksPass) (y : System) (s : IsSystem y) (w : World) (stands : Simulates y s w) (h : ℕ) where
-  runs : IsInPhase w h Run → IsFree y w h
-  runs i =
-      let r = runs_ready y s w h stands i in
-      let held = (runs_held y s w r.stands.abstract r.stands.ghosts h r.stands.machine.log r.stands.machine.sound i r.stands.locks).1 in
-      let site : Site y s w h = record { stands = r.stands; below = r.below } in
-      subst (λ (n : ℕ). IsFree y w n) (same_number site) (by_where site held (is_where y s w h r.stands r.below marks r.ready))
-
   by_phase : (phase : Phase) → IsInPhase w h phase → IsFree y w h
-  by_phase Run i = runs i
+  by_phase Run i =
+      let r = runs_ready y s w h stands i in
+      let site = r.site in
+      let z = site.stands in
+      let held = (runs_held y s w z.abstract z.ghosts h z.machine.log z.machine.sound i z.locks).1 in
+      subst (λ (n : ℕ). IsFree y w n) (same_number site) (by_where site held (is_where site marks r.ready))
   by_phase phase i = harts_well.none_is_stuck y.runs.program w h (harts.apart phase refl i)
 
   -- nothing happens where there is no hart

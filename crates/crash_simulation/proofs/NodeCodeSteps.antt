@@ -46,8 +46,7 @@ module _ {y : System} {s : IsSystem y} {w : World} {h : ℕ} (site : AtNode y s 
     by_action (Eval (e.ToElement place variable kind index) value next) is = quietly _ is _ refl refl
     by_action (Store variable kind next) is = store (makes_store variable kind next is)
     by_action (Test condition holds fails) is = quietly _ is _ refl refl
-    by_action (Lock mutex next) is =
-        absurd (free found.0 mutex next (subst (λ (g : Graph). NodeAt g graph_thread.at found.0) (sym s.plan.lowered) found.1) is)
+    by_action (Lock mutex next) is = absurd (free found.0 mutex next (subst (λ (g : Graph). NodeAt g graph_thread.at found.0) (sym s.plan.lowered) found.1) is)
     by_action (Unlock mutex next) is = unlock mutex next is
     by_action End is = quietly _ is _ refl refl
 
@@ -55,9 +54,9 @@ module _ {y : System} {s : IsSystem y} {w : World} {h : ℕ} (site : AtNode y s 
     by_node = by_action found.0.action refl
 
 pub cores_step : MarksPass → CoresStep
-cores_step marks y s w h stands below i core free =
-    let site : AtNode y s w h = record { hart = record { stands = stands; below = below }; core = core } in
+cores_step marks y s w h hart i core free =
+    let site : AtNode y s w h = record { hart = hart; core = core } in
     own_step site.hart i (by_node site (StepOf site.hart (view site.hart).n) free
-    (λ e does quiet. quiet_step site (found site).0 (found site).1 e does quiet marks)
+    (λ e does quiet. quiet_step site (found site).0 (found site).1 (record { e = e; does = does; quiet = quiet }) marks)
     (λ makes. store_step site (found site).0 (found site).1 makes marks)
-    (λ mutex next is. unlock_step site (found site).0 (found site).1 mutex next is marks))
+    (λ mutex next is. unlock_step site (found site).0 (found site).1 (record { mutex = mutex; next_node = next; action = is }) marks))

@@ -1,8 +1,8 @@
 -- What a thread does at the node of its graph thread, in the source and in the graph.
 use Rattle.std.proofs.lemmas.Bool.Decides.{nat_tests}
-use Rattle.std.proofs.Common.{◌≡◌, refl, ℕ, List, ap, sym, ◌∙◌, arith, Option, Some, None, Bool, true, false}
+use Rattle.std.proofs.lemmas.Bool.{false≢true}
+use Rattle.std.proofs.Common.{◌≡◌, refl, ℕ, List, ap, sym, ◌∙◌, arith, Option, Some, None, Bool, true, false, slice_get, is_some, ℤ}
 use Rattle.std.proofs.lemmas.Option.{same_Some, slice_get_within}
-use Rattle.std.specs.Prelude.{slice_get, is_some}
 use Rattle.c_tree.specs.Flats as f
 use Rattle.c_tree.specs.Source as m
 use Rattle.c_tree.specs.Source.{Pending}
@@ -28,28 +28,24 @@ is_quiet (a.Takes mutex next) = false
 is_quiet (a.Gives mutex next) = false
 is_quiet e = true
 
-false_true : false ≡ true → ⊥
-false_true h = cc
-
 none_if : {A : Type 0} (o : Option A) → ((x : A) → o ≡ Some x → ⊥) → o ≡ None
 none_if o h = grind (arith, nat_tests)
 
-unlocks_if : (all : List Standing) (left : List f.Statement) (mutex next : ℕ) (p : Option Pending) →
+unlocks_if : (ls : List ℤ) (all : List Standing) (left : List f.Statement) (mutex next : ℕ) (p : Option Pending) →
     ActionLeads all (Unlock mutex next) (record { left = left; owes = is_some p }) →
-    (let ahead : Option ℕ = elim p [ Some store ↦ None | None ↦ first_unlock left ] in ahead ≡ Some mutex)
-unlocks_if all left mutex next p d = grind (arith, nat_tests)
+    (let ahead : Option ℕ = elim p [ Some store ↦ None | None ↦ first_unlock ls left ] in ahead ≡ Some mutex)
+unlocks_if ls all left mutex next p d = grind (arith, nat_tests)
 
 -- ---- At a node
 
-module _ (x : f.Flat) (w : IsWellFormed x) (s : FlowState) (source : m.State) (t : ℕ) (matches : Matches x s source) (graph_thread : GraphThread)
-    (found : slice_get s.graph_threads t ≡ Some graph_thread) where
-  -- the graph thread's node is there
-  pub some_node : (node : Node) × NodeAt (lowered x) graph_thread.at node
-  some_node =
-      let there = found_in source.threads t (let l = slice_get_within s.graph_threads t graph_thread found in let c = matches.count in omega (arith, l, c)) in
-      let match = matches.each t graph_thread there.0 found there.1 in
-      let n = node_at x graph_thread.at (record { left = there.0.left; owes = is_some there.0.pending }) w.threads match.stands in
-      (n.0, at_nodes x graph_thread.at n.0 n.1)
+-- the graph thread's node is there
+pub some_node : (x : f.Flat) → IsWellFormed x → (s : FlowState) (source : m.State) (t : ℕ) → Matches x s source → (graph_thread : GraphThread) →
+    slice_get s.graph_threads t ≡ Some graph_thread → (node : Node) × NodeAt (lowered x) graph_thread.at node
+some_node x w s source t matches graph_thread found =
+    let there = found_in source.threads t (omega (arith, slice_get_within s.graph_threads t graph_thread found, matches.count)) in
+    let stands = (matches.each t graph_thread there.0 found there.1).stands in
+    let n = node_at x graph_thread.at (record { left = there.0.left; owes = is_some there.0.pending }) w.threads stands in
+    (n.0, at_nodes x graph_thread.at n.0 n.1)
 
 -- a graph thread at its node, where the states of the graph and of the source match
 pub record IsAtNode (x : f.Flat) (s : FlowState) (source : m.State) (t : ℕ) : Type 0 where
@@ -71,10 +67,7 @@ module _ {x : f.Flat} {s : FlowState} {source : m.State} {t : ℕ} (i : IsAtNode
 
   -- the step of the graph, by the node's effect
   pub step_is : (effect : Effect) → effect_of node.action seen ≡ Some effect → graph_step (lowered x) s t ≡ a.done s t graph_thread effect
-  step_is effect does =
-      graph_is (lowered x) s t (Some graph_thread) found
-      ∙ ap (a.node_step s t graph_thread) at
-      ∙ ap (effect_step s t graph_thread) does
+  step_is effect does = graph_is (lowered x) s t (Some graph_thread) found ∙ ap (a.node_step s t graph_thread) at ∙ ap (effect_step s t graph_thread) does
 
   -- where the graph makes one, so does the source
   pub source_steps : (next : FlowState) → graph_step (lowered x) s t ≡ Some next →
@@ -93,18 +86,17 @@ module _ {x : f.Flat} {s : FlowState} {source : m.State} {t : ℕ} (i : IsAtNode
   pub makes_it : (store : Pending) → graph_thread.pending ≡ Some store → (next : ℕ) × (effect_of node.action seen ≡ Some (a.Makes store next))
   makes_it store is =
       let stores = owing_at (threads_standings x.threads) node.action there.thread.left there.thread.pending store (sym there.match.pending ∙ is)
-      there.does in
-      (stores.next, ap (λ (z : Action). effect_of z seen) stores.is ∙ made is)
-    where
-      made : {next : ℕ} → graph_thread.pending ≡ Some store →
-          (let o : Option Effect = elim graph_thread.pending [ Some q ↦ Some (a.Makes q next) | None ↦ None ] in o ≡ Some (a.Makes store next))
-      made {next} is = ap (λ (p : Option Pending). let o : Option Effect = elim p [ Some q ↦ Some (a.Makes q next) | None ↦ None ] in o) is
+      there.does in (
+        stores.next,
+        ap (λ (z : Action). effect_of z seen) stores.is
+            ∙ ap (λ (p : Option Pending). let o : Option Effect = elim p [ Some q ↦ Some (a.Makes q stores.next) | None ↦ None ] in o) is,
+      )
 
   -- ---- Quiet effects
 
   module _ (effect : Effect) (does : effect_of node.action seen ≡ Some effect) (quiet : is_quiet effect ≡ true) where
     not_so : (other : Effect) → effect_of node.action seen ≡ Some other → is_quiet other ≡ false → ⊥
-    not_so other is loud = false_true (sym loud ∙ ap is_quiet (same_Some other effect (sym is ∙ does)) ∙ quiet)
+    not_so other is loud = false≢true (sym loud ∙ ap is_quiet (same_Some other effect (sym is ∙ does)) ∙ quiet)
 
     pub locks_none : locks source t ≡ None
     locks_none = grind (arith, locking_at, none_if, not_so, there)

@@ -1,8 +1,9 @@
 -- The environment in which a thread's hart makes a step at its node: loads of what the node reads are answered, and no others.
 use Rattle.std.proofs.lemmas.Bool.Decides.{nat_tests}
 use Rattle.std.proofs.Common.{◌≡◌, ℕ, ◌*◌, ◌^◌, ◌<◌, List, [], length, map, ap, sym, ◌∙◌, subst, arith, mod-lt, pow_pos, Some, None, Bool, true}
-use Rattle.std.proofs.lemmas.Bool.{cond-true, and_parts}
-use Rattle.std.specs.Prelude.{slice_get, slice_index_or, ℤ, pos, Contains, ◌&&◌, if◌then◌else◌}
+use Rattle.std.proofs.lemmas.Bool.{cond-true, and_parts, and_from}
+use Rattle.std.proofs.lemmas.Option.{cond_some}
+use Rattle.std.specs.Prelude.{slice_get, slice_index_or, ℤ, pos, Contains, ◌&&◌}
 use Rattle.ido_base.specs.declared.log.Log.{Log}
 use Rattle.ido_base.specs.Words.{loaded}
 use Rattle.ido_base.specs.Layout.{variable_at, byte_number}
@@ -34,42 +35,32 @@ use Rattle.region_attempts.proofs.Public.{rerun_reads_nothing_overwritten, reade
 use Rattle.thread_code.specs.RegistersAtNodes.{IsAnswered, source_of}
 use Rattle.thread_runs.specs.CodeFragments.{ReadsVariables}
 use Rattle.crash_simulation.specs.Systems.{System, IsSystem, flat_of}
-use Rattle.crash_simulation.specs.AbstractRuns.{AbstractRun, kept_of}
-use Rattle.crash_simulation.specs.ThreadGhosts.{ThreadGhost, AnswersGuarded}
+use Rattle.crash_simulation.specs.AbstractRuns.{kept_of}
+use Rattle.crash_simulation.specs.ThreadGhosts.{AnswersGuarded}
 use Rattle.crash_simulation.proofs.OwnHartSteps.{view, AtNode}
 use Rattle.crash_simulation.proofs.StatesMatchSource.{cuts, resumed, now_good}
 use Rattle.crash_simulation.proofs.Loads.{reads_all, is_read, reads_there, Loaded, answered}
 use Rattle.crash_simulation.proofs.GraphAfterBegin.{matches_now}
-use Rattle.crash_simulation.proofs.Elements.{room}
-use Rattle.crash_simulation.proofs.DisjointElements.{element_ends}
+use Rattle.crash_simulation.proofs.Elements.{room, element_ends}
+use Rattle.c_tree.specs.Source.{State}
 
 -- ---- Accesses
-
-answered_some : (b : Bool) (x value : ℕ) → (if b then Some x else None) ≡ Some value → (b ≡ true) × (x ≡ value)
-answered_some b x value h = grind (arith, nat_tests)
 
 kind_width : (k : Kind) → is_width (bytes_of k) ≡ true
 kind_width k = grind (arith, nat_tests)
 
-and_both : (a b : Bool) → a ≡ true → b ≡ true → (a && b) ≡ true
-and_both a b h k = grind (arith, nat_tests)
-
 -- an element may be accessed, and stands before the end of the variables
 pub element_access : (log : Log) (vs : List Variable) (threads v e : ℕ) (is : Variable) → HaveRoom (map shape_of vs) → slice_get vs v ≡ Some is →
-    e < elements_in is.length →
-    is_access log threads (variable_at (map shape_of vs) v e) (bytes_of is.kind) ≡ true
-element_access log vs threads v e is room there within = grind (arith, addresses_reach, map, and_both, kind_width)
+    e < elements_in is.length → is_access log threads (variable_at (map shape_of vs) v e) (bytes_of is.kind) ≡ true
+element_access log vs threads v e is room there within = grind (arith, addresses_reach, map, and_from, kind_width)
 
 -- ---- Numbers
 
 -- a load has the residue of the number
 number_loaded : (k : Kind) (n : ℕ) (z : ℤ) → n < 2 ^ bits_of k → reduced k (pos n) ≡ z → (n ≡ residue (bits_of k) z) × Holds k z
 number_loaded k n z below is =
-    let P : ℤ → Type 0 = λ z. (n ≡ residue (bits_of k) z) × Holds k z in
-    subst P is (
-      sym (residue-is (bits_of k) (reduced k (pos n)) n below (Same_sym (modulus_of k) (reduced k (pos n)) (pos n) (Same-reduced k (pos n)))),
-      Holds-reduced k (pos n),
-    )
+    let same = Same_sym (modulus_of k) (reduced k (pos n)) (pos n) (Same-reduced k (pos n)) in
+    subst (λ (z : ℤ). (n ≡ residue (bits_of k) z) × Holds k z) is (sym (residue-is (bits_of k) (reduced k (pos n)) n below same), Holds-reduced k (pos n))
 
 loaded_below : (ws : List words.Word) (number count : ℕ) → loaded ws number count < 2 ^ (8 * count)
 loaded_below ws number count = mod-lt _ (pow_pos (8 * count))
@@ -83,7 +74,7 @@ module _ {y : System} {s : IsSystem y} {w : World} {h : ℕ} (site : AtNode y s 
   environment_with reads = environment_of y.runs.program (slice_index_or y.runs.marks n []) reads w n
 
   pub agrees_here : (reads : ℕ → ℕ → Bool) → Agrees y.runs.program w n (environment_with reads)
-  agrees_here reads = grind (arith, and_parts, answered_some)
+  agrees_here reads = grind (arith, and_parts, cond_some)
 
   -- ---- Of elements
 
@@ -98,10 +89,9 @@ module _ {y : System} {s : IsSystem y} {w : World} {h : ℕ} (site : AtNode y s 
     reads_variables address bytes value e = grind (arith, nat_tests, and_parts, element_ends, is_read, nat_tests, reads_all, room)
 
     -- what it answers the thread guards, in any state where it guards what it reads
-    pub answers_guarded : (next : AbstractRun y) (c : ThreadGhost) →
-        ((one : Element) → Contains ones one → Guards (flat_of y) (now next.config) n one.variable one.element) →
-        AnswersGuarded y next code c reading
-    answers_guarded next c guards address bytes value e = grind (arith, nat_tests, and_parts, is_read, nat_tests, reads_all)
+    pub answers_guarded : (state : State) → ((one : Element) → Contains ones one → Guards (flat_of y) state n one.variable one.element) →
+        AnswersGuarded y state n reading
+    answers_guarded state guards address bytes value e = grind (arith, nat_tests, and_parts, is_read, nat_tests, reads_all)
 
   -- ---- At a node
 
@@ -124,7 +114,7 @@ module _ {y : System} {s : IsSystem y} {w : World} {h : ℕ} (site : AtNode y s 
         let bytes : ℕ = bytes_of it.kind in
         let access = element_access w.log vs (length w.harts) one.variable one.element it (room y s) there within in
         let may : (reads_all vs ones address bytes && is_access w.log (length w.harts) address bytes) ≡ true =
-        and_both (reads_all vs ones address bytes) (is_access w.log (length w.harts) address bytes) (reads_there vs ones one it of there within) access in
+        and_from (reads_all vs ones address bytes) _ (reads_there vs ones one it of there within) access in
         let right =
         rerun_reads_nothing_overwritten.here (flat_of y) y.plan.boundaries b.origin b.config b.schedule n one s.plan.formed (cuts y s b)
         r.resumed.invariant r.resumed.kept (r.inside n) (reads_here one of) in
@@ -145,12 +135,6 @@ module _ {y : System} {s : IsSystem y} {w : World} {h : ℕ} (site : AtNode y s 
     -- loads of all that it reads are answered
     pub answered_here : IsAnswered (source_of y.plan code.thread seen) (reading ones).around.loads node.action
     answered_here =
-        answered (now_good y s b) (record {
-          formed = s.plan.formed;
-          matches = (now_good y s b).matches;
-          graph_thread = graph_thread;
-          found = t.walks;
-          node = node;
-          at = at;
-        }) code.thread.kinds (reading ones).around.loads
-        loaded_here
+        let good = now_good y s b in
+        answered good (record { formed = s.plan.formed; matches = good.matches; graph_thread = graph_thread; found = t.walks; node = node; at = at })
+        code.thread.kinds (reading ones).around.loads loaded_here

@@ -1,57 +1,41 @@
 -- A step of a thread's own hart: what the machine is to know of it.
 use Rattle.std.proofs.lemmas.Bool.Decides.{nat_tests}
 use Rattle.std.proofs.Common.{arith}
-use Rattle.std.proofs.Common.{◌≡◌, refl, ℕ, ◌<◌, List, [], length, ap, sym, ◌∙◌, subst, Some, None, true}
-use Rattle.std.proofs.lemmas.Bool.{cond-true, true≢false}
-use Rattle.std.proofs.lemmas.Option.{none-some}
-use Rattle.std.specs.Prelude.{slice_get, Contains}
+use Rattle.std.proofs.Common.{◌≡◌, refl, ℕ, List, [], length, ap, sym, ◌∙◌, subst, Some, None, true}
+use Rattle.std.specs.Prelude.{slice_get}
+use Rattle.boundary_code.specs.Boundaries.{IsOnSide, boundary_effects}
 use Rattle.ido_base.specs.declared.event.Event.TheVariants.{Step}
+use Rattle.ido_base.specs.declared.log.Log.{Log}
 use Rattle.rv64_isa.specs.declared.phase.Phase.TheVariants.{Run}
 use Rattle.rv64_isa.specs.Rows.{Effect}
 use Rattle.rv64_isa.specs.Machine.{Hart, World, after_event}
 use Rattle.hart_runs.specs.Calls.{IsInPhase}
-use Rattle.hart_runs.specs.RunSteps.{is_clean}
-use Rattle.thread_code.specs.NodeCodeEffects.{Places}
+use Rattle.thread_code.specs.NodeCodeEffects.{Places, keeping}
 use Rattle.flow_graph.specs.Actions.{GraphThread, FlowState, Seen, seen_by}
-use Rattle.recovery_semantics.specs.Attempts.{Writes, Attempt}
-use Rattle.recovery_semantics.specs.Configs.{attempt_of}
+use Rattle.recovery_semantics.specs.Attempts.{Attempt}
 use Rattle.recovery_semantics.specs.VariableSpots.{memory_in}
 use Rattle.recovery_semantics.specs.ElementHistories.{Memory}
 use Rattle.log_states.specs.Machines.{IsNext, IsElsewhere, config_of}
 use Rattle.log_states.specs.LogInvariant.{LogInv}
-use Rattle.log_states.specs.Logs.{Record}
-use Rattle.log_states.specs.Stages.{LogIs}
-use Rattle.log_states.proofs.Public.{steps_keep, ends_committed}
+use Rattle.log_states.specs.Logs.{IsSideOf}
+use Rattle.log_states.specs.Laws.{recorded_by, IsRecoverable}
+use Rattle.log_states.proofs.Public.{steps_keep, ends_committed, begins_standing}
 use Rattle.recovered_threads.specs.RecordDescriptions.{Code, Describes}
-use Rattle.recovered_threads.proofs.Public.{same_there}
-use Rattle.crash_simulation.specs.ThreadGhosts.{ThreadGhost, InPhase, IsFlushed, ThreadInv}
-use Rattle.crash_simulation.specs.InstructionSteps.{StepsOrStutters, MayStore, with_ghost, begins, IsCounted, Releases, OwnStep, AtCoreNow, thread_of}
-use Rattle.crash_simulation.specs.Systems.{System, IsSystem, places_of, thread_count}
+use Rattle.crash_simulation.specs.ThreadGhosts.{ThreadGhost, HasRecords, ThreadInv, committed}
+use Rattle.crash_simulation.specs.InstructionSteps.{StepsOrStutters, MayStore, with_ghost, begins, IsCounted, Releases, OwnStep, AtCoreNow, thread_of, Site}
+use Rattle.crash_simulation.specs.Systems.{System, IsSystem, places_of}
 use Rattle.crash_simulation.specs.AbstractRuns.{AbstractRun, kept_of, now_of}
-use Rattle.crash_simulation.specs.SimulationRelation.{AreHeld, Simulates}
+use Rattle.crash_simulation.specs.SimulationRelation.{AreHeld}
 use Rattle.crash_simulation.proofs.PendingFlushes.{Leads, Passage}
 use Rattle.crash_simulation.proofs.LocksAfterStep.{GoneOn, LockStep, locked_after}
+use Rattle.crash_simulation.proofs.ThreadViews.{describes_over, log_at, records_over}
 
 -- the ghost state of a thread on its way between boundaries, with these cleans and steps ahead
 abbrev pub going : ThreadGhost → (cleans : List Effect) → (before_mark : ℕ) → ThreadGhost
 going c cleans before_mark =
     record { old = c.old; new = c.new; rest = []; committed = true; cleans = cleans; giving = None; before_mark = before_mark }
 
--- a thread's log, of the hart that is found
-abbrev pub log_at : {thread : ℕ} {old new : Record} {u : World} {rest : List Effect} → LogInv thread old new u rest → (hart : Hart) →
-    slice_get u.harts thread ≡ Some hart → LogInv thread old new u rest
-log_at {thread} {old} {new} {u} {rest} log hart there = record {
-  hart = hart;
-  here = there;
-  log = subst (λ (x : Hart). LogIs u.log thread old new (config_of u x rest)) (same_there (slice_get u.harts thread) log.hart hart log.here there) log.log;
-}
-
 -- ---- The step
-
--- a hart of a machine that simulates an abstract run
-pub record Site (y : System) (s : IsSystem y) (w : World) (h : ℕ) : Type 0 where
-  pub stands : Simulates y s w
-  pub below : h < thread_count y
 
 -- its thread: the run, the thread's code and ghost state, its invariant, where its graph thread is, and the machine after a step of the hart
 pub record View (y : System) (w : World) : Type 0 where
@@ -69,7 +53,7 @@ pub record View (y : System) (w : World) : Type 0 where
 -- a hart at the code of its thread's node
 pub record AtNode (y : System) (s : IsSystem y) (w : World) (h : ℕ) : Type 0 where
   pub hart : Site y s w h
-  pub core : AtCoreNow y s w h hart.stands hart.below
+  pub core : AtCoreNow hart
 
 module _ {y : System} {s : IsSystem y} {w : World} {h : ℕ} (site : Site y s w h) where
   abbrev pub view : View y w
@@ -78,15 +62,15 @@ module _ {y : System} {s : IsSystem y} {w : World} {h : ℕ} (site : Site y s w 
     code = s.codes.each h site.below;
     ghosts = site.stands.ghosts;
     c = site.stands.ghosts h;
-    t = thread_of y s w h site.stands site.below;
+    t = thread_of site;
     n = (s.codes.each h site.below).thread.number;
     v = after_event y.runs.program w (Step (s.codes.each h site.below).thread.number);
     places = (s.codes.each h site.below).is.places;
-    graph_thread = (thread_of y s w h site.stands site.below).graph_thread;
-    seen = seen_by (now_of y site.stands.abstract) (thread_of y s w h site.stands site.below).graph_thread;
+    graph_thread = (thread_of site).graph_thread;
+    seen = seen_by (now_of y site.stands.abstract) (thread_of site).graph_thread;
   }
 
-  open view use {b, code, ghosts, c, t, n, v}
+  open view use {b, code, ghosts, c, t, n, v, places}
 
   -- the thread in a later machine, with what is begun and in memory then
   abbrev pub step_to : World → (pending : List ℕ) (memory : Memory) (attempts : List Attempt) → Leads y b pending memory attempts → ThreadGhost → Hart →
@@ -104,6 +88,16 @@ module _ {y : System} {s : IsSystem y} {w : World} {h : ℕ} (site : Site y s w 
     new = new;
     after = after;
   }
+
+  -- its log where a boundary begins
+  pub log_begins : (node side resume : ℕ) (x : List ℕ) → c.rest ≡ [] → IsOnSide y.plan.log side x → IsSideOf c.new side →
+      IsRecoverable (keeping y.plan code.thread places node) resume x →
+      LogInv n c.new (recorded_by (keeping y.plan code.thread places node) side resume x) w
+      (boundary_effects (keeping y.plan code.thread places node) side resume x)
+  log_begins node side resume x over on is recoverable =
+      begins_standing (keeping y.plan code.thread places node) c.old c.new side resume x w site.stands.machine.log
+      (subst (λ (rest : List Effect). LogInv n c.old c.new w rest) over t.log)
+      (record { registers = subst (λ (l : Log). IsOnSide l side x) site.stands.machine.log on; is = is }) recoverable
 
   pub same_number : n ≡ h
   same_number = s.codes.number h site.below
@@ -159,26 +153,14 @@ module _ {y : System} {s : IsSystem y} {w : World} {h : ℕ} (site : Site y s w 
 module _ {y : System} {s : IsSystem y} {w : World} {h : ℕ} (site : AtNode y s w h) where
   open view site.hart use {b, code, c, t, n, v}
 
-  module _ (next : AbstractRun y) (same : kept_of y next ≡ kept_of y b) (cleans : List Effect) (before_mark : ℕ)
-      (clean : (effect : Effect) → Contains cleans effect → is_clean effect ≡ true) (elsewhere : IsElsewhere y.runs.program w n n)
-      (graph_thread : GraphThread) (walks : slice_get (now_of y next).graph_threads n ≡ Some graph_thread) where
-    abbrev pub thread_going : (hart : Hart) → slice_get v.harts n ≡ Some hart →
-        InPhase y v next code (going c cleans before_mark) hart graph_thread hart.phase →
-        ((u e : ℕ) → Writes next.config.kept n (attempt_of next.config n).done u e → IsFlushed y v next code (going c cleans before_mark) hart u e) →
-        ThreadInv y v next code (going c cleans before_mark)
-    thread_going hart there phase flushed =
-        let log : LogInv n c.old c.new v [] = log_at (steps_keep y.runs.program n n c.old c.new w [] site.hart.stands.machine.sound
-        (subst (λ (rest : List Effect). LogInv n c.old c.new w rest) site.core.goes.goes.rest t.log) elsewhere) hart there in
-        record {
-          log = log;
-          no_sooner = λ _. ends_committed v.log n c.old c.new (config_of v hart []) log.log refl;
-          describes = subst (λ (kept : FlowState). Describes y.plan code kept c.new) (sym same)
-              (subst (Describes y.plan code (kept_of y b)) (cond-true c.committed c.new c.old site.core.goes.goes.committed) t.describes);
-          will_describe = λ un. absurd (true≢false un);
-          unlocked = λ mutex gives over. absurd (none-some mutex gives);
-          cleans = clean;
-          graph_thread = graph_thread;
-          walks = walks;
-          phase = phase;
-          flushed = flushed;
-        }
+  -- its log after a step that stores nothing to that
+  abbrev pub log_going : IsElsewhere y.runs.program w n n → (hart : Hart) → slice_get v.harts n ≡ Some hart → LogInv n c.old c.new v []
+  log_going elsewhere = log_at (steps_keep y.runs.program n n c.old c.new w [] site.hart.stands.machine.sound
+      (subst (λ (rest : List Effect). LogInv n c.old c.new w rest) site.core.goes.goes.rest t.log) elsewhere)
+
+  -- what it says then, where the same is kept
+  pub records_going : (next : AbstractRun y) → kept_of y next ≡ kept_of y b → (cleans : List Effect) (before_mark : ℕ) (log : LogInv n c.old c.new v []) →
+      HasRecords y next code (going c cleans before_mark) (committed v n (going c cleans before_mark) log.hart)
+  records_going next same cleans before_mark log =
+      records_over y next code (going c cleans before_mark) refl refl (ends_committed v.log n c.old c.new (config_of v log.hart []) log.log refl)
+      (subst (λ (kept : FlowState). Describes y.plan code kept c.new) (sym same) (describes_over y b code c t.records site.core.goes.goes.committed))

@@ -1,14 +1,14 @@
 -- What a thread has stored is still on its way to be durable, after a step of its own.
 use Rattle.std.proofs.lemmas.Bool.Decides.{nat_tests}
-use Rattle.std.proofs.Common.{◌≡◌, ◌⊎◌, inl, inr, refl, ℕ, suc, ◌<◌, ◌≤◌, List, [], length, subst, sym, arith, false}
-use Rattle.std.specs.Prelude.{Contains}
+use Rattle.std.proofs.Common.{◌≡◌, ◌⊎◌, inl, inr, refl, ℕ, suc, ◌<◌, ◌≤◌, List, [], length, subst, sym, arith, true, false, Contains}
 use Rattle.ido_base.specs.Growth.{PersistsThrough}
 use Rattle.ido_base.specs.Words.{word_at}
 use Rattle.rv64_isa.specs.Machine.{Hart, World}
 use Rattle.rv64_isa.specs.Rows.{Effect}
+use Rattle.hart_runs.specs.RunSteps.{is_clean}
 use Rattle.flow_graph.proofs.Public.{contains_none, below_or_past}
 use Rattle.recovery_semantics.specs.ElementHistories.{Memory, IsSince, history_at}
-use Rattle.recovery_semantics.specs.Attempts.{Attempt, attempt_at}
+use Rattle.recovery_semantics.specs.Attempts.{Attempt, attempt_at, Writes}
 use Rattle.recovery_semantics.specs.Configs.{Config, attempt_of}
 use Rattle.recovery_semantics.specs.Executions.{Execution}
 use Rattle.recovery_semantics.specs.VariableSpots.{memory_in}
@@ -18,7 +18,7 @@ use Rattle.region_attempts.specs.PendingCleans.{line_of, Cleans, CleansSince}
 use Rattle.log_states.specs.Stages.{fences_ahead}
 use Rattle.recovered_threads.specs.RecordDescriptions.{Code}
 use Rattle.crash_simulation.specs.Systems.{System, IsSystem, flat_of, shapes_of, places_of}
-use Rattle.crash_simulation.specs.ThreadGhosts.{ThreadGhost, IsComing, is_reached, is_ahead, IsFlushed}
+use Rattle.crash_simulation.specs.ThreadGhosts.{ThreadGhost, IsComing, is_reached, is_ahead, IsFlushed, HasStored}
 use Rattle.crash_simulation.specs.AbstractRuns.{AbstractRun, kept_of, attempts_of}
 use Rattle.crash_simulation.proofs.StatesMatchSource.{cuts, resumed}
 use Rattle.crash_simulation.proofs.Elements.{word_of_element, position_durable}
@@ -68,12 +68,12 @@ module _ {y : System} {code : Code y.plan} (p : Passage y code) where
   -- what the step itself cleans is coming
   abbrev pub ComesNow : Type 0
   ComesNow = now ≡ suc before → (line : ℕ) → Cleans (attempts_of y b) number before line →
-      (u e position : ℕ) → line_of (shapes_of y) u e ≡ line → IsComing y v run_after code new after u e position
+      (u e position : ℕ) → line_of (shapes_of y) u e ≡ line → IsComing y v new.cleans after u e position
 
   -- what was coming is so still
   abbrev pub StillComes : Type 0
-  StillComes = (u e position : ℕ) → position < length (history_at b.config.memory u e).values → IsComing y w b code c old u e position →
-      IsComing y v run_after code new after u e position
+  StillComes = (u e position : ℕ) → position < length (history_at b.config.memory u e).values → IsComing y w c.cleans old u e position →
+      IsComing y v new.cleans after u e position
 
   abbrev pub Reaches : Type 0
   Reaches = (j position : ℕ) → PersistsThrough w.words old.queue j position → PersistsThrough v.words after.queue j position
@@ -98,7 +98,7 @@ module _ {y : System} {code : Code y.plan} (p : Passage y code) where
         by (f.comes (stores_are_cleaned (flat_of y) y.plan.boundaries (shapes_of y) y.left_out b.origin b.config b.schedule number f.before u e
         s.plan.formed (cuts y s b) s.left_out r.resumed.invariant r.resumed.kept (r.inside number) stands f.within f.writes))
       where
-        by : IsComing y w b code c old u e f.position → f.position ≤ (history_at (memory_in (places_of y) v.words) u e).durable
+        by : IsComing y w c.cleans old u e f.position → f.position ≤ (history_at (memory_in (places_of y) v.words) u e).durable
         by (is_ahead variable element has line) = absurd (no_clean none _ has)
         by (is_reached reached) =
             position_durable y s w.words v.words u e f.position
@@ -110,7 +110,7 @@ module _ {y : System} {code : Code y.plan} (p : Passage y code) where
     pub flushed_still : before ≤ now → now ≤ suc before → ComesNow → IsFlushed y v run_after code new after u e
     flushed_still grows at_most comes = record {
       before = f.before;
-      within = let l = f.within in omega (arith, l, grows);
+      within = omega (arith, f.within, grows);
       writes = f.writes;
       position = f.position;
       since = since f.position f.since;
@@ -119,22 +119,24 @@ module _ {y : System} {code : Code y.plan} (p : Passage y code) where
     }
       where
         by : (cleaned : CleansSince (attempts_of y run_after) number f.before now (line_of (shapes_of y) u e)) →
-            (cleaned.last < before) ⊎ (before ≤ cleaned.last) → IsComing y v run_after code new after u e f.position
+            (cleaned.last < before) ⊎ (before ≤ cleaned.last) → IsComing y v new.cleans after u e f.position
         by cleaned (inl less) =
-            still u e f.position f.since.there (f.comes (record {
-              last = cleaned.last;
-              since = cleaned.since;
-              within = less;
-              at = as_before cleaned.last (line_of (shapes_of y) u e) cleaned.at;
-            }))
+            let at_before = as_before cleaned.last (line_of (shapes_of y) u e) cleaned.at in
+            still u e f.position f.since.there (f.comes (record { last = cleaned.last; since = cleaned.since; within = less; at = at_before }))
         by cleaned (inr past) =
-            let l = cleaned.within in
-            let same : cleaned.last ≡ before = omega (arith, l, past, at_most) in
-            let longer : now ≡ suc before = omega (arith, l, past, at_most) in
-            comes longer (line_of (shapes_of y) u e)
-            (subst (λ (n : ℕ). Cleans (attempts_of y b) number n (line_of (shapes_of y) u e)) same
-            (as_before cleaned.last (line_of (shapes_of y) u e) cleaned.at)) u e f.position refl
+            let line : ℕ = line_of (shapes_of y) u e in
+            let same : cleaned.last ≡ before = omega (arith, cleaned.within, past, at_most) in
+            let cleans_it = subst (λ (n : ℕ). Cleans (attempts_of y b) number n line) same (as_before cleaned.last line cleaned.at) in
+            comes (omega (arith, cleaned.within, past, at_most)) line cleans_it u e f.position refl
 
-    -- where the attempt is as long as it was
-    pub flushed_same : now ≡ before → IsFlushed y v run_after code new after u e
-    flushed_same same = flushed_still (omega (arith, same)) (omega (arith, same)) (λ longer. absurd (omega (arith, longer, same)))
+  -- all that it has stored, where the attempt is as long as it was
+  pub stored_same : ((effect : Effect) → Contains new.cleans effect → is_clean effect ≡ true) → StillComes →
+      ((u e q : ℕ) → IsSince (history_at b.config.memory u e) q → IsSince (history_at memory u e) q) →
+      ((u e : ℕ) (f : IsFlushed y w b code c old u e) → new.committed ≡ false → fences_ahead new.rest < 2 →
+      f.position ≤ (history_at memory u e).durable) → now ≡ before → HasStored y w b code c old → HasStored y v run_after code new after
+  stored_same clean still since fenced same stored = record {
+    cleans = clean;
+    flushed = λ u e writes.
+        let f = stored.flushed u e (subst (λ (k : ℕ). Writes b.config.kept number k u e) same writes) in
+        flushed_still still u e (since u e) f (fenced u e f) (omega (arith, same)) (omega (arith, same)) (λ longer. absurd (omega (arith, longer, same)));
+  }

@@ -3,7 +3,7 @@ use Rattle.std.proofs.lemmas.Bool.Decides.{nat_tests}
 use Rattle.std.proofs.Common.{◌≡◌, ◌⊎◌, inl, inr, refl, ⊎_elim, ℕ, sym, ◌∙◌, arith, Some, false}
 use Rattle.std.proofs.lemmas.Bool.{true≢false}
 use Rattle.rv64_isa.specs.declared.phase.Phase.{Phase}
-use Rattle.rv64_isa.specs.declared.phase.Phase.TheVariants.{Run}
+use Rattle.rv64_isa.specs.declared.phase.Phase.TheVariants.{Run, Done, Ended}
 use Rattle.rv64_isa.specs.Machine.{World}
 use Rattle.thread_runs.specs.CodeFragments.{ExitPoint, Arrives, Keeps, Asks, Took, Gives, Ends}
 use Rattle.recovery_semantics.specs.Laws.{HasUnlocked}
@@ -25,16 +25,18 @@ module _ (y : System) (w : World) (b : AbstractRun y) (code : Code y.plan) (c : 
   -- its hart runs such a fragment
   pub record IsUnderWay : Type 0 where
     pub runs : t.log.hart.phase ≡ Run
-    pub on : InFragment y w b code c t.log.hart t.graph_thread
-    pub exit : IsAtBoundary on.exit
+    pub to : ExitPoint
+    pub steps : ℕ
+    pub on : InFragment y w b code c t.log.hart t.graph_thread to steps
+    pub exit : IsAtBoundary to
 
   -- a thread rests, goes on with its attempt, or is at a boundary
   data IsSomewhere : Type 0 where
-    rests : Rests y b code c → IsSomewhere
-    goes : IsInAttempt y b code c → IsSomewhere
+    rests : Rests y b.config code.thread.number c → IsSomewhere
+    goes : IsInAttempt y b.config code.thread.number c → IsSomewhere
     is_at : IsUnderWay → IsSomewhere
 
-  by_exit : (exit : ExitPoint) → ExitInv y b code c t.graph_thread exit → IsInAttempt y b code c ⊎ IsAtBoundary exit
+  by_exit : (exit : ExitPoint) → ExitInv y b.config code.thread.number c t.graph_thread exit → IsInAttempt y b.config code.thread.number c ⊎ IsAtBoundary exit
   by_exit Arrives f = inl f.0
   by_exit Keeps f = inr at_keeps
   by_exit (Asks mutex next) f = inl f.goes
@@ -43,11 +45,15 @@ module _ (y : System) (w : World) (b : AbstractRun y) (code : Code y.plan) (c : 
   by_exit Ends f = inl f.goes
 
   by_run : t.log.hart.phase ≡ Run → IsRunningThread y w b code c t.log.hart t.graph_thread → IsSomewhere
-  by_run runs (on_fragment o) = ⊎_elim (λ attempt. goes attempt) (λ exit. is_at (record { runs = runs; on = o; exit = exit })) (by_exit o.exit o.fits)
+  by_run runs (on_fragment to steps o) =
+      ⊎_elim (λ attempt. goes attempt) (λ exit. is_at (record { runs = runs; to = to; steps = steps; on = o; exit = exit })) (by_exit to o.fits)
   by_run runs (at_core o) = goes o.goes.goes
 
   by_phase : (phase : Phase) → t.log.hart.phase ≡ phase → InPhase y w b code c t.log.hart t.graph_thread phase → IsSomewhere
-  by_phase phase is p = grind (arith, by_run)
+  by_phase Run is p = by_run is p
+  by_phase Done is p = rests p.0
+  by_phase Ended is p = goes p.0.goes
+  by_phase phase is p = rests p
 
   somewhere : IsSomewhere
   somewhere = by_phase t.log.hart.phase refl t.phase
@@ -71,7 +77,7 @@ module _ (y : System) (w : World) (b : AbstractRun y) (code : Code y.plan) (c : 
 module _ (y : System) (w : World) (b : AbstractRun y) (code : Code y.plan) (c : ThreadGhost) (mutex : ℕ) (gives : c.giving ≡ Some mutex)
     (t : ThreadInv y w b code c) where
   abbrev Bounded : ℕ → Type 0
-  Bounded k = IsBounded y b code c t.graph_thread (Some k) (HasUnlocked b.config code.thread.number k)
+  Bounded k = IsBounded y b.config code.thread.number c t.graph_thread (Some k) (HasUnlocked b.config code.thread.number k)
 
   pub bounded_of : Bounded mutex
   bounded_of = grind (arith, nat_tests)

@@ -11,7 +11,7 @@ pub use Rattle.crash_simulation.proofs.LocksAtCalls.{locks_it}
 pub use Rattle.crash_simulation.proofs.LongestAttempts.{AreFurthest}
 pub use Rattle.crash_simulation.proofs.NoStuckHarts.{takes_move}
 pub use Rattle.crash_simulation.proofs.NodeEffects.{owes_here}
-pub use Rattle.crash_simulation.proofs.OwnHartSteps.{Site, same_number, view}
+pub use Rattle.crash_simulation.proofs.OwnHartSteps.{same_number, view}
 pub use Rattle.crash_simulation.proofs.PendingReleases.{giving_of}
 pub use Rattle.crash_simulation.proofs.ReadyHarts.{runs_ready}
 pub use Rattle.crash_simulation.proofs.RecordsAfterCrash.{between_there, left, left_describes, left_point, log_of, settled_is_kept}

@@ -1,29 +1,28 @@
 -- A hart that executes instructions is in a fragment, at a call, or at the code of a node that takes no mutex.
 use Rattle.std.proofs.Common.{◌≡◌, refl, ℕ, ◌<◌, ap, sym, ◌∙◌, subst, Some, ◌⊎◌, inl, inr, ⊎_elim, zero, suc, ◌+◌, ◌*◌, ◌≤◌, List, [], ◌∷◌, ◌++◌, length, ap₂}
 use Rattle.std.proofs.Common.{arith, Option, None, Bool, true, false}
-use Rattle.std.specs.Prelude.{slice_get, not, ◌&&◌, if◌then◌else◌}
+use Rattle.std.specs.Prelude.{slice_get, not, ◌&&◌}
 use Rattle.rv64_isa.specs.declared.phase.Phase.{Phase}
 use Rattle.rv64_isa.specs.declared.phase.Phase.TheVariants.{Run}
 use Rattle.rv64_isa.specs.Machine.{Hart, World}
 use Rattle.hart_runs.specs.Calls.{IsInPhase}
-use Rattle.recovered_threads.specs.RecordDescriptions.{Code, Describes, at_chosen}
-use Rattle.recovered_threads.specs.RecoveryStates.{Gathers, HasGathered, AreGathered}
+use Rattle.recovered_threads.specs.RecordDescriptions.{Code, at_chosen}
+use Rattle.recovered_threads.specs.RecoveryStates.{Gathers, AreGathered}
 use Rattle.recovered_threads.proofs.Public.{same_there}
 use Rattle.crash_simulation.specs.Systems.{System, IsSystem, thread_count, flat_of}
-use Rattle.crash_simulation.specs.AbstractRuns.{AbstractRun, now_of, kept_of}
-use Rattle.crash_simulation.specs.ThreadGhosts.{ThreadGhost, ThreadInv, HasCommittedLog, InFragment, IsRunningThread, InPhase, ExitInv, AnswersGuarded}
+use Rattle.crash_simulation.specs.AbstractRuns.{AbstractRun, now_of}
+use Rattle.crash_simulation.specs.ThreadGhosts.{ThreadGhost, ThreadInv, HasCommittedLog, InFragment, IsRunningThread, InPhase}
 use Rattle.crash_simulation.specs.SimulationRelation.{AreLocked, gathering, gathered, records_of, Simulates}
 use Rattle.crash_simulation.proofs.LocksAfterStep.{held_alike, each_ghost}
-use Rattle.crash_simulation.specs.InstructionSteps.{with_ghost, SaysSame, AreSimilar, OnFragmentNow, AtCoreNow, IsCalling, asks, gives, ends, is_bound}
+use Rattle.crash_simulation.specs.InstructionSteps.{with_ghost, SaysSame, OnFragmentNow, AtCoreNow, IsCalling, asks, gives, ends, is_bound}
 use Rattle.crash_simulation.specs.InstructionSteps.{IsReadyToStep, SimulatesReady, RunsReady}
 use Rattle.crash_simulation.proofs.ThreadsOfMachines.{each_placed}
 use Rattle.std.proofs.lemmas.Bool.{true≢false}
 use Rattle.std.proofs.lemmas.Option.{none-some, same_Some, slice_get_within, slice_get-map}
 use Rattle.std.specs.List.{list_any}
 use Rattle.std.specs.Option.{option_map}
-use Rattle.boundary_code.specs.Boundaries.{IsOnSide, Boundary, boundary_effects, side_after}
+use Rattle.boundary_code.specs.Boundaries.{Boundary, boundary_effects, side_after}
 use Rattle.log_states.specs.Stages.{is_committed, is_store}
-use Rattle.log_states.specs.Logs.{IsSideOf}
 use Rattle.log_states.specs.Laws.{recorded_by}
 use Rattle.log_states.specs.LogInvariant.{LogInv}
 use Rattle.ido_base.specs.declared.log.Log.{Log}
@@ -38,11 +37,11 @@ use Rattle.flow_graph.specs.Actions.{effect_of, GraphThread}
 use Rattle.flow_graph.specs.IdempotentCuts.{IsChosen, IsUnlock, unlocks}
 use Rattle.flow_graph.specs.Liveness.{NodeAt}
 use Rattle.flow_graph.specs.Actions as a
-use Rattle.flow_graph.proofs.Public.{nodes_at, contains_none, node_shaped}
+use Rattle.flow_graph.proofs.Public.{nodes_at, node_shaped}
 use Rattle.region_attempts.proofs.Public.{StoresHere, writing_stores}
 use Rattle.recovery_semantics.specs.Events.{IsGoing}
 use Rattle.recovery_semantics.specs.Configs.{now}
-use Rattle.log_states.proofs.Public.{side_follows, begins_uncommitted, boundaries_fence, begins_standing, boundary_stores}
+use Rattle.log_states.proofs.Public.{side_follows, begins_uncommitted, boundaries_fence, boundary_stores}
 use Rattle.thread_code.specs.NodeCodeEffects.{Entrance, keeping, kind_at}
 use Rattle.thread_code.specs.RegistersAtNodes.{IsAnswered, source_of}
 use Rattle.thread_code.specs.Programs.{IsNodeCode}
@@ -50,17 +49,19 @@ use Rattle.thread_runs.specs.CodeFragments as ways
 use Rattle.thread_runs.specs.CodeFragments.{ExitPoint, Arrives, Keeps, Asks, Took, IsOnFragment, IsPlaced, on_machine}
 use Rattle.thread_runs.specs.Laws.{IsOnSomeFragment}
 use Rattle.thread_runs.proofs.Public.{arrivals_end, took_end, at_end, nodes_begin, cleans_on}
-use Rattle.crash_simulation.specs.StepsToMark.{weight, call_weight, entry_ahead, core_ahead, beyond, IsSoon}
+use Rattle.crash_simulation.specs.StepsToMark.{weight, call_weight, entry_ahead, core_ahead, IsSoon}
 use Rattle.crash_simulation.proofs.LoadFreeEnvironment.{bare, bare_agrees, bare_meets, bare_answers, bare_reads, placed, none_ahead, resettled}
 use Rattle.crash_simulation.proofs.Boundaries.{IsAddress, stands_in, store_is, store_ahead, BoundaryIsRecoverable, boundaries_begin}
-use Rattle.crash_simulation.proofs.PendingFlushes.{Passage, flushed_same, still_reached, reaches_same}
+use Rattle.crash_simulation.proofs.PendingFlushes.{Passage, stored_same, still_reached, reaches_same}
 use Rattle.crash_simulation.proofs.StatesMatchSource.{resumed, now_orderly, now_good}
-use Rattle.crash_simulation.proofs.StepsBetweenMarks.{weight_is}
+use Rattle.crash_simulation.proofs.StepsAfterMarks.{weight_is}
 use Rattle.crash_simulation.proofs.StepsAfterMarks.{core_less, less_soon}
 use Rattle.crash_simulation.proofs.LastReleases.{none_leaving}
 use Rattle.crash_simulation.proofs.NodeEffects.{some_node}
 use Rattle.crash_simulation.proofs.GraphAfterBegin.{matches_now}
-use Rattle.crash_simulation.proofs.OwnHartSteps.{Site, view, step_to}
+use Rattle.crash_simulation.proofs.OwnHartSteps.{view, log_begins, step_to}
+use Rattle.crash_simulation.specs.InstructionSteps.{Site}
+use Rattle.crash_simulation.proofs.ThreadViews.{begins_with, describes_over, none_clean, records_begin}
 use Rattle.crash_simulation.proofs.RecordsAfterCrash.{caught_is_over}
 use Rattle.crash_simulation.specs.ThreadGhosts as courses
 use Rattle.crash_simulation.specs.InstructionSteps as moving
@@ -122,14 +123,14 @@ chosen_stores y s node is at chosen = elim (s.plan.at_writes.before node chosen.
 
 -- in a fragment through the boundary before its node
 abbrev OnKeeps : (y : System) (w : World) (b : AbstractRun y) (code : Code y.plan) (c : ThreadGhost) → ThreadInv y w b code c → Type 0
-OnKeeps y w b code c t = (o : InFragment y w b code c t.log.hart t.graph_thread) × (o.exit ≡ Keeps)
+OnKeeps y w b code c t = (steps : ℕ) × InFragment y w b code c t.log.hart t.graph_thread Keeps steps
 
 module _ {y : System} {s : IsSystem y} {w : World} {h : ℕ} (site : Site y s w h) where
   open view site use {b, code, c, t, n, places, graph_thread, seen}
   open site.stands.machine use {log as logs, count}
 
   abbrev Ready : Type 0
-  Ready = IsReadyToStep y s w h site.stands site.below
+  Ready = IsReadyToStep site
 
   abbrev bare_here : MarkedEnvironment
   bare_here = bare y s w h site.below
@@ -139,14 +140,8 @@ module _ {y : System} {s : IsSystem y} {w : World} {h : ℕ} (site : Site y s w 
       (record { exit = exit; node = graph_thread.at; seen = seen; side = side }) steps effects
 
   -- in a fragment to that exit point, with so many instructions ahead
-  record IsAt (exit : ExitPoint) (steps : ℕ) : Type 0 where
-    environment : MarkedEnvironment
-    answers : AnswersGuarded y b code c environment
-    side : ℕ
-    at_side : IsSideOf c.new side
-    fragment : FragmentWith environment side steps exit (c.cleans ++ c.rest)
-    fits : ExitInv y b code c graph_thread exit
-    soon : IsSoon y n c.before_mark (steps_left steps (seen_effects (c.cleans ++ c.rest)) t.log.hart.queue + beyond y.plan places exit graph_thread.at)
+  abbrev IsAt : ExitPoint → (steps : ℕ) → Type 0
+  IsAt = OnFragmentNow site
 
   there : HasNodeThere y graph_thread
   there =
@@ -157,13 +152,13 @@ module _ {y : System} {s : IsSystem y} {w : World} {h : ℕ} (site : Site y s w 
   placed_here = placed y s w h site.below logs count
 
   -- a fragment that ends where the thread makes a call
-  fragment_ready : (o : OnFragmentNow y s w h site.stands site.below) (k : ℕ) → o.steps ≡ k → IsCalling y s w h site.stands site.below o.exit → Ready
-  fragment_ready o zero e calling = moving.calls o e calling
-  fragment_ready o (suc k) e calling = moving.on_fragment o k e
+  fragment_ready : {exit : ExitPoint} (steps : ℕ) → IsAt exit steps → IsCalling exit → Ready
+  fragment_ready {exit} zero o calling = moving.calls exit o calling
+  fragment_ready {exit} (suc k) o calling = moving.on_fragment exit k o
 
   -- ---- At a node's code
 
-  core_by : (core : AtCoreNow y s w h site.stands site.below) (action : Action) → there.is.action ≡ action → Ready
+  core_by : (core : AtCoreNow site) (action : Action) → there.is.action ≡ action → Ready
   core_by core (Lock mutex next) e =
       let some : IsOnSomeFragment y.plan code.thread places (on_machine y.runs.program w n bare_here)
       (record { exit = Asks mutex next; node = graph_thread.at; seen = seen; side = core.side }) (places.words graph_thread.at) [] =
@@ -172,13 +167,11 @@ module _ {y : System} {s : IsSystem y} {w : World} {h : ℕ} (site : Site y s w 
       there.at (ap (λ (z : Action). effect_of z seen) e)
       (subst (λ (z : Action). IsAnswered (source_of y.plan code.thread seen) bare_here.around.loads z) (sym e) tt) tt core.core in
       let none : c.cleans ++ c.rest ≡ [] = ap₂ ◌++◌ core.goes.cleans core.goes.goes.rest in
-      let o : OnFragmentNow y s w h site.stands site.below = record {
+      let o : IsAt (Asks mutex next) some.steps = record {
         environment = bare_here;
-        answers = bare_answers y s w h site.below b c;
-        exit = Asks mutex next;
+        answers = bare_answers y s w h site.below (now b.config);
         side = core.side;
         at_side = core.at_side;
-        steps = some.steps;
         fragment = subst (FragmentWith bare_here core.side some.steps (Asks mutex next)) (sym none) some.on;
         fits = core.goes;
         soon =
@@ -187,11 +180,11 @@ module _ {y : System} {s : IsSystem y} {w : World} {h : ℕ} (site : Site y s w 
             let no_cleans : cleans_in (seen_effects (c.cleans ++ c.rest)) ≡ 0 = ap (λ (es : List Effect). cleans_in (seen_effects es)) none in
             less_soon y n c.before_mark _ _ core.soon (omega (arith, whole, no_cleans));
       } in
-      fragment_ready o some.steps refl (asks mutex next)
+      fragment_ready some.steps o (asks mutex next)
   core_by core action e = moving.at_core core (λ is mutex next at locks.
       let z = sym e ∙ (ap (λ (x : Node). x.action) (same_Some there.is is (sym there.at ∙ at)) ∙ locks) in cc)
 
-  core_ready : AtCoreNow y s w h site.stands site.below → Ready
+  core_ready : AtCoreNow site → Ready
   core_ready core = core_by core there.is.action refl
 
   -- ---- At a fragment's end
@@ -258,15 +251,7 @@ module _ {y : System} {s : IsSystem y} {w : World} {h : ℕ} (site : Site y s w 
     resume = places.core graph_thread.at
 
     abbrev ghost : ThreadGhost
-    ghost = record {
-      old = c.new;
-      new = recorded_by boundary side resume registers;
-      rest = boundary_effects boundary side resume registers;
-      committed = false;
-      cleans = [];
-      giving = None;
-      before_mark = c.before_mark;
-    }
+    ghost = begins_with c (recorded_by boundary side resume registers) (boundary_effects boundary side resume registers) None c.before_mark
 
     stores_here : StoresHere there.is.action
     stores_here = chosen_stores y s graph_thread.at there.is there.at chosen
@@ -302,8 +287,7 @@ module _ {y : System} {s : IsSystem y} {w : World} {h : ℕ} (site : Site y s w 
     })
 
     log : LogInv n c.new ghost.new w ghost.rest
-    log = begins_standing boundary c.old c.new side resume registers w logs (subst (λ (es : List Effect). LogInv n c.old c.new w es) no_rest t.log)
-        (record { registers = subst (λ (l : Log). IsOnSide l side registers) logs fragment.has.at_side; is = at_side }) begins.recoverable
+    log = log_begins site graph_thread.at side resume registers no_rest fragment.has.at_side at_side begins.recoverable
 
     same_hart : log.hart ≡ t.log.hart
     same_hart = same_there (slice_get w.harts n) log.hart t.log.hart log.here t.log.here
@@ -318,14 +302,12 @@ module _ {y : System} {s : IsSystem y} {w : World} {h : ℕ} (site : Site y s w 
         placed_here (bare_reads y s w h site.below) there.is there.at fragment).chosen chosen
 
     -- the fragment up to its end
-    abbrev keeps_now : InFragment y w b code ghost log.hart graph_thread
+    abbrev keeps_now : InFragment y w b code ghost log.hart graph_thread Keeps keeps.steps
     keeps_now = record {
       environment = bare_here;
-      answers = bare_answers y s w h site.below b ghost;
-      exit = Keeps;
+      answers = bare_answers y s w h site.below (now b.config);
       side = side_after boundary side;
       at_side = side_follows boundary side resume registers begins.recoverable;
-      steps = keeps.steps;
       fragment = keeps.on;
       fits = (
         chosen,
@@ -350,18 +332,14 @@ module _ {y : System} {s : IsSystem y} {w : World} {h : ℕ} (site : Site y s w 
     abbrev thread : ThreadInv y w b code ghost
     thread = record {
       log = log;
-      no_sooner = λ e. absurd (true≢false (sym e));
-      describes = subst (λ (done : Bool). Describes y.plan code (kept_of y b) (if done then c.new else c.old)) no_boundary t.describes;
-      will_describe = λ un. begins.describes;
-      unlocked = λ mutex gives over. absurd (true≢false (sym over));
-      cleans = λ effect has. absurd (contains_none effect has);
+      records = records_begin y b code ghost refl (describes_over y b code c t.records no_boundary) begins.describes;
       graph_thread = graph_thread;
       walks = t.walks;
-      phase = subst (λ (p : Phase). InPhase y w b code ghost log.hart graph_thread p) (sym runs) (courses.on_fragment keeps_now);
-      flushed = λ u e writes. flushed_same passage
-          (still_reached passage (left_empty c.cleans c.rest (none_left at)) (reaches_same passage refl (ap (λ (x : Hart). x.queue) same_hart))) u e
-          (λ position since. since) (t.flushed u e writes) (λ un few. let two = boundaries_fence boundary side resume registers in
-          absurd (omega (arith, two, few))) refl;
+      phase = subst (λ (p : Phase). InPhase y w b code ghost log.hart graph_thread p) (sym runs) (courses.on_fragment Keeps keeps.steps keeps_now);
+      stored = stored_same passage none_clean
+          (still_reached passage (left_empty c.cleans c.rest (none_left at)) (reaches_same passage refl (ap (λ (x : Hart). x.queue) same_hart)))
+          (λ u e position since. since)
+          (λ u e f un few. let two = boundaries_fence boundary side resume registers in absurd (omega (arith, two, few))) refl t.stored;
     }
 
     caught : HasCommittedLog y w b code ghost thread
@@ -386,22 +364,14 @@ module _ {y : System} {s : IsSystem y} {w : World} {h : ℕ} (site : Site y s w 
         (m ≡ h → OnKeeps y w b (s.codes.each m within) g z)
 
     all : (m : ℕ) (within : m < thread_count y) → Given m within (new m)
-    all = each_placed (thread_count y) site.stands.ghosts h site.below ghost Given (thread, caught, λ e. (keeps_now, refl))
+    all = each_placed (thread_count y) site.stands.ghosts h site.below ghost Given (thread, caught, λ e. (keeps.steps, keeps_now))
         (λ m within other. (site.stands.each m within, site.stands.caught_up m within (λ e. e), λ e. absurd (other e)))
 
     says_same : (m : ℕ) → SaysSame (new m) (site.stands.ghosts m)
-    says_same = each_ghost site.stands.ghosts h ghost (λ (m : ℕ) (g : ThreadGhost). SaysSame g (site.stands.ghosts m)) says
-        (λ m other. record { bound = refl; leaving = refl; giving = refl; ahead = refl })
+    says_same = grind (arith, each_ghost, says)
 
     gathered_on : AreGathered w (records_of site.stands.ghosts) → AreGathered w (records_of new)
-    gathered_on ag = record {
-      each = each_ghost site.stands.ghosts h ghost
-          (λ (m : ℕ) (g : ThreadGhost). (hart : Hart) → slice_get w.harts m ≡ Some hart → HasGathered w m g.new hart.phase)
-          (λ hart there.
-          let is : hart ≡ i.hart = same_there (slice_get w.harts h) hart i.hart there i.here in
-          subst (λ (p : Phase). HasGathered w h ghost.new p) (sym (ap (λ (x : Hart). x.phase) is ∙ i.phase_is)) tt)
-          (λ m other. ag.each m);
-    }
+    gathered_on h0 = grind (arith, each_ghost, same_there, there)
 
     locked_on : AreLocked y w b site.stands.ghosts → AreLocked y w b new
     locked_on (gathering none gathers) = absurd (subst (Gathers w h (records_of site.stands.ghosts h)) i.phase_is (gathers.each h i.hart i.here))
@@ -421,34 +391,9 @@ module _ {y : System} {s : IsSystem y} {w : World} {h : ℕ} (site : Site y s w 
 
   -- ---- In a fragment, whatever it leads to
 
-  abbrev now_on : {exit : ExitPoint} {steps : ℕ} → IsAt exit steps → OnFragmentNow y s w h site.stands site.below
-  now_on {exit} {steps} a = record {
-    environment = a.environment;
-    answers = a.answers;
-    exit = exit;
-    side = a.side;
-    at_side = a.at_side;
-    steps = steps;
-    fragment = a.fragment;
-    fits = a.fits;
-    soon = a.soon;
-  }
-
-  at_of : (o : OnFragmentNow y s w h site.stands site.below) → IsAt o.exit o.steps
-  at_of o = record {
-    environment = o.environment;
-    answers = o.answers;
-    side = o.side;
-    at_side = o.at_side;
-    fragment = o.fragment;
-    fits = o.fits;
-    soon = o.soon;
-  }
-
-  keeps_at : (exit : ExitPoint) → exit ≡ Keeps → (steps : ℕ) → IsAt exit steps → Ready
-  keeps_at Keeps e zero a = keeps_ready a
-  keeps_at Keeps e (suc k) a = moving.on_fragment (now_on a) k refl
-  keeps_at exit e steps a = let none : ⊥ = cc in absurd none
+  keeps_at : (steps : ℕ) → IsAt Keeps steps → Ready
+  keeps_at zero a = keeps_ready a
+  keeps_at (suc k) a = moving.on_fragment Keeps k a
 
 module _ {y : System} {s : IsSystem y} {w : World} {h : ℕ} (site : Site y s w h) (i : IsInPhase w h Run) where
   open view site use {b, code, c, t, n, graph_thread}
@@ -456,20 +401,19 @@ module _ {y : System} {s : IsSystem y} {w : World} {h : ℕ} (site : Site y s w 
   abbrev Result : Type 0
   Result = SimulatesReady y s w h site.stands
 
-  as_it_is : IsReadyToStep y s w h site.stands site.below → SimulatesReady y s w h site.stands
+  as_it_is : IsReadyToStep site → SimulatesReady y s w h site.stands
   as_it_is ready = record {
-    stands = site.stands;
+    site = site;
     similar = record { abstract = refl; same = λ n. record { bound = refl; leaving = refl; giving = refl; ahead = refl } };
-    below = site.below;
     ready = ready;
   }
 
   -- before its end
   goes_on : {exit : ExitPoint} (k : ℕ) → IsAt site exit (suc k) → Result
-  goes_on k a = as_it_is (moving.on_fragment (now_on site a) k refl)
+  goes_on {exit} k a = as_it_is (moving.on_fragment exit k a)
 
-  calling : {exit : ExitPoint} {steps : ℕ} → IsCalling y s w h site.stands site.below exit → IsAt site exit steps → Result
-  calling {exit} {steps} calls a = as_it_is (fragment_ready site (now_on site a) steps refl calls)
+  calling : {exit : ExitPoint} {steps : ℕ} → IsCalling exit → IsAt site exit steps → Result
+  calling {exit} {steps} calls a = as_it_is (fragment_ready site steps a calls)
 
   arrives : (steps : ℕ) → IsAt site Arrives steps → Result
   arrives (suc k) a = goes_on k a
@@ -477,12 +421,7 @@ module _ {y : System} {s : IsSystem y} {w : World} {h : ℕ} (site : Site y s w 
     | inl chosen ↦
         let k = (all site a chosen i h site.below).2 refl in
         let anew : Site y s w h = record { stands = begun site a chosen i; below = site.below } in
-        record {
-          stands = anew.stands;
-          similar = record { abstract = refl; same = says_same site a chosen i };
-          below = site.below;
-          ready = keeps_at anew k.0.exit k.1 k.0.steps (at_of anew k.0);
-        }
+        record { site = anew; similar = record { abstract = refl; same = says_same site a chosen i }; ready = keeps_at anew k.0 k.1 }
     | inr plain ↦ as_it_is (plain_ready site a plain)
   ]
 
@@ -496,7 +435,7 @@ module _ {y : System} {s : IsSystem y} {w : World} {h : ℕ} (site : Site y s w 
       (λ e. absurd (let more = e.0 in omega (arith, more, bounded.after (settled site a)))) ((resumed y s b).resumed.invariant.tried n).begun in
       arrives some.steps (record {
         environment = bare_here site;
-        answers = bare_answers y s w h site.below _ _;
+        answers = bare_answers y s w h site.below (now b.config);
         side = a.side;
         at_side = a.at_side;
         fragment = subst (FragmentWith site (bare_here site) a.side some.steps Arrives) (sym none) some.on;
@@ -506,7 +445,7 @@ module _ {y : System} {s : IsSystem y} {w : World} {h : ℕ} (site : Site y s w 
 
   by_exit : (exit : ExitPoint) (steps : ℕ) → IsAt site exit steps → Result
   by_exit Arrives steps = arrives steps
-  by_exit Keeps steps = λ a. as_it_is (keeps_at site Keeps refl steps a)
+  by_exit Keeps steps = λ a. as_it_is (keeps_at site steps a)
   by_exit (Asks mutex next) steps = calling (asks mutex next)
   by_exit (Took from) zero = took from
   by_exit (Took from) (suc k) = goes_on k
@@ -514,7 +453,7 @@ module _ {y : System} {s : IsSystem y} {w : World} {h : ℕ} (site : Site y s w 
   by_exit ways.Ends steps = calling ends
 
   in_run : IsRunningThread y w b code c t.log.hart graph_thread → Result
-  in_run (courses.on_fragment o) = by_exit o.exit o.steps (at_of site o)
+  in_run (courses.on_fragment exit steps o) = by_exit exit steps o
   in_run (courses.at_core core) = as_it_is (core_ready site core)
 
   ready : Result

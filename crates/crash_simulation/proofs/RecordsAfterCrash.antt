@@ -52,7 +52,7 @@ module _ (y : System) (s : IsSystem y) (w : World) (stands : Simulates y s w) wh
 
   pub left_describes : AllDescribe y.plan s.codes (kept_of y stands.abstract) left
   left_describes n below =
-      subst (Describes y.plan (s.codes.each n below) (kept_of y stands.abstract)) (sym (left_kept n below)) (stands.each n below).describes
+      subst (Describes y.plan (s.codes.each n below) (kept_of y stands.abstract)) (sym (left_kept n below)) (stands.each n below).records.describes
 
   pub left_point : (n : ℕ) → n < thread_count y → durable_point w.log w.words n ≡ (left n).point
   left_point n below =

@@ -1,18 +1,17 @@
 -- Where a hart that executes instructions is: on a run, or at a call.
-use Rattle.std.proofs.Common.{◌≡◌, ◌≢◌, ℕ, suc, ◌<◌, List, ◌++◌, subst}
+use Rattle.std.proofs.Common.{◌≢◌, ℕ, suc, List}
 use Rattle.rv64_isa.specs.Machine.{World}
 use Rattle.flow_graph.specs.Nodes.{Lock, Node}
 use Rattle.flow_graph.specs.Liveness.{NodeAt}
-use Rattle.flow_graph.specs.Actions.{GraphThread, Seen, seen_by}
+use Rattle.flow_graph.specs.Actions.{Seen, seen_by}
 use Rattle.flow_graph.specs.Actions as a
 use Rattle.hart_runs.specs.HartsOnRuns.{Agrees, OnRun}
 use Rattle.thread_runs.specs.Laws.{IsAtSomeMark, MarksPass, run_of, run_at}
-use Rattle.thread_runs.specs.CodeFragments.{IsOnFragment, on_machine}
+use Rattle.thread_runs.specs.CodeFragments.{on_machine, ExitPoint}
 use Rattle.recovered_threads.specs.RecordDescriptions.{Code}
-use Rattle.crash_simulation.specs.Systems.{System, IsSystem, thread_count}
+use Rattle.crash_simulation.specs.Systems.{System, IsSystem}
 use Rattle.crash_simulation.specs.AbstractRuns.{now_of}
 use Rattle.crash_simulation.specs.ThreadGhosts.{ThreadGhost, ThreadInv}
-use Rattle.crash_simulation.specs.SimulationRelation.{Simulates}
 use Rattle.crash_simulation.specs.InstructionSteps.{OnFragmentNow, AtCoreNow, thread_of}
 use Rattle.crash_simulation.specs.InstructionSteps as moving
 use Rattle.crash_simulation.proofs.OwnHartSteps.{AtNode}
@@ -21,6 +20,7 @@ use Rattle.crash_simulation.proofs.LocalNodeSteps.{mark as quietly_mark}
 use Rattle.crash_simulation.proofs.StoreNodeSteps.{mark as making_mark}
 use Rattle.crash_simulation.proofs.UnlockNodeSteps.{mark as unlocking_mark}
 use Rattle.code_runs.specs.CodeTraces.{MarkedEnvironment}
+use Rattle.crash_simulation.specs.InstructionSteps.{Site}
 
 -- ---- Where a hart that executes instructions is
 
@@ -29,7 +29,8 @@ pub record RunsOn (y : System) (w : World) (h : ℕ) : Type 0 where
   pub run : OnRun w h
   pub agrees : Agrees y.runs.program w h run.environment
 
-module _ (y : System) (s : IsSystem y) (w : World) (h : ℕ) (stands : Simulates y s w) (below : h < thread_count y) where
+module _ {y : System} {s : IsSystem y} {w : World} {h : ℕ} (site : Site y s w h) where
+  open site use {stands, below}
   open stands use {abstract as b}
 
   abbrev code : Code y.plan
@@ -39,7 +40,7 @@ module _ (y : System) (s : IsSystem y) (w : World) (h : ℕ) (stands : Simulates
   ghost = stands.ghosts h
 
   abbrev thread : ThreadInv y w b code ghost
-  thread = thread_of y s w h stands below
+  thread = thread_of site
 
   open code.thread use {number as n}
   open thread use {graph_thread}
@@ -48,31 +49,29 @@ module _ (y : System) (s : IsSystem y) (w : World) (h : ℕ) (stands : Simulates
   seen = seen_by (now_of y b) graph_thread
 
   -- in a fragment
-  fragments : (o : OnFragmentNow y s w h stands below) (steps : ℕ) → o.steps ≡ suc steps → RunsOn y w n
-  fragments o steps is =
-      let fragment = subst (λ (k : ℕ). IsOnFragment y.plan code.thread code.is.places (on_machine y.runs.program w n o.environment)
-      (record { exit = o.exit; node = graph_thread.at; seen = seen; side = o.side }) k (ghost.cleans ++ ghost.rest)) is o.fragment in
-      record { run = run_of y.plan code.thread code.is.places fragment; agrees = fragment.agrees }
+  fragments : {exit : ExitPoint} (steps : ℕ) → OnFragmentNow site exit (suc steps) → RunsOn y w n
+  fragments steps o = record { run = run_of y.plan code.thread code.is.places o.fragment; agrees = o.fragment.agrees }
 
   -- at a node's code it is at the node's mark
   at_mark : {z : MarkedEnvironment} {node side : ℕ} {at : Seen} {registers : List ℕ} {e : a.Effect} →
       IsAtSomeMark y.plan code.thread code.is.places (on_machine y.runs.program w n z) node at side registers e → RunsOn y w n
   at_mark mark = record { run = run_at y.plan code.thread code.is.places mark.at; agrees = mark.at.agrees }
 
-  cores : MarksPass → (core : AtCoreNow y s w h stands below) →
+  cores : MarksPass → (core : AtCoreNow site) →
       ((is : Node) (mutex next : ℕ) → NodeAt y.plan.graph thread.graph_thread.at is → is.action ≢ Lock mutex next) → RunsOn y w n
   cores marks core free =
-      let site : AtNode y s w h = record { hart = record { stands = stands; below = below }; core = core } in
-      let at = found site in
-      by_node site (RunsOn y w n) free (λ e does quiet. at_mark (quietly_mark site at.0 at.1 e does quiet))
-      (λ makes. at_mark (making_mark site at.0 at.1 makes)) (λ mutex next is. at_mark (unlocking_mark site at.0 at.1 mutex next is))
+      let node : AtNode y s w h = record { hart = site; core = core } in
+      let at = found node in
+      by_node node (RunsOn y w n) free (λ e does quiet. at_mark (quietly_mark node at.0 at.1 (record { e = e; does = does; quiet = quiet })))
+      (λ makes. at_mark (making_mark node at.0 at.1 makes))
+      (λ mutex next is. at_mark (unlocking_mark node at.0 at.1 (record { mutex = mutex; next_node = next; action = is })))
 
   -- a hart that executes instructions is on a run, or at a call
   pub data IsWhere : Type 0 where
     on_run : RunsOn y w n → IsWhere
-    at_call : (o : OnFragmentNow y s w h stands below) → o.steps ≡ 0 → moving.IsCalling y s w h stands below o.exit → IsWhere
+    at_call : (exit : ExitPoint) → OnFragmentNow site exit 0 → moving.IsCalling exit → IsWhere
 
-  pub is_where : MarksPass → moving.IsReadyToStep y s w h stands below → IsWhere
-  is_where marks (moving.on_fragment o steps is) = on_run (fragments o steps is)
-  is_where marks (moving.calls o zero_left calling) = at_call o zero_left calling
+  pub is_where : MarksPass → moving.IsReadyToStep site → IsWhere
+  is_where marks (moving.on_fragment exit steps o) = on_run (fragments steps o)
+  is_where marks (moving.calls exit o calling) = at_call exit o calling
   is_where marks (moving.at_core core free) = on_run (cores marks core free)

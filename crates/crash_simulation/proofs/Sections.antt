@@ -6,7 +6,7 @@ use Rattle.std.proofs.lemmas.Bool.{true≢false}
 use Rattle.ido_base.specs.Locks.{holds_none}
 use Rattle.c_tree.specs.Flats as f
 use Rattle.c_tree.specs.Source as m
-use Rattle.c_tree.specs.LockDiscipline.{Held}
+use Rattle.c_tree.specs.LockNames.{Held}
 use Rattle.source_machine.specs.Discipline.{StateKeeps}
 use Rattle.source_machine.specs.Mutexes.{held_by}
 use Rattle.source_machine.proofs.Public.{Passed, locks_found, stepped, apart, run_keeps, unlocks_held, solo as solo_law, mutex_passed, ends_by, goes_on}
@@ -40,9 +40,7 @@ between_same s z u same =
     none_where u z.holders ∙ (ap (λ (h : Held). is_empty (locks_held h)) same ∙ sym (none_where u s.holders))
 
 pub none_ends : (before later : Bool) → later ≡ before → one_if (not before && later) ≡ 0
-none_ends true later same = refl
-none_ends false true same = absurd (true≢false same)
-none_ends false false same = refl
+none_ends before later h2 = grind (arith, true≢false)
 
 none_after : (before : Bool) → one_if (not before && false) ≡ 0
 none_after true = refl
@@ -60,14 +58,7 @@ module _ (s : m.State) (t n : ℕ) (runs : m.runs_from s (replicate (suc n) t) �
   fewer_run = prefix_runs s (replicate n t) (t ∷ []) (ap (m.runs_from s) split ∙ runs)
 
   pub one_more : (u : ℕ) → m.ended_from s (replicate (suc n) t) u ≡ m.ended_from s (replicate n t) u + m.ends_section (solo s t n) (solo s t (suc n)) u
-  one_more u =
-      let l = last_step s t n runs in
-      let one : m.ended_from (solo s t n) (t ∷ []) u ≡ m.ends_section (solo s t n) l.next u + 0 = ap (ends_by [] (solo s t n) u) l.is in
-      let last : m.ends_section (solo s t n) l.next u ≡ m.ends_section (solo s t n) (solo s t (suc n)) u =
-      ap (λ (z : m.State). m.ends_section (solo s t n) z u) (sym l.after) in
-      let all = (goes_on s (replicate n t) (t ∷ []) fewer_run).ended u in
-      let same : m.ended_from s (replicate n t ++ t ∷ []) u ≡ m.ended_from s (replicate (suc n) t) u = ap (λ (us : List ℕ). m.ended_from s us u) split in
-      omega (arith, one, last, all, same)
+  one_more u = grind (arith, ends_by, goes_on, last_step, replicate, fewer_run, split)
 
 -- ---- Many
 
@@ -128,11 +119,7 @@ module _ (y : System) (s : IsSystem y) (b : AbstractRun y) (k : ℕ) where
 
   -- and so does the one that passes a mutex
   past_ends : m.runs_from K (replicate (suc done) k) ≡ true → Ends (suc done)
-  past_ends made =
-      let none = inner_end x K k i.keeps done longest (i.tried k).inner (i.tried k).within (fewer_run K k done made) in
-      let more = one_more K k done made k in
-      let last : m.ended_from K (replicate (suc done) k) k ≡ m.ends_section (solo K k done) (solo K k (suc done)) k = omega (arith, none, more) in
-      last ∙ ap (λ (z : Bool). one_if (not z && m.is_between (solo K k (suc done)) k)) between_on
+  past_ends made = grind (arith, replicate, between_on, fewer_run, i, inner_end, one_more)
 
   own_ends : Ends begun
   own_ends = ⊎_elim
@@ -160,7 +147,7 @@ module _ (y : System) (s : IsSystem y) (w : World) (b : AbstractRun y) (code : C
       between_same (now b.config) (solo K u (steps_begun b.config u)) u (sym (solo_law x K b.config.uncommitted u kept_keeps run hands).same.held)
       ∙ (ap (λ (hs : List (Option ℕ)). holds_none hs u)
       (sym (as_source y s b).now_matches.holders)
-      ∙ sym (describes_test y code (now_of y b) c.new (t.will_describe not_yet)))
+      ∙ sym (describes_test y code (now_of y b) c.new (t.records.will_describe not_yet)))
 
   keeps_there : StateKeeps x (solo K u done)
   keeps_there = run_keeps x K (replicate done u) kept_keeps
@@ -168,7 +155,7 @@ module _ (y : System) (s : IsSystem y) (w : World) (b : AbstractRun y) (code : C
   none_given : c.giving ≡ None → 0 ≡ one_if (is_some c.giving && (c.new.point == 0))
   none_given none = ap (λ (o : Option ℕ). one_if (is_some o && (c.new.point == 0))) (sym none)
 
-  leaves_by : (exit : ExitPoint) → IsAtBoundary exit → ExitInv y b code c t.graph_thread exit → Leaves
+  leaves_by : (exit : ExitPoint) → IsAtBoundary exit → ExitInv y b.config u c t.graph_thread exit → Leaves
   leaves_by _ at_keeps h =
       own_ends y s b u ∙ (none_ends (m.is_between K u) (m.is_between (solo K u (steps_begun b.config u)) u)
       (ap (λ (n : ℕ). m.is_between (solo K u n) u) h.1 ∙ between_on y s b u) ∙ none_given h.2.gives)
@@ -193,7 +180,7 @@ module _ (y : System) (s : IsSystem y) (w : World) (b : AbstractRun y) (code : C
       ∙ ((λ j. one_if (not (held j) && now_between j)) ∙ ap (λ (o : Option ℕ). one_if (is_some o && (c.new.point == 0))) (sym g.gives))
 
   pub leaves : Leaves
-  leaves = let u = under_way y w b code c t not_yet in leaves_by u.on.exit u.exit u.on.fits
+  leaves = let u = under_way y w b code c t not_yet in leaves_by u.to u.exit u.on.fits
 
 -- ---- One abstract run after another
 
@@ -212,18 +199,14 @@ EndAsLeft y b next n = sections_kept y next n ≡ sections_kept y b n + one_if (
 
 module _ (y : System) (b next : AbstractRun y) (n : ℕ) where
   pub same_end : AreSameSections y b next n → EndAsLeft y b next n
-  same_end i =
-      let none : one_if (not (kept_between y b n) && kept_between y next n) ≡ 0 = none_ends (kept_between y b n) (kept_between y next n) i.between in
-      let same = i.sections in
-      omega (arith, none, same)
+  same_end i = grind (arith, none_ends)
 
   module _ (last : AbstractRun y) where
     pub both_same : AreSameSections y b next n → AreSameSections y next last n → AreSameSections y b last n
     both_same one two = record { sections = two.sections ∙ one.sections; between = two.between ∙ one.between }
 
     pub end_then_same : EndAsLeft y b next n → AreSameSections y next last n → EndAsLeft y b last n
-    end_then_same e i =
-        i.sections ∙ (e ∙ ap (λ (z : Bool). sections_kept y b n + one_if (not (kept_between y b n) && z)) (sym i.between))
+    end_then_same e i = grind arith
 
     pub same_then_end : AreSameSections y b next n → EndAsLeft y next last n → EndAsLeft y b last n
     same_then_end i e = e ∙ ap₂ (λ (k : ℕ) (z : Bool). k + one_if (not z && kept_between y last n)) i.sections i.between

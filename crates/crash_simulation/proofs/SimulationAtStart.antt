@@ -5,16 +5,15 @@ use Rattle.std.specs.Prelude.{slice_get, Contains, pos}
 use Rattle.std.proofs.lemmas.Bool.{true≢false}
 use Rattle.std.proofs.lemmas.Option.{none-some, same_Some, slice_get-map, slice_get_within}
 use Rattle.rv64_isa.specs.declared.phase.Phase.{Phase}
-use Rattle.rv64_isa.specs.declared.phase.Phase.TheVariants.{Take, Wait, Done, Run}
+use Rattle.rv64_isa.specs.declared.phase.Phase.TheVariants.{Run}
 use Rattle.rv64_isa.specs.Machine.{Hart, World, after_event, happens, after_crash_of, resume_of, fresh_hart, numbers_from, start_of}
 use Rattle.source_machine.specs.StepExchanges.{steps_of}
 use Rattle.flow_graph.specs.Lowering.{lowered, parts, part, thread_count as node_count}
 use Rattle.flow_graph.specs.Actions.{GraphThread, graph_after, Seen, graph_thread_start, seen_by}
-use Rattle.flow_graph.proofs.Public.{found_in, contains_none}
-use Rattle.recovery_semantics.specs.Configs.{attempt_of}
+use Rattle.flow_graph.proofs.Public.{found_in}
+use Rattle.recovery_semantics.specs.Configs.{now, attempt_of}
 use Rattle.recovery_semantics.specs.VariableSpots.{memory_in}
 use Rattle.log_states.specs.Logs.{Record, nothing_recorded}
-use Rattle.log_states.specs.Stages.{LogIs}
 use Rattle.log_states.specs.Machines.{config_of}
 use Rattle.log_states.specs.LogInvariant.{LogInv}
 use Rattle.log_states.proofs.Public.{ends_committed, contains_first, starts_standing}
@@ -27,6 +26,7 @@ use Rattle.crash_simulation.specs.StepsToMark.{most_ahead}
 use Rattle.crash_simulation.specs.SimulationRelation.{IsMachineOf, Simulates, gathering, gathered}
 use Rattle.crash_simulation.proofs.StatesMatchSource.{orderly, begins_orderly, free_holds_none, none_holds, is_repeated, repeated_or}
 use Rattle.crash_simulation.proofs.RecordsAfterCrash.{over_is_caught, left, log_of, left_describes}
+use Rattle.crash_simulation.proofs.ThreadViews.{none_clean, none_stored, records_over}
 use Rattle.std.proofs.lemmas.List.{append-nil, length-replicate}
 use Rattle.ido_base.specs.declared.event.Event.TheVariants.{Crash}
 use Rattle.recovery_semantics.specs.ElementHistories.{crashed, Memory, AreStable, durable_number, memory_of}
@@ -93,16 +93,31 @@ pub record BeginsAgain (y : System) (s : IsSystem y) (v : World) (abstract : Abs
   pub gathers : AreGathering v records
   pub describe : AllDescribe y.plan s.codes (kept_of y abstract) records
 
+-- a thread that has begun nothing since the boundary of its record
+abbrev pub resting_ghost : System → Record → (n : ℕ) → ThreadGhost
+resting_ghost y r n = record { old = nothing_recorded; new = r; rest = []; committed = true; cleans = []; giving = None; before_mark = most_ahead y n }
+
+resting_thread : (y : System) (v : World) (b : AbstractRun y) (code : Code y.plan) (r : Record) (n : ℕ) (graph_thread : GraphThread)
+    (log : LogInv code.thread.number nothing_recorded r v []) → Describes y.plan code (kept_of y b) r → (attempt_of b.config code.thread.number).done ≡ 0 →
+    slice_get (now_of y b).graph_threads code.thread.number ≡ Some graph_thread →
+    InPhase y v b code (resting_ghost y r n) log.hart graph_thread log.hart.phase → ThreadInv y v b code (resting_ghost y r n)
+resting_thread y v b code r n graph_thread log describes none walks phase = record {
+  log = log;
+  records = records_over y b code (resting_ghost y r n) refl refl
+      (ends_committed v.log code.thread.number nothing_recorded r (config_of v log.hart []) log.log refl) describes;
+  graph_thread = graph_thread;
+  walks = walks;
+  phase = phase;
+  stored = none_stored y v b code (resting_ghost y r n) log.hart none none_clean;
+}
+
 module _ (y : System) (s : IsSystem y) (v : World) (abstract : AbstractRun y) (records : ℕ → Record) (again : BeginsAgain y s v abstract records) where
   abbrev pub gathering_ghosts : ℕ → ThreadGhost
-  gathering_ghosts n = record { old = nothing_recorded; new = records n; rest = []; committed = true; cleans = []; giving = None; before_mark = most_ahead y n }
+  gathering_ghosts n = resting_ghost y (records n) n
 
   in_phase : (code : Code y.plan) (n : ℕ) (hart : Hart) (graph_thread : GraphThread) (phase : Phase) → Gathers v n (records n) phase →
-      Rests y abstract code (gathering_ghosts n) → InPhase y v abstract code (gathering_ghosts n) hart graph_thread phase
-  in_phase code n hart graph_thread Take g rests = rests
-  in_phase code n hart graph_thread Wait g rests = rests
-  in_phase code n hart graph_thread Done g rests = (rests, g)
-  in_phase code n hart graph_thread phase g rests = absurd g
+      Rests y abstract.config code.thread.number (gathering_ghosts n) → InPhase y v abstract code (gathering_ghosts n) hart graph_thread phase
+  in_phase code n hart graph_thread phase h5 h6 = grind arith
 
   pub gathering_thread : (n : ℕ) (below : n < thread_count y) → ThreadInv y v abstract (s.codes.each n below) (gathering_ghosts n)
   gathering_thread n below =
@@ -110,35 +125,22 @@ module _ (y : System) (s : IsSystem y) (v : World) (abstract : AbstractRun y) (r
       let same : code.thread.number ≡ n = s.codes.number n below in
       let count = again.machine.count in
       let there = again.gathers.logs n (omega (arith, below, count)) in
-      let log : LogInv code.thread.number nothing_recorded (records n) v [] = record {
-        hart = there.hart;
-        here = ap (slice_get v.harts) same ∙ there.here;
-        log = subst (λ (k : ℕ). LogIs v.log k nothing_recorded (records n) (config_of v there.hart [])) (sym same) there.log;
-      } in
-      let kept = orderly y s abstract in
-      let found = found_in (kept_of y abstract).graph_threads code.thread.number (let k = kept.count in omega (arith, below, same, k)) in
-      let rests : Rests y abstract code (gathering_ghosts n) = record {
+      let log : LogInv code.thread.number nothing_recorded (records n) v [] =
+      subst (λ (k : ℕ). LogInv k nothing_recorded (records n) v []) (sym same) there in
+      let found = found_in (kept_of y abstract).graph_threads code.thread.number (let k = (orderly y s abstract).count in omega (arith, below, same, k)) in
+      let none = again.fresh code.thread.number in
+      let rests : Rests y abstract.config code.thread.number (gathering_ghosts n) = record {
         begun = ap (steps_of code.thread.number) again.none;
-        done = again.fresh code.thread.number;
+        done = none;
         rest = refl;
         cleans = refl;
         giving = refl;
         committed = refl;
         whole = ap (most_ahead y) (sym same);
       } in
-      record {
-        log = log;
-        no_sooner = λ e. ends_committed v.log code.thread.number nothing_recorded (records n) (config_of v log.hart []) log.log refl;
-        describes = again.describe n below;
-        will_describe = λ un. absurd (true≢false un);
-        unlocked = λ mutex gives over. absurd (none-some mutex gives);
-        cleans = λ effect c. absurd (contains_none effect c);
-        graph_thread = found.0;
-        walks =
-            ap (λ (us : List ℕ). slice_get (graph_after (lowered (flat_of y)) (kept_of y abstract) us).graph_threads code.thread.number) again.none ∙ found.1;
-        phase = in_phase code n log.hart found.0 log.hart.phase (again.gathers.each n log.hart there.here) rests;
-        flushed = λ v e writes. let within = writes.within in let zero_done = again.fresh code.thread.number in absurd (omega (arith, within, zero_done));
-      }
+      resting_thread y v abstract code (records n) n found.0 log (again.describe n below) none
+      (ap (λ (us : List ℕ). slice_get (graph_after (lowered (flat_of y)) (kept_of y abstract) us).graph_threads code.thread.number) again.none ∙ found.1)
+      (in_phase code n log.hart found.0 log.hart.phase (again.gathers.each n log.hart (ap (slice_get v.harts) (sym same) ∙ log.here)) rests)
 
   abbrev pub gathering_simulates : Simulates y s v
   gathering_simulates = record {
@@ -392,7 +394,7 @@ module _ (y : System) (s : IsSystem y) where
       }
 
   abbrev ghosts : ℕ → ThreadGhost
-  ghosts n = record { old = nothing_recorded; new = nothing_recorded; rest = []; committed = true; cleans = []; giving = None; before_mark = most_ahead y n }
+  ghosts n = resting_ghost y nothing_recorded n
 
   none_done : (n : ℕ) → (attempt_of abstract.config n).done ≡ 0
   none_done n = ap (λ (a : Attempt). a.done) (none_yet (flat_of y).threads n)
@@ -441,7 +443,7 @@ module _ (y : System) (s : IsSystem y) where
   }
 
   on_its_fragment : (n : ℕ) (below : n < thread_count y) (hart : Hart) → slice_get w.harts (s.codes.each n below).thread.number ≡ Some hart →
-      InFragment y w abstract (s.codes.each n below) (ghosts n) hart (graph_thread (s.codes.each n below))
+      InFragment y w abstract (s.codes.each n below) (ghosts n) hart (graph_thread (s.codes.each n below)) Arrives 0
   on_its_fragment n below hart here =
       let code = s.codes.each n below in
       let own = s.own n below in
@@ -452,11 +454,9 @@ module _ (y : System) (s : IsSystem y) where
       let start : code_start y.runs.program number ≡ code.program.start = ap (λ (p : Program). p.start) (sym own.program) in
       record {
         environment = bare y s w n below;
-        answers = bare_answers y s w n below abstract (ghosts n);
-        exit = Arrives;
+        answers = bare_answers y s w n below (now abstract.config);
         side = 0;
         at_side = λ none. absurd (none refl);
-        steps = 0;
         fragment =
             threads_start y.plan code.thread y.runs.program code.program code.is w number (bare y s w n below)
             (seen_by (now_of y abstract) (graph_thread code)) 0 (replicate 32 0) (bare_meets y s w n below) (bare_agrees y s w n below) (first_node code)
@@ -481,20 +481,9 @@ module _ (y : System) (s : IsSystem y) where
       let is : fresh_hart y.runs.program Run number ≡ log.hart = same_Some _ _ (sym (fresh number inside) ∙ log.here) in
       let runs : Run ≡ log.hart.phase = ap (λ (h : Hart). h.phase) is in
       let none = free_holds_none number 0 (kept_of y abstract).holders (λ lock. is_repeated (length (flat_of y).mutexes) lock None) in
-      record {
-        log = log;
-        no_sooner = λ e. ends_committed w.log number nothing_recorded nothing_recorded (config_of w log.hart []) log.log refl;
-        describes = between none refl;
-        will_describe = λ un. absurd (true≢false un);
-        unlocked = λ mutex gives over. absurd (none-some mutex gives);
-        cleans = λ effect e. absurd (contains_none effect e);
-        graph_thread = graph_thread code;
-        walks = walks code;
-        phase =
-            subst (λ (p : Phase). InPhase y w abstract code (ghosts n) log.hart (graph_thread code) p) runs
-            (on_fragment (on_its_fragment n below log.hart log.here));
-        flushed = λ v e writes. let within = writes.within in let zero_done = none_done number in absurd (omega (arith, within, zero_done));
-      }
+      resting_thread y w abstract code nothing_recorded n (graph_thread code) log (between none refl) (none_done number) (walks code)
+      (subst (λ (p : Phase). InPhase y w abstract code (ghosts n) log.hart (graph_thread code) p) runs
+      (on_fragment Arrives 0 (on_its_fragment n below log.hart log.here)))
 
   pub log_is : y.plan.log ≡ w.log
   unfolding start_of

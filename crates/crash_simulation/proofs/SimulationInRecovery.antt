@@ -1,8 +1,7 @@
 -- Steps of harts that gather their locks, of those that recovery resumes, and of those that have stopped.
-use Rattle.std.proofs.Common.{◌≡◌, ◌⊎◌, inl, inr, refl, ℕ, ◌<◌, List, [], length, ap, arith, sym, ◌∙◌, subst, Option, Some, Bool, ◌≢◌, ◌++◌, ap₂, ◌≤◌}
-use Rattle.std.specs.Prelude.{slice_get, if◌then◌else◌}
+use Rattle.std.proofs.Common.{◌≡◌, ◌⊎◌, inl, inr, refl, ℕ, ◌<◌, List, [], length, ap, arith, sym, ◌∙◌, subst, Option, Some, ◌≢◌, ◌++◌, ap₂, ◌≤◌}
+use Rattle.std.specs.Prelude.{slice_get}
 use Rattle.std.proofs.lemmas.Option.{none-some}
-use Rattle.rv64_isa.proofs.Public.{log_stays, get-set_same}
 use Rattle.ido_base.specs.declared.event.Event.TheVariants.{Step}
 use Rattle.ido_base.specs.declared.event.Reply.{Reply}
 use Rattle.ido_base.specs.declared.event.Reply.TheVariants.{Waits, Barrier, Still}
@@ -25,12 +24,14 @@ use Rattle.recovered_threads.proofs.Public.{same_there, same_or_other, takes_nev
 use Rattle.recovered_threads.proofs.Public.{harts_go_on}
 use Rattle.crash_simulation.specs.Systems.{System, IsSystem, flat_of, places_of, thread_count}
 use Rattle.crash_simulation.specs.AbstractRuns.{kept_of, now_of}
-use Rattle.crash_simulation.specs.ThreadGhosts.{Rests, InPhase, ThreadInv, ThreadGhost, IsRunningThread}
+use Rattle.recovery_semantics.specs.Configs.{now}
+use Rattle.crash_simulation.specs.ThreadGhosts.{Rests, InPhase, ThreadInv, IsRunningThread}
 use Rattle.crash_simulation.specs.SimulationRelation.{AreHeld, AreLocked, gathering, gathered, records_of, SimulatesBut, Simulates, anybody, IsMachineOf}
 use Rattle.crash_simulation.specs.Laws.{TakesStand, WaitsStand, StoppedStand, ResumesStand}
 use Rattle.crash_simulation.proofs.LocksAfterStep.{held_alike}
 use Rattle.crash_simulation.proofs.StatesMatchSource.{orderly}
 use Rattle.crash_simulation.proofs.KeptThreads.{phase_moves, others_stand}
+use Rattle.crash_simulation.proofs.ThreadViews.{IsQuiet, describes_over, moves_alone}
 use Rattle.crash_simulation.proofs.ThreadsOfMachines.{machine_stays, phase_of}
 use Rattle.crash_simulation.proofs.CommitSimulation.{commit_stutters}
 use Rattle.rv64_isa.specs.Rows.{Effect}
@@ -43,7 +44,8 @@ use Rattle.thread_runs.proofs.Public.{fragments_see_all, cores_see_all, locks_go
 use Rattle.crash_simulation.specs.ThreadGhosts as courses
 use Rattle.crash_simulation.proofs.LoadFreeEnvironment.{bare, bare_agrees, bare_meets, bare_answers, placed}
 use Rattle.crash_simulation.proofs.GraphAfterBegin.{alone}
-use Rattle.crash_simulation.proofs.OwnHartSteps.{Site, view, same_number}
+use Rattle.crash_simulation.proofs.OwnHartSteps.{view, same_number}
+use Rattle.crash_simulation.specs.InstructionSteps.{Site}
 use Rattle.hart_runs.specs.HartsOnRuns.{IsRunningAt}
 use Rattle.hart_runs.specs.RunSteps.{cleans_in}
 use Rattle.std.specs.List.{Contains}
@@ -51,12 +53,6 @@ use Rattle.flow_graph.specs.Nodes.{Action, Node, End, successors}
 use Rattle.flow_graph.specs.Liveness.{NodeAt}
 use Rattle.thread_code.specs.Plans.{IsNodeOf}
 use Rattle.crash_simulation.proofs.StepsAfterMarks.{entry_soon, core_less, whole_soon, most_is, fits_by}
-
--- what a step of hart h leaves that moves it alone: memory is as it was
-pub record IsQuiet (w v : World) (h : ℕ) (old new : Hart) : Type 0 where
-  pub words : v.words ≡ w.words
-  pub here : slice_get v.harts h ≡ Some new
-  pub queue : new.queue ≡ old.queue
 
 -- the machine simulates the same abstract run, in memory that is as it was, with the same ghost states
 pub record SimulatesStill (y : System) (s : IsSystem y) (w v : World) (old : Simulates y s w) : Type 0 where
@@ -85,13 +81,7 @@ module _ (y : System) (s : IsSystem y) (w : World) (h : ℕ) (stands : Simulates
 
   pub moved_is : (v : World) (old new : Hart) → slice_get w.harts h ≡ Some old → happens y.runs.program w (Step h) ≡ moved v h new → v.words ≡ w.words →
       v.harts ≡ w.harts → new.queue ≡ old.queue → IsQuiet w after h old new
-  moved_is v old new here does words harts queue =
-      let is : after ≡ (moved v h new).0 = ap (λ (o : Outcome). o.0) does in
-      record {
-        words = ap (λ (z : World). z.words) is ∙ words;
-        here = ap (λ (z : World). slice_get z.harts h) is ∙ get-set_same v.harts h new old (ap (λ (hs : List Hart). slice_get hs h) harts ∙ here);
-        queue = queue;
-      }
+  moved_is v old new here = moves_alone y.runs.program w v h old new stands.machine.sound here
 
   pub quiet_stands : (old new : Hart) → slice_get w.harts h ≡ Some old → IsQuiet w after h old new →
       ((below : h < thread_count y) → InPhase y after b (s.codes.each h below) (stands.ghosts h) new (stands.each h below).graph_thread new.phase) →
@@ -103,9 +93,13 @@ module _ (y : System) (s : IsSystem y) (w : World) (h : ℕ) (stands : Simulates
           let t = stands.each h below in
           let number = s.codes.number h below in
           let is : old ≡ t.log.hart = same_there (slice_get w.harts h) old t.log.hart here (ap (slice_get w.harts) (sym number) ∙ t.log.here) in
-          phase_moves y w after b (s.codes.each h below) (stands.ghosts h) q.words (log_stays y.runs.program w (Step h) stands.machine.sound) t new
-          (ap (slice_get after.harts) number ∙ q.here)
-          (q.queue ∙ ap (λ (x : Hart). x.queue) is) (own below)
+          phase_moves after (stands.ghosts h).giving (stands.ghosts h).before_mark (λ mutex gives. gives) t new
+          (record {
+            words = q.words;
+            log = q.log;
+            here = ap (slice_get after.harts) number ∙ q.here;
+            queue = q.queue ∙ ap (λ (x : Hart). x.queue) is;
+          }) (own below)
 
       each : (n : ℕ) (below : n < thread_count y) → ThreadInv y after b (s.codes.each n below) (stands.ghosts n)
       each n below = elim (same_or_other n h) [
@@ -128,13 +122,10 @@ module _ (y : System) (s : IsSystem y) (w : World) (h : ℕ) (stands : Simulates
 
   module _ (none : b.config.uncommitted ≡ []) (gathers : AreGathering w records) where
     rest_in : (n : ℕ) (code : Code y.plan) (hart : Hart) (graph_thread : GraphThread) (phase : Phase) → Gathers w n (records n) phase →
-        InPhase y w b code (stands.ghosts n) hart graph_thread phase → Rests y b code (stands.ghosts n)
-    rest_in n code hart graph_thread Take gath p = p
-    rest_in n code hart graph_thread Wait gath p = p
-    rest_in n code hart graph_thread Done gath p = p.0
-    rest_in n code hart graph_thread phase gath p = absurd gath
+        InPhase y w b code (stands.ghosts n) hart graph_thread phase → Rests y b.config code.thread.number (stands.ghosts n)
+    rest_in n code hart graph_thread phase h5 h6 = grind arith
 
-    pub all_rest : (n : ℕ) (below : n < thread_count y) → Rests y b (s.codes.each n below) (stands.ghosts n)
+    pub all_rest : (n : ℕ) (below : n < thread_count y) → Rests y b.config (s.codes.each n below).thread.number (stands.ghosts n)
     all_rest n below =
         let t = stands.each n below in
         let number : (s.codes.each n below).thread.number ≡ n = s.codes.number n below in
@@ -143,10 +134,7 @@ module _ (y : System) (s : IsSystem y) (w : World) (h : ℕ) (stands : Simulates
 
     pub all_describe : AllDescribe y.plan s.codes (kept_of y b) records
     all_describe n below =
-        let t = stands.each n below in
-        let c = stands.ghosts n in
-        let code = s.codes.each n below in
-        subst (λ (done : Bool). Describes y.plan code (kept_of y b) (if done then c.new else c.old)) (all_rest n below).committed t.describes
+        describes_over y b (s.codes.each n below) (stands.ghosts n) (stands.each n below).records (all_rest n below).committed
 
     pub apart : AreRecordsApart (length w.harts) records
     apart =
@@ -158,7 +146,7 @@ module _ (y : System) (s : IsSystem y) (w : World) (h : ℕ) (stands : Simulates
     takes : IsInPhase w h Take → SimulatesStill y s w after stands
     takes i = by (takes_step y.runs.program w h i)
       where
-        rests : (below : h < thread_count y) → Rests y b (s.codes.each h below) (stands.ghosts h)
+        rests : (below : h < thread_count y) → Rests y b.config (s.codes.each h below).thread.number (stands.ghosts h)
         rests below = phase_of y s w h stands Take i below
 
         locked : AreLocked y after b stands.ghosts
@@ -220,10 +208,7 @@ module _ (y : System) (s : IsSystem y) (w : World) (h : ℕ) (stands : Simulates
   -- ---- Whichever is so of its locks
 
   pub takes_still : IsInPhase w h Take → SimulatesStill y s w after stands
-  takes_still i = elim stands.locks [
-    | gathering none gathers ↦ takes none gathers i
-    | gathered ag held ↦ absurd (subst (HasGathered w h (records h)) i.phase_is (ag.each h i.hart i.here))
-  ]
+  takes_still h0 = grind (arith, takes)
 
   pub waits_still : IsInPhase w h Wait → SimulatesStill y s w after stands
   waits_still i = waits i stands.locks
@@ -260,13 +245,11 @@ module _ (y : System) (s : IsSystem y) (w : World) (h : ℕ) (stands : Simulates
 
     open view site use {code, c as ghost, n, places}
 
-    rests : Rests y b code ghost
+    rests : Rests y b.config n ghost
     rests = phase_of y s w h stands Resume i below
 
     describes : Describes y.plan code (kept_of y b) ghost.new
-    describes =
-        subst (λ (done : Bool). Describes y.plan code (kept_of y b) (if done then ghost.new else ghost.old)) rests.committed
-        (stands.each h below).describes
+    describes = describes_over y b code ghost (stands.each h below).records rests.committed
 
     go : ResumesThread y.runs.program code (kept_of y b) w i.hart ghost.new
     go =
@@ -295,7 +278,7 @@ module _ (y : System) (s : IsSystem y) (w : World) (h : ℕ) (stands : Simulates
     abbrev side : ℕ
     side = side_of ghost.new
 
-    goes : courses.IsInAttempt y b code ghost
+    goes : courses.IsInAttempt y b.config n ghost
     goes = record { going = rests.begun ∙ sym rests.done; rest = rests.rest; giving = rests.giving; committed = rests.committed }
 
     short : length go.after.queue ≤ 16
@@ -330,13 +313,11 @@ module _ (y : System) (s : IsSystem y) (w : World) (h : ℕ) (stands : Simulates
         let fragment = leads y.runs.program code.program code.is resumed n environment seen side go.after.registers
         (placed y s resumed h below machine.log machine.count) (bare_meets y s resumed h below) (bare_agrees y s resumed h below) at go.enters in
         let none : ghost.cleans ++ ghost.rest ≡ [] = ap₂ ◌++◌ rests.cleans rests.rest in
-        courses.on_fragment (record {
+        courses.on_fragment Arrives fragment.steps (record {
           environment = environment;
-          answers = bare_answers y s resumed h below b ghost;
-          exit = Arrives;
+          answers = bare_answers y s resumed h below (now b.config);
           side = side;
           at_side = λ some. refl;
-          steps = fragment.steps;
           fragment = subst (IsOnFragment y.plan code.thread places (on_machine y.runs.program resumed n environment) _ fragment.steps) (sym none)
               (fragments_see_all y.plan code.thread places y.runs.program resumed n environment _ fragment.steps [] (now_of y b).variables fragment.on);
           fits = (goes, go.told.goes_on);

@@ -28,8 +28,7 @@ use Rattle.crash_simulation.specs.AbstractRuns.{AbstractRun, kept_of, now_of}
 orderly_by : (p : Plan) (s : FlowState) (t : ℕ) (ts : List ℕ) (o : Option FlowState) → IsPlan p → IsOrderly p s → graph_step p.graph s t ≡ o →
     ((next : FlowState) → IsOrderly p next → IsOrderly p (graph_after p.graph next ts)) →
     IsOrderly p (elim o [ None ↦ s | Some next ↦ graph_after p.graph next ts ])
-orderly_by p s t ts None plan is h more = is
-orderly_by p s t ts (Some next) plan is h more = more next (steps_orderly p s next t plan is h)
+orderly_by p s t ts o h5 h6 h7 h8 = grind (arith, steps_orderly)
 
 pub after_orderly : (p : Plan) → IsPlan p → (schedule : List ℕ) (s : FlowState) → IsOrderly p s → IsOrderly p (graph_after p.graph s schedule)
 after_orderly p plan [] s is = is

@@ -45,7 +45,7 @@ module _ (y : System) (s : IsSystem y) (w : World) (h : ℕ) (stands : Simulates
         of_others = other;
         moves = λ hart here. steps_move y.runs.program w h code.thread.number hart c.rest sound here
             (elsewhere y s w h stands.abstract stands.machine.log o.stores_own code.thread.number other);
-        agrees = λ z answers agrees. agrees_after y s w h stands.abstract stands.machine.log o.stores_own code c other z answers sound agrees i.hart i.here;
+        agrees = λ z answers agrees. agrees_after y s w h stands.abstract stands.machine.log o.stores_own code other z answers sound agrees i.hart i.here;
       }) s h (λ e. other (sym e)) o.next o.led (stands.each n below)
 
   abbrev pub simulates_after : SimulatesBut y s after anybody

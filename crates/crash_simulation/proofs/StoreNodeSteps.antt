@@ -1,8 +1,7 @@
 -- A hart at the code of a node that makes its thread's pending store.
 use Rattle.std.proofs.lemmas.Bool.Decides.{nat_tests}
-use Rattle.std.proofs.Common.{◌≡◌, ◌≢◌, ◌⊎◌, inl, inr, refl, ℕ, ◌<◌, List, [], ◌∷◌, length, ap, sym, ◌∙◌, subst, arith, Option, Some}
-use Rattle.std.proofs.Common.{Bool, true, false}
-use Rattle.std.proofs.lemmas.Bool.{true≢false, ne_eqb}
+use Rattle.std.proofs.Common.{◌≡◌, ◌≢◌, inl, inr, refl, ℕ, ◌<◌, List, [], ◌∷◌, length, ap, sym, ◌∙◌, subst, arith, Option, Some, Bool, true, false}
+use Rattle.std.proofs.lemmas.Bool.{true≢false, true_from_ne_false, ne_eqb}
 use Rattle.std.proofs.lemmas.Option.{none-some, same_Some, slice_get-map}
 use Rattle.std.specs.Prelude.{slice_get, slice_index_or, Contains, ℤ, ◌*◌, ◌%◌, ◌^◌, if◌then◌else◌}
 use Rattle.std.specs.List.{AllZip}
@@ -20,7 +19,6 @@ use Rattle.source_machine.specs.Discipline.{Guards}
 use Rattle.c_ranges.specs.RunInvariants as ranges
 use Rattle.c_ranges.specs.RunInvariants.{AreNumbersOf}
 use Rattle.c_ranges.proofs.Public.{zip_at}
-use Rattle.source_machine.proofs.Public.{held_found}
 use Rattle.rv64_isa.specs.Rows as r
 use Rattle.rv64_isa.specs.Rows.{Effect}
 use Rattle.rv64_isa.specs.Machine.{World}
@@ -37,7 +35,7 @@ use Rattle.recovery_semantics.specs.ElementHistories.{Memory, IsStored, IsOther,
 use Rattle.recovery_semantics.specs.Attempts.{WritesAt, Writes, store_ahead}
 use Rattle.recovery_semantics.specs.Configs.{now, attempt_of}
 use Rattle.recovery_semantics.specs.Events.{ConfigStep, stores, begun}
-use Rattle.recovery_semantics.specs.VariableSpots.{memory_in, AreSpotsApart}
+use Rattle.recovery_semantics.specs.VariableSpots.{memory_in}
 use Rattle.recovery_semantics.proofs.Public.{memory_stored, stored_is_since, since_stays}
 use Rattle.region_attempts.specs.PendingCleans.{line_of, Cleans}
 use Rattle.region_attempts.specs.AttemptsInRegion.{HasCome}
@@ -59,8 +57,7 @@ use Rattle.crash_simulation.proofs.MarksAtNodes.{Doing, MarkIn, AtMark, Passes, 
 use Rattle.crash_simulation.proofs.LoadFreeEnvironment.{bare_answers, bare_reads}
 use Rattle.crash_simulation.proofs.StatesMatchSource.{resumed, now_orderly, now_good}
 use Rattle.crash_simulation.proofs.Boundaries.{store_is}
-use Rattle.crash_simulation.proofs.Elements.{room}
-use Rattle.crash_simulation.proofs.DisjointElements.{variables_end, element_below}
+use Rattle.crash_simulation.proofs.Elements.{room, variables_end, element_below}
 use Rattle.crash_simulation.proofs.NodeEffects.{ahead_is}
 use Rattle.crash_simulation.proofs.NodeEnvironments.{element_access}
 use Rattle.crash_simulation.proofs.OwnHartSteps.{view, StepOf, AtNode}
@@ -166,8 +163,7 @@ module _ {y : System} {s : IsSystem y} {w : World} {h : ℕ} (site : AtNode y s 
       let there = is_there (flat_of y) s.plan.formed n (now_of y b) o.source o.matches graph_thread node t.walks at in
       let held = (o.keeps.each n there.thread there.there).pending store (sym there.match.pending ∙ pending) in
       let lock = element_lock (flat_of y).variables store.variable store.element in
-      ap (λ (hs : List (Option ℕ)). slice_get hs lock)
-      (sym (matches_now y s b).holders ∙ o.matches.holders) ∙ held_found n o.source.holders lock held
+      ap (λ (hs : List (Option ℕ)). slice_get hs lock) (sym (matches_now y s b).holders ∙ o.matches.holders) ∙ held
 
   -- ---- The mark is passed
 
@@ -195,18 +191,11 @@ module _ {y : System} {s : IsSystem y} {w : World} {h : ℕ} (site : AtNode y s 
 
     stored : IsStored b.config.memory memory store.variable store.element store.number
     stored =
-        let size = site.hart.stands.machine.sound.size in
-        let apart : AreSpotsApart (places_of y) (length w.words) =
-        variables_apart (flat_of y).variables (length w.words) (room y s) (omega (arith, size)) in
+        let apart = variables_apart (flat_of y).variables (length w.words) (room y s) (omega (arith, site.hart.stands.machine.sound.size)) in
         let is_at = (addresses_reach w.log (flat_of y).variables (length w.harts) store.variable store.element formed.it (room y s) formed.found
         formed.element).at in
-        let new : IsStored (memory_in (places_of y) w.words)
-        (memory_in (places_of y) (words.stored w.words (byte_number address) (bytes_of k) (register_form_of (typed k store.number))))
-        store.variable store.element store.number =
-        memory_stored (places_of y) w.words store.variable store.element k (byte_number address) store.number apart is_at formed.held in
-        subst (λ (old : Memory). IsStored old memory store.variable store.element store.number) site.hart.stands.memory
-        (subst (λ (ws : List Word). IsStored (memory_in (places_of y) w.words) (memory_in (places_of y) ws) store.variable store.element store.number)
-        (sym words_are) new)
+        coe 0 1 (i. IsStored (site.hart.stands.memory i) (memory_in (places_of y) ((sym words_are) i)) store.variable store.element store.number)
+        (memory_stored (places_of y) w.words store.variable store.element k (byte_number address) store.number apart is_at formed.held)
 
     abbrev happened : ConfigStep b.config (begun b.config n memory (one_longer b.config n))
     happened = stores n memory (one_longer b.config n) (record {
@@ -252,24 +241,16 @@ module _ {y : System} {s : IsSystem y} {w : World} {h : ℕ} (site : AtNode y s 
 
     -- what this step cleans is coming
     comes_now : (line : ℕ) → Cleans (attempts_of y b) n (attempt_of b.config n).done line →
-        (u i position : ℕ) → line_of (shapes_of y) u i ≡ line → IsComing y v next code new p.on.on.hart u i position
+        (u i position : ℕ) → line_of (shapes_of y) u i ≡ line → IsComing y v cleans p.on.on.hart u i position
     comes_now line cleaned u i position in_line =
         let is = written cleaned.variable cleaned.element cleaned.stores in
         let at_node : cleaned.node ≡ graph_thread.at =
         same_Some _ _ (sym cleaned.at ∙ boundary_after_is y s b n graph_thread site.core.goes.goes.going t.walks) in
-        let same_line : line_of (shapes_of y) store.variable store.element ≡ line_of (shapes_of y) u i =
-        ap (λ (j : ℕ). line_of (shapes_of y) j store.element) (sym is.0) ∙ ap (λ (j : ℕ). line_of (shapes_of y) cleaned.variable j) (sym is.1)
-        ∙ cleaned.in_line ∙ sym in_line in
+        let here : places.cleans graph_thread.at ≡ true = true_from_ne_false _ (λ uncleaned. cleaned.cleans
+        (ap (slice_get y.left_out) at_node ∙ (s.own h site.hart.below).cleans graph_thread.at site.core.core.own uncleaned)) in
         is_ahead store.variable store.element
-        (there (places.cleans graph_thread.at) refl (λ uncleaned. cleaned.cleans
-        (ap (slice_get y.left_out) at_node ∙ (s.own h site.hart.below).cleans graph_thread.at site.core.core.own uncleaned))) same_line
-      where
-        there : (q : Bool) → places.cleans graph_thread.at ≡ q →
-            (places.cleans graph_thread.at ≡ false → ⊥) →
-            Contains cleans (r.Cleans address)
-        there false is never = absurd (never is)
-        there true is never =
-            subst (λ (z : Bool). Contains (if z then r.Cleans address ∷ [] else []) (r.Cleans address)) (sym is) (0, omega arith, refl)
+        (subst (λ (z : Bool). Contains (if z then r.Cleans address ∷ [] else []) (r.Cleans address)) (sym here) (0, omega arith, refl))
+        ((λ j. line_of (shapes_of y) ((sym is.0) j) ((sym is.1) j)) ∙ cleaned.in_line ∙ sym in_line)
 
     newest : IsFlushed y v next code new p.on.on.hart store.variable store.element
     newest =
@@ -289,30 +270,25 @@ module _ {y : System} {s : IsSystem y} {w : World} {h : ℕ} (site : AtNode y s 
           comes = λ cleaned.
               let same : cleaned.last ≡ (attempt_of b.config n).done = omega (arith, longer) in
               let line : ℕ = line_of (shapes_of y) store.variable store.element in
-              comes_now line
-              (subst (λ (j : ℕ). Cleans (attempts_of y b) n j line) same (as_before (passing.passage site passed) cleaned.last line cleaned.at))
-              store.variable store.element _ refl;
+              let cleans_it = as_before (passing.passage site passed) cleaned.last line cleaned.at in
+              comes_now line (subst (λ (j : ℕ). Cleans (attempts_of y b) n j line) same cleans_it) store.variable store.element _ refl;
           fenced = λ un. absurd (true≢false un);
         }
 
     flushed : (u i : ℕ) → Writes next.config.kept n (attempt_of next.config n).done u i → IsFlushed y v next code new p.on.on.hart u i
-    flushed u i writes = by (same_or_other u store.variable) (same_or_other i store.element)
+    flushed u i writes = elim (same_or_other u store.variable) [
+      | inl same ↦ elim (same_or_other i store.element) [
+        | inl same_element ↦ coe 0 1 (j. IsFlushed y v next code new p.on.on.hart ((sym same) j) ((sym same_element) j)) newest
+        | inr apart ↦ older (λ also same_element. apart same_element)
+      ]
+      | inr apart ↦ older (λ same same_element. apart same)
+    ]
       where
         older : IsOther store.variable store.element u i → IsFlushed y v next code new p.on.on.hart u i
         older apart = flushed_passed site passed u i (λ at_once. let same = written u i at_once in apart same.0 same.1)
             (λ position since. since_stays b.config.memory memory store.variable store.element store.number stored u i position apart since)
             (λ now line cleaned. comes_now line cleaned) writes
 
-        by : (u ≡ store.variable) ⊎ (u ≢ store.variable) → (i ≡ store.element) ⊎ (i ≢ store.element) →
-            IsFlushed y v next code new p.on.on.hart u i
-        by (inr apart) other_element = older (λ same same_element. apart same)
-        by (inl same) (inr apart) = older (λ also same_element. apart same_element)
-        by (inl same) (inl same_element) =
-            subst (λ (j : ℕ). IsFlushed y v next code new p.on.on.hart j i) (sym same)
-            (subst (λ (j : ℕ). IsFlushed y v next code new p.on.on.hart store.variable j) (sym same_element) newest)
-
-    store_passes : StepOf site.hart n
-    store_passes = passed_step site passed (bare_answers y s w h site.hart.below next new) flushed
-
   pub store_step : MarksPass → StepOf site.hart n
-  store_step marks = mark_step site at_mark marks store_passes
+  store_step marks = mark_step site at_mark marks
+      (λ p. passed_step site (passed p) (bare_answers y s w h site.hart.below (now (next p).config)) (flushed p))

@@ -1,19 +1,19 @@
 -- A thread's begun steps are kept: what that is to it and to the others, and that their invariants still hold.
-use Rattle.std.proofs.Common.{◌≡◌, ◌≢◌, refl, ℕ, zero, suc, ◌<◌, ◌≤◌, List, [], ◌∷◌, ◌++◌, replicate, sym, ◌∙◌, ap, subst, arith, slice_set, Option, Some, None}
+use Rattle.std.proofs.Common.{◌≡◌, ◌≢◌, refl, ℕ, zero, suc, ◌<◌, ◌≤◌, List, [], ◌∷◌, ◌++◌, replicate, sym, ◌∙◌, ap, subst, arith, slice_set, Option, Some}
 use Rattle.std.proofs.Common.{true, false, ⊎_elim}
 use Rattle.std.specs.Prelude.{slice_get}
 use Rattle.std.specs.Option.{option_map}
 use Rattle.std.proofs.lemmas.List.{get_or-set_other}
 use Rattle.c_tree.specs.Source as m
-use Rattle.source_machine.specs.Mutexes.{locks, unlocks, held_by}
+use Rattle.source_machine.specs.Mutexes.{held_by}
 use Rattle.source_machine.specs.Discipline.{StateKeeps, Guards}
 use Rattle.source_machine.specs.StepExchanges.{IsSameTo}
 use Rattle.source_machine.proofs.Public.{run_keeps, locks_same, unlocks_same, solo as solo_law}
-use Rattle.flow_graph.specs.Actions.{GraphThread, FlowState, seen_by}
+use Rattle.flow_graph.specs.Actions.{GraphThread, FlowState}
 use Rattle.flow_graph.specs.Lockstep.{Matches}
 use Rattle.recovery_semantics.specs.Attempts.{Attempt, attempt_at, no_attempt, IsAttempted, IsInner, solo, WritesAt}
 use Rattle.recovery_semantics.specs.Configs.{Invariant, now, attempt_of}
-use Rattle.recovery_semantics.specs.Events.{IsGoing, commits, settled_by, IsSettled, steps_begun}
+use Rattle.recovery_semantics.specs.Events.{commits, settled_by, IsSettled, steps_begun}
 use Rattle.recovery_semantics.specs.Executions.{then}
 use Rattle.recovery_semantics.specs.Laws.{IsKeptBy, HasLocked, HasUnlocked, LastUnlocks}
 use Rattle.recovery_semantics.proofs.Public.{inner_along, writes_at_same, none_left, none_of_other, others_left, rest_after, same_other, path, last_after}
@@ -31,10 +31,12 @@ use Rattle.crash_simulation.proofs.StatesMatchSource.{resumed, kept_matches, as_
 use Rattle.std.proofs.lemmas.Bool.{true≢false, cases_Bool}
 use Rattle.rv64_isa.specs.declared.phase.Phase.{Phase}
 use Rattle.rv64_isa.specs.Machine.{Hart, World}
-use Rattle.thread_runs.specs.CodeFragments.{ExitPoint, IsOnFragment, on_machine}
-use Rattle.crash_simulation.specs.ThreadGhosts.{ThreadGhost, IsBounded, ExitInv, InFragment, on_fragment, InPhase, ThreadInv, committed, record_kept}
+use Rattle.thread_runs.specs.CodeFragments.{ExitPoint}
+use Rattle.crash_simulation.specs.ThreadGhosts.{ThreadGhost, IsBounded, ExitInv, InFragment}
+use Rattle.crash_simulation.specs.ThreadGhosts.{on_fragment, InPhase, ThreadInv, committed, record_kept}
 use Rattle.crash_simulation.proofs.PendingReleases.{IsAtBoundary, at_keeps, at_took, at_gives, under_way, bounded_of}
-use Rattle.crash_simulation.proofs.KeptThreads.{answers_kept, moves_nowhere, IsKept, IsLeftAlone, stands_kept}
+use Rattle.crash_simulation.proofs.KeptThreads.{moves_nowhere, IsKept, IsLeftAlone, stands_kept}
+use Rattle.crash_simulation.proofs.ThreadViews.{none_stored}
 use Rattle.c_tree.specs.Source.{State}
 
 -- ---- Attempts
@@ -46,10 +48,7 @@ own_emptied (a ∷ rest) (suc t) = own_emptied rest t
 
 -- the thread has no attempt now
 pub is_emptied : (attempts : List Attempt) (t : ℕ) → IsAttempted attempts (slice_set attempts t no_attempt) t no_attempt
-is_emptied attempts t = record {
-  own = own_emptied attempts t;
-  others = λ u other. get_or-set_other attempts t u no_attempt no_attempt other;
-}
+is_emptied attempts t = grind (arith, get_or-set_other, own_emptied)
 
 -- the thread's begun steps may be kept
 pub record MaySettle (y : System) (b : AbstractRun y) (thread : ℕ) : Type 0 where
@@ -153,25 +152,14 @@ module _ (y : System) (s : IsSystem y) (b : AbstractRun y) where
       pub begun_same : steps_begun committed_run.config u ≡ steps_begun old u
       begun_same = others_left t u (steps_begun old t) old.uncommitted apart
 
-      pub going_on : IsGoing old u → IsGoing committed_run.config u
-      going_on g = begun_same ∙ (g ∙ sym done_same)
-
       source_path : (k : ℕ) → k ≤ longest → IsSameTo x (solo K' u k) (solo old.kept u k) u
       source_path k l = path x old t invariant u k apart l
 
       pub locked_on : (mutex : ℕ) → HasLocked old u mutex → HasLocked committed_run.config u mutex
-      locked_on mutex h = record {
-        begun = begun_same ∙ (h.begun ∙ ap suc (sym done_same));
-        locks_it = ap (λ (k : ℕ). locks (solo K' u k) u) done_same
-            ∙ (locks_same (solo old.kept u done) (solo K' u done) u (source_path done (invariant.tried u).within).own ∙ h.locks_it);
-      }
+      locked_on mutex h1 = grind (arith, locks_same, begun_same, done_same, invariant, source_path)
 
       pub unlocked_on : (mutex : ℕ) → HasUnlocked old u mutex → HasUnlocked committed_run.config u mutex
-      unlocked_on mutex h = record {
-        begun = begun_same ∙ (h.begun ∙ ap suc (sym done_same));
-        unlocks_it = ap (λ (k : ℕ). unlocks (solo K' u k) u) done_same
-            ∙ (unlocks_same (solo old.kept u done) (solo K' u done) u (source_path done (invariant.tried u).within).own ∙ h.unlocks_it);
-      }
+      unlocked_on mutex h1 = grind (arith, unlocks_same, begun_same, done_same, invariant, source_path)
 
       -- another thread writes the same along its attempts
       pub writes_on : (k v e : ℕ) → k ≤ longest → WritesAt old.kept u k v e → WritesAt K' u k v e
@@ -236,60 +224,47 @@ taken c = record c { committed = true }
 
 -- ---- The thread itself, whose boundary is committed: none of its steps is begun
 
-module _ (y : System) (w : World) (b next : AbstractRun y) (code : Code y.plan) (c : ThreadGhost) (states : now_of y next ≡ now_of y b)
-    (sources : now next.config ≡ now b.config) where
-  fragment_stays : (hart : Hart) (graph_thread : GraphThread) (o : InFragment y w b code c hart graph_thread) →
-      ExitInv y next code (taken c) graph_thread o.exit → InFragment y w next code (taken c) hart graph_thread
-  fragment_stays hart graph_thread o fits = record {
-    environment = o.environment;
-    answers = answers_kept b next code c (taken c)
-        (λ v e g. subst (λ (z : m.State). Guards (flat_of y) z code.thread.number v e) (sym sources) g) o.environment o.answers;
-    exit = o.exit;
-    side = o.side;
-    at_side = o.at_side;
-    steps = o.steps;
-    fragment = subst (λ (z : FlowState). IsOnFragment y.plan code.thread code.is.places (on_machine y.runs.program w code.thread.number o.environment)
-        (record { exit = o.exit; node = graph_thread.at; seen = seen_by z graph_thread; side = o.side }) o.steps (c.cleans ++ c.rest)) (sym states) o.fragment;
-    fits = fits;
-    soon = o.soon;
-  }
+-- of the source: the state now stays, none of its steps is begun, and what described that state describes the kept one
+pub record IsTakenUp (y : System) (b next : AbstractRun y) (code : Code y.plan) (c : ThreadGhost) : Type 0 where
+  pub states : now_of y next ≡ now_of y b
+  pub sources : now next.config ≡ now b.config
+  pub begun : steps_begun next.config code.thread.number ≡ 0
+  pub done : (attempt_of next.config code.thread.number).done ≡ 0
+  pub describes : Describes y.plan code (now_of y b) c.new → Describes y.plan code (kept_of y next) c.new
+  pub unlocks : (mutex : ℕ) → HasUnlocked b.config code.thread.number mutex → LastUnlocks next.origin.source next.schedule code.thread.number mutex
 
-  module _ (t : ThreadInv y w b code c) (not_yet : c.committed ≡ false) (sooner : committed y w b code c t.log.hart ≡ true)
-      (begun : steps_begun next.config code.thread.number ≡ 0) (done : (attempt_of next.config code.thread.number).done ≡ 0)
-      (describes : Describes y.plan code (now_of y b) c.new → Describes y.plan code (kept_of y next) c.new)
-      (unlocks : (mutex : ℕ) → HasUnlocked b.config code.thread.number mutex →
-      LastUnlocks next.origin.source next.schedule code.thread.number mutex) where
-    bounded : {Before After : Type 0} (giving : Option ℕ) → IsBounded y b code c t.graph_thread giving Before →
-        IsBounded y next code (taken c) t.graph_thread giving After
-    bounded giving h = record {
-      execution = h.execution;
-      cleans = h.cleans;
-      gives = h.gives;
-      before = λ un. absurd (true≢false un);
-      after = λ e. begun;
-    }
+module _ (y : System) (w : World) (b next : AbstractRun y) (code : Code y.plan) (c : ThreadGhost) (up : IsTakenUp y b next code c) where
+  open code.thread use {number as n}
 
-    own_fits : (exit : ExitPoint) → IsAtBoundary exit → ExitInv y b code c t.graph_thread exit → ExitInv y next code (taken c) t.graph_thread exit
-    own_fits _ at_keeps h = (h.0, begun ∙ sym done, bounded None h.2)
-    own_fits _ (at_took from) h = bounded None h
-    own_fits _ (at_gives from mutex) h = bounded (Some mutex) h
+  fragment_stays : (hart : Hart) (graph_thread : GraphThread) (exit : ExitPoint) (steps : ℕ) (o : InFragment y w b code c hart graph_thread exit steps) →
+      ExitInv y next.config n (taken c) graph_thread exit → InFragment y w next code (taken c) hart graph_thread exit steps
+  fragment_stays hart graph_thread exit steps o h5 = grind arith
 
-    pub own_stands : ThreadInv y w next code (taken c)
-    own_stands =
-        let u = under_way y w b code c t not_yet in
-        record {
-          log = t.log;
+  bounded : {Before After : Type 0} (graph_thread : GraphThread) (giving : Option ℕ) → IsBounded y b.config n c graph_thread giving Before →
+      IsBounded y next.config n (taken c) graph_thread giving After
+  bounded graph_thread giving h2 = grind (arith, true≢false)
+
+  own_fits : (graph_thread : GraphThread) (exit : ExitPoint) → IsAtBoundary exit → ExitInv y b.config n c graph_thread exit →
+      ExitInv y next.config n (taken c) graph_thread exit
+  own_fits graph_thread exit h2 h3 = grind (arith, at_gives, at_keeps, at_took, bounded)
+
+  pub own_stands : (t : ThreadInv y w b code c) → c.committed ≡ false → committed w n c t.log.hart ≡ true → ThreadInv y w next code (taken c)
+  own_stands t not_yet sooner =
+      let u = under_way y w b code c t not_yet in
+      record {
+        log = t.log;
+        records = record {
           no_sooner = λ e. sooner;
-          describes = describes (t.will_describe not_yet);
+          describes = up.describes (t.records.will_describe not_yet);
           will_describe = λ un. absurd (true≢false un);
-          unlocked = λ mutex gives over. unlocks mutex ((bounded_of y w b code c mutex gives t).before not_yet);
-          cleans = t.cleans;
-          graph_thread = t.graph_thread;
-          walks = ap (λ (z : FlowState). slice_get z.graph_threads code.thread.number) states ∙ t.walks;
-          phase = subst (λ (p : Phase). InPhase y w next code (taken c) t.log.hart t.graph_thread p) (sym u.runs)
-              (on_fragment (fragment_stays t.log.hart t.graph_thread u.on (own_fits u.on.exit u.exit u.on.fits)));
-          flushed = λ v e writes. let within = writes.within in absurd (omega (arith, within, done));
-        }
+          unlocked = λ mutex gives over. up.unlocks mutex ((bounded_of y w b code c mutex gives t).before not_yet);
+        };
+        graph_thread = t.graph_thread;
+        walks = ap (λ (z : FlowState). slice_get z.graph_threads n) up.states ∙ t.walks;
+        phase = subst (λ (p : Phase). InPhase y w next code (taken c) t.log.hart t.graph_thread p) (sym u.runs)
+            (on_fragment u.to u.steps (fragment_stays t.log.hart t.graph_thread u.to u.steps u.on (own_fits t.graph_thread u.to u.exit u.on.fits)));
+        stored = none_stored y w next code (taken c) t.log.hart up.done t.stored.cleans;
+      }
 
 -- ---- Another thread
 
@@ -316,10 +291,16 @@ module _ (y : System) (s : IsSystem y) (b : AbstractRun y) (k : ℕ) (may : MayS
 
   other_kept : IsKept y b kept_then code c
   other_kept = record {
-    begun = begun_same y s b k may u apart;
-    done = done_same y s b k may u apart;
-    locked = locked_on y s b k may u apart;
-    unlocked = unlocked_on y s b k may u apart;
+    on = record {
+      begun = begun_same y s b k may u apart;
+      done = done_same y s b k may u apart;
+      locked = locked_on y s b k may u apart;
+      unlocked = unlocked_on y s b k may u apart;
+      rest = λ none. none;
+      cleans = λ none. none;
+      giving = refl;
+      committed = refl;
+    };
     guards = λ v e g. subst (λ (z : m.State). Guards (flat_of y) z u v e) (sym (source_same y s b k may)) g;
     graph_thread = ap (λ (z : FlowState). slice_get z.graph_threads u) (now_same y s b k may);
     holds = ap (λ (z : FlowState). held_by u z.holders) (now_same y s b k may);
@@ -345,7 +326,7 @@ module _ (y : System) (s : IsSystem y) (w : World) (b : AbstractRun y) (code : C
       let bounded = bounded_of y w b code c mutex gives t in
       let kept = kept_by y s b in
       ⊎_elim
-      (λ yes. last_stays b.origin.source b.schedule b.config.uncommitted n mutex (bounded.after yes) (t.unlocked mutex gives yes))
+      (λ yes. last_stays b.origin.source b.schedule b.config.uncommitted n mutex (bounded.after yes) (t.records.unlocked mutex gives yes))
       (λ no. last_after b.origin.source b.schedule b.config.uncommitted n mutex kept.runs
       (subst (λ (z : State). LastUnlocks z b.config.uncommitted n mutex) (sym kept.is)
       (unlocked_is_last (flat_of y) b.config n mutex (invariant y s b) (bounded.before no))))

@@ -1,12 +1,12 @@
 -- What stays so of a machine by every event, and what is so of each of its threads since it is so of one and of all others.
-use Rattle.std.proofs.Common.{◌≡◌, ◌≢◌, inl, inr, ℕ, ◌<◌, List, length, ap, sym, ◌∙◌, subst}
-use Rattle.std.specs.Prelude.{slice_get}
+use Rattle.std.proofs.lemmas.Bool.Decides.{nat_tests}
+use Rattle.std.proofs.Common.{arith, ◌≡◌, ◌≢◌, inl, inr, ℕ, ◌<◌, List, length, ap, sym, ◌∙◌, subst, slice_get}
 use Rattle.std.proofs.Props.{props}
 use Rattle.ido_base.specs.declared.event.Event.{Event}
 use Rattle.ido_base.specs.declared.event.Event.TheVariants.{Step, Evict, Crash}
 use Rattle.rv64_isa.specs.declared.object.Slot.{Slot}
 use Rattle.rv64_isa.specs.declared.phase.Phase.{Phase}
-use Rattle.rv64_isa.specs.Machine.{Hart, World, after_event}
+use Rattle.rv64_isa.specs.Machine.{World, after_event}
 use Rattle.rv64_isa.specs.Frames.{IsWellFormedWorld}
 use Rattle.rv64_isa.proofs.Public.{log_stays, queues_stand, steps_touch, evictions_touch}
 use Rattle.hart_runs.specs.Calls.{IsInPhase}
@@ -66,10 +66,4 @@ each_placed count ghosts h below ghost P own others =
 pub phase_of : (y : System) (s : IsSystem y) (w : World) (h : ℕ) {waiting : ℕ → Type 0} (stands : SimulatesBut y s w waiting) (phase : Phase)
     (i : IsInPhase w h phase) (below : h < thread_count y) →
     InPhase y w stands.abstract (s.codes.each h below) (stands.ghosts h) i.hart (stands.each h below).graph_thread phase
-phase_of y s w h stands phase i below =
-    let t = stands.each h below in
-    let code = s.codes.each h below in
-    let is : t.log.hart ≡ i.hart =
-    same_there (slice_get w.harts h) t.log.hart i.hart (ap (slice_get w.harts) (sym (s.codes.number h below)) ∙ t.log.here) i.here in
-    subst (λ (p : Phase). InPhase y w stands.abstract code (stands.ghosts h) i.hart t.graph_thread p) i.phase_is
-    (subst (λ (x : Hart). InPhase y w stands.abstract code (stands.ghosts h) x t.graph_thread x.phase) is t.phase)
+phase_of y s w h stands phase i below = grind (arith, nat_tests, same_there, slice_get)

@@ -1,6 +1,5 @@
 -- What happens and keeps no step leads on, with the same kept state.
-use Rattle.std.proofs.Common.{◌≡◌, List, [], ◌++◌, ap, ◌∙◌, subst, ℕ}
-use Rattle.std.proofs.lemmas.List.{append-nil}
+use Rattle.std.proofs.Common.{◌≡◌, List, [], ◌++◌, ap, ◌∙◌, subst, ℕ, append-nil}
 use Rattle.recovery_semantics.specs.Configs.{Config}
 use Rattle.recovery_semantics.specs.Events.{ConfigStep}
 use Rattle.recovery_semantics.specs.Executions.{Execution, then, kept_steps}

@@ -2,13 +2,12 @@
 use Rattle.std.proofs.lemmas.Bool.Decides.{nat_tests}
 use Rattle.std.proofs.Common.{◌≡◌, inr, refl, ℕ, suc, ◌+◌, ◌*◌, ◌<◌, ◌≤◌, List, [], ◌∷◌, ◌++◌, length, ap, sym, ◌∙◌, subst, arith}
 use Rattle.std.proofs.Common.{Option, Some, Bool, true, false}
-use Rattle.std.proofs.lemmas.Bool.{true≢false, cond-true}
+use Rattle.std.proofs.lemmas.Bool.{true≢false}
 use Rattle.std.proofs.lemmas.Option.{none-some, same_Some, slice_get_within}
 use Rattle.std.specs.Prelude.{slice_get, not, ◌&&◌, if◌then◌else◌}
 use Rattle.std.specs.List.{list_any}
-use Rattle.boundary_code.specs.Boundaries.{IsOnSide, Boundary, boundary_effects, side_after}
+use Rattle.boundary_code.specs.Boundaries.{Boundary, boundary_effects, side_after}
 use Rattle.ido_base.specs.Layout.{log_of}
-use Rattle.ido_base.specs.declared.log.Log.{Log}
 use Rattle.ido_base.specs.Growth.{PersistsThrough}
 use Rattle.ido_base.specs.declared.event.Reply.{Reply}
 use Rattle.source_machine.specs.Mutexes.{unlocks}
@@ -27,8 +26,7 @@ use Rattle.flow_graph.specs.Actions as a
 use Rattle.flow_graph.proofs.Public.{moved}
 use Rattle.hart_runs.proofs.Public.{fences_settle}
 use Rattle.recovery_semantics.specs.ElementHistories.{Memory, history_at}
-use Rattle.recovery_semantics.specs.Attempts.{Writes}
-use Rattle.recovery_semantics.specs.Configs.{now, attempt_of}
+use Rattle.recovery_semantics.specs.Configs.{now}
 use Rattle.recovery_semantics.specs.Events.{ConfigStep, synchronises, begun}
 use Rattle.recovery_semantics.specs.Laws.{HasUnlocked}
 use Rattle.recovery_semantics.specs.VariableSpots.{memory_in}
@@ -37,26 +35,27 @@ use Rattle.recovery_semantics.proofs.Public.{counted_own}
 use Rattle.log_states.specs.Machines.{IsNext, IsLogEffect, MovesTo, StoresWord, CleansLine, PassesFence, config_of, is_boundary_effect}
 use Rattle.log_states.specs.LogInvariant.{LogInv}
 use Rattle.log_states.specs.Logs.{Record}
-use Rattle.log_states.specs.Stages.{LogIs, is_store, fences_ahead}
+use Rattle.log_states.specs.Stages.{is_store, fences_ahead}
 use Rattle.log_states.specs.Laws.{recorded_by}
 use Rattle.log_states.proofs.Public.{stores_nothing, boundaries_stay_in, point_store_is_last, side_follows, boundaries_fence}
-use Rattle.log_states.proofs.Public.{steps_keep, own_steps_move, keeps, not_done, begins_standing}
-use Rattle.recovered_threads.specs.RecordDescriptions.{Describes, past_unlock}
+use Rattle.log_states.proofs.Public.{steps_keep, own_steps_move, not_done}
+use Rattle.recovered_threads.specs.RecordDescriptions.{past_unlock}
 use Rattle.recovered_threads.proofs.Public.{unlocks_enter}
 use Rattle.thread_code.specs.RegistersAtNodes.{Enters, IsAnswered, source_of}
 use Rattle.thread_code.specs.NodeCodeEffects.{keeping}
 use Rattle.thread_runs.specs.CodeFragments.{Gives}
 use Rattle.thread_runs.specs.Laws.{MarksPass, run_at}
 use Rattle.thread_runs.proofs.Public.{fragments_see_all}
-use Rattle.crash_simulation.specs.ThreadGhosts.{ThreadGhost, record_kept, on_fragment, InPhase, IsFlushed, ThreadInv}
+use Rattle.crash_simulation.specs.ThreadGhosts.{ThreadGhost, on_fragment, InPhase, IsFlushed, ThreadInv}
 use Rattle.crash_simulation.specs.InstructionSteps.{goes, MayStore, nothing, abstract_next, begins_unlock, is_bound, nothing_released}
 use Rattle.crash_simulation.specs.InstructionSteps.{begins_step}
 use Rattle.crash_simulation.specs.Systems.{System, IsSystem, flat_of, places_of}
-use Rattle.crash_simulation.specs.AbstractRuns.{AbstractRun, kept_of, now_of}
+use Rattle.crash_simulation.specs.AbstractRuns.{AbstractRun, now_of}
 use Rattle.crash_simulation.specs.StepsToMark.{most_ahead}
 use Rattle.crash_simulation.proofs.StatesMatchSource.{resumed, now_orderly, now_good}
 use Rattle.crash_simulation.proofs.GraphAfterBegin.{after_effect, graph_thread_is, graph_threads_count, follows_on}
-use Rattle.crash_simulation.proofs.OwnHartSteps.{log_at, step_to, view, StepOf, own_giving, locks_to, AtNode}
+use Rattle.crash_simulation.proofs.OwnHartSteps.{log_begins, step_to, view, StepOf, own_giving, locks_to, AtNode}
+use Rattle.crash_simulation.proofs.ThreadViews.{begins_with, describes_over, log_at, log_moved, none_clean, records_begin}
 use Rattle.crash_simulation.proofs.MarksAtNodes.{Doing, MarkIn, AtMark, Passes, environment, stage_then, in_graph, at_plan, graph_step_is, at_some_mark}
 use Rattle.crash_simulation.proofs.MarksAtNodes.{old_hart, passed_soon}
 use Rattle.crash_simulation.proofs.MarkSteps.{is_next, may_each, holders_stay, reaches_on}
@@ -67,13 +66,20 @@ use Rattle.crash_simulation.proofs.LocksAfterStep.{GoneOn, held_unlocked}
 use Rattle.crash_simulation.proofs.NodeEffects.{source_steps, unlocks_it, unlock_locks_none}
 use Rattle.crash_simulation.proofs.ConfigAfterBegin.{alone_unlocks}
 use Rattle.crash_simulation.proofs.UncommittedSteps.{leads_on}
-use Rattle.crash_simulation.proofs.PendingFlushes.{Passage, flushed_same, still_reached, fence_settles}
+use Rattle.crash_simulation.proofs.PendingFlushes.{Passage, stored_same, still_reached, fence_settles}
 use Rattle.crash_simulation.proofs.FragmentSteps.{Made, no_effect, cleans_first, bounds_first, made_by, words_same, log_may, log_memory}
-use Rattle.crash_simulation.proofs.WriteBackSteps.{mark_step, none_clean, not_bound}
+use Rattle.crash_simulation.proofs.WriteBackSteps.{mark_step, not_bound}
+
+-- a node that unlocks a mutex
+pub record UnlocksAt (node : Node) : Type 0 where
+  pub mutex : ℕ
+  pub next_node : ℕ
+  pub action : node.action ≡ Unlock mutex next_node
 
 module _ {y : System} {s : IsSystem y} {w : World} {h : ℕ} (site : AtNode y s w h) (node : Node)
-    (at : NodeAt (lowered (flat_of y)) (view site.hart).graph_thread.at node) (mutex next_node : ℕ) (action : node.action ≡ Unlock mutex next_node) where
+    (at : NodeAt (lowered (flat_of y)) (view site.hart).graph_thread.at node) (unlocking : UnlocksAt node) where
   open view site.hart use {b, code, ghosts, c, t, n, v, places, graph_thread, seen}
+  open unlocking use {mutex, next_node, action}
 
   abbrev e : a.Effect
   e = a.Gives mutex next_node
@@ -178,13 +184,8 @@ module _ {y : System} {s : IsSystem y} {w : World} {h : ℕ} (site : AtNode y s 
       })
 
   log_first : LogInv n c.new new_record w effects_all
-  log_first =
-      begins_standing boundary c.old c.new site.core.side resume site.core.registers w site.hart.stands.machine.log
-      (subst (λ (rest : List Effect). LogInv n c.old c.new w rest) site.core.goes.goes.rest t.log)
-      (record {
-        registers = subst (λ (l : Log). IsOnSide l site.core.side site.core.registers) site.hart.stands.machine.log site.core.core.enters.at_side;
-        is = site.core.at_side;
-      }) begins.recoverable
+  log_first = log_begins site.hart next_node site.core.side resume site.core.registers site.core.goes.goes.rest site.core.core.enters.at_side
+      site.core.at_side begins.recoverable
 
   -- ---- The mark is passed
 
@@ -221,8 +222,10 @@ module _ {y : System} {s : IsSystem y} {w : World} {h : ℕ} (site : AtNode y s 
       log_rest : LogInv n c.new new_record w (p.forward.effect ∷ p.later)
       log_rest = subst (λ (rest : List Effect). LogInv n c.new new_record w rest) rest log_first
 
-      log_as : LogIs w.log n c.new new_record (config_of w hart (p.forward.effect ∷ p.later))
-      log_as = (log_at log_rest hart mark.at.on.here).log
+      abbrev log_found : LogInv n c.new new_record w (p.forward.effect ∷ p.later)
+      log_found = log_at log_rest hart mark.at.on.here
+
+      open log_found use {log as log_as}
 
       inside : IsLogEffect w.log n p.forward.effect × (is_boundary_effect p.forward.effect ≡ true)
       inside = boundaries_stay_in w.log n c.new new_record (config_of w hart (p.forward.effect ∷ p.later)) p.forward.effect p.later log_as refl
@@ -234,12 +237,7 @@ module _ {y : System} {s : IsSystem y} {w : World} {h : ℕ} (site : AtNode y s 
 
       first_by : is_point_store w.log n p.forward.effect ≡ not (list_any is_store p.later) → (fences_ahead p.later < 2 → p.forward.effect ≡ r.Fences) → IsFirst
       first_by point fenced = record {
-        log = record {
-          hart = moves.next;
-          here = moves.there;
-          log = subst (λ (l : Log). LogIs l n c.new new_record (config_of v moves.next p.later)) (sym moves.log)
-              (keeps w.log n c.new new_record (config_of w hart (p.forward.effect ∷ p.later)) (config_of v moves.next p.later) log_as moves.moves);
-        };
+        log = log_moved log_found moves;
         may = log_may y b w n site.hart.stands.machine.log p.forward.effect inside.0;
         memory = ap (memory_in (places_of y)) same_words
             ∙ log_memory y s w n p.forward.effect hart.queue p.forward.contents p.forward.changes inside.0;
@@ -281,29 +279,30 @@ module _ {y : System} {s : IsSystem y} {w : World} {h : ℕ} (site : AtNode y s 
     -- ---- The thread
 
     abbrev new : ThreadGhost
-    new = record { old = c.new; new = new_record; rest = p.later; committed = false; cleans = []; giving = Some mutex; before_mark = most_ahead y n }
+    new = begins_with c new_record p.later (Some mutex) (most_ahead y n)
 
     abbrev side_next : ℕ
     side_next = side_after boundary site.core.side
 
     phase : InPhase y v next code new p.on.on.hart graph_thread_next p.on.on.hart.phase
-    phase = subst (λ (q : Phase). InPhase y v next code new p.on.on.hart graph_thread_next q) (sym p.on.on.runs) (on_fragment (record {
-      environment = here;
-      answers = bare_answers y s w h site.hart.below next new;
-      exit = Gives graph_thread.at mutex;
-      side = side_next;
-      at_side = side_follows boundary site.core.side resume site.core.registers begins.recoverable;
-      steps = mark.steps;
-      fragment = fragments_see_all y.plan code.thread places y.runs.program v n here (stage_then site doing) mark.steps p.later (now_of y next).variables p.on;
-      fits = record {
-        execution = site.core.goes.execution;
-        cleans = refl;
-        gives = refl;
-        before = λ un. has_unlocked;
-        after = λ over. absurd (true≢false (sym over));
-      };
-      soon = (passed_soon site at_mark p, omega arith);
-    }))
+    phase =
+        subst (λ (q : Phase). InPhase y v next code new p.on.on.hart graph_thread_next q) (sym p.on.on.runs)
+        (on_fragment (Gives graph_thread.at mutex) mark.steps (record {
+          environment = here;
+          answers = bare_answers y s w h site.hart.below (now next.config);
+          side = side_next;
+          at_side = side_follows boundary site.core.side resume site.core.registers begins.recoverable;
+          fragment =
+              fragments_see_all y.plan code.thread places y.runs.program v n here (stage_then site doing) mark.steps p.later (now_of y next).variables p.on;
+          fits = record {
+            execution = site.core.goes.execution;
+            cleans = refl;
+            gives = refl;
+            before = λ un. has_unlocked;
+            after = λ over. absurd (true≢false (sym over));
+          };
+          soon = (passed_soon site at_mark p, omega arith);
+        }))
 
     abbrev step : Passage y code
     step = step_to site.hart v (b.config.uncommitted ++ n ∷ []) b.config.memory b.config.attempts (leads_on y b _ happened refl tt) new p.on.on.hart
@@ -319,25 +318,16 @@ module _ {y : System} {s : IsSystem y} {w : World} {h : ℕ} (site : AtNode y s 
         (λ j position reached. fences_settle y.runs.program w n (run_at y.plan code.thread places mark.at) p.forward fence j position
         (subst (λ (x : Hart). PersistsThrough w.words x.queue j position) (sym (old_hart site at_mark)) reached)) u i f)
 
-    flushed : (u i : ℕ) → Writes next.config.kept n (attempt_of next.config n).done u i → IsFlushed y v next code new p.on.on.hart u i
-    flushed u i writes = flushed_same step (still_reached step site.core.goes.cleans (reaches_on site at_mark p)) u i (λ position since. since)
-        (t.flushed u i writes) (λ un few. settled u i (t.flushed u i writes) (first.fenced few)) refl
-
     abbrev own : ThreadInv y v next code new
-    own =
-        let kept : record_kept c ≡ c.new = cond-true c.committed c.new c.old site.core.goes.goes.committed in
-        record {
-          log = log_at first.log p.on.on.hart p.on.on.here;
-          no_sooner = λ over. absurd (true≢false (sym over));
-          describes = subst (λ (z : Record). Describes y.plan code (kept_of y b) z) kept t.describes;
-          will_describe = λ un. begins.describes;
-          unlocked = λ mutex gives over. absurd (true≢false (sym over));
-          cleans = none_clean;
-          graph_thread = graph_thread_next;
-          walks = walks_next;
-          phase = phase;
-          flushed = flushed;
-        }
+    own = record {
+      log = log_at first.log p.on.on.hart p.on.on.here;
+      records = records_begin y next code new refl (describes_over y b code c t.records site.core.goes.goes.committed) begins.describes;
+      graph_thread = graph_thread_next;
+      walks = walks_next;
+      phase = phase;
+      stored = stored_same step none_clean (still_reached step site.core.goes.cleans (reaches_on site at_mark p)) (λ u i position since. since)
+          (λ u i f un few. settled u i f (first.fenced few)) refl t.stored;
+    }
 
     -- ---- Locks
 

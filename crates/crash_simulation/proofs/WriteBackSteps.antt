@@ -3,16 +3,13 @@ use Rattle.std.proofs.lemmas.Bool.Decides.{nat_tests}
 use Rattle.std.proofs.Common.{◌≡◌, ⊎_elim, refl, ℕ, suc, ◌+◌, List, [], ◌∷◌, length, ap, sym, ◌∙◌, subst, arith, Bool, true, false}
 use Rattle.std.proofs.lemmas.Bool.{true≢false}
 use Rattle.std.proofs.lemmas.Option.{none-some}
-use Rattle.std.specs.Prelude.{Contains, not, ◌-◌}
+use Rattle.std.specs.Prelude.{not, ◌-◌}
 use Rattle.ido_base.specs.Words.{Entry}
 use Rattle.ido_base.specs.Growth.{AreEntries, PersistsThrough}
 use Rattle.ido_base.specs.Growth as growth
 use Rattle.ido_base.proofs.Public.{write_backs_raise}
-use Rattle.rv64_isa.specs.Rows.{Effect}
 use Rattle.rv64_isa.specs.Machine.{World}
 use Rattle.rv64_isa.specs.Schedule.{is_running}
-use Rattle.flow_graph.proofs.Public.{contains_none}
-use Rattle.hart_runs.specs.RunSteps.{is_clean}
 use Rattle.hart_runs.proofs.Public.{drains_reach}
 use Rattle.recovery_semantics.specs.ElementHistories as histories
 use Rattle.recovery_semantics.specs.ElementHistories.{Memory}
@@ -23,7 +20,6 @@ use Rattle.log_states.specs.Stages.{is_store}
 use Rattle.log_states.specs.Machines.{IsNext}
 use Rattle.log_states.proofs.Public.{stores_nothing, one_effect}
 use Rattle.thread_runs.specs.Laws as laws
-use Rattle.thread_runs.specs.Laws.{run_at}
 use Rattle.thread_runs.proofs.Public.{stays_are_at_core}
 use Rattle.crash_simulation.specs.ThreadGhosts.{ThreadGhost, IsInAttempt, InPhase, ThreadInv}
 use Rattle.crash_simulation.specs.InstructionSteps.{is_nearer, goes, MayStore, nothing, is_bound, nothing_released}
@@ -31,15 +27,13 @@ use Rattle.crash_simulation.specs.Systems.{System, IsSystem, places_of}
 use Rattle.crash_simulation.specs.AbstractRuns.{AbstractRun}
 use Rattle.crash_simulation.specs.StepsToMark.{core_ahead, IsSoon}
 use Rattle.crash_simulation.proofs.LastReleases.{holders_stay_none, none_leaving, and_none}
-use Rattle.crash_simulation.proofs.PendingFlushes.{Passage, run_after, still_reached, flushed_same}
-use Rattle.crash_simulation.proofs.OwnHartSteps.{step_to, going, view, StepOf, held_still, thread_going, AtNode}
+use Rattle.crash_simulation.proofs.PendingFlushes.{Passage, run_after, still_reached, stored_same}
+use Rattle.crash_simulation.proofs.ThreadViews.{none_clean}
+use Rattle.crash_simulation.proofs.OwnHartSteps.{step_to, going, view, StepOf, held_still, log_going, records_going, AtNode}
 use Rattle.crash_simulation.proofs.MarksAtNodes.{AtMark, environment, stage_then, Passes, WritesBack, old_hart}
 use Rattle.crash_simulation.proofs.LocksAfterStep.{GoneOn}
 use Rattle.crash_simulation.proofs.UncommittedSteps.{leads_on}
 use Rattle.crash_simulation.proofs.FragmentSteps.{held_up_stores_none}
-
-pub none_clean : (effect : Effect) → Contains [] effect → is_clean effect ≡ true
-none_clean effect has = absurd (contains_none effect has)
 
 -- a committed boundary binds nothing
 pub not_bound : (c : ThreadGhost) → c.committed ≡ true → is_bound c ≡ true → ⊥
@@ -79,7 +73,7 @@ module _ {y : System} {s : IsSystem y} {w : World} {h : ℕ} (site : AtNode y s 
   abbrev next : AbstractRun y
   next = run_after passage
 
-  goes_here : IsInAttempt y b code c
+  goes_here : IsInAttempt y b.config n c
   goes_here = site.core.goes.goes
 
   holders_stay : v.holders ≡ w.holders
@@ -96,10 +90,17 @@ module _ {y : System} {s : IsSystem y} {w : World} {h : ℕ} (site : AtNode y s 
   reaches j position r = grind (arith, drains_reach, old_hart)
 
   abbrev own : ThreadInv y v next code new
-  own = thread_going site next refl [] (c.before_mark - 1) none_clean (stores_nothing y.runs.program w n n hart d.effect is_next no_store)
-      graph_thread t.walks later_hart stays.still.on.here phase (λ u i writes. flushed_same passage
-      (still_reached passage site.core.goes.cleans reaches) u i (λ p since. since_is_persisted b.config.memory memory u i p memory_persists since)
-      (t.flushed u i writes) (λ un. absurd (true≢false un)) refl)
+  own =
+      let log = log_going site (stores_nothing y.runs.program w n n hart d.effect is_next no_store) later_hart stays.still.on.here in
+      record {
+        log = log;
+        records = records_going site next refl [] (c.before_mark - 1) log;
+        graph_thread = graph_thread;
+        walks = t.walks;
+        phase = phase;
+        stored = stored_same passage none_clean (still_reached passage site.core.goes.cleans reaches)
+            (λ u i p since. since_is_persisted b.config.memory memory u i p memory_persists since) (λ u i f un. absurd (true≢false un)) refl t.stored;
+      }
 
   stays_step : StepOf site.hart n
   stays_step = record {

@@ -1,5 +1,5 @@
 -- The machine's account of begun and kept steps is that of the abstract run's config.
-use Rattle.std.specs.Prelude.{◌≡◌, ℕ, ◌<◌, ◌≤◌, List, [], ◌∷◌, ◌++◌, length, true, false}
+use Rattle.std.specs.Prelude.{◌≡◌, ℕ, ◌<◌, ◌≤◌, List, [], ◌∷◌, ◌++◌, length, Bool, true, false}
 use Rattle.ido_base.specs.declared.event.Event.{Event}
 use Rattle.ido_base.specs.Words.{last_position}
 use Rattle.c_tree.specs.Source.{State, start}
@@ -15,11 +15,18 @@ use Rattle.crash_simulation.specs.SimulationRelation.{Simulates}
 use Rattle.crash_simulation.specs.InstructionSteps.{is_bound}
 use Rattle.crash_simulation.specs.ReleasedSections.{sections_kept, IsReleasedOf}
 
+-- the position of the last store of a thread's point
+abbrev pub last_stored : World → (thread : ℕ) → ℕ
+last_stored w thread = last_position (point_in w.log w.words thread)
+
+-- so many steps that are begun, bound to the store of a point at a position or free
+abbrev pub counted_steps : (bound : Bool) → (position begun : ℕ) → HartSteps
+counted_steps false position begun = record { free = begun; bound = [] }
+counted_steps true position begun = record { free = 0; bound = record { position = position; steps = begun } ∷ [] }
+
 -- of a thread: the steps that it has begun, bound to the store of its point where the boundary under way has made that
-pub record IsCountedOf (y : System) (w : World) (b : AbstractRun y) (thread : ℕ) (c : ThreadGhost) (steps : HartSteps) : Type 0 where
-  pub free : is_bound c ≡ false → (steps.free ≡ steps_begun b.config thread) × (steps.bound ≡ [])
-  pub bound : is_bound c ≡ true → (steps.free ≡ 0)
-      × (steps.bound ≡ record { position = last_position (point_in w.log w.words thread); steps = steps_begun b.config thread } ∷ [])
+abbrev pub IsCountedOf : (y : System) → World → AbstractRun y → (thread : ℕ) → ThreadGhost → HartSteps → Type 0
+IsCountedOf y w b thread c steps = steps ≡ counted_steps (is_bound c) (last_stored w thread) (steps_begun b.config thread)
 
 -- what an account goes on from: the state in which this life's execution began, the lives before it, and this life's steps that were kept before
 pub record Beginning : Type 0 where

@@ -129,27 +129,32 @@ pub record OwnStep (y : System) (s : IsSystem y) (w : World) (h : ℕ) (stands :
 
 -- ---- By where the hart is
 
--- the graph thread of a thread, and its ghost state, in a machine that simulates an abstract run
-module _ (y : System) (s : IsSystem y) (w : World) (h : ℕ) (stands : Simulates y s w) (below : h < thread_count y) where
-  abbrev pub thread_of : ThreadInv y w stands.abstract (s.codes.each h below) (stands.ghosts h)
-  thread_of = stands.each h below
+-- a fragment whose end is where the hart makes a call
+pub data IsCalling : ExitPoint → Type 0 where
+  asks : (mutex next : ℕ) → IsCalling (Asks mutex next)
+  gives : (from mutex : ℕ) → IsCalling (Gives from mutex)
+  ends : IsCalling Ends
 
-  abbrev pub OnFragmentNow : Type 0
-  OnFragmentNow = InFragment y w stands.abstract (s.codes.each h below) (stands.ghosts h) thread_of.log.hart thread_of.graph_thread
+-- a hart of a machine that simulates an abstract run
+pub record Site (y : System) (s : IsSystem y) (w : World) (h : ℕ) : Type 0 where
+  pub stands : Simulates y s w
+  pub below : h < thread_count y
+
+module _ {y : System} {s : IsSystem y} {w : World} {h : ℕ} (site : Site y s w h) where
+  -- its thread
+  abbrev pub thread_of : ThreadInv y w site.stands.abstract (s.codes.each h site.below) (site.stands.ghosts h)
+  thread_of = site.stands.each h site.below
+
+  abbrev pub OnFragmentNow : ExitPoint → (steps : ℕ) → Type 0
+  OnFragmentNow = InFragment y w site.stands.abstract (s.codes.each h site.below) (site.stands.ghosts h) thread_of.log.hart thread_of.graph_thread
 
   abbrev pub AtCoreNow : Type 0
-  AtCoreNow = AtCore y w stands.abstract (s.codes.each h below) (stands.ghosts h) thread_of.log.hart thread_of.graph_thread
-
-  -- a fragment whose end is where the hart makes a call
-  pub data IsCalling : ExitPoint → Type 0 where
-    asks : (mutex next : ℕ) → IsCalling (Asks mutex next)
-    gives : (from mutex : ℕ) → IsCalling (Gives from mutex)
-    ends : IsCalling Ends
+  AtCoreNow = AtCore y w site.stands.abstract (s.codes.each h site.below) (site.stands.ghosts h) thread_of.log.hart thread_of.graph_thread
 
   -- where a hart in Run makes its step: in a fragment, at its end where it calls, or at the code of a node that takes no mutex
   pub data IsReadyToStep : Type 0 where
-    on_fragment : (o : OnFragmentNow) (steps : ℕ) → o.steps ≡ suc steps → IsReadyToStep
-    calls : (o : OnFragmentNow) → o.steps ≡ 0 → IsCalling o.exit → IsReadyToStep
+    on_fragment : (exit : ExitPoint) (steps : ℕ) → OnFragmentNow exit (suc steps) → IsReadyToStep
+    calls : (exit : ExitPoint) → OnFragmentNow exit 0 → IsCalling exit → IsReadyToStep
     at_core : AtCoreNow → ((is : Node) (mutex next : ℕ) → NodeAt y.plan.graph thread_of.graph_thread.at is → is.action ≢ Lock mutex next) → IsReadyToStep
 
 -- whether the thread's steps are bound, whether it leaves a section, what it has to give back, and how near its hart is to the next mark, are the same
@@ -166,10 +171,9 @@ pub record AreSimilar (y : System) (s : IsSystem y) {w v : World} (old : Simulat
 
 -- the machine simulates the same abstract run, and the hart is ready
 pub record SimulatesReady (y : System) (s : IsSystem y) (w : World) (h : ℕ) (old : Simulates y s w) : Type 0 where
-  pub stands : Simulates y s w
-  pub similar : AreSimilar y s old stands
-  pub below : h < thread_count y
-  pub ready : IsReadyToStep y s w h stands below
+  pub site : Site y s w h
+  pub similar : AreSimilar y s old site.stands
+  pub ready : IsReadyToStep site
 
 -- ---- What is proved of each
 
@@ -178,18 +182,16 @@ abbrev pub RunsReady : Type 0
 RunsReady = (y : System) (s : IsSystem y) (w : World) (h : ℕ) (stands : Simulates y s w) → IsInPhase w h Run → SimulatesReady y s w h stands
 
 abbrev pub FragmentsStep : Type 0
-FragmentsStep = (y : System) (s : IsSystem y) (w : World) (h : ℕ) (stands : Simulates y s w) (below : h < thread_count y) → IsInPhase w h Run →
-    (o : OnFragmentNow y s w h stands below) (steps : ℕ) → o.steps ≡ suc steps → OwnStep y s w h stands
+FragmentsStep = (y : System) (s : IsSystem y) (w : World) (h : ℕ) (site : Site y s w h) → IsInPhase w h Run → (exit : ExitPoint) (steps : ℕ) →
+    OnFragmentNow site exit (suc steps) → OwnStep y s w h site.stands
 
 abbrev pub CoresStep : Type 0
-CoresStep = (y : System) (s : IsSystem y) (w : World) (h : ℕ) (stands : Simulates y s w) (below : h < thread_count y) → IsInPhase w h Run →
-    AtCoreNow y s w h stands below →
-    ((is : Node) (mutex next : ℕ) → NodeAt y.plan.graph (thread_of y s w h stands below).graph_thread.at is → is.action ≢ Lock mutex next) →
-    OwnStep y s w h stands
+CoresStep = (y : System) (s : IsSystem y) (w : World) (h : ℕ) (site : Site y s w h) → IsInPhase w h Run → AtCoreNow site →
+    ((is : Node) (mutex next : ℕ) → NodeAt y.plan.graph (thread_of site).graph_thread.at is → is.action ≢ Lock mutex next) → OwnStep y s w h site.stands
 
 abbrev pub CallsStep : Type 0
-CallsStep = (y : System) (s : IsSystem y) (w : World) (h : ℕ) (stands : Simulates y s w) (below : h < thread_count y) → IsInPhase w h Run →
-    (o : OnFragmentNow y s w h stands below) → o.steps ≡ 0 → IsCalling y s w h stands below o.exit → OwnStep y s w h stands
+CallsStep = (y : System) (s : IsSystem y) (w : World) (h : ℕ) (site : Site y s w h) → IsInPhase w h Run → (exit : ExitPoint) → OnFragmentNow site exit 0 →
+    IsCalling exit → OwnStep y s w h site.stands
 
 -- where a step of a hart that executes instructions is one of its thread's own, the machine simulates an abstract run after it, with commits still to be taken
 abbrev pub OwnStepsSimulate : Type 0

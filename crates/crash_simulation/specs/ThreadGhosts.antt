@@ -5,6 +5,7 @@ use Rattle.ido_base.specs.Growth.{PersistsThrough}
 use Rattle.ido_ints.specs.Kinds.{bytes_of}
 use Rattle.c_tree.specs.Programs.{Variable}
 use Rattle.c_tree.specs.WellFormed.{elements_in}
+use Rattle.c_tree.specs.Source.{State}
 use Rattle.source_machine.specs.Discipline.{Guards}
 use Rattle.rv64_isa.specs.declared.phase.Phase.{Phase}
 use Rattle.rv64_isa.specs.declared.phase.Phase.TheVariants.{Take, Wait, Resume, Run, Done, Ended}
@@ -15,7 +16,7 @@ use Rattle.flow_graph.specs.Actions.{GraphThread, seen_by}
 use Rattle.flow_graph.specs.IdempotentCuts.{IsChosen}
 use Rattle.recovery_semantics.specs.ElementHistories.{IsSince, history_at}
 use Rattle.recovery_semantics.specs.Attempts.{Writes, WritesAt}
-use Rattle.recovery_semantics.specs.Configs.{now, attempt_of}
+use Rattle.recovery_semantics.specs.Configs.{Config, now, attempt_of}
 use Rattle.recovery_semantics.specs.Events.{IsGoing, steps_begun}
 use Rattle.recovery_semantics.specs.Laws.{HasLocked, HasUnlocked, LastUnlocks}
 use Rattle.region_attempts.specs.PendingCleans.{line_of, CleansSince}
@@ -49,12 +50,10 @@ pub record ThreadGhost : Type 0 where
 abbrev pub record_kept : ThreadGhost → Record
 record_kept c = if c.committed then c.new else c.old
 
-module _ (y : System) (b : AbstractRun y) (code : Code y.plan) (c : ThreadGhost) where
-  -- the thread
-  abbrev pub number : ℕ
-  number = code.thread.number
+-- ---- What it reads
 
-  -- an access to an element that the thread guards
+module _ (y : System) (s : State) (thread : ℕ) where
+  -- an access to an element that the thread guards in the state
   pub record IsGuarded (address bytes : ℕ) : Type 0 where
     pub variable : ℕ
     pub element : ℕ
@@ -63,15 +62,18 @@ module _ (y : System) (b : AbstractRun y) (code : Code y.plan) (c : ThreadGhost)
     pub within : element < elements_in is.length
     pub address_is : address ≡ variable_at (shapes_of y) variable element
     pub bytes_are : bytes ≡ bytes_of is.kind
-    pub guards : Guards (flat_of y) (now b.config) number variable element
+    pub guards : Guards (flat_of y) s thread variable element
 
   -- the environment answers no others
   abbrev pub AnswersGuarded : MarkedEnvironment → Type 0
-  AnswersGuarded s = (address bytes value : ℕ) → s.around.loads address bytes ≡ Some value → IsGuarded address bytes
+  AnswersGuarded z = (address bytes value : ℕ) → z.around.loads address bytes ≡ Some value → IsGuarded address bytes
 
+-- ---- How far it is, by what is begun
+
+module _ (y : System) (m : Config) (thread : ℕ) (c : ThreadGhost) where
   -- the attempt goes on, and no boundary is under way
   pub record IsInAttempt : Type 0 where
-    pub going : IsGoing b.config number
+    pub going : IsGoing m thread
     pub rest : c.rest ≡ []
     pub giving : c.giving ≡ None
     -- the last boundary is taken as committed
@@ -89,45 +91,61 @@ module _ (y : System) (b : AbstractRun y) (code : Code y.plan) (c : ThreadGhost)
     pub cleans : c.cleans ≡ []
     pub gives : c.giving ≡ giving
     pub before : c.committed ≡ false → Before
-    pub after : c.committed ≡ true → steps_begun b.config number ≡ 0
+    pub after : c.committed ≡ true → steps_begun m thread ≡ 0
 
   -- what is true of a thread in a fragment, by the fragment's exit point
   abbrev pub ExitInv : GraphThread → ExitPoint → Type 0
   ExitInv graph_thread Arrives = IsInAttempt × (graph_thread.ended ≡ false)
-  ExitInv graph_thread Keeps = IsChosen y.plan.graph y.plan.boundaries graph_thread.at × IsGoing b.config number × IsBounded graph_thread None (Unit {0})
+  ExitInv graph_thread Keeps = IsChosen y.plan.graph y.plan.boundaries graph_thread.at × IsGoing m thread × IsBounded graph_thread None (Unit {0})
   ExitInv graph_thread (Asks mutex next) = GoesClean false graph_thread
-  ExitInv graph_thread (Took from) = IsBounded graph_thread None ((mutex : ℕ) × HasLocked b.config number mutex)
-  ExitInv graph_thread (Gives from mutex) = IsBounded graph_thread (Some mutex) (HasUnlocked b.config number mutex)
+  ExitInv graph_thread (Took from) = IsBounded graph_thread None ((mutex : ℕ) × HasLocked m thread mutex)
+  ExitInv graph_thread (Gives from mutex) = IsBounded graph_thread (Some mutex) (HasUnlocked m thread mutex)
   ExitInv graph_thread Ends = GoesClean true graph_thread
 
   -- no step is begun that isn't kept, and no boundary is under way
   pub record Rests : Type 0 where
-    pub begun : steps_begun b.config number ≡ 0
-    pub done : (attempt_of b.config number).done ≡ 0
+    pub begun : steps_begun m thread ≡ 0
+    pub done : (attempt_of m thread).done ≡ 0
     pub rest : c.rest ≡ []
     pub cleans : c.cleans ≡ []
     pub giving : c.giving ≡ None
     pub committed : c.committed ≡ true
-    pub whole : c.before_mark ≡ most_ahead y number
+    pub whole : c.before_mark ≡ most_ahead y thread
+
+-- ---- What its log says
+
+-- of a boundary that the machine has committed, or hasn't
+pub record HasRecords (y : System) (b : AbstractRun y) (code : Code y.plan) (c : ThreadGhost) (sooner : Bool) : Type 0 where
+  -- what is taken as committed is so; more may be
+  pub no_sooner : c.committed ≡ true → sooner ≡ true
+  -- the record that is kept describes the kept state, and that of the boundary under way, until it is committed, the state now
+  pub describes : Describes y.plan code (kept_of y b) (record_kept c)
+  pub will_describe : c.committed ≡ false → Describes y.plan code (now_of y b) c.new
+  -- a mutex that it has still to give back, where its steps are kept, is unlocked by its last one of these
+  pub unlocked : (mutex : ℕ) → c.giving ≡ Some mutex → c.committed ≡ true → LastUnlocks b.origin.source b.schedule code.thread.number mutex
+
+-- a boundary is committed once its point is durable
+abbrev pub committed : World → (thread : ℕ) → ThreadGhost → Hart → Bool
+committed w thread c hart = is_committed w.log thread (config_of w hart c.rest)
+
+-- the queue reaches the position of the element, or a clean of its line is ahead
+pub data IsComing (y : System) (w : World) (cleans : List Effect) (hart : Hart) (v e position : ℕ) : Type 0 where
+  is_reached : PersistsThrough w.words hart.queue (byte_number (variable_at (shapes_of y) v e) / 8) position → IsComing y w cleans hart v e position
+  is_ahead : (variable element : ℕ) → Contains cleans (Cleans (variable_at (shapes_of y) variable element)) →
+      line_of (shapes_of y) variable element ≡ line_of (shapes_of y) v e → IsComing y w cleans hart v e position
 
 module _ (y : System) (w : World) (b : AbstractRun y) (code : Code y.plan) (c : ThreadGhost) where
-  -- a boundary is committed once its point is durable
-  abbrev pub committed : Hart → Bool
-  committed hart = is_committed w.log code.thread.number (config_of w hart c.rest)
+  -- ---- The code ahead of its hart, by its phase
 
-  -- ---- By its phase
-
-  -- in a fragment to or from the node of its graph thread, or at that node's code
-  pub record InFragment (hart : Hart) (graph_thread : GraphThread) : Type 0 where
+  -- in a fragment to or from the node of its graph thread, to an exit point, with so many instructions ahead; or at that node's code
+  pub record InFragment (hart : Hart) (graph_thread : GraphThread) (exit : ExitPoint) (steps : ℕ) : Type 0 where
     pub environment : MarkedEnvironment
-    pub answers : AnswersGuarded y b code c environment
-    pub exit : ExitPoint
+    pub answers : AnswersGuarded y (now b.config) code.thread.number environment
     pub side : ℕ
     pub at_side : IsSideOf c.new side
-    pub steps : ℕ
     pub fragment : IsOnFragment y.plan code.thread code.is.places (on_machine y.runs.program w code.thread.number environment)
         (record { exit = exit; node = graph_thread.at; seen = seen_by (now_of y b) graph_thread; side = side }) steps (c.cleans ++ c.rest)
-    pub fits : ExitInv y b code c graph_thread exit
+    pub fits : ExitInv y b.config code.thread.number c graph_thread exit
     pub soon : IsSoon y code.thread.number c.before_mark
         (steps_left steps (seen_effects (c.cleans ++ c.rest)) hart.queue + beyond y.plan code.is.places exit graph_thread.at)
 
@@ -136,30 +154,24 @@ module _ (y : System) (w : World) (b : AbstractRun y) (code : Code y.plan) (c : 
     pub at_side : IsSideOf c.new side
     pub registers : List ℕ
     pub core : IsAtCore y.plan code.thread code.is.places w code.thread.number graph_thread.at (seen_by (now_of y b) graph_thread) side registers
-    pub goes : GoesClean y b code c false graph_thread
+    pub goes : GoesClean y b.config code.thread.number c false graph_thread
     -- at the code of a node with a chosen boundary before it the attempt begins
     pub fresh : IsChosen y.plan.graph y.plan.boundaries graph_thread.at → (attempt_of b.config code.thread.number).done ≡ 0
     pub soon : IsSoon y code.thread.number c.before_mark (length hart.queue + core_ahead y.plan code.is.places graph_thread.at)
 
   pub data IsRunningThread (hart : Hart) (graph_thread : GraphThread) : Type 0 where
-    on_fragment : InFragment hart graph_thread → IsRunningThread hart graph_thread
+    on_fragment : (exit : ExitPoint) (steps : ℕ) → InFragment hart graph_thread exit steps → IsRunningThread hart graph_thread
     at_core : AtCore hart graph_thread → IsRunningThread hart graph_thread
 
   abbrev pub InPhase : Hart → GraphThread → Phase → Type 0
-  InPhase hart graph_thread Take = Rests y b code c
-  InPhase hart graph_thread Wait = Rests y b code c
-  InPhase hart graph_thread Resume = Rests y b code c
+  InPhase hart graph_thread Take = Rests y b.config code.thread.number c
+  InPhase hart graph_thread Wait = Rests y b.config code.thread.number c
+  InPhase hart graph_thread Resume = Rests y b.config code.thread.number c
   InPhase hart graph_thread Run = IsRunningThread hart graph_thread
-  InPhase hart graph_thread Done = Rests y b code c × (c.new.point ≡ 0)
-  InPhase hart graph_thread Ended = GoesClean y b code c true graph_thread × (c.new.point ≡ 0)
+  InPhase hart graph_thread Done = Rests y b.config code.thread.number c × (c.new.point ≡ 0)
+  InPhase hart graph_thread Ended = GoesClean y b.config code.thread.number c true graph_thread × (c.new.point ≡ 0)
 
   -- ---- What it has stored
-
-  -- the queue reaches the position of the element, or a clean of its line is ahead
-  pub data IsComing (hart : Hart) (v e position : ℕ) : Type 0 where
-    is_reached : PersistsThrough w.words hart.queue (byte_number (variable_at (shapes_of y) v e) / 8) position → IsComing hart v e position
-    is_ahead : (variable element : ℕ) → Contains c.cleans (Cleans (variable_at (shapes_of y) variable element)) →
-        line_of (shapes_of y) variable element ≡ line_of (shapes_of y) v e → IsComing hart v e position
 
   -- an element that the attempt has stored has its number since a position, which is on its way to be durable once the line has been cleaned, and is
   -- durable after the first fence of the next boundary
@@ -170,26 +182,24 @@ module _ (y : System) (w : World) (b : AbstractRun y) (code : Code y.plan) (c : 
     pub position : ℕ
     pub since : IsSince (history_at b.config.memory v e) position
     pub comes : CleansSince (attempts_of y b) code.thread.number before (attempt_of b.config code.thread.number).done (line_of (shapes_of y) v e) →
-        IsComing hart v e position
+        IsComing y w c.cleans hart v e position
     pub fenced : c.committed ≡ false → fences_ahead c.rest < 2 → position ≤ (history_at b.config.memory v e).durable
 
-  -- ---- All of it
+  -- what it has still to clean are lines, and what it has stored is on its way
+  pub record HasStored (hart : Hart) : Type 0 where
+    pub cleans : (effect : Effect) → Contains c.cleans effect → is_clean effect ≡ true
+    pub flushed : (v e : ℕ) → Writes b.config.kept code.thread.number (attempt_of b.config code.thread.number).done v e → IsFlushed hart v e
+
+  -- ---- All of it: its log in memory and what that says, the code ahead, and what it has stored
 
   pub record ThreadInv : Type 0 where
     pub log : LogInv code.thread.number c.old c.new w c.rest
-    -- what is taken as committed is so; more may be
-    pub no_sooner : c.committed ≡ true → committed log.hart ≡ true
-    -- the record that is kept describes the kept state, and that of the boundary under way, until it is committed, the state now
-    pub describes : Describes y.plan code (kept_of y b) (record_kept c)
-    pub will_describe : c.committed ≡ false → Describes y.plan code (now_of y b) c.new
-    -- a mutex that it has still to give back, where its steps are kept, is unlocked by its last one of these
-    pub unlocked : (mutex : ℕ) → c.giving ≡ Some mutex → c.committed ≡ true → LastUnlocks b.origin.source b.schedule code.thread.number mutex
-    pub cleans : (effect : Effect) → Contains c.cleans effect → is_clean effect ≡ true
+    pub records : HasRecords y b code c (committed w code.thread.number c log.hart)
     pub graph_thread : GraphThread
     pub walks : slice_get (now_of y b).graph_threads code.thread.number ≡ Some graph_thread
     pub phase : InPhase log.hart graph_thread log.hart.phase
-    pub flushed : (v e : ℕ) → Writes b.config.kept code.thread.number (attempt_of b.config code.thread.number).done v e → IsFlushed log.hart v e
+    pub stored : HasStored log.hart
 
   -- all that is committed is taken so
   abbrev pub HasCommittedLog : ThreadInv → Type 0
-  HasCommittedLog t = committed t.log.hart ≡ c.committed
+  HasCommittedLog t = committed w code.thread.number c t.log.hart ≡ c.committed

@@ -36,6 +36,7 @@ module _ (ascend : LocksAscend) (c : Translation) (is : IsCompilation c) (order 
 
   ordered : IsOrdered c.flat
   ordered = record {
+    single = is.form.single;
     disciplined = λ k d within. (is.form.threads k (get_or c.flat.threads k d) (slice_get-get_or c.flat.threads k d within)).sets.disciplined;
     in_order = order;
   }

@@ -203,7 +203,7 @@ is_index : (h : Homes) (s : Source) (r : Environment) (m : LocalConfig) (variabl
     IndexFits s.variables variable place x → IsIndex s variable (value s.locals s.numbers x)
 is_index h s r m variable place x l locals fits =
     let held = all_held h s r.loads m.registers x locals l.formed l.loaded in
-    let f = fits_element s.variables (record { variable = variable; place = place; expr = x }) fits s.locals s.numbers held in
+    let f = fits_element (elements_of s.variables variable) x fits s.locals s.numbers held in
     let short : elements_of s.variables variable ≤ 4096 = l.suits.lengths variable in
     let below = f.below in
     record { number = absolute (value s.locals s.numbers x).number f.from_zero; small = omega arith }

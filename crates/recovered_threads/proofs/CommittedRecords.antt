@@ -2,7 +2,7 @@
 use Rattle.std.proofs.Common.{◌≡◌, ◌≢◌, inl, inr, ℕ, List, [], refl, ap, sym, ◌∙◌, subst}
 use Rattle.std.proofs.lemmas.Bool.{cases_Bool}
 use Rattle.ido_base.specs.Locks.{holds_none}
-use Rattle.c_tree.specs.LockDiscipline.{Held}
+use Rattle.c_tree.specs.LockNames.{Held}
 use Rattle.source_machine.specs.Mutexes.{held_by}
 use Rattle.flow_graph.specs.Nodes.{Action, Eval, Store, Test, Lock, Unlock, End}
 use Rattle.flow_graph.specs.Actions.{GraphThread, FlowState, seen_by}

@@ -7,7 +7,7 @@ use Rattle.std.proofs.lemmas.List.{length-map}
 use Rattle.std.proofs.lemmas.Option.{none-some, same_Some, slice_get_within, get_or_from_slice_get}
 use Rattle.ido_base.specs.Locks.{is_held_by, held_from, holds_none, has_lock}
 use Rattle.c_tree.specs.Source as m
-use Rattle.c_tree.specs.LockDiscipline.{Held, holds}
+use Rattle.c_tree.specs.LockNames.{Held, holds}
 use Rattle.source_machine.specs.Mutexes.{held_by}
 use Rattle.lock_discipline.specs.HeldSetsByStep.{AreSetsOf, HeldBefore}
 use Rattle.lock_discipline.proofs.Public.{held_is_held}
@@ -96,7 +96,7 @@ module _ (p : Plan) (kept : FlowState) (plan : IsPlan p) (orderly : IsOrderly p 
       let of : AreSetsOf p.flat is.text sets.0 = plan.held.sets n is.text sets.0 is.of_text sets.1 in
       let held : Held = held_by n orderly.source.holders in
       let before : HeldBefore p.flat is.text step held =
-      (held_is_held p.flat orderly.source n step is.text thread held of.disciplined orderly.keeps found.1 left).1 refl in
+      (held_is_held p.flat orderly.source n step is.text thread held plan.formed.single of.disciplined orderly.keeps is.of_text found.1 left).1 refl in
       let there_is : slice_get sets.0 step ≡ Some held = (of.exactly step held).1 before in
       ap (λ (table : List Held). slice_index_or table step []) (get_or_from_slice_get p.held n sets.0 [] sets.1)
       ∙ (get_or_from_slice_get sets.0 step held [] there_is ∙ ap (λ (os : List (Option ℕ)). held_by n os) (sym orderly.matches.holders))

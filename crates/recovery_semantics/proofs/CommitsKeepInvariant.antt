@@ -1,7 +1,6 @@
 -- A thread's begun steps that are kept: the invariant holds.
-use Rattle.std.proofs.Common.{◌≡◌, ◌≢◌, ◌⊎◌, inl, inr, refl, ℕ, suc, ◌+◌, ◌≤◌, ◌==◌, List, [], ◌∷◌, ◌++◌, replicate}
-use Rattle.std.proofs.Common.{sym, ◌∙◌, ap, subst, arith, Bool, true, false, Option, Some, None, ℤ, ⊎_elim}
-use Rattle.std.specs.Prelude.{slice_get, if◌then◌else◌}
+use Rattle.std.proofs.Common.{◌≡◌, ◌≢◌, ◌⊎◌, inl, inr, refl, ℕ, suc, ◌+◌, ◌≤◌, List, [], ◌∷◌, ◌++◌, replicate, sym, ◌∙◌, ap, subst, arith, true}
+use Rattle.std.proofs.Common.{Option, Some, None, ℤ, ⊎_elim, slice_get}
 use Rattle.std.proofs.lemmas.Bool.{cases_eq}
 use Rattle.c_tree.specs.Flats as f
 use Rattle.c_tree.specs.Source as m
@@ -25,21 +24,11 @@ use Rattle.recovery_semantics.proofs.ShortenedSchedules.{none_left, others_left,
 
 -- ---- An element whose lock nobody takes
 
-abbrev count_by : Bool → ℕ → ℕ
-count_by b n = if b then suc n else n
-
 not_first : (t u : ℕ) (us : List ℕ) → steps_of t (u ∷ us) ≡ 0 → u ≢ t
-not_first t u us c e =
-    let is : (u == t) ≡ true = ap (λ (k : ℕ). k == t) e ∙ equal_self t in
-    let off : suc (steps_of t us) ≡ 0 = ap (λ (b : Bool). count_by b (steps_of t us)) (sym is) ∙ c in
-    absurd (omega (arith, off))
+not_first t u us c e = grind (arith, equal_self)
 
 none_later : (t u : ℕ) (us : List ℕ) → steps_of t (u ∷ us) ≡ 0 → steps_of t us ≡ 0
-none_later t u us c = by (u == t) c
-  where
-    by : (b : Bool) → count_by b (steps_of t us) ≡ 0 → steps_of t us ≡ 0
-    by true h = absurd (omega (arith, h))
-    by false h = h
+none_later t u us c = grind (arith)
 
 module _ (x : f.Flat) (t v d : ℕ) where
   abbrev g : ℕ
@@ -183,18 +172,10 @@ module _ (x : f.Flat) (old : Config) (t : ℕ) (i : Invariant x old) where
   path u k n l = along x u k (attempt_of old u).longest K' K keeps_now i.keeps (same_other u n) (i.tried u).inner l
 
   writes_now : (u steps v e : ℕ) → u ≢ t → steps ≤ (attempt_of old u).longest → Writes K u steps v e → Writes K' u steps v e
-  writes_now u steps v e n l w = record {
-    before = w.before;
-    within = w.within;
-    at = writes_at_same K' K u w.before v e (path u w.before n (let within = w.within in omega (arith, l, within))).own w.at;
-  }
+  writes_now u steps v e h4 h5 h6 = grind (arith, writes_at_same, own, path)
 
   writes_before : (u steps v e : ℕ) → u ≢ t → steps ≤ (attempt_of old u).longest → Writes K' u steps v e → Writes K u steps v e
-  writes_before u steps v e n l w = record {
-    before = w.before;
-    within = w.within;
-    at = writes_at_same K K' u w.before v e (sym (path u w.before n (let within = w.within in omega (arith, l, within))).own) w.at;
-  }
+  writes_before u steps v e h4 h5 h6 = grind (arith, writes_at_same, own, path)
 
   begun_other : (u : ℕ) → u ≢ t → BegunBy K' rest u (attempt_of old u)
   begun_other u n = ⊎_elim
@@ -291,20 +272,13 @@ module _ (x : f.Flat) (old : Config) (t : ℕ) (i : Invariant x old) where
         (cases_eq u t)
 
     untouched : (v k : ℕ) → IsNeverWritten next v k → ¬ (Writes K t a.done v k) → IsNeverWritten old v k
-    untouched v k h none u w = ⊎_elim
-        (λ same. none (subst (λ (n : ℕ). Writes K t n v k) (sym e.whole) (subst (λ (j : ℕ). Writes K j (attempt_of old j).longest v k) same w)))
-        (λ n. h u (subst (λ (b : Attempt). Writes K' u b.longest v k) (sym (e.attempt.others u n))
-        (writes_now u (attempt_of old u).longest v k n (omega arith) w)))
-        (cases_eq u t)
+    untouched v k h none u w = grind (arith, cases_eq, writes_now)
 
     caught_up : (v k : ℕ) → IsNotOverrun next v k → IsNotOverrun old v k
     caught_up v k h u w = ⊎_elim
         (λ same.
         let own_ahead : IsOverrun K t a v k = subst (λ (j : ℕ). IsOverrun K j (attempt_of old j) v k) same w in
-        let low = own_ahead.not_done in
-        let high = own_ahead.within in
-        let whole = e.whole in
-        absurd (omega (arith, low, high, whole)))
+        absurd (omega (arith, own_ahead.not_done, own_ahead.within, e.whole)))
         (λ n. h u (subst (λ (b : Attempt). IsOverrun K' u b v k) (sym (e.attempt.others u n)) (record {
           later = w.later;
           not_done = w.not_done;

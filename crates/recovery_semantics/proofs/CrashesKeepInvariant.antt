@@ -1,18 +1,17 @@
 -- Where an execution begins, memory that persists, a crash: the invariant holds.
-use Rattle.std.proofs.Common.{length, ℤ, ◌≡◌, inl, refl, ℕ, zero, suc, ◌<◌, ◌≤◌, List, [], ◌∷◌, ◌++◌, map, sym, ◌∙◌, ap, subst, arith}
-use Rattle.std.specs.Prelude.{pos, slice_index_or}
+use Rattle.std.proofs.Common.{length, ℤ, ◌≡◌, inl, refl, ℕ, zero, suc, ◌<◌, List, [], ◌∷◌, ◌++◌, map, sym, ◌∙◌, ap, subst, arith, pos, slice_index_or}
 use Rattle.c_tree.specs.Flats as f
 use Rattle.c_tree.specs.Source as m
 use Rattle.source_machine.specs.StepExchanges.{TransfersLock}
-use Rattle.recovery_semantics.specs.ElementHistories.{History, Memory, IsStable, ArePersisted, history_of}
-use Rattle.recovery_semantics.specs.ElementHistories.{durable_number, live_number, history_at, number_at, after_crash, crashed}
-use Rattle.recovery_semantics.specs.Attempts.{Attempt, no_attempt, attempt_at, IsInner, Writes}
+use Rattle.recovery_semantics.specs.ElementHistories.{History, Memory, IsStable, ArePersisted, history_of, durable_number, live_number, history_at, number_at}
+use Rattle.recovery_semantics.specs.ElementHistories.{after_crash, crashed}
+use Rattle.recovery_semantics.specs.Attempts.{Attempt, no_attempt, Writes}
 use Rattle.recovery_semantics.specs.Configs.{Config, IsTried, IsNeverWritten, IsNotOverrun, Invariant}
 use Rattle.recovery_semantics.specs.Events.{IsAgain}
 use Rattle.recovery_semantics.specs.Executions.{first_config}
 use Rattle.recovery_semantics.specs.Laws.{StartMeets, CrashedAreStable, FreshAreStable}
-use Rattle.recovery_semantics.proofs.StableHistories.{stable_of, stable_persisted, live_persisted, stable_crashed, live_stable}
-use Rattle.recovery_semantics.proofs.StableHistories.{durable_stable, crashed_at, first_at, index_map, sizes_mapped}
+use Rattle.recovery_semantics.proofs.StableHistories.{stable_of, stable_persisted, live_persisted, stable_crashed, live_stable, durable_stable, crashed_at}
+use Rattle.recovery_semantics.proofs.StableHistories.{first_at, index_map, sizes_mapped}
 use Rattle.recovery_semantics.proofs.Schedules.{tried_of, tried_same}
 
 no_hands : (s : m.State) → ¬ (TransfersLock s [])
@@ -88,24 +87,14 @@ module _ (x : f.Flat) (old : Config) (attempts : List Attempt) (i : Invariant x 
   next = record { kept = old.kept; uncommitted = []; memory = crashed old.memory; attempts = attempts }
 
   tried : (u : ℕ) → IsTried next u
-  tried u = record {
-    within = subst (λ (n : ℕ). n ≤ (attempt_at attempts u).longest) (sym (again.done u)) (omega arith);
-    inner = subst (λ (n : ℕ). IsInner old.kept u n) (sym (again.longest u)) (i.tried u).inner;
-    begun = inl (sym (again.done u));
-  }
+  tried u = grind (arith)
 
   untouched : (v e : ℕ) → IsNeverWritten next v e → IsNeverWritten old v e
   untouched v e h u w = h u (subst (λ (n : ℕ). Writes old.kept u n v e) (sym (again.longest u)) w)
 
   -- what an attempt has written the next may come to again
   caught_up : (v e : ℕ) → IsNotOverrun next v e → IsNeverWritten old v e
-  caught_up v e h u w = h u (record {
-    later = w.before;
-    not_done = subst (λ (n : ℕ). n ≤ w.before) (sym (again.done u)) (omega arith);
-    within = subst (λ (n : ℕ). w.before < n) (sym (again.longest u)) w.within;
-    at = w.at;
-    unwritten = λ y. let none : y.before < 0 = subst (λ (n : ℕ). y.before < n) (again.done u) y.within in absurd (omega (arith, none));
-  })
+  caught_up v e h2 = grind (arith)
 
   pub crash_keeps : Invariant x next
   crash_keeps = record {

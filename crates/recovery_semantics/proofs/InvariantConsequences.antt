@@ -1,7 +1,6 @@
 -- What the invariant says of reads, of durable memory and of the schedule.
-use Rattle.std.proofs.Common.{false, true, Bool, Option, zero, ◌+◌, ◌≡◌, refl, ℕ, suc, List, [], ◌∷◌}
-use Rattle.std.proofs.Common.{length, map, replicate, sym, ◌∙◌, ap, subst, arith, Some, ℤ, ⊎_elim}
-use Rattle.std.specs.Prelude.{slice_get, is_none, if◌then◌else◌, slice_index_or, pos}
+use Rattle.std.proofs.Common.{false, true, Bool, Option, zero, ◌+◌, ◌≡◌, refl, ℕ, suc, List, [], ◌∷◌, length, map, replicate, sym, ◌∙◌, ap, subst, arith, Some}
+use Rattle.std.proofs.Common.{ℤ, ⊎_elim, slice_get, is_none, if◌then◌else◌, slice_index_or, pos}
 use Rattle.std.proofs.lemmas.Bool.{cases_eq}
 use Rattle.ido_base.specs.Locks.{is_held_by, held_from}
 use Rattle.c_tree.specs.Source as m
@@ -74,9 +73,7 @@ schedule_grows x from old t attempts schedule i settled kept =
     }
 
 pub sections_stay : SectionsStay
-sections_stay s schedule more t =
-    let e = ended_appended s schedule more t in
-    omega (arith, e)
+sections_stay s schedule more t = grind (arith, ended_appended)
 
 pub now_stays : NowStays
 now_stays x old t attempts i settled = record { is = rest_after x old t i; ended = rest_ended x old t i }

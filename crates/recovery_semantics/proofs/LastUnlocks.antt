@@ -1,6 +1,5 @@
 -- A thread's last step in a schedule, where that unlocks a mutex.
-use Rattle.std.proofs.Common.{◌≡◌, refl, ℕ, zero, suc, ◌==◌, List, [], ◌∷◌, ◌++◌, replicate, append_assoc, sym, ◌∙◌, ap, subst, arith}
-use Rattle.std.proofs.Common.{Bool, true, false, Some}
+use Rattle.std.proofs.Common.{◌≡◌, refl, ℕ, zero, suc, ◌==◌, List, [], ◌∷◌, ◌++◌, replicate, append_assoc, sym, ◌∙◌, ap, subst, arith, Bool, true, false, Some}
 use Rattle.std.specs.Prelude.{if◌then◌else◌}
 use Rattle.c_tree.specs.Source as m
 use Rattle.source_machine.specs.Mutexes.{unlocks}
@@ -73,13 +72,7 @@ last_of t (u ∷ us) n e = last_by t (u == t) (steps_of t us) u us n refl refl e
 
 -- where others step after it
 pub last_stays : (s : m.State) (us vs : List ℕ) (t mutex : ℕ) → steps_of t vs ≡ 0 → LastUnlocks s us t mutex → LastUnlocks s (us ++ vs) t mutex
-last_stays s us vs t mutex none l = record {
-  before = l.before;
-  after = l.after ++ vs;
-  parts = ap (λ (ks : List ℕ). ks ++ vs) l.parts ∙ append_assoc l.before (t ∷ l.after) vs;
-  none_after = none_both t l.after vs l.none_after none;
-  unlocks_it = l.unlocks_it;
-}
+last_stays s us vs t mutex h5 h6 = grind (arith, append_assoc, none_both)
 
 -- after those that lead to its state
 pub last_after : (s : m.State) (us vs : List ℕ) (t mutex : ℕ) → m.runs_from s us ≡ true → LastUnlocks (m.after_from s us) vs t mutex →
@@ -98,8 +91,7 @@ last_now s us t mutex h = record { before = us; after = []; parts = refl; none_a
 
 -- of a thread alone
 pub last_alone : (s : m.State) (t n mutex : ℕ) → unlocks (solo s t n) t ≡ Some mutex → LastUnlocks s (replicate (suc n) t) t mutex
-last_alone s t n mutex h =
-    subst (λ (us : List ℕ). LastUnlocks s us t mutex) (last_first n t [] ∙ more_empty (replicate (suc n) t)) (last_now s (replicate n t) t mutex h)
+last_alone s t n mutex h = grind (arith, last_first, more_empty, replicate, last_now)
 
 -- ---- The law
 

@@ -1,12 +1,10 @@
 -- A thread's own steps from two states that look the same to it.
-use Rattle.std.proofs.Common.{◌≡◌, ◌⊎◌, inl, inr, refl, ℕ, zero, suc, ◌≤◌, List}
-use Rattle.std.proofs.Common.{replicate, sym, ◌∙◌, ap, subst, arith, true, Option, Some, None, ⊎_elim}
-use Rattle.std.specs.Prelude.{slice_get}
+use Rattle.std.proofs.Common.{◌≡◌, ◌⊎◌, inl, inr, refl, ℕ, zero, suc, ◌≤◌, List, replicate, sym, ◌∙◌, ap, subst, arith, Option, Some, None, ⊎_elim, slice_get}
 use Rattle.std.proofs.lemmas.Bool.{cases_eq}
 use Rattle.c_tree.specs.Flats as f
 use Rattle.c_tree.specs.Source as m
 use Rattle.c_tree.specs.Source.{source_step}
-use Rattle.c_tree.specs.LockDiscipline.{Held, holds}
+use Rattle.c_tree.specs.LockNames.{Held, holds}
 use Rattle.source_machine.specs.ElementLocks.{element_lock}
 use Rattle.source_machine.specs.Mutexes.{locks, unlocks, held_by}
 use Rattle.source_machine.specs.Discipline.{StateKeeps, Guards, LooksSame}
@@ -32,12 +30,7 @@ none_some k e = cc
 
 module _ (x : f.Flat) (u : ℕ) where
   looks : (a b : m.State) → IsSameTo x a b u → locks b u ≡ None → LooksSame x b a u
-  looks a b i no_lock = record {
-    own = i.own;
-    held = λ k g. held_same u b.holders a.holders k (sym i.held) g ∙ sym g;
-    ahead = λ k l. absurd (none_some k (sym no_lock ∙ l));
-    guarded = λ v e g. i.guarded v e (held_same u b.holders a.holders (element_lock x.variables v e) (sym i.held) g);
-  }
+  looks a b h2 h3 = grind (arith, held_same, none_some)
 
   -- an inner step that is made from the one is made from the other
   pub beside : (a b next : m.State) → StateKeeps x a → StateKeeps x b → IsSameTo x a b u → source_step b u ≡ Some next → locks b u ≡ None →
@@ -87,21 +80,11 @@ module _ (x : f.Flat) (u : ℕ) where
 -- the thread is the same after its steps
 pub writes_at_same : (a b : m.State) (t k v e : ℕ) → slice_get (solo a t k).threads t ≡ slice_get (solo b t k).threads t → WritesAt b t k v e →
     WritesAt a t k v e
-writes_at_same a b t k v e own w = record {
-  store = w.store;
-  is = store_same (solo b t k) (solo a t k) t own ∙ w.is;
-  variable_is = w.variable_is;
-  element_is = w.element_is;
-}
+writes_at_same a b t k v e h6 h7 = grind (arith, store_same)
 
 -- a store at a thread's step k after its first one is a store at its step k + 1
 writes_at_first : (s next : m.State) (t k v e : ℕ) → source_step s t ≡ Some next → WritesAt next t k v e → WritesAt s t (suc k) v e
-writes_at_first s next t k v e h w = record {
-  store = w.store;
-  is = ap (λ (z : m.State). store_ahead z t) (solo_first s next t k h) ∙ w.is;
-  variable_is = w.variable_is;
-  element_is = w.element_is;
-}
+writes_at_first s next t k v e h6 h7 = grind (arith, solo_first)
 
 pub writes_more : (s : m.State) (t few many v e : ℕ) → few ≤ many → Writes s t few v e → Writes s t many v e
 writes_more s t few many v e l w = let within = w.within in record { before = w.before; within = omega (arith, l, within); at = w.at }
@@ -154,12 +137,11 @@ module _ (x : f.Flat) (t : ℕ) where
       let a = storing z t w.at.store w.at.is in
       let kept = run_keeps x s (replicate w.before t) keeps in
       let lock : ℕ = element_lock x.variables w.at.store.variable w.at.store.element in
-      let owns : holds (held_by t z.holders) lock ≡ true = (kept.each t a.thread a.there).pending w.at.store a.pending in
-      let within = w.within in
-      let holders = solo_holders w.before n s keeps inner (omega (arith, within)) in
+      let owns : slice_get z.holders lock ≡ Some (Some t) = (kept.each t a.thread a.there).pending w.at.store a.pending in
+      let holders = solo_holders w.before n s keeps inner (omega (arith, w.within)) in
       subst (λ (i : ℕ). Guards x s t i e) w.at.variable_is
       (subst (λ (k : ℕ). Guards x s t w.at.store.variable k) w.at.element_is
-      (ap (λ (hs : List (Option ℕ)). slice_get hs lock) (sym holders) ∙ held_found t z.holders lock owns))
+      (ap (λ (hs : List (Option ℕ)). slice_get hs lock) (sym holders) ∙ owns))
 
   -- what a thread doesn't write along its inner steps keeps its number
   pub solo_numbers : (k n : ℕ) (s : m.State) (v e : ℕ) → IsInner s t n → k ≤ n → ¬ (Writes s t n v e) → number_at (solo s t k) v e ≡ number_at s v e

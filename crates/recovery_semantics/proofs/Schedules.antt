@@ -1,6 +1,5 @@
 -- Schedules with one step more, and what an attempt says of its thread.
-use Rattle.std.proofs.Common.{◌≡◌, ◌≢◌, ◌⊎◌, ℕ, suc, ◌≤◌, ◌==◌, List, [], ◌∷◌, ◌++◌, sym, ◌∙◌, ap, subst, arith, Bool, true, false, ◌&&◌, Some}
-use Rattle.std.specs.Prelude.{slice_get, if◌then◌else◌}
+use Rattle.std.proofs.Common.{◌≡◌, ◌≢◌, ◌⊎◌, ℕ, suc, ◌≤◌, ◌==◌, List, [], ◌∷◌, ◌++◌, sym, ap, subst, arith, Bool, true, false, Some, slice_get, if◌then◌else◌}
 use Rattle.std.proofs.lemmas.Bool.Decides.{nat_tests}
 use Rattle.c_tree.specs.Flats as f
 use Rattle.c_tree.specs.Source as m
@@ -40,15 +39,11 @@ counted_other t u (w ∷ us) n = ap (λ (c : ℕ). count_by (w == u) c) (counted
 
 pub runs_more : (s next : m.State) (us : List ℕ) (t : ℕ) → m.runs_from s us ≡ true → source_step (m.after_from s us) t ≡ Some next →
     m.runs_from s (us ++ t ∷ []) ≡ true
-runs_more s next us t runs h =
-    let one : m.runs_from (m.after_from s us) (t ∷ []) ≡ true = ap (runs_by []) h in
-    runs_appended s us (t ∷ []) ∙ (λ i. runs i && one i)
+runs_more s next us t runs h = grind (arith, runs_appended, runs_by)
 
 pub after_more : (s next : m.State) (us : List ℕ) (t : ℕ) → m.runs_from s us ≡ true → source_step (m.after_from s us) t ≡ Some next →
     m.after_from s (us ++ t ∷ []) ≡ next
-after_more s next us t runs h =
-    let z = m.after_from s us in
-    after_appended s us (t ∷ []) ∙ (ap (λ (b : Bool). if b then m.after_from z (t ∷ []) else z) runs ∙ ap (after_by [] z) h)
+after_more s next us t runs h = grind (arith, after_appended, after_by)
 
 -- ---- What an attempt says
 
@@ -61,20 +56,13 @@ BegunBy kept pending t a = (steps_of t pending ≡ a.done) ⊎ ((steps_of t pend
 
 pub tried_of : (next : Config) (u : ℕ) (b : Attempt) → attempt_of next u ≡ b → b.done ≤ b.longest → IsInner next.kept u b.longest →
     BegunBy next.kept next.uncommitted u b → IsTried next u
-tried_of next u b e within inner begun = record {
-  within = subst (λ (c : Attempt). c.done ≤ c.longest) (sym e) within;
-  inner = subst (λ (c : Attempt). IsInner next.kept u c.longest) (sym e) inner;
-  begun = subst (λ (c : Attempt). BegunBy next.kept next.uncommitted u c) (sym e) begun;
-}
+tried_of next u b h3 h4 h5 h6 = grind (arith)
 
 -- as many steps of a thread with the same attempt
 pub tried_same : (old : Config) (pending : List ℕ) (memory : Memory) (attempts : List Attempt) (u : ℕ) → attempt_at attempts u ≡ attempt_of old u →
     steps_of u pending ≡ steps_of u old.uncommitted → IsTried old u →
     IsTried (record { kept = old.kept; uncommitted = pending; memory = memory; attempts = attempts }) u
-tried_same old pending memory attempts u e count i =
-    tried_of (record { kept = old.kept; uncommitted = pending; memory = memory; attempts = attempts }) u (attempt_of old u) e i.within i.inner
-    (subst (λ (n : ℕ). (n ≡ (attempt_of old u).done) ⊎ ((n ≡ suc (attempt_of old u).done) ×
-    ((mutex : ℕ) × PassesMutex (solo old.kept u (attempt_of old u).done) u mutex))) (sym count) i.begun)
+tried_same old pending memory attempts u e count i = grind (arith, tried_of)
 
 -- a thread that goes on is what its inner steps alone give
 pub alone : (x : f.Flat) (old : Config) (t : ℕ) → Invariant x old → IsGoing old t → IsSameTo x (now old) (solo old.kept t (attempt_of old t).done) t

@@ -1,6 +1,5 @@
 -- Schedules without a thread's first steps, and those of one thread alone.
-use Rattle.std.proofs.Common.{◌≡◌, ◌≢◌, refl, ℕ, zero, suc, ◌==◌, List, [], ◌∷◌, ◌++◌, replicate, sym, ◌∙◌, ap, arith, Bool, true, false}
-use Rattle.std.specs.Prelude.{if◌then◌else◌}
+use Rattle.std.proofs.Common.{◌≡◌, ◌≢◌, refl, ℕ, zero, suc, ◌==◌, List, [], ◌∷◌, ◌++◌, replicate, sym, ◌∙◌, ap, arith, Bool, if◌then◌else◌}
 use Rattle.c_tree.specs.Source as m
 use Rattle.source_machine.specs.StepExchanges.{steps_of, without_first, without, TransfersLock}
 use Rattle.recovery_semantics.proofs.Schedules.{equal_is, unequal_of}
@@ -8,21 +7,11 @@ use Rattle.recovery_semantics.proofs.Schedules.{equal_is, unequal_of}
 abbrev count_by : Bool → ℕ → ℕ
 count_by b n = if b then suc n else n
 
-abbrev rest_by : Bool → (u : ℕ) → (us rest : List ℕ) → List ℕ
-rest_by b u us rest = if b then us else u ∷ rest
-
 -- ---- The thread's own
 
 fewer_by : (t : ℕ) (b : Bool) (u : ℕ) (us : List ℕ) (n : ℕ) → (u == t) ≡ b → steps_of t (u ∷ us) ≡ suc n →
     (steps_of t us ≡ suc n → steps_of t (without_first t us) ≡ n) → steps_of t (without_first t (u ∷ us)) ≡ n
-fewer_by t true u us n e c more =
-    let is : without_first t (u ∷ us) ≡ us = ap (λ (b : Bool). rest_by b u us (without_first t us)) e in
-    let count : suc (steps_of t us) ≡ suc n = ap (λ (b : Bool). count_by b (steps_of t us)) (sym e) ∙ c in
-    ap (steps_of t) is ∙ (let r : steps_of t us ≡ n = omega (arith, count) in r)
-fewer_by t false u us n e c more =
-    let is : without_first t (u ∷ us) ≡ u ∷ without_first t us = ap (λ (b : Bool). rest_by b u us (without_first t us)) e in
-    let count : steps_of t us ≡ suc n = ap (λ (b : Bool). count_by b (steps_of t us)) (sym e) ∙ c in
-    ap (steps_of t) is ∙ (ap (λ (b : Bool). count_by b (steps_of t (without_first t us))) e ∙ more count)
+fewer_by t b u us n h5 h6 h7 = grind (arith)
 
 one_fewer : (t : ℕ) (us : List ℕ) (n : ℕ) → steps_of t us ≡ suc n → steps_of t (without_first t us) ≡ n
 one_fewer t [] n c = cc
@@ -36,13 +25,7 @@ none_left t (suc n) us c = none_left t n (without_first t us) (one_fewer t us n 
 
 others_by : (t k : ℕ) (b : Bool) (u : ℕ) (us : List ℕ) → k ≢ t → (u == t) ≡ b → steps_of k (without_first t us) ≡ steps_of k us →
     steps_of k (without_first t (u ∷ us)) ≡ steps_of k (u ∷ us)
-others_by t k true u us n e more =
-    let is : without_first t (u ∷ us) ≡ us = ap (λ (b : Bool). rest_by b u us (without_first t us)) e in
-    let off : (u == k) ≡ false = unequal_of u k (λ h. n (sym h ∙ equal_is u t e)) in
-    ap (steps_of k) is ∙ ap (λ (b : Bool). count_by b (steps_of k us)) (sym off)
-others_by t k false u us n e more =
-    let is : without_first t (u ∷ us) ≡ u ∷ without_first t us = ap (λ (b : Bool). rest_by b u us (without_first t us)) e in
-    ap (steps_of k) is ∙ ap (λ (c : ℕ). count_by (u == k) c) more
+others_by t k b u us h5 h6 h7 = grind (arith, equal_is, unequal_of)
 
 others_first : (t k : ℕ) (us : List ℕ) → k ≢ t → steps_of k (without_first t us) ≡ steps_of k us
 others_first t k [] n = refl
@@ -69,10 +52,7 @@ in_alone (suc n) t [] u rest e = cc
 in_alone (suc n) t (v ∷ before) u rest e = let more : replicate n t ≡ before ++ u ∷ rest = cc in in_alone n t before u rest more
 
 pub alone_no_hands : (s : m.State) (n t : ℕ) → ¬ (TransfersLock s (replicate n t))
-alone_no_hands s n t c =
-    let taker = in_alone n t (c.before ++ c.giver ∷ c.between) c.taker c.rest c.is in
-    let giver = in_alone n t c.before c.giver (c.between ++ c.taker ∷ c.rest) (c.is ∙ assoc c.before (c.giver ∷ c.between) (c.taker ∷ c.rest)) in
-    c.others (taker ∙ sym giver)
+alone_no_hands s n t c = grind (arith, assoc, in_alone)
 
 -- a thread's last step, counted with those before it
 pub last_first : (n t : ℕ) (us : List ℕ) → replicate n t ++ t ∷ us ≡ replicate (suc n) t ++ us
@@ -83,6 +63,5 @@ pub more_empty : (us : List ℕ) → us ++ [] ≡ us
 more_empty [] = refl
 more_empty (u ∷ us) = ap (λ (ks : List ℕ). u ∷ ks) (more_empty us)
 
-pub join : (before between more : List ℕ) (giver taker : ℕ) →
-    before ++ (giver ∷ between ++ taker ∷ more) ≡ (before ++ giver ∷ between) ++ taker ∷ more
+pub join : (before between more : List ℕ) (giver taker : ℕ) → before ++ (giver ∷ between ++ taker ∷ more) ≡ (before ++ giver ∷ between) ++ taker ∷ more
 join before between more giver taker = sym (assoc before (giver ∷ between) (taker ∷ more))

@@ -55,13 +55,7 @@ pub stable_again : (h : History) (n : ℤ) → IsStable h n → IsStable (with_n
 stable_again h n s = subst (λ (z : ℤ). IsStable (with_number h z) n) (sym (live_stable h n s)) (stable_with h n s)
 
 pub stable_persisted : (old new : History) (n : ℤ) → IsPersisted old new → IsStable old n → IsStable new n
-stable_persisted old new n r s = record {
-  there = subst (λ (l : List ℤ). new.durable < length l) (sym r.values) (r.within s.there);
-  each = λ p low high.
-      let no_lower = r.no_lower in
-      let inside : p < length old.values = subst (λ (l : List ℤ). p < length l) r.values high in
-      subst (λ (l : List ℤ). slice_index_or l p (pos 0) ≡ n) (sym r.values) (s.each p (omega (arith, low, no_lower)) inside);
-}
+stable_persisted old new n h3 h4 = grind (arith)
 
 pub live_persisted : (old new : History) → IsPersisted old new → live_number new ≡ live_number old
 live_persisted old new r = ap (λ (l : List ℤ). slice_index_or l (length l - 1) (pos 0)) r.values
@@ -70,10 +64,7 @@ pub durable_stable : (h : History) (n : ℤ) → IsStable h n → durable_number
 durable_stable h n s = s.each h.durable (omega arith) s.there
 
 pub stable_of : (n : ℤ) → IsStable (history_of n) n
-stable_of n = record { there = omega arith; each = λ p low high. ap (λ (k : ℕ). slice_index_or (n ∷ []) k (pos 0)) (none p high) }
-  where
-    none : (p : ℕ) → p < length (n ∷ []) → p ≡ 0
-    none p h = omega (arith, h)
+stable_of n = grind (arith)
 
 pub stable_crashed : (h : History) (n : ℤ) → IsStable h n → IsStable (after_crash h) n
 stable_crashed h n s = subst (λ (z : ℤ). IsStable (history_of z) n) (sym (durable_stable h n s)) (stable_of n)
@@ -94,32 +85,14 @@ pub there_with : (h : History) (n : ℤ) → h.durable < length h.values → (wi
 there_with h n there = omega (arith, there, length-append h.values (n ∷ []))
 
 pub since_own : (h : History) (n : ℤ) → IsSince (with_number h n) (length h.values)
-since_own h n = record {
-  there = omega (arith, length-append h.values (n ∷ []));
-  each = λ p low high.
-      let is : p ≡ length h.values = omega (arith, low, in_more h n p high) in
-      ap (λ (k : ℕ). slice_index_or (h.values ++ n ∷ []) k (pos 0)) is ∙ (index_end h.values n (pos 0) ∙ sym (live_with h n));
-}
+since_own h n = grind (arith, length-append, in_more, index_end, live_with)
 
 -- a history to which its own number is appended has had that number as long as before
 pub since_again : (h : History) (q : ℕ) → IsSince h q → IsSince (with_number h (live_number h)) q
-since_again h q s = record {
-  there = let there = s.there in omega (arith, there, length-append h.values (live_number h ∷ []));
-  each = λ p low high.
-      ⊎_elim
-      (λ within. index_prefix h.values (live_number h ∷ []) p (pos 0) within ∙ s.each p low within)
-      (λ is. ap (λ (k : ℕ). slice_index_or (h.values ++ live_number h ∷ []) k (pos 0)) is ∙ index_end h.values (live_number h) (pos 0))
-      (before_or_last p (length h.values) (in_more h (live_number h) p high))
-      ∙ sym (live_with h (live_number h));
-}
+since_again h q h2 = grind (arith, length-append, before_or_last, in_more, index_end, index_prefix, live_with)
 
 pub since_persisted : (old new : History) (q : ℕ) → IsPersisted old new → IsSince old q → IsSince new q
-since_persisted old new q r s = record {
-  there = subst (λ (l : List ℤ). q < length l) (sym r.values) s.there;
-  each = λ p low high.
-      let inside : p < length old.values = subst (λ (l : List ℤ). p < length l) r.values high in
-      ap (λ (l : List ℤ). slice_index_or l p (pos 0)) r.values ∙ (s.each p low inside ∙ sym (live_persisted old new r));
-}
+since_persisted old new q h3 h4 = grind (arith, live_persisted)
 
 pub stable_since : (h : History) (q : ℕ) → IsSince h q → q ≤ h.durable → h.durable < length h.values → IsStable h (live_number h)
 stable_since h q s l there = record { there = there; each = λ p low high. s.each p (omega (arith, l, low)) high }

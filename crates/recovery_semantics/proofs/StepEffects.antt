@@ -5,6 +5,7 @@ use Rattle.ido_base.specs.declared.place.Place.{Place}
 use Rattle.c_tree.specs.Exprs as e
 use Rattle.c_tree.specs.Flats as f
 use Rattle.c_tree.specs.Source as m
+use Rattle.c_tree.specs.Values.{lock_number}
 use Rattle.c_tree.specs.Source.{source_step}
 use Rattle.source_machine.specs.Mutexes.{locks, unlocks, lock_ahead, unlock_ahead}
 use Rattle.source_machine.specs.Discipline.{StateKeeps}
@@ -55,26 +56,15 @@ module _ (s next : m.State) (t : ℕ) (thread : m.Thread) where
   lock_by mutex rest (Some None) = Some (m.with_thread (m.with_holder s mutex (Some t)) t (record thread { left = rest }))
   lock_by mutex rest (Some (Some u)) = None
 
-  lock_is : (place : Place) (name : e.LockName) (rest : List f.Statement) (o : Option (Option ℕ)) → slice_get s.holders name.mutex ≡ o →
-      m.statement_step s t thread (f.Lock place name) rest ≡ lock_by name.mutex rest o
-  lock_is place name rest None e = rw (m.statement_step, e) refl
-  lock_is place name rest (Some None) e = rw (m.statement_step, e) refl
-  lock_is place name rest (Some (Some u)) e = rw (m.statement_step, e) refl
+  lock_is : (place : Place) (name : e.LockName) (rest : List f.Statement) (o : Option (Option ℕ)) → slice_get s.holders (lock_number thread.locals name) ≡ o →
+      m.statement_step s t thread (f.Lock place name) rest ≡ lock_by (lock_number thread.locals name) rest o
+  lock_is place name rest o h4 = grind (arith)
 
   by_lock : (mutex : ℕ) (rest : List f.Statement) (o : Option (Option ℕ)) → lock_by mutex rest o ≡ Some next → next.variables ≡ s.variables
-  by_lock mutex rest None h = cc
-  by_lock mutex rest (Some None) h = by_some (m.with_holder s mutex (Some t)) (record thread { left = rest }) refl h
-  by_lock mutex rest (Some (Some u)) h = cc
+  by_lock mutex rest o h3 = grind (arith, by_some)
 
   by_statement : (x : f.Statement) (rest : List f.Statement) → m.statement_step s t thread x rest ≡ Some next → next.variables ≡ s.variables
-  by_statement (f.Assign place target x) rest h = by_some s _ refl h
-  by_statement (f.If place f.no_arm otherwise) rest h = cc
-  by_statement (f.If place (f.arm_and condition body arms) otherwise) rest h = by_some s _ refl h
-  by_statement (f.While place condition body) rest h = by_some s _ refl h
-  by_statement (f.Do place body condition) rest h = cc
-  by_statement (f.Lock place name) rest h = by_lock name.mutex rest (slice_get s.holders name.mutex)
-      (sym (lock_is place name rest (slice_get s.holders name.mutex) refl) ∙ h)
-  by_statement (f.Unlock place name) rest h = by_some (m.with_holder s name.mutex None) (record thread { left = rest }) refl h
+  by_statement x rest h2 = grind (arith, by_lock, by_some, lock_is)
 
   by_end : (ended : Bool) → (let o : Option m.State = if ended then None else Some (m.with_thread s t (record thread { ended = true })) in o ≡ Some next) →
       next.variables ≡ s.variables
@@ -82,8 +72,7 @@ module _ (s next : m.State) (t : ℕ) (thread : m.Thread) where
   by_end false h = by_some s (record thread { ended = true }) refl h
 
   by_left : (left : List f.Statement) → m.left_step s t thread left ≡ Some next → next.variables ≡ s.variables
-  by_left [] h = by_end thread.ended h
-  by_left (x ∷ rest) h = by_statement x rest h
+  by_left left h1 = grind (arith, by_end, by_statement)
 
   abbrev pending_by : Option m.Pending → Option m.State
   pending_by o = elim o [
@@ -95,8 +84,7 @@ module _ (s next : m.State) (t : ℕ) (thread : m.Thread) where
   by_none e h = by_left thread.left (sym (ap pending_by e) ∙ h)
 
   by_store : (p : m.Pending) → thread.pending ≡ Some p → m.thread_step s t thread ≡ Some next → next.variables ≡ (m.stored s p).variables
-  by_store p e h =
-      sym (ap (λ (z : m.State). z.variables) (some_is (m.with_thread (m.stored s p) t (record thread { pending = None })) next (sym (ap pending_by e) ∙ h)))
+  by_store p e h = grind (arith, some_is)
 
 -- ---- Of the thread that is there
 
@@ -126,14 +114,12 @@ pub record Storing (s : m.State) (t : ℕ) (p : m.Pending) : Type 0 where
   pub pending : thread.pending ≡ Some p
 
 storing_by : (s : m.State) (t : ℕ) (p : m.Pending) (o : Option m.Thread) → slice_get s.threads t ≡ o → store_by o ≡ Some p → Storing s t p
-storing_by s t p None e g = cc
-storing_by s t p (Some thread) e g = record { thread = thread; there = e; pending = g }
+storing_by s t p o h4 h5 = grind (arith)
 
 pub storing : (s : m.State) (t : ℕ) (p : m.Pending) → store_ahead s t ≡ Some p → Storing s t p
 storing s t p g = storing_by s t p (slice_get s.threads t) refl g
 
-pub store_step : (s next : m.State) (t : ℕ) (p : m.Pending) → store_ahead s t ≡ Some p → source_step s t ≡ Some next →
-    next.variables ≡ (m.stored s p).variables
+pub store_step : (s next : m.State) (t : ℕ) (p : m.Pending) → store_ahead s t ≡ Some p → source_step s t ≡ Some next → next.variables ≡ (m.stored s p).variables
 store_step s next t p g h =
     let a = storing s t p g in
     by_store s next t a.thread p a.pending (sym (step_found s t a.thread a.there) ∙ h)

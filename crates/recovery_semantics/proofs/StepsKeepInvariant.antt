@@ -5,10 +5,9 @@ use Rattle.std.proofs.Math.Nat.{le-max_left, le-max_right, max-le}
 use Rattle.std.proofs.lemmas.Bool.{cases_eq, cases_lt}
 use Rattle.c_tree.specs.Flats as f
 use Rattle.c_tree.specs.Source as m
-use Rattle.c_tree.specs.Source.{source_step}
 use Rattle.source_machine.specs.StepExchanges.{steps_of, TransfersLock, IsSameTo}
 use Rattle.source_machine.proofs.Public.{some_is, run_keeps, step_added, locks_same, unlocks_same}
-use Rattle.recovery_semantics.specs.ElementHistories.{History, Memory, IsStable, live_number, history_at, number_at, IsOther}
+use Rattle.recovery_semantics.specs.ElementHistories.{Memory, IsStable, live_number, history_at, number_at, IsOther}
 use Rattle.recovery_semantics.specs.Attempts.{Attempt, attempt_at, solo, IsInnerStep, IsInner, PassesMutex, store_ahead, WritesAt, IsAttempted, IsOverrun}
 use Rattle.recovery_semantics.specs.Configs.{Config, now, attempt_of, IsTried, IsNeverWritten, IsNotOverrun, Invariant}
 use Rattle.recovery_semantics.specs.Events.{stepped, begun, IsGoing, StepsLocally, Stores, Synchronises}
@@ -18,8 +17,7 @@ use Rattle.recovery_semantics.proofs.Paths.{none_some, held_same, beside, writes
 use Rattle.recovery_semantics.proofs.Schedules.{counted_own, counted_other, runs_more, after_more, same_back, tried_of, tried_same, alone}
 
 pub below_max : (k a b : ℕ) → k < max a b → (k < a) ⊎ (k < b)
-below_max k a b h = ⊎_elim (λ l. inl l) (λ g. ⊎_elim (λ l. inr l) (λ g'.
-    let no : max a b ≤ k = max-le g g' in absurd (omega (arith, h, no))) (cases_lt k b)) (cases_lt k a)
+below_max k a b h = grind (arith, cases_lt, max, max-le)
 
 between : (d k : ℕ) → d ≤ k → k < suc d → k ≡ d
 between d k l h = omega (arith, l, h)
@@ -82,11 +80,7 @@ module _ (x : f.Flat) (old : Config) (t : ℕ) (i : Invariant x old) (going : Is
       (cases_eq u t)
 
   longer : (u : ℕ) → (attempt_of old u).longest ≤ (attempt_at attempts u).longest
-  longer u = ⊎_elim
-      (λ e. subst (λ (k : ℕ). (attempt_of old k).longest ≤ (attempt_at attempts k).longest) (sym e)
-      (subst (λ (b : Attempt). a.longest ≤ b.longest) (sym is.own) (le-max_left a.longest (suc a.done))))
-      (λ n. subst (λ (b : Attempt). (attempt_of old u).longest ≤ b.longest) (sym (is.others u n)) (omega arith))
-      (cases_eq u t)
+  longer u = grind (arith, cases_eq, le-max_left)
 
   untouched : (v e : ℕ) → IsNeverWritten next v e → IsNeverWritten old v e
   untouched v e h u w = h u (writes_more old.kept u (attempt_of old u).longest (attempt_at attempts u).longest v e (longer u) w)
@@ -110,20 +104,14 @@ module _ (x : f.Flat) (old : Config) (t : ℕ) (i : Invariant x old) (going : Is
       }
 
   caught_up : (v e : ℕ) → ¬ (WritesAt old.kept t a.done v e) → IsNotOverrun next v e → IsNotOverrun old v e
-  caught_up v e none h u w = ⊎_elim
-      (λ is'. h t (subst (λ (b : Attempt). IsOverrun old.kept t b v e) (sym is.own)
-      (ahead v e none (subst (λ (k : ℕ). IsOverrun old.kept k (attempt_of old k) v e) is' w))))
-      (λ n. h u (subst (λ (b : Attempt). IsOverrun old.kept u b v e) (sym (is.others u n)) w))
-      (cases_eq u t)
+  caught_up v e none h u w = grind (arith, cases_eq, ahead)
 
   -- the store that it makes
   here : (p : m.Pending) → store_ahead (now old) t ≡ Some p → WritesAt old.kept t a.done p.variable p.element
   here p h = record { store = p; is = store_same (now old) there t (sym same.own) ∙ h; variable_is = refl; element_is = refl }
 
   only : (p : m.Pending) (v e : ℕ) → store_ahead (now old) t ≡ Some p → WritesAt old.kept t a.done v e → (v ≡ p.variable) × (e ≡ p.element)
-  only p v e h w =
-      let one : w.store ≡ p = some_is w.store p (sym w.is ∙ (store_same (now old) there t (sym same.own) ∙ h)) in
-      (sym w.variable_is ∙ ap (λ (q : m.Pending). q.variable) one, sym w.element_is ∙ ap (λ (q : m.Pending). q.element) one)
+  only p v e h w = grind (arith, some_is, store_same, same)
 
 pub goes_on_keeps : (x : f.Flat) (old : Config) (t : ℕ) (attempts : List Attempt) → Invariant x old → StepsLocally old t attempts →
     Invariant x (begun old t old.memory attempts)
@@ -159,10 +147,7 @@ module _ (x : f.Flat) (old : Config) (t : ℕ) (memory : Memory) (attempts : Lis
 
   -- its element, or another one
   or_other : (v k : ℕ) → ((v ≡ p.variable) × (k ≡ p.element)) ⊎ IsOther p.variable p.element v k
-  or_other v k = ⊎_elim
-      (λ a. ⊎_elim (λ b. inl (a, b)) (λ n. inr (λ _ b. n b)) (cases_eq k p.element))
-      (λ n. inr (λ a _. n a))
-      (cases_eq v p.variable)
+  or_other v k = grind (arith, cases_eq)
 
   touched : IsNeverWritten after p.variable p.element → ⊥
   touched h = h t (record {
@@ -184,15 +169,10 @@ module _ (x : f.Flat) (old : Config) (t : ℕ) (memory : Memory) (attempts : Lis
       (or_other v k)
 
   live_own : live_number (history_at memory p.variable p.element) ≡ number_at (now after) p.variable p.element
-  live_own = ap live_number e.stored.own
-      ∙ (live_with (history_at old.memory p.variable p.element) p.number
-      ∙ (sym (number_stored (now old) g.next t p e.ahead g.is e.there) ∙ ap (λ (z : m.State). number_at z p.variable p.element) (sym after_is)))
+  live_own = grind (arith, live_with, number_stored, after_is, ahead)
 
   live_same : (v k : ℕ) → IsOther p.variable p.element v k → live_number (history_at memory v k) ≡ live_number (history_at old.memory v k)
-  live_same v k n = ⊎_elim
-      (λ s. ap live_number s)
-      (λ s. ap live_number s ∙ live_with (history_at old.memory v k) (live_number (history_at old.memory v k)))
-      (e.stored.others v k n)
+  live_same v k n = grind (arith, live_with)
 
   live_after : (v k : ℕ) → IsNotOverrun after v k → live_number (history_at memory v k) ≡ number_at (now after) v k
   live_after v k h = ⊎_elim
@@ -209,17 +189,7 @@ module _ (x : f.Flat) (old : Config) (t : ℕ) (memory : Memory) (attempts : Lis
       (or_other v k)
 
   there_after : (v k : ℕ) → (history_at memory v k).durable < length (history_at memory v k).values
-  there_after v k = ⊎_elim
-      (λ q. subst (λ (n : ℕ). (history_at memory v n).durable < length (history_at memory v n).values) (sym q.1)
-      (subst (λ (n : ℕ). (history_at memory n p.element).durable < length (history_at memory n p.element).values) (sym q.0)
-      (subst (λ (y : History). y.durable < length y.values) (sym e.stored.own)
-      (there_with (history_at old.memory p.variable p.element) p.number (i.there p.variable p.element)))))
-      (λ n. ⊎_elim
-      (λ s. subst (λ (y : History). y.durable < length y.values) (sym s) (i.there v k))
-      (λ s. subst (λ (y : History). y.durable < length y.values) (sym s)
-      (there_with (history_at old.memory v k) (live_number (history_at old.memory v k)) (i.there v k)))
-      (e.stored.others v k n))
-      (or_other v k)
+  there_after v k = grind (arith, there_with, or_other)
 
   pub stores_keeps : Invariant x after
   stores_keeps = record {
@@ -239,9 +209,7 @@ pub passes_same : (s z : m.State) (t k : ℕ) → slice_get z.threads t ≡ slic
 passes_same s z t k own h = ⊎_elim (λ l. inl (locks_same s z t own ∙ l)) (λ l. inr (unlocks_same s z t own ∙ l)) h
 
 pub passing_stores_nothing : (s : m.State) (t k : ℕ) (p : m.Pending) → PassesMutex s t k → store_ahead s t ≡ Some p → ⊥
-passing_stores_nothing s t k p h g =
-    let inner = store_inner s t p g in
-    ⊎_elim (λ l. none_some k (sym inner.locks_none ∙ l)) (λ l. none_some k (sym inner.unlocks_none ∙ l)) h
+passing_stores_nothing s t k p h g = grind (arith, none_some, store_inner)
 
 pub passes_keeps : (x : f.Flat) (old : Config) (t : ℕ) → Invariant x old → Synchronises old t → Invariant x (begun old t old.memory old.attempts)
 passes_keeps x old t i e =

@@ -1,7 +1,6 @@
 -- A mutex that another thread gave back by a step that isn't kept is that thread's in what is kept.
-use Rattle.std.proofs.Common.{◌⊎◌, inl, inr, replicate, ◌≡◌, ◌≢◌, refl, ℕ, suc, ◌<◌, ◌≤◌, ◌==◌, List, [], ◌∷◌}
-use Rattle.std.proofs.Common.{◌++◌, sym, ◌∙◌, ap, subst, arith, Bool, true, false, Option, Some, None, ⊎_elim}
-use Rattle.std.specs.Prelude.{slice_get, if◌then◌else◌}
+use Rattle.std.proofs.Common.{◌⊎◌, inl, inr, replicate, ◌≡◌, ◌≢◌, refl, ℕ, suc, ◌<◌, ◌≤◌, ◌==◌, List, [], ◌∷◌, ◌++◌, sym, ◌∙◌, ap, subst, arith, Bool, true}
+use Rattle.std.proofs.Common.{false, Option, Some, None, ⊎_elim, slice_get, if◌then◌else◌}
 use Rattle.std.proofs.lemmas.Bool.{cases_eq}
 use Rattle.c_tree.specs.Flats as f
 use Rattle.c_tree.specs.Source as m
@@ -9,8 +8,8 @@ use Rattle.c_tree.specs.Source.{source_step}
 use Rattle.source_machine.specs.Mutexes.{locks, unlocks}
 use Rattle.source_machine.specs.Discipline.{StateKeeps}
 use Rattle.source_machine.specs.StepExchanges.{IsSolo, steps_of, TransfersLock}
-use Rattle.source_machine.proofs.Public.{some_is, locks_found, unlocks_found, Passed, takes, gives, Stepped, stepped, run_keeps}
-use Rattle.source_machine.proofs.Public.{mutex_stays, mutex_passed, unlocks_held, solo as solo_law}
+use Rattle.source_machine.proofs.Public.{some_is, locks_found, unlocks_found, Passed, takes, gives, Stepped, stepped, run_keeps, mutex_stays, mutex_passed}
+use Rattle.source_machine.proofs.Public.{unlocks_held, solo as solo_law}
 use Rattle.recovery_semantics.specs.Attempts.{solo}
 use Rattle.recovery_semantics.specs.Configs.{Config, now, attempt_of, Invariant}
 use Rattle.recovery_semantics.specs.Laws.{LeftIsFree, HasLocked, HasUnlocked, HeldNow, HeldBefore}
@@ -36,18 +35,7 @@ assoc [] ys zs = refl
 assoc (x ∷ xs) ys zs = ap (λ (ks : List ℕ). x ∷ ks) (assoc xs ys zs)
 
 pub prefix_hands : (s : m.State) (us vs : List ℕ) → ¬ (TransfersLock s (us ++ vs)) → ¬ (TransfersLock s us)
-prefix_hands s us vs never c = never (record {
-  before = c.before;
-  giver = c.giver;
-  between = c.between;
-  taker = c.taker;
-  rest = c.rest ++ vs;
-  mutex = c.mutex;
-  is = ap (λ (ks : List ℕ). ks ++ vs) c.is ∙ assoc (c.before ++ c.giver ∷ c.between) (c.taker ∷ c.rest) vs;
-  others = c.others;
-  gives = c.gives;
-  takes = c.takes;
-})
+prefix_hands s us vs h3 = grind (arith, gives, takes, assoc)
 
 -- ---- The law
 
@@ -60,8 +48,7 @@ left_is_free x old t i free c =
     let hands = prefix_hands old.kept c.before (c.giver ∷ c.rest) (subst (λ (us : List ℕ). ¬ (TransfersLock old.kept us)) c.is i.hands) in
     let more : n < steps_of c.giver old.uncommitted = subst (λ (us : List ℕ). n < steps_of c.giver us) (sym c.is) (more_counted c.giver c.before c.rest) in
     let tried = i.tried c.giver in
-    let within = tried.within in
-    let low : n ≤ a.longest = ⊎_elim (λ e. omega (arith, more, within, e)) (λ p. let e = p.0 in omega (arith, more, within, e)) tried.begun in
+    let low : n ≤ a.longest = ⊎_elim (λ e. omega (arith, more, tried.within, e)) (λ p. let e = p.0 in omega (arith, more, tried.within, e)) tried.begun in
     let here = unlocks_held x z c.giver c.mutex (run_keeps x old.kept c.before i.keeps) c.gives in
     let alone = (solo_law x old.kept c.before c.giver i.keeps runs hands).same in
     let there : slice_get (solo old.kept c.giver n).holders c.mutex ≡ Some (Some c.giver) = held_same c.giver z.holders (solo old.kept c.giver n).holders

@@ -1,18 +1,17 @@
 -- Variables in words change as their words do.
-use Rattle.std.proofs.Common.{◌≡◌, ◌⊎◌, inl, inr, refl, ℕ, zero, suc, ◌+◌, ◌*◌, ◌/◌, ◌%◌, ◌<◌, ◌≤◌, List, [], ◌∷◌}
-use Rattle.std.proofs.Common.{length, map, sym, ◌∙◌, ap, subst, arith, Option, Some, None, ℤ, slice_set, ⊎_elim}
-use Rattle.std.specs.Prelude.{slice_get, slice_index_or, pos}
+use Rattle.std.proofs.Common.{◌≡◌, ◌⊎◌, inl, inr, refl, ℕ, zero, suc, ◌+◌, ◌*◌, ◌/◌, ◌%◌, ◌<◌, ◌≤◌, List, [], ◌∷◌, length, map, sym, ◌∙◌, ap, subst, arith}
+use Rattle.std.proofs.Common.{Option, Some, None, ℤ, slice_set, ⊎_elim, slice_get, slice_index_or, pos}
 use Rattle.std.proofs.lemmas.Bool.{cases_eq, cases_lt}
 use Rattle.ido_ints.specs.declared.kinds.Kind.{Kind}
 use Rattle.ido_ints.specs.Kinds.{bytes_of, Holds}
 use Rattle.ido_ints.specs.Reduction.{register_of}
 use Rattle.ido_base.specs.Words as w
 use Rattle.ido_base.specs.Words.{Word, word_of, word_at, with_value, with_part, live_value}
-use Rattle.recovery_semantics.specs.ElementHistories.{History, Memory, history_of, history_at, live_number}
-use Rattle.recovery_semantics.specs.ElementHistories.{with_number, after_crash, IsPersisted, IsOther, IsStored, sizes}
+use Rattle.recovery_semantics.specs.ElementHistories.{History, Memory, history_of, history_at, live_number, with_number, after_crash, IsPersisted, IsOther}
+use Rattle.recovery_semantics.specs.ElementHistories.{IsStored, sizes}
 use Rattle.recovery_semantics.specs.Elements.{element_in}
-use Rattle.recovery_semantics.specs.VariableSpots.{Spot, elements_in, variable_in, memory_in, IsAtSpot, AreSpotsApart}
-use Rattle.recovery_semantics.specs.VariableSpots.{MemoryStored, MemoryPersisted, MemoryCrashed, MemoryLoaded, MemoryStays}
+use Rattle.recovery_semantics.specs.VariableSpots.{Spot, elements_in, variable_in, memory_in, IsAtSpot, AreSpotsApart, MemoryStored, MemoryPersisted}
+use Rattle.recovery_semantics.specs.VariableSpots.{MemoryCrashed, MemoryLoaded, MemoryStays}
 use Rattle.recovery_semantics.proofs.StableHistories.{index_map}
 use Rattle.recovery_semantics.proofs.Elements.{live_in, persisted_in, crashed_in, stored_in, beside_in}
 
@@ -163,8 +162,7 @@ memory_stored spots words v e kind number n apart a holds = stored spots words v
 -- ---- A load, and a store elsewhere
 
 pub memory_loaded : MemoryLoaded
-memory_loaded spots words v e kind number a =
-    live_in kind (number % 8) (word_at words (number / 8)) ∙ ap live_number (sym (at_spot spots words v e kind number a))
+memory_loaded spots words v e kind number a = grind (arith, live_in, at_spot)
 
 elements_same : (gs hs : List History) → length gs ≡ length hs → ((e : ℕ) → slice_index_or gs e none ≡ slice_index_or hs e none) → gs ≡ hs
 elements_same [] [] l same = refl

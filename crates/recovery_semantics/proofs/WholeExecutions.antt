@@ -1,5 +1,5 @@
 -- Whole executions: the invariant, the kept schedule, and what durable memory has.
-use Rattle.std.proofs.Common.{ℕ, List, [], ◌++◌, sym, ◌∙◌, ap, subst, refl}
+use Rattle.std.proofs.Common.{arith, ℕ, List, [], ◌++◌, sym, subst, refl}
 use Rattle.c_tree.specs.Flats as f
 use Rattle.c_tree.specs.Source as m
 use Rattle.source_machine.specs.Discipline.{StateKeeps}
@@ -35,7 +35,4 @@ pub executions_resume : ExecutionsResume
 executions_resume x from old schedule keeps l = resumed x from keeps l
 
 pub executions_settle : ExecutionsSettle
-executions_settle x from old schedule keeps l between =
-    let r = resumed x from keeps l in
-    between_is_kept x old r.invariant (λ u. ap (λ (z : m.State). m.is_between z u) (sym r.kept.is) ∙ between u)
-    ∙ ap (λ (z : m.State). z.variables) (sym r.kept.is)
+executions_settle x from old schedule keeps l between = grind (arith, between_is_kept, resumed)

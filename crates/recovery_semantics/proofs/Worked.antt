@@ -234,7 +234,7 @@ ahead = (refl, refl)
 
 disciplined : All (l.IsDisciplined x) x.threads
 disciplined zero d h =
-    l.then _ _ (l.lock (at 40) (record { mutex = 0; key = None }) refl) (l.then _ _ (l.assign (at 51) (e.ToVariable (at 51) 0 kind.Int) sum refl)
+    l.then _ _ (l.lock (at 40) (record { mutex = 0; key = None }) refl) (l.then _ _ (l.assign (at 51) (e.ToVariable (at 51) 0 kind.Int) sum refl tt)
     (l.then _ _ (l.unlock (at 62) (record { mutex = 0; key = None }) refl) l.no_more))
 disciplined (suc k) d h = absurd (omega (arith, h))
 

@@ -109,7 +109,7 @@ module _ (p : Plan) (t : Thread) (plan : IsPlan p) (of : IsThread p t) where
       let source = source_of p t seen in
       let near : IsNear source variable k = near_declared source variable k true plan.formed.shared.bytes d in
       let close = near.near in
-      let f = fits_element vs (record { variable = variable; place = place; expr = index }) fits seen.locals seen.variables held in
+      let f = fits_element (elements_of vs variable) index fits seen.locals seen.variables held in
       let below = f.below in
       let short = not_too_long variable in
       let n = element_at (value seen.locals seen.variables index) in

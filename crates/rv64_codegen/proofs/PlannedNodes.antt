@@ -9,12 +9,14 @@ use Rattle.ido_base.specs.declared.location.Location.{Location}
 use Rattle.ido_base.specs.declared.limits.TheConstants.{MOST_PRICE, MOST_THREADS}
 use Rattle.c_tree.specs.Exprs as e
 use Rattle.c_tree.specs.Flats as f
-use Rattle.c_tree.specs.LockDiscipline.{Held}
+use Rattle.c_tree.specs.LockNames.{Held}
 use Rattle.c_tree.specs.Prices.{node_price, thread_price}
 use Rattle.c_tree.specs.Temporaries.{price_fault}
 use Rattle.c_tree.specs.WellFormed.{AreFlatStatements}
 use Rattle.lock_discipline.specs.HeldSetsByStep.{assign_steps, steps, steps_of_all, steps_of_arms, thread_steps}
 use Rattle.lock_discipline.proofs.Public.{held_length}
+use Rattle.c_tree.specs.Exprs.{LockName}
+use Rattle.c_tree.proofs.Public.{length-plain_names, names_are_plain}
 use Rattle.flow_graph.specs.declared.graph.Part.{Part}
 use Rattle.flow_graph.specs.Nodes.{Action, Eval, Store, Test, Lock, Unlock, End, Node, Graph}
 use Rattle.flow_graph.specs.IdempotentCuts.{IsChosen, Writes}
@@ -233,5 +235,6 @@ module _ (p : Plan) (plan : IsPlan p) where
         let one = found_in there.0 step inside in
         let set : set_before p t node ≡ one.0 =
         ap (λ (s : List Held). slice_index_or s step []) is ∙ get_or_from_slice_get there.0 step one.0 [] one.1 in
-        let long : length one.0 ≡ length p.flat.mutexes = held_length p.flat th.text step one.0 ((sets.exactly step one.0).0 one.1) in
+        let long : length one.0 ≡ length p.flat.mutexes = held_length p.flat th.text step one.0 ((sets.exactly step one.0).0 one.1)
+        ∙ (ap (λ (ns : List LockName). length ns) (names_are_plain p.flat th.text plan.formed.single) ∙ length-plain_names (length p.flat.mutexes)) in
         omega (arith, ap (λ (h : Held). length h) set, long, plan.formed.shared.mutexes)

@@ -3,7 +3,7 @@ use Rattle.std.proofs.Common.{◌≡◌, ℕ, zero, suc, ◌+◌, ◌*◌, ◌/�
 use Rattle.std.proofs.Common.{Bool, true, false, pow-suc, pow_mono, lt_of_lt_of_le, subst, sym}
 use Rattle.std.proofs.lemmas.Bool.{or_left, ne_eqb, eq-eqb}
 use Rattle.ido_base.specs.Locks.{has_lock, locks_from, locks_in, mask_with}
-use Rattle.c_tree.specs.LockDiscipline.{Held, holds}
+use Rattle.c_tree.specs.LockNames.{Held, holds}
 use Rattle.lock_discipline.specs.Masks.{mask_of}
 use Rattle.lock_discipline.proofs.Public.{mask_of-bound}
 use Rattle.thread_code.specs.Plans.{locks_held_from, locks_held}

@@ -7,7 +7,8 @@ use Rattle.ido_ints.specs.declared.kinds.Kind.{Kind}
 use Rattle.c_tree.specs.Flats as f
 use Rattle.c_tree.specs.WellFormed.{shape_of, IsWellFormed}
 use Rattle.c_tree.specs.Temporaries.{price_fault}
-use Rattle.c_tree.specs.LockDiscipline.{Held, numbers_below}
+use Rattle.c_tree.specs.LockNames.{Held}
+use Rattle.c_tree.specs.LockDiscipline.{numbers_below}
 use Rattle.memory_layout.specs.declared.roles.TheConstants.{LOCALS}
 use Rattle.memory_layout.specs.Roles.{pending_address, pending_value}
 use Rattle.lock_discipline.specs.HeldSetsByStep.{AreAllSetsOf}

@@ -1,0 +1,152 @@
+-- Views of a thread: its log, what that says, how far the thread is, and what it has stored; and by what they are kept.
+use Rattle.std.proofs.Common.{◌≡◌, ℕ, List, [], ap, sym, ◌∙◌, subst, arith, Option, Some, None, Bool, true, false}
+use Rattle.std.proofs.lemmas.Bool.{cond-true, cond-false, true≢false}
+use Rattle.std.proofs.lemmas.Option.{none-some}
+use Rattle.std.specs.Prelude.{slice_get, Contains}
+use Rattle.ido_base.specs.declared.log.Log.{Log}
+use Rattle.ido_base.specs.declared.event.Event.TheVariants.{Step}
+use Rattle.rv64_isa.specs.declared.object.Slot.{Slot}
+use Rattle.rv64_isa.specs.Frames.{IsWellFormedWorld}
+use Rattle.rv64_isa.specs.Rows.{Effect}
+use Rattle.rv64_isa.specs.Machine.{Hart, World, Outcome, after_event, happens, moved}
+use Rattle.rv64_isa.proofs.Public.{log_stays, get-set_same}
+use Rattle.flow_graph.specs.Actions.{GraphThread}
+use Rattle.flow_graph.proofs.Public.{contains_none}
+use Rattle.hart_runs.specs.RunSteps.{is_clean}
+use Rattle.recovery_semantics.specs.Configs.{Config, attempt_of}
+use Rattle.recovery_semantics.specs.Events.{steps_begun}
+use Rattle.recovery_semantics.specs.Laws.{HasLocked, HasUnlocked}
+use Rattle.log_states.specs.Logs.{Record}
+use Rattle.log_states.specs.Stages.{LogIs, Moves, is_committed}
+use Rattle.log_states.specs.Machines.{MovesTo, config_of}
+use Rattle.log_states.specs.LogInvariant.{LogInv}
+use Rattle.log_states.proofs.Public.{keeps, stays_committed}
+use Rattle.thread_runs.specs.CodeFragments.{ExitPoint, Arrives, Keeps, Asks, Took, Gives, Ends}
+use Rattle.recovered_threads.specs.RecordDescriptions.{Code, Describes}
+use Rattle.recovered_threads.proofs.Public.{same_there}
+use Rattle.crash_simulation.specs.Systems.{System}
+use Rattle.crash_simulation.specs.AbstractRuns.{AbstractRun, kept_of, now_of}
+use Rattle.crash_simulation.specs.ThreadGhosts.{ThreadGhost, IsInAttempt, GoesClean, IsBounded, ExitInv, Rests, HasRecords, HasStored}
+
+-- ---- Its log
+
+-- of the hart that is found
+abbrev pub log_at : {thread : ℕ} {old new : Record} {u : World} {rest : List Effect} → LogInv thread old new u rest → (hart : Hart) →
+    slice_get u.harts thread ≡ Some hart → LogInv thread old new u rest
+log_at {thread} {old} {new} {u} {rest} log hart there = record {
+  hart = hart;
+  here = there;
+  log = subst (λ (x : Hart). LogIs u.log thread old new (config_of u x rest)) (same_there (slice_get u.harts thread) log.hart hart log.here there) log.log;
+}
+
+-- a move of it, of the harts that are found
+abbrev pub moves_at : {thread : ℕ} {w v : World} {hart : Hart} {rest later : List Effect} → MovesTo thread w hart rest v later → (old new : Hart) → hart ≡ old →
+    slice_get v.harts thread ≡ Some new → MovesTo thread w old rest v later
+moves_at {thread} {w} {v} {hart} {rest} {later} m old new same there = record {
+  next = new;
+  there = there;
+  log = m.log;
+  moves = subst (λ (x : Hart). Moves w.log thread (config_of w x rest) (config_of v new later)) same
+      (subst (λ (x : Hart). Moves w.log thread (config_of w hart rest) (config_of v x later)) (same_there (slice_get v.harts thread) m.next new m.there there)
+      m.moves);
+}
+
+module _ {thread : ℕ} {old new : Record} {w v : World} {rest later : List Effect} (log : LogInv thread old new w rest)
+    (m : MovesTo thread w log.hart rest v later) where
+  abbrev pub log_moved : LogInv thread old new v later
+  log_moved = record {
+    hart = m.next;
+    here = m.there;
+    log = subst (λ (l : Log). LogIs l thread old new (config_of v m.next later)) (sym m.log)
+        (keeps w.log thread old new (config_of w log.hart rest) (config_of v m.next later) log.log m.moves);
+  }
+
+  -- what is committed before it is so after it
+  pub committed_on : is_committed w.log thread (config_of w log.hart rest) ≡ true → is_committed v.log thread (config_of v m.next later) ≡ true
+  committed_on is = ap (λ (l : Log). is_committed l thread (config_of v m.next later)) m.log
+      ∙ stays_committed w.log thread old new (config_of w log.hart rest) (config_of v m.next later) log.log m.moves is
+
+-- ---- Its hart, where that moves alone: memory is as it was
+
+pub record IsQuiet (w v : World) (h : ℕ) (old new : Hart) : Type 0 where
+  pub words : v.words ≡ w.words
+  pub log : v.log ≡ w.log
+  pub here : slice_get v.harts h ≡ Some new
+  pub queue : new.queue ≡ old.queue
+
+pub moves_alone : (program : List (List Slot)) (w u : World) (h : ℕ) (old new : Hart) → IsWellFormedWorld w → slice_get w.harts h ≡ Some old →
+    happens program w (Step h) ≡ moved u h new → u.words ≡ w.words → u.harts ≡ w.harts → new.queue ≡ old.queue →
+    IsQuiet w (after_event program w (Step h)) h old new
+moves_alone program w u h old new sound here does words harts queue = record {
+  words = ap (λ (o : Outcome). o.0.words) does ∙ words;
+  log = log_stays program w (Step h) sound;
+  here = ap (λ (o : Outcome). slice_get o.0.harts h) does ∙ get-set_same u.harts h new old (ap (λ (hs : List Hart). slice_get hs h) harts ∙ here);
+  queue = queue;
+}
+
+-- ---- What its log says
+
+-- its ghost state, where a boundary begins that leads to the record
+abbrev pub begins_with : ThreadGhost → Record → (rest : List Effect) → (giving : Option ℕ) → (before_mark : ℕ) → ThreadGhost
+begins_with c r rest giving before_mark =
+    record { old = c.new; new = r; rest = rest; committed = false; cleans = []; giving = giving; before_mark = before_mark }
+
+module _ (y : System) (b : AbstractRun y) (code : Code y.plan) (c : ThreadGhost) {sooner : Bool} where
+  -- where no boundary is under way, and nothing is to be given back
+  pub records_over : c.committed ≡ true → c.giving ≡ None → sooner ≡ true → Describes y.plan code (kept_of y b) c.new → HasRecords y b code c sooner
+  records_over h0 h1 h2 h3 = grind (arith, cond-true, none-some, true≢false)
+
+  -- where one is
+  pub records_begin : c.committed ≡ false → Describes y.plan code (kept_of y b) c.old → Describes y.plan code (now_of y b) c.new → HasRecords y b code c sooner
+  records_begin h0 h1 h2 = grind (arith, cond-false, true≢false)
+
+  -- the record of a boundary that is taken as committed
+  pub describes_over : HasRecords y b code c sooner → c.committed ≡ true → Describes y.plan code (kept_of y b) c.new
+  describes_over records over = subst (Describes y.plan code (kept_of y b)) (cond-true c.committed c.new c.old over) records.describes
+
+-- ---- How far it is
+
+-- it has begun what it had, and no more is ahead
+pub record IsStill (m next : Config) (thread : ℕ) (c new : ThreadGhost) : Type 0 where
+  pub begun : steps_begun next thread ≡ steps_begun m thread
+  pub done : (attempt_of next thread).done ≡ (attempt_of m thread).done
+  pub locked : (mutex : ℕ) → HasLocked m thread mutex → HasLocked next thread mutex
+  pub unlocked : (mutex : ℕ) → HasUnlocked m thread mutex → HasUnlocked next thread mutex
+  pub rest : c.rest ≡ [] → new.rest ≡ []
+  pub cleans : c.cleans ≡ [] → new.cleans ≡ []
+  pub giving : new.giving ≡ c.giving
+  pub committed : new.committed ≡ c.committed
+
+module _ (y : System) {m next : Config} {thread : ℕ} {c new : ThreadGhost} (still : IsStill m next thread c new) where
+  pub goes_on : IsInAttempt y m thread c → IsInAttempt y next thread new
+  goes_on h0 = grind arith
+
+  pub clean_on : (ended : Bool) (graph_thread : GraphThread) → GoesClean y m thread c ended graph_thread → GoesClean y next thread new ended graph_thread
+  clean_on ended graph_thread g = record { goes = goes_on g.goes; cleans = still.cleans g.cleans; execution = g.execution }
+
+  bounded_on : (graph_thread : GraphThread) (giving : Option ℕ) (Before After : Type 0) → (Before → After) →
+      IsBounded y m thread c graph_thread giving Before → IsBounded y next thread new graph_thread giving After
+  bounded_on graph_thread giving Before After h4 h5 = grind arith
+
+  pub exit_on : (graph_thread : GraphThread) (exit : ExitPoint) → ExitInv y m thread c graph_thread exit → ExitInv y next thread new graph_thread exit
+  exit_on graph_thread Arrives f = (goes_on f.0, f.1)
+  exit_on graph_thread Keeps f = (f.0, still.begun ∙ (f.1 ∙ sym still.done), bounded_on graph_thread _ _ _ (λ u. u) f.2)
+  exit_on graph_thread (Asks mutex at) f = clean_on false graph_thread f
+  exit_on graph_thread (Took from) f = bounded_on graph_thread _ _ _ (λ l. (l.0, still.locked l.0 l.1)) f
+  exit_on graph_thread (Gives from mutex) f = bounded_on graph_thread _ _ _ (still.unlocked mutex) f
+  exit_on graph_thread Ends f = clean_on true graph_thread f
+
+  pub rests_on : new.before_mark ≡ c.before_mark → Rests y m thread c → Rests y next thread new
+  rests_on h0 h1 = grind arith
+
+-- ---- What it has stored
+
+pub none_clean : (effect : Effect) → Contains [] effect → is_clean effect ≡ true
+none_clean effect has = absurd (contains_none effect has)
+
+-- nothing, where its attempt has made no step
+pub none_stored : (y : System) (w : World) (b : AbstractRun y) (code : Code y.plan) (c : ThreadGhost) (hart : Hart) →
+    (attempt_of b.config code.thread.number).done ≡ 0 → ((effect : Effect) → Contains c.cleans effect → is_clean effect ≡ true) →
+    HasStored y w b code c hart
+none_stored y w b code c hart none clean =
+    record { cleans = clean; flushed = λ v e writes. let within = writes.within in absurd (omega (arith, within, none)) }
