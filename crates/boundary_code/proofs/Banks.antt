@@ -1,13 +1,15 @@
 -- The first part of a boundary, up to its first fence: the bank is stored, and its lines in use are cleaned.
-use Rattle.std.proofs.Common.{◌≡◌, ◌≢◌, ℕ, ◌+◌, ◌-◌, ◌*◌, ◌/◌, ◌^◌, ◌<◌, List, [], ◌∷◌, ◌++◌, length, map}
+use Rattle.std.proofs.Common.{◌≡◌, ◌≢◌, ℕ, ◌+◌, ◌-◌, ◌*◌, ◌/◌, ◌^◌, ◌<◌, ◌≤◌, List, [], ◌∷◌, ◌++◌, length, map}
 use Rattle.std.proofs.Common.{refl, ap, sym, ◌∙◌, arith, Bool, true, false, ◌==◌, lit<, if◌then◌else◌}
 use Rattle.std.specs.Prelude.{slice_set, filter}
 use Rattle.std.specs.List.{list_all, list_any}
 use Rattle.std.proofs.lemmas.Bool.{and_parts}
+use Rattle.std.proofs.lemmas.List.{get_or-set_other}
 use Rattle.std.proofs.lemmas.Bool.Decides.{nat_tests}
 use Rattle.ido_base.specs.declared.limits.TheConstants.{MOST_THREADS}
-use Rattle.ido_base.specs.Layout.{log_of, slot_at}
-use Rattle.ido_base.specs.declared.log.Log.TheVariants.{V1}
+use Rattle.ido_base.specs.Layout.{log_of, bank_bytes, slot_at}
+use Rattle.ido_base.specs.declared.log.Log.{Log}
+use Rattle.ido_base.specs.declared.log.Log.TheVariants.{V1, V2}
 use Rattle.rv64_isa.specs.declared.instr.Instr.{Instr}
 use Rattle.rv64_isa.specs.declared.instr.Instr.TheVariants.{Store, OpImmediate, Op, CboClean}
 use Rattle.rv64_isa.specs.declared.instr.Operation.TheVariants.{Add, Xor}
@@ -16,12 +18,12 @@ use Rattle.rv64_isa.specs.declared.instr.StoreKind.TheVariants.{Sd}
 use Rattle.rv64_isa.specs.Rows.{Effect, Continues, Stores, Cleans, row, read, next, displaced}
 use Rattle.rv64_isa.specs.Arithmetic.{sign_extended, result_of}
 use Rattle.memory_layout.specs.Roles.{is_temporary, is_kept}
-use Rattle.operator_code.specs.StraightLineCode.{IsConstant}
-use Rattle.boundary_code.specs.Boundaries.{lines_in_use, IsOnSide}
-use Rattle.boundary_code.specs.links.InstructionLists.{keep_slots, clean_lines, bank_part}
+use Rattle.operator_code.specs.StraightLineCode.{IsConstant, registers_after}
+use Rattle.boundary_code.specs.Boundaries.{lines_in_use, bank_lines, listed_from, IsOnSide, GiveNumbers}
+use Rattle.boundary_code.specs.links.InstructionLists.{KeptCode, keep_slots, keep_locks, clean_lines, bank_part}
 use Rattle.operator_code.proofs.Public.{RunsFrom, stop, go, store, clean, along, constant_runs, read_same, read_other, length-changed, small_immediate}
 use Rattle.operator_code.proofs.Public.{add_small, displaced_small}
-use Rattle.boundary_code.proofs.Registers.{Ready, ready, ready_still, flip}
+use Rattle.boundary_code.proofs.Registers.{Ready, ready, ready_still, flip, bank_immediate, base_small, log_small, not_temporary}
 
 -- ---- Slots
 
@@ -36,31 +38,39 @@ pub kept_registers : (live : List ℕ) → list_all is_kept live ≡ true → Ar
 kept_registers [] h = tt
 kept_registers (r ∷ rs) h = let parts = and_parts (is_kept r) (list_all is_kept rs) h in (kept_register r parts.0, kept_registers rs parts.1)
 
-slot_address : (thread bank slot : ℕ) → thread < MOST_THREADS → bank < 2 → slot < 32 →
-    displaced (log_of V1 thread + 256 * bank) 12 (64 + 8 * slot) ≡ slot_at V1 thread bank slot
-slot_address thread bank slot t b s = displaced_small (log_of V1 thread + 256 * bank) (64 + 8 * slot) (omega arith) (omega arith) ∙ omega arith
+slot_address : (log : Log) (thread bank slot : ℕ) → thread < MOST_THREADS → bank < 2 → slot < 48 →
+    displaced (log_of log thread + bank_bytes log * bank) 12 (64 + 8 * slot) ≡ slot_at log thread bank slot
+slot_address log thread bank slot t b s =
+    displaced_small (log_of log thread + bank_bytes log * bank) (64 + 8 * slot) (omega (arith, s)) (omega (arith, s, base_small log thread bank t b))
+    ∙ sums (log_of log thread) (bank_bytes log * bank) slot
+  where
+    sums : (a c n : ℕ) → a + c + (64 + 8 * n) ≡ a + 64 + c + 8 * n
+    sums a c n = omega arith
 
-slot_row : (thread bank : ℕ) (x y : List ℕ) (r offset pc : ℕ) → displaced (log_of V1 thread + 256 * bank) 12 offset ≡ slot_at V1 thread bank r →
-    Ready thread bank x y →
-    row (Store Sd r 30 offset) y pc ≡ Stores (slot_at V1 thread bank r) 8 (read y r)
+slot_row : (log : Log) (thread bank : ℕ) (x y : List ℕ) (r slot offset pc : ℕ) →
+    displaced (log_of log thread + bank_bytes log * bank) 12 offset ≡ slot_at log thread bank slot → Ready log thread bank x y →
+    row (Store Sd r 30 offset) y pc ≡ Stores (slot_at log thread bank slot) 8 (read y r)
 unfolding row
-slot_row thread bank x y r offset pc e h = ap (λ (n : ℕ). Stores (displaced n 12 offset) 8 (read y r)) h.base ∙ ap (λ (n : ℕ). Stores n 8 (read y r)) e
+slot_row log thread bank x y r slot offset pc e h =
+    ap (λ (n : ℕ). Stores (displaced n 12 offset) 8 (read y r)) h.base ∙ ap (λ (n : ℕ). Stores n 8 (read y r)) e
 
-pub slots_run : (thread bank : ℕ) (x y : List ℕ) (live : List ℕ) (pc : ℕ) → thread < MOST_THREADS → bank < 2 → AreKept live → Ready thread bank x y →
-    RunsFrom (keep_slots live) y pc (map (λ r. Stores (slot_at V1 thread bank r) 8 (read x r)) live) y
-slots_run thread bank x y [] pc t b kept h = stop y pc
-slots_run thread bank x y (r ∷ rs) pc t b kept h =
-    let here = slot_row thread bank x y r (64 + 8 * r) pc (slot_address thread bank r t b kept.0.0) h in
+pub slots_run : (log : Log) (thread bank : ℕ) (x y : List ℕ) (live : List ℕ) (pc : ℕ) → thread < MOST_THREADS → bank < 2 → AreKept live →
+    Ready log thread bank x y →
+    RunsFrom (keep_slots live) y pc (map (λ r. Stores (slot_at log thread bank r) 8 (read x r)) live) y
+slots_run log thread bank x y [] pc t b kept h = stop y pc
+slots_run log thread bank x y (r ∷ rs) pc t b kept h =
+    let below : r < 48 = omega (arith, kept.0.0) in
+    let here = slot_row log thread bank x y r r (64 + 8 * r) pc (slot_address log thread bank r t b below) h in
     let value : read y r ≡ read x r = h.others r kept.0.1 kept.0.2 in
-    store (Store Sd r 30 (64 + 8 * r)) (keep_slots rs) y pc (slot_at V1 thread bank r) 8 (read x r)
-    (map (λ s. Stores (slot_at V1 thread bank s) 8 (read x s)) rs) y
-    (here ∙ ap (λ (n : ℕ). Stores (slot_at V1 thread bank r) 8 n) value) (slots_run thread bank x y rs (pc + 4) t b kept.1 h)
+    store (Store Sd r 30 (64 + 8 * r)) (keep_slots rs) y pc (slot_at log thread bank r) 8 (read x r)
+    (map (λ s. Stores (slot_at log thread bank s) 8 (read x s)) rs) y
+    (here ∙ ap (λ (n : ℕ). Stores (slot_at log thread bank r) 8 n) value) (slots_run log thread bank x y rs (pc + 4) t b kept.1 h)
 
 -- ---- Lines
 
 abbrev pub AreLines : List ℕ → Type 0
 AreLines [] = Unit {0}
-AreLines (line ∷ lines) = (line < 4) × AreLines lines
+AreLines (line ∷ lines) = (line < 6) × AreLines lines
 
 lines-filter : (p : ℕ → Bool) (lines : List ℕ) → AreLines lines → AreLines (filter p lines)
 lines-filter p [] h = tt
@@ -70,60 +80,59 @@ lines-filter p (line ∷ lines) h = by (p line) (lines-filter p lines h.1)
     by true rest = (h.0, rest)
     by false rest = rest
 
-pub are_lines : (slots : List ℕ) → AreLines (lines_in_use V1 slots)
-are_lines slots = lines-filter (λ line. list_any (λ slot. slot / 8 == line) slots) (0 ∷ 1 ∷ 2 ∷ 3 ∷ []) (lit< tt, (lit< tt, (lit< tt, (lit< tt, tt))))
+all_lines : (log : Log) → AreLines (bank_lines log)
+all_lines V1 = (lit< tt, (lit< tt, (lit< tt, (lit< tt, tt))))
+all_lines V2 = (lit< tt, (lit< tt, (lit< tt, (lit< tt, (lit< tt, (lit< tt, tt))))))
 
-pub record Cleaned (thread bank : ℕ) (x y : List ℕ) (lines : List ℕ) (pc : ℕ) : Type 0 where
+pub are_lines : (log : Log) (slots : List ℕ) → AreLines (lines_in_use log slots)
+are_lines log slots = lines-filter (λ line. list_any (λ slot. slot / 8 == line) slots) (bank_lines log) (all_lines log)
+
+-- code that runs within a boundary with these effects, and leaves its registers ready
+pub record Written (log : Log) (thread bank : ℕ) (x y : List ℕ) (code : List Instr) (pc : ℕ) (es : List Effect) : Type 0 where
   pub left : List ℕ
-  pub runs : RunsFrom (clean_lines lines) y pc (map (λ line. Cleans (slot_at V1 thread bank (8 * line))) lines) left
-  pub ready : Ready thread bank x left
+  pub runs : RunsFrom code y pc es left
+  pub ready : Ready log thread bank x left
 
-line_address : (thread bank line : ℕ) → thread < MOST_THREADS → bank < 2 → line < 4 →
-    result_of Add (log_of V1 thread + 256 * bank) (sign_extended 12 64 (64 + 64 * line)) ≡ slot_at V1 thread bank (8 * line)
-line_address thread bank line t b l =
-    ap (λ (n : ℕ). result_of Add (log_of V1 thread + 256 * bank) n) (small_immediate (64 + 64 * line) (omega arith)) ∙
-    add_small (log_of V1 thread + 256 * bank) (64 + 64 * line) (omega arith) ∙ omega arith
+line_address : (log : Log) (thread bank line : ℕ) → thread < MOST_THREADS → bank < 2 → line < 6 →
+    result_of Add (log_of log thread + bank_bytes log * bank) (sign_extended 12 64 (64 + 64 * line)) ≡ slot_at log thread bank (8 * line)
+line_address log thread bank line t b l =
+    ap (λ (n : ℕ). result_of Add (log_of log thread + bank_bytes log * bank) n) (small_immediate (64 + 64 * line) (omega (arith, l))) ∙
+    add_small (log_of log thread + bank_bytes log * bank) (64 + 64 * line) (omega (arith, l, base_small log thread bank t b)) ∙
+    sums (log_of log thread) (bank_bytes log * bank) line
+  where
+    sums : (a c n : ℕ) → a + c + (64 + 64 * n) ≡ a + 64 + c + 8 * (8 * n)
+    sums a c n = omega arith
 
-line_row : (thread bank : ℕ) (x y : List ℕ) (line pc : ℕ) → thread < MOST_THREADS → bank < 2 → line < 4 → Ready thread bank x y →
-    row (OpImmediate Addi 7 30 (64 + 64 * line)) y pc ≡ Continues (slice_set y 7 (slot_at V1 thread bank (8 * line))) (next pc)
+line_row : (log : Log) (thread bank : ℕ) (x y : List ℕ) (line pc : ℕ) → thread < MOST_THREADS → bank < 2 → line < 6 → Ready log thread bank x y →
+    row (OpImmediate Addi 7 30 (64 + 64 * line)) y pc ≡ Continues (slice_set y 7 (slot_at log thread bank (8 * line))) (next pc)
 unfolding row
-line_row thread bank x y line pc t b l h =
+line_row log thread bank x y line pc t b l h =
     ap (λ (n : ℕ). Continues (slice_set y 7 (result_of Add n (sign_extended 12 64 (64 + 64 * line)))) (next pc)) h.base ∙
-    ap (λ (n : ℕ). Continues (slice_set y 7 n) (next pc)) (line_address thread bank line t b l)
+    ap (λ (n : ℕ). Continues (slice_set y 7 n) (next pc)) (line_address log thread bank line t b l)
 
 clean_row : (y : List ℕ) (r address pc : ℕ) → read y r ≡ address → row (CboClean r) y pc ≡ Cleans address
 unfolding row
 clean_row y r address pc e = ap (λ (n : ℕ). Cleans n) e
 
-pub cleans_run : (thread bank : ℕ) (x y : List ℕ) (lines : List ℕ) (pc : ℕ) → thread < MOST_THREADS → bank < 2 → AreLines lines → Ready thread bank x y →
-    Cleaned thread bank x y lines pc
-cleans_run thread bank x y [] pc t b few h = record { left = y; runs = stop y pc; ready = h }
-cleans_run thread bank x y (line ∷ lines) pc t b few h =
-    let address : ℕ = slot_at V1 thread bank (8 * line) in
+pub cleans_run : (log : Log) (thread bank : ℕ) (x y : List ℕ) (lines : List ℕ) (pc : ℕ) → thread < MOST_THREADS → bank < 2 → AreLines lines →
+    Ready log thread bank x y →
+    Written log thread bank x y (clean_lines lines) pc (map (λ line. Cleans (slot_at log thread bank (8 * line))) lines)
+cleans_run log thread bank x y [] pc t b few h = record { left = y; runs = stop y pc; ready = h }
+cleans_run log thread bank x y (line ∷ lines) pc t b few h =
+    let address : ℕ = slot_at log thread bank (8 * line) in
     let y' : List ℕ = slice_set y 7 address in
-    let more = cleans_run thread bank x y' lines (pc + 4 + 4) t b few.1 (ready_still thread bank x y address h) in
-    let rest : List Effect = map (λ l. Cleans (slot_at V1 thread bank (8 * l))) lines in
+    let more = cleans_run log thread bank x y' lines (pc + 4 + 4) t b few.1 (ready_still log thread bank x y address h) in
+    let rest : List Effect = map (λ l. Cleans (slot_at log thread bank (8 * l))) lines in
     record {
       left = more.left;
       runs = go (OpImmediate Addi 7 30 (64 + 64 * line)) (CboClean 7 ∷ clean_lines lines) y y' pc (Cleans address ∷ rest) more.left
-          (line_row thread bank x y line pc t b few.0 h)
+          (line_row log thread bank x y line pc t b few.0 h)
           (clean (CboClean 7) (clean_lines lines) y' (pc + 4) address rest more.left
           (clean_row y' 7 address (pc + 4) (read_same y 7 address h.count (lit< tt))) more.runs);
       ready = more.ready;
     }
 
--- ---- The part
-
-pub record Banked (thread mask bank : ℕ) (log record_code : List Instr) (live : List ℕ) (x : List ℕ) (pc : ℕ) : Type 0 where
-  pub left : List ℕ
-  pub runs : RunsFrom (bank_part log record_code live) x pc
-      (Stores (slot_at V1 thread bank 0) 8 mask ∷ map (λ r. Stores (slot_at V1 thread bank r) 8 (read x r)) live ++ map
-      (λ line. Cleans (slot_at V1 thread bank (8 * line))) (lines_in_use V1 (0 ∷ live))) left
-  pub ready : Ready thread bank x left
-
-flip_row : (x : List ℕ) (bank pc : ℕ) → IsOnSide V1 bank x → row (OpImmediate Xori 3 3 256) x pc ≡ Continues (slice_set x 3 (256 * (1 - bank))) (next pc)
-unfolding row
-flip_row x bank pc h = ap (λ (n : ℕ). Continues (slice_set x 3 n) (next pc)) (ap (λ (n : ℕ). result_of Xor n 256) h.offset ∙ flip bank h.exists)
+-- ---- Locks in slots of their own
 
 base_row : (y : List ℕ) (log offset pc : ℕ) → read y 31 ≡ log → read y 3 ≡ offset → log + offset < 2 ^ 64 →
     row (Op Add 30 31 3) y pc ≡ Continues (slice_set y 30 (log + offset)) (next pc)
@@ -132,55 +141,129 @@ base_row y log offset pc e f s = ap (λ (n : ℕ). Continues (slice_set y 30 (re
     ap (λ (n : ℕ). Continues (slice_set y 30 (result_of Add log n)) (next pc)) f ∙
     ap (λ (n : ℕ). Continues (slice_set y 30 n) (next pc)) (add_small log offset s)
 
-mask_row : (thread bank : ℕ) (x y : List ℕ) (mask pc : ℕ) → thread < MOST_THREADS → bank < 2 → Ready thread bank x y → read y 7 ≡ mask →
-    row (Store Sd 7 30 64) y pc ≡ Stores (slot_at V1 thread bank 0) 8 mask
-unfolding row
-mask_row thread bank x y mask pc t b h e =
-    ap (λ (n : ℕ). Stores (displaced n 12 64) 8 (read y 7)) h.base ∙
-    ap (λ (n : ℕ). Stores n 8 (read y 7)) (slot_address thread bank 0 t b (lit< tt)) ∙ ap (λ (n : ℕ). Stores (slot_at V1 thread bank 0) 8 n) e
+-- the stores of these slots
+abbrev pub stores_of : (log : Log) (thread bank : ℕ) → List (ℕ × ℕ) → List Effect
+stores_of log thread bank kept = map (λ (one : ℕ × ℕ). Stores (slot_at log thread bank one.0) 8 one.1) kept
 
-pub banked : (thread mask bank : ℕ) (log record_code : List Instr) (live : List ℕ) (x : List ℕ) (pc : ℕ) → thread < MOST_THREADS →
-    AreKept live → IsOnSide V1 bank x →
-    IsConstant 31 (log_of V1 thread) log → IsConstant 7 mask record_code → Banked thread mask (1 - bank) log record_code live x pc
-banked thread mask bank log record_code live x pc t kept at is_log is_mask =
+pub locks_run : (log : Log) (thread bank : ℕ) (x : List ℕ) (slot : ℕ) (numbers : List ℕ) (codes : List (List Instr)) → thread < MOST_THREADS → bank < 2 →
+    slot + length numbers ≤ 48 → GiveNumbers numbers codes → (y : List ℕ) (pc : ℕ) → Ready log thread bank x y →
+    Written log thread bank x y (keep_locks slot codes) pc (stores_of log thread bank (listed_from slot numbers))
+locks_run log thread bank x slot [] [] t b few gives y pc h = record { left = y; runs = stop y pc; ready = h }
+locks_run log thread bank x slot [] (code ∷ codes) t b few gives y pc h = absurd gives
+locks_run log thread bank x slot (number ∷ numbers) [] t b few gives y pc h = absurd gives
+locks_run log thread bank x slot (number ∷ numbers) (code ∷ codes) t b few gives y pc h =
+    let one = gives.0 in
+    let z : List ℕ = registers_after code y pc in
+    let pc2 : ℕ = pc + 4 * length code in
+    let base : ℕ = log_of log thread + bank_bytes log * bank in
+    let w : List ℕ = slice_set z 30 base in
+    let count : length z ≡ 32 = one.count y pc h.count h.zero_is in
+    let offset : read z 3 ≡ bank_bytes log * bank =
+    one.others y pc 3 h.count h.zero_is (λ e. let n : ⊥ = omega (arith, e) in n) (λ e. let n : ⊥ = omega (arith, e) in n)
+    (λ e. let n : ⊥ = omega (arith, e) in n) (λ e. let n : ⊥ = omega (arith, e) in n) ∙ h.offset in
+    let logged : read z 31 ≡ log_of log thread =
+    one.others y pc 31 h.count h.zero_is (λ e. let n : ⊥ = omega (arith, e) in n) (λ e. let n : ⊥ = omega (arith, e) in n)
+    (λ e. let n : ⊥ = omega (arith, e) in n) (λ e. let n : ⊥ = omega (arith, e) in n) ∙ h.logged in
+    let zeroth : read z 0 ≡ 0 =
+    one.others y pc 0 h.count h.zero_is (λ e. let n : ⊥ = omega (arith, e) in n) (λ e. let n : ⊥ = omega (arith, e) in n)
+    (λ e. let n : ⊥ = omega (arith, e) in n) (λ e. let n : ⊥ = omega (arith, e) in n) ∙ h.zero_is in
+    let ready_again : Ready log thread bank x w = record {
+      count = length-changed z 30 base count;
+      zero_is = read_other z 30 0 base refl ∙ zeroth;
+      offset = read_other z 30 3 base refl ∙ offset;
+      logged = read_other z 30 31 base refl ∙ logged;
+      base = read_same z 30 base count (lit< tt);
+      others = λ r s n. get_or-set_other z 30 r base 0 (not_temporary r 30 refl s) ∙
+          one.others y pc r h.count h.zero_is (not_temporary r 5 refl s) (not_temporary r 6 refl s) (not_temporary r 7 refl s) (not_temporary r 30 refl s) ∙
+          h.others r s n;
+    } in
+    let value : read w 5 ≡ number = read_other z 30 5 base refl ∙ one.number_is y pc h.count h.zero_is in
+    let below : slot < 48 = omega (arith, few) in
+    let more = locks_run log thread bank x (slot + 1) numbers codes t b (omega (arith, few)) gives.1 w (pc2 + 4 + 4) ready_again in
+    let rest : List Effect = stores_of log thread bank (listed_from (slot + 1) numbers) in
+    let store_row : row (Store Sd 5 30 (64 + 8 * slot)) w (pc2 + 4) ≡ Stores (slot_at log thread bank slot) 8 number =
+    slot_row log thread bank x w 5 slot (64 + 8 * slot) (pc2 + 4) (slot_address log thread bank slot t b below) ready_again ∙
+    ap (λ (n : ℕ). Stores (slot_at log thread bank slot) 8 n) value in
+    let first : RunsFrom code y pc [] z = record { sees = one.unseen y pc h.count h.zero_is; leaves = refl } in
+    let second : RunsFrom (Op Add 30 31 3 ∷ Store Sd 5 30 (64 + 8 * slot) ∷ keep_locks (slot + 1) codes) z pc2
+    (Stores (slot_at log thread bank slot) 8 number ∷ rest) more.left =
+    go (Op Add 30 31 3) (Store Sd 5 30 (64 + 8 * slot) ∷ keep_locks (slot + 1) codes) z w pc2 (Stores (slot_at log thread bank slot) 8 number ∷ rest)
+    more.left
+    (base_row z (log_of log thread) (bank_bytes log * bank) pc2 logged offset (omega (arith, base_small log thread bank t b)))
+    (store (Store Sd 5 30 (64 + 8 * slot)) (keep_locks (slot + 1) codes) w (pc2 + 4) (slot_at log thread bank slot) 8 number rest more.left store_row
+    more.runs) in
+    record {
+      left = more.left;
+      runs = along code (Op Add 30 31 3 ∷ Store Sd 5 30 (64 + 8 * slot) ∷ keep_locks (slot + 1) codes) y z more.left pc []
+          (Stores (slot_at log thread bank slot) 8 number ∷ rest) first second;
+      ready = more.ready;
+    }
+
+-- ---- The part
+
+flip_row : (log : Log) (x : List ℕ) (bank pc : ℕ) → IsOnSide log bank x →
+    row (OpImmediate Xori 3 3 (bank_bytes log)) x pc ≡ Continues (slice_set x 3 (bank_bytes log * (1 - bank))) (next pc)
+unfolding row
+flip_row log x bank pc h =
+    ap (λ (n : ℕ). Continues (slice_set x 3 (result_of Xor (read x 3) n)) (next pc)) (small_immediate (bank_bytes log) (bank_immediate log)) ∙
+    ap (λ (n : ℕ). Continues (slice_set x 3 n) (next pc)) (ap (λ (n : ℕ). result_of Xor n (bank_bytes log)) h.offset ∙ flip log bank h.exists)
+
+first_row : (log : Log) (thread bank : ℕ) (x y : List ℕ) (value pc : ℕ) → thread < MOST_THREADS → bank < 2 → Ready log thread bank x y → read y 7 ≡ value →
+    row (Store Sd 7 30 64) y pc ≡ Stores (slot_at log thread bank 0) 8 value
+first_row log thread bank x y value pc t b h e =
+    slot_row log thread bank x y 7 0 64 pc (slot_address log thread bank 0 t b (lit< tt)) h ∙ ap (λ (n : ℕ). Stores (slot_at log thread bank 0) 8 n) e
+
+pub banked : (log : Log) (thread value bank : ℕ) (address : List Instr) (kept : KeptCode) (rest : List (ℕ × ℕ)) (live : List ℕ) (x : List ℕ) (pc : ℕ) →
+    thread < MOST_THREADS → AreKept live → IsOnSide log bank x → IsConstant 31 (log_of log thread) address → IsConstant 7 value kept.first →
+    ((y : List ℕ) (at : ℕ) → Ready log thread (1 - bank) x y → Written log thread (1 - bank) x y kept.others at (stores_of log thread (1 - bank) rest)) →
+    Written log thread (1 - bank) x x (bank_part log address kept live) pc
+    ((stores_of log thread (1 - bank) ((0, value) ∷ rest) ++ map (λ r. Stores (slot_at log thread (1 - bank) r) 8 (read x r)) live) ++
+    map (λ line. Cleans (slot_at log thread (1 - bank) (8 * line))) (lines_in_use log kept.slots))
+banked log thread value bank address kept rest live x pc t keeps at is_log is_first others =
     let other : ℕ = 1 - bank in
     let below : other < 2 = omega arith in
-    let offset : ℕ = 256 * other in
+    let offset : ℕ = bank_bytes log * other in
+    let place : ℕ = log_of log thread in
     let x1 : List ℕ = slice_set x 3 offset in
-    let x2 : List ℕ = slice_set x1 31 (log_of V1 thread) in
-    let x3 : List ℕ = slice_set x2 30 (log_of V1 thread + offset) in
-    let x4 : List ℕ = slice_set x3 7 mask in
+    let x2 : List ℕ = slice_set x1 31 place in
+    let x3 : List ℕ = slice_set x2 30 (place + offset) in
+    let x4 : List ℕ = slice_set x3 7 value in
     let l1 : length x1 ≡ 32 = length-changed x 3 offset at.count in
-    let l2 : length x2 ≡ 32 = length-changed x1 31 (log_of V1 thread) l1 in
-    let l3 : length x3 ≡ 32 = length-changed x2 30 (log_of V1 thread + offset) l2 in
+    let l2 : length x2 ≡ 32 = length-changed x1 31 place l1 in
+    let l3 : length x3 ≡ 32 = length-changed x2 30 (place + offset) l2 in
     let z1 : read x1 0 ≡ 0 = read_other x 3 0 offset refl ∙ at.zero_is in
-    let z3 : read x3 0 ≡ 0 = read_other x2 30 0 (log_of V1 thread + offset) refl ∙ read_other x1 31 0 (log_of V1 thread) refl ∙ z1 in
-    let o2 : read x2 3 ≡ offset = read_other x1 31 3 (log_of V1 thread) refl ∙ read_same x 3 offset at.count (lit< tt) in
-    let start = ready thread other mask x at.count at.zero_is in
-    let first : RunsFrom (OpImmediate Xori 3 3 256 ∷ log) x pc [] x2 =
-    go (OpImmediate Xori 3 3 256) log x x1 pc [] x2 (flip_row x bank pc at) (constant_runs 31 (log_of V1 thread) log x1 (pc + 4) is_log l1 z1) in
-    let pc2 : ℕ = pc + 4 * length (OpImmediate Xori 3 3 256 ∷ log) in
-    let second : RunsFrom (Op Add 30 31 3 ∷ record_code) x2 pc2 [] x4 =
-    go (Op Add 30 31 3) record_code x2 x3 pc2 [] x4
-    (base_row x2 (log_of V1 thread) offset pc2 (read_same x1 31 (log_of V1 thread) l1 (lit< tt)) o2 (omega arith))
-    (constant_runs 7 mask record_code x3 (pc2 + 4) is_mask l3 z3) in
-    let a = along (OpImmediate Xori 3 3 256 ∷ log) (Op Add 30 31 3 ∷ record_code) x x2 x4 pc [] [] first second in
-    let pc3 : ℕ = pc + 4 * length (OpImmediate Xori 3 3 256 ∷ log ++ Op Add 30 31 3 ∷ record_code) in
-    let slots : List Effect = map (λ r. Stores (slot_at V1 thread other r) 8 (read x r)) live in
-    let third : RunsFrom (Store Sd 7 30 64 ∷ keep_slots live) x4 pc3 (Stores (slot_at V1 thread other 0) 8 mask ∷ slots) x4 =
-    store (Store Sd 7 30 64) (keep_slots live) x4 pc3 (slot_at V1 thread other 0) 8 mask slots x4
-    (mask_row thread other x x4 mask pc3 t below start (read_same x3 7 mask l3 (lit< tt)))
-    (slots_run thread other x x4 live (pc3 + 4) t below kept start) in
-    let b = along (OpImmediate Xori 3 3 256 ∷ log ++ Op Add 30 31 3 ∷ record_code) (Store Sd 7 30 64 ∷ keep_slots live) x x4 x4 pc []
-    (Stores (slot_at V1 thread other 0) 8 mask ∷ slots) a third in
-    let done = cleans_run thread other x x4 (lines_in_use V1 (0 ∷ live))
-    (pc + 4 * length (OpImmediate Xori 3 3 256 ∷ log ++ Op Add 30 31 3 ∷ record_code ++ Store Sd 7 30 64 ∷ keep_slots live)) t below
-    (are_lines (0 ∷ live)) start in
+    let z3 : read x3 0 ≡ 0 = read_other x2 30 0 (place + offset) refl ∙ read_other x1 31 0 place refl ∙ z1 in
+    let o2 : read x2 3 ≡ offset = read_other x1 31 3 place refl ∙ read_same x 3 offset at.count (lit< tt) in
+    let start = ready log thread other value x at.count at.zero_is in
+    let flips : List Instr = OpImmediate Xori 3 3 (bank_bytes log) ∷ address in
+    let begins : List Instr = Op Add 30 31 3 ∷ kept.first in
+    let stores : List Instr = Store Sd 7 30 64 ∷ kept.others in
+    let first : RunsFrom flips x pc [] x2 =
+    go (OpImmediate Xori 3 3 (bank_bytes log)) address x x1 pc [] x2 (flip_row log x bank pc at) (constant_runs 31 place address x1 (pc + 4) is_log l1 z1) in
+    let pc2 : ℕ = pc + 4 * length flips in
+    let second : RunsFrom begins x2 pc2 [] x4 =
+    go (Op Add 30 31 3) kept.first x2 x3 pc2 [] x4
+    (base_row x2 place offset pc2 (read_same x1 31 place l1 (lit< tt)) o2 (omega (arith, base_small log thread other t below)))
+    (constant_runs 7 value kept.first x3 (pc2 + 4) is_first l3 z3) in
+    let a : RunsFrom (flips ++ begins) x pc [] x4 = along flips begins x x2 x4 pc [] [] first second in
+    let pc3 : ℕ = pc + 4 * length (flips ++ begins) in
+    let listed = others x4 (pc3 + 4) start in
+    let locks : List Effect = stores_of log thread other ((0, value) ∷ rest) in
+    let third : RunsFrom stores x4 pc3 locks listed.left =
+    store (Store Sd 7 30 64) kept.others x4 pc3 (slot_at log thread other 0) 8 value (stores_of log thread other rest) listed.left
+    (first_row log thread other x x4 value pc3 t below start (read_same x3 7 value l3 (lit< tt))) listed.runs in
+    let b : RunsFrom (flips ++ begins ++ stores) x pc locks listed.left = along (flips ++ begins) stores x x4 listed.left pc [] locks a third in
+    let slots : List Effect = map (λ r. Stores (slot_at log thread other r) 8 (read x r)) live in
+    let pc4 : ℕ = pc + 4 * length (flips ++ begins ++ stores) in
+    let fourth : RunsFrom (keep_slots live) listed.left pc4 slots listed.left =
+    slots_run log thread other x listed.left live pc4 t below keeps listed.ready in
+    let c : RunsFrom (flips ++ begins ++ stores ++ keep_slots live) x pc (locks ++ slots) listed.left =
+    along (flips ++ begins ++ stores) (keep_slots live) x listed.left listed.left pc locks slots b fourth in
+    let done = cleans_run log thread other x listed.left (lines_in_use log kept.slots) (pc + 4 * length (flips ++ begins ++ stores ++ keep_slots live)) t below
+    (are_lines log kept.slots) listed.ready in
     record {
       left = done.left;
-      runs = along (OpImmediate Xori 3 3 256 ∷ log ++ Op Add 30 31 3 ∷ record_code ++ Store Sd 7 30 64 ∷ keep_slots live)
-          (clean_lines (lines_in_use V1 (0 ∷ live))) x x4 done.left pc
-          (Stores (slot_at V1 thread other 0) 8 mask ∷ slots)
-          (map (λ line. Cleans (slot_at V1 thread other (8 * line))) (lines_in_use V1 (0 ∷ live))) b done.runs;
+      runs = along (flips ++ begins ++ stores ++ keep_slots live) (clean_lines (lines_in_use log kept.slots)) x listed.left done.left pc
+          (locks ++ slots) (map (λ line. Cleans (slot_at log thread other (8 * line))) (lines_in_use log kept.slots)) c done.runs;
       ready = done.ready;
     }

@@ -3,11 +3,13 @@ use Rattle.std.proofs.Common.{◌≡◌, ℕ, ◌+◌, ◌*◌, ◌≤◌, List,
 use Rattle.std.specs.Prelude.{if◌then◌else◌, ◌==◌, ◌/◌}
 use Rattle.std.specs.List.{list_any}
 use Rattle.std.proofs.lemmas.List.{length-append}
-use Rattle.ido_base.specs.declared.log.Log.TheVariants.{V1}
+use Rattle.ido_base.specs.declared.log.Log.{Log}
 use Rattle.rv64_isa.specs.declared.instr.Instr.{Instr}
-use Rattle.rv64_isa.specs.declared.instr.Instr.TheVariants.{Fence}
-use Rattle.boundary_code.specs.Boundaries.{lines_in_use}
-use Rattle.boundary_code.specs.links.InstructionLists.{keep_slots, clean_lines, commit, boundary_list, last_list}
+use Rattle.rv64_isa.specs.declared.instr.Instr.TheVariants.{Fence, Op, Store}
+use Rattle.rv64_isa.specs.declared.instr.Operation.TheVariants.{Add}
+use Rattle.rv64_isa.specs.declared.instr.StoreKind.TheVariants.{Sd}
+use Rattle.boundary_code.specs.Boundaries.{bank_lines, lines_in_use}
+use Rattle.boundary_code.specs.links.InstructionLists.{KeptCode, AreShort, keep_slots, keep_locks, clean_lines, commit, boundary_list, last_list}
 
 slots_length : (live : List ℕ) → length (keep_slots live) ≡ length live
 slots_length [] = refl
@@ -25,16 +27,28 @@ fewer test (line ∷ lines) = by (test line) (fewer test lines)
     by true h = omega (arith, h)
     by false h = omega (arith, h)
 
-lines_length : (slots : List ℕ) → length (lines_in_use V1 slots) ≤ 4
-lines_length slots = fewer (λ line. list_any (λ slot. slot / 8 == line) slots) (0 ∷ 1 ∷ 2 ∷ 3 ∷ [])
+lines_length : (log : Log) (slots : List ℕ) → length (lines_in_use log slots) ≤ length (bank_lines log)
+lines_length log slots = fewer (λ line. list_any (λ slot. slot / 8 == line) slots) (bank_lines log)
 
-pub boundary_short : (log mask : List Instr) (live : List ℕ) (resume : ℕ) → length log ≤ 8 → length mask ≤ 8 →
-    length (boundary_list log mask live resume) ≤ length live + 35
-boundary_short log mask live resume l m =
+-- the code of the locks in slots of their own, where each lock has this many instructions at most
+pub locks_length : (slot most : ℕ) (codes : List (List Instr)) → AreShort most codes → length (keep_locks slot codes) ≤ (most + 2) * length codes
+locks_length slot most [] short = omega arith
+locks_length slot most (code ∷ codes) short =
+    let more = locks_length (slot + 1) most codes short.1 in
+    let e = length-append code (Op Add 30 31 3 ∷ Store Sd 5 30 (64 + 8 * slot) ∷ keep_locks (slot + 1) codes) in
+    let first = short.0 in
+    omega (arith, more, e, first, sums most (length codes))
+  where
+    sums : (m n : ℕ) → (m + 2) * (n + 1) ≡ (m + 2) * n + m + 2
+    sums m n = omega arith
+
+pub boundary_short : (log : Log) (address : List Instr) (kept : KeptCode) (live : List ℕ) (resume : ℕ) → length address ≤ 8 → length kept.first ≤ 8 →
+    length (boundary_list log address kept live resume) ≤ length live + length kept.others + 27 + 2 * length (bank_lines log)
+boundary_short log address kept live resume l m =
     let slots : length (keep_slots live) ≡ length live = slots_length live in
-    let cleans : length (clean_lines (lines_in_use V1 (0 ∷ live))) ≡ 2 * length (lines_in_use V1 (0 ∷ live)) = cleans_length (lines_in_use V1 (0 ∷ live)) in
-    let lines : length (lines_in_use V1 (0 ∷ live)) ≤ 4 = lines_length (0 ∷ live) in
+    let cleans : length (clean_lines (lines_in_use log kept.slots)) ≡ 2 * length (lines_in_use log kept.slots) = cleans_length (lines_in_use log kept.slots) in
+    let lines = lines_length log kept.slots in
     simp length-append (omega (arith, slots, cleans, lines, l, m))
 
-pub last_short : (log : List Instr) (live : List ℕ) → length log ≤ 8 → length (last_list log) ≤ length live + 35
-last_short log live l = let e : length (last_list log) ≡ length log + 4 = length-append log (Fence ∷ commit 0) in omega (arith, e, l)
+pub last_short : (address : List Instr) (live : List ℕ) → length address ≤ 8 → length (last_list address) ≤ length live + 35
+last_short address live l = let e : length (last_list address) ≡ length address + 4 = length-append address (Fence ∷ commit 0) in omega (arith, e, l)

@@ -5,6 +5,7 @@ mod Registers
 mod Banks
 mod Points
 mod WholeBoundaries
+mod BoundariesByPieces
 mod Sides
 mod Worked
 mod Lengths

@@ -5,8 +5,8 @@ use Rattle.std.specs.Prelude.{slice_set, ℤ, pos, negsuc, ◌≤ℤ◌}
 use Rattle.std.proofs.lemmas.List.{get_or-set_other}
 use Rattle.std.proofs.Math.Nat.{mod-add-mod}
 use Rattle.std.proofs.lemmas.Int.{ints}
-use Rattle.ido_base.specs.Layout.{log_of, point_at}
-use Rattle.ido_base.specs.declared.log.Log.TheVariants.{V1}
+use Rattle.ido_base.specs.Layout.{log_of, bank_bytes, point_at}
+use Rattle.ido_base.specs.declared.log.Log.{Log}
 use Rattle.rv64_isa.specs.declared.instr.Instr.TheVariants.{Auipc, Store, OpImmediate, ShiftImmediate, Op, CboClean, Fence}
 use Rattle.rv64_isa.specs.declared.instr.Operation.TheVariants.{Add, Srl}
 use Rattle.rv64_isa.specs.declared.instr.ImmediateOperation.TheVariants.{Addi}
@@ -16,9 +16,9 @@ use Rattle.rv64_isa.specs.Rows.{Effect, Continues, Stores, Cleans, Fences, row, 
 use Rattle.rv64_isa.specs.Arithmetic.{sign_extended, result_of}
 use Rattle.rv64_isa.specs.Signed.{twos_complement}
 use Rattle.memory_layout.specs.Roles.{is_temporary}
-use Rattle.boundary_code.specs.links.InstructionLists.{point, commit}
+use Rattle.boundary_code.specs.links.InstructionLists.{offset_bits, point, commit}
 use Rattle.operator_code.proofs.Public.{RunsFrom, stop, go, store, clean, fence, read_same, read_other, length-changed, displaced_small, signed12, signed32}
-use Rattle.boundary_code.proofs.Registers.{Ready, bank_bit, not_temporary}
+use Rattle.boundary_code.proofs.Registers.{Ready, bank_bit, log_small, not_temporary}
 
 -- ---- The distance in two immediates
 
@@ -80,52 +80,54 @@ low_row : (z : List ℕ) (l v pc : ℕ) → read z 30 ≡ v → row (OpImmediate
 unfolding row
 low_row z l v pc e = ap (λ (n : ℕ). Continues (slice_set z 30 (result_of Add n (sign_extended 12 64 l))) (next pc)) e
 
-bit_row : (z : List ℕ) (bank pc : ℕ) → read z 3 ≡ 256 * bank → bank < 2 → row (ShiftImmediate Srli 7 3 8) z pc ≡ Continues (slice_set z 7 bank) (next pc)
+bit_row : (log : Log) (z : List ℕ) (bank pc : ℕ) → read z 3 ≡ bank_bytes log * bank → bank < 2 →
+    row (ShiftImmediate Srli 7 3 (offset_bits log)) z pc ≡ Continues (slice_set z 7 bank) (next pc)
 unfolding row
-bit_row z bank pc e b = ap (λ (n : ℕ). Continues (slice_set z 7 (result_of Srl n 8)) (next pc)) e ∙
-    ap (λ (n : ℕ). Continues (slice_set z 7 n) (next pc)) (bank_bit bank b)
+bit_row log z bank pc e b = ap (λ (n : ℕ). Continues (slice_set z 7 (result_of Srl n (offset_bits log))) (next pc)) e ∙
+    ap (λ (n : ℕ). Continues (slice_set z 7 n) (next pc)) (bank_bit log bank b)
 
 add_row : (z : List ℕ) (v w pc : ℕ) → read z 30 ≡ v → read z 7 ≡ w → row (Op Add 30 30 7) z pc ≡ Continues (slice_set z 30 (result_of Add v w)) (next pc)
 unfolding row
 add_row z v w pc e f = ap (λ (n : ℕ). Continues (slice_set z 30 (result_of Add n (read z 7))) (next pc)) e ∙
     ap (λ (n : ℕ). Continues (slice_set z 30 (result_of Add v n)) (next pc)) f
 
-point_row : (z : List ℕ) (r thread value pc : ℕ) → thread < 8 → read z 31 ≡ log_of V1 thread → read z r ≡ value →
-    row (Store Sd r 31 0) z pc ≡ Stores (point_at V1 thread) 8 value
+point_row : (log : Log) (z : List ℕ) (r thread value pc : ℕ) → thread < 8 → read z 31 ≡ log_of log thread → read z r ≡ value →
+    row (Store Sd r 31 0) z pc ≡ Stores (point_at log thread) 8 value
 unfolding row
-point_row z r thread value pc t e f =
+point_row log z r thread value pc t e f =
     ap (λ (n : ℕ). Stores (displaced n 12 0) 8 (read z r)) e ∙
-    ap (λ (n : ℕ). Stores n 8 (read z r)) (displaced_small (log_of V1 thread) 0 (lit< tt) (omega arith) ∙ omega arith) ∙
-    ap (λ (n : ℕ). Stores (point_at V1 thread) 8 n) f
+    ap (λ (n : ℕ). Stores n 8 (read z r)) (displaced_small (log_of log thread) 0 (lit< tt) (omega (arith, log_small log thread t)) ∙ omega arith) ∙
+    ap (λ (n : ℕ). Stores (point_at log thread) 8 n) f
 
-clean_row : (z : List ℕ) (thread pc : ℕ) → read z 31 ≡ log_of V1 thread → row (CboClean 31) z pc ≡ Cleans (point_at V1 thread)
+clean_row : (log : Log) (z : List ℕ) (thread pc : ℕ) → read z 31 ≡ log_of log thread → row (CboClean 31) z pc ≡ Cleans (point_at log thread)
 unfolding row
-clean_row z thread pc e = ap (λ (n : ℕ). Cleans n) e
+clean_row log z thread pc e = ap (λ (n : ℕ). Cleans n) e
 
 -- ---- The part
 
-pub commit_run : (z : List ℕ) (r thread value pc : ℕ) → thread < 8 → read z 31 ≡ log_of V1 thread → read z r ≡ value →
-    RunsFrom (commit r) z pc (Stores (point_at V1 thread) 8 value ∷ Cleans (point_at V1 thread) ∷ Fences ∷ []) z
-commit_run z r thread value pc t e f =
-    store (Store Sd r 31 0) (CboClean 31 ∷ Fence ∷ []) z pc (point_at V1 thread) 8 value (Cleans (point_at V1 thread) ∷ Fences ∷ []) z
-    (point_row z r thread value pc t e f)
-    (clean (CboClean 31) (Fence ∷ []) z (pc + 4) (point_at V1 thread) (Fences ∷ []) z (clean_row z thread (pc + 4) e)
+pub commit_run : (log : Log) (z : List ℕ) (r thread value pc : ℕ) → thread < 8 → read z 31 ≡ log_of log thread → read z r ≡ value →
+    RunsFrom (commit r) z pc (Stores (point_at log thread) 8 value ∷ Cleans (point_at log thread) ∷ Fences ∷ []) z
+commit_run log z r thread value pc t e f =
+    store (Store Sd r 31 0) (CboClean 31 ∷ Fence ∷ []) z pc (point_at log thread) 8 value (Cleans (point_at log thread) ∷ Fences ∷ []) z
+    (point_row log z r thread value pc t e f)
+    (clean (CboClean 31) (Fence ∷ []) z (pc + 4) (point_at log thread) (Fences ∷ []) z (clean_row log z thread (pc + 4) e)
     (fence Fence [] z (pc + 4 + 4) [] z (fence_row z (pc + 4 + 4)) (stop z (pc + 4 + 4 + 4))))
 
 -- after a boundary that writes this bank, begun with registers x
-pub record Left (bank : ℕ) (x y : List ℕ) : Type 0 where
-  pub offset : read y 3 ≡ 256 * bank
+pub record Left (log : Log) (bank : ℕ) (x y : List ℕ) : Type 0 where
+  pub offset : read y 3 ≡ bank_bytes log * bank
   pub others : (r : ℕ) → is_temporary r ≡ false → r ≢ 3 → read y r ≡ read x r
 
-pub record Committed (thread bank r t : ℕ) (x z : List ℕ) (pc : ℕ) : Type 0 where
+pub record Committed (log : Log) (thread bank r t : ℕ) (x z : List ℕ) (pc : ℕ) : Type 0 where
   pub end : List ℕ
-  pub runs : RunsFrom (Fence ∷ point r ++ commit 30) z pc
-      (Fences ∷ Stores (point_at V1 thread) 8 (((pc + 4 + (28 + t)) % 2 ^ 64 + bank) % 2 ^ 64) ∷ Cleans (point_at V1 thread) ∷ Fences ∷ []) end
-  pub left : Left bank x end
+  pub runs : RunsFrom (Fence ∷ point log r ++ commit 30) z pc
+      (Fences ∷ Stores (point_at log thread) 8 (((pc + 4 + (28 + t)) % 2 ^ 64 + bank) % 2 ^ 64) ∷ Cleans (point_at log thread) ∷ Fences ∷ []) end
+  pub left : Left log bank x end
 
-pub committed : (thread bank r t : ℕ) (x z : List ℕ) (pc : ℕ) → thread < 8 → bank < 2 → Close r t → Ready thread bank x z → Committed thread bank r t x z pc
+pub committed : (log : Log) (thread bank r t : ℕ) (x z : List ℕ) (pc : ℕ) → thread < 8 → bank < 2 → Close r t → Ready log thread bank x z →
+    Committed log thread bank r t x z pc
 unfolding result_of
-committed thread bank r t x z pc few b c h =
+committed log thread bank r t x z pc few b c h =
     let at : ℕ = pc + 4 in
     let v1 : ℕ = (at + upper (upper_part r)) % 2 ^ 64 in
     let v2 : ℕ = (at + (28 + t)) % 2 ^ 64 in
@@ -140,23 +142,24 @@ committed thread bank r t x z pc few b c h =
     let second : row (OpImmediate Addi 30 30 (low_part r)) z1 (at + 4) ≡ Continues z2 (next (at + 4)) =
     low_row z1 (low_part r) v1 (at + 4) (read_same z 30 v1 h.count (lit< tt)) ∙
     ap (λ (n : ℕ). Continues (slice_set z1 30 n) (next (at + 4))) (resumes_at at r t c) in
-    let third : row (ShiftImmediate Srli 7 3 8) z2 (at + 4 + 4) ≡ Continues z3 (next (at + 4 + 4)) =
-    bit_row z2 bank (at + 4 + 4) (read_other z1 30 3 v2 refl ∙ read_other z 30 3 v1 refl ∙ h.offset) b in
+    let third : row (ShiftImmediate Srli 7 3 (offset_bits log)) z2 (at + 4 + 4) ≡ Continues z3 (next (at + 4 + 4)) =
+    bit_row log z2 bank (at + 4 + 4) (read_other z1 30 3 v2 refl ∙ read_other z 30 3 v1 refl ∙ h.offset) b in
     let fourth : row (Op Add 30 30 7) z3 (at + 4 + 4 + 4) ≡ Continues z4 (next (at + 4 + 4 + 4)) =
     add_row z3 v2 bank (at + 4 + 4 + 4) (read_other z2 7 30 bank refl ∙ read_same z1 30 v2 l1 (lit< tt)) (read_same z2 7 bank l2 (lit< tt)) in
-    let log : read z4 31 ≡ log_of V1 thread = read_other z3 30 31 v3 refl ∙ read_other z2 7 31 bank refl ∙ read_other z1 30 31 v2 refl ∙
-    read_other z 30 31 v1 refl ∙ h.log in
+    let logged : read z4 31 ≡ log_of log thread = read_other z3 30 31 v3 refl ∙ read_other z2 7 31 bank refl ∙ read_other z1 30 31 v2 refl ∙
+    read_other z 30 31 v1 refl ∙ h.logged in
     let value : read z4 30 ≡ v3 = read_same z3 30 v3 l3 (lit< tt) in
-    let last : List Effect = Stores (point_at V1 thread) 8 v3 ∷ Cleans (point_at V1 thread) ∷ Fences ∷ [] in
+    let last : List Effect = Stores (point_at log thread) 8 v3 ∷ Cleans (point_at log thread) ∷ Fences ∷ [] in
     record {
       end = z4;
-      runs = fence Fence (point r ++ commit 30) z pc last z4 (fence_row z pc)
-          (go (Auipc 30 (upper_part r)) (OpImmediate Addi 30 30 (low_part r) ∷ ShiftImmediate Srli 7 3 8 ∷ Op Add 30 30 7 ∷ commit 30) z z1 at last
+      runs = fence Fence (point log r ++ commit 30) z pc last z4 (fence_row z pc)
+          (go (Auipc 30 (upper_part r)) (OpImmediate Addi 30 30 (low_part r) ∷ ShiftImmediate Srli 7 3 (offset_bits log) ∷ Op Add 30 30 7 ∷ commit 30) z
+          z1 at last
           z4 (auipc_row z (upper_part r) at)
-          (go (OpImmediate Addi 30 30 (low_part r)) (ShiftImmediate Srli 7 3 8 ∷ Op Add 30 30 7 ∷ commit 30) z1 z2 (at + 4) last z4 second
-          (go (ShiftImmediate Srli 7 3 8) (Op Add 30 30 7 ∷ commit 30) z2 z3 (at + 4 + 4) last z4 third
+          (go (OpImmediate Addi 30 30 (low_part r)) (ShiftImmediate Srli 7 3 (offset_bits log) ∷ Op Add 30 30 7 ∷ commit 30) z1 z2 (at + 4) last z4 second
+          (go (ShiftImmediate Srli 7 3 (offset_bits log)) (Op Add 30 30 7 ∷ commit 30) z2 z3 (at + 4 + 4) last z4 third
           (go (Op Add 30 30 7) (commit 30) z3 z4 (at + 4 + 4 + 4) last z4 fourth
-          (commit_run z4 30 thread v3 (at + 4 + 4 + 4 + 4) few log value)))));
+          (commit_run log z4 30 thread v3 (at + 4 + 4 + 4 + 4) few logged value)))));
       left = record {
         offset = read_other z3 30 3 v3 refl ∙ read_other z2 7 3 bank refl ∙ read_other z1 30 3 v2 refl ∙ read_other z 30 3 v1 refl ∙ h.offset;
         others = λ q s n. get_or-set_other z3 30 q v3 0 (not_temporary q 30 refl s) ∙ get_or-set_other z2 7 q bank 0 (not_temporary q 7 refl s) ∙

@@ -1,7 +1,7 @@
 -- Worked rows of the definitions: a boundary of the first thread that keeps lock 0 and no register.
 use Rattle.std.proofs.Common.{◌≡◌, ℕ, List, [], ◌∷◌, refl, pos}
 use Rattle.std.specs.Prelude.{replicate, slice_set}
-use Rattle.ido_base.specs.declared.log.Log.TheVariants.{V1}
+use Rattle.ido_base.specs.declared.log.Log.TheVariants.{V1, V2}
 use Rattle.rv64_isa.specs.declared.instr.Instr.{Instr}
 use Rattle.rv64_isa.specs.declared.instr.Instr.TheVariants.{Lui, OpImmediate}
 use Rattle.rv64_isa.specs.declared.instr.ImmediateOperation.TheVariants.{Addi}
@@ -9,13 +9,13 @@ use Rattle.rv64_isa.specs.Rows.{Stores, Cleans, Fences, row, read}
 use Rattle.rv64_isa.specs.Arithmetic.{result_of}
 use Rattle.operator_code.specs.StraightLineCode.{effects, registers_after}
 use Rattle.boundary_code.specs.Boundaries.{Boundary, boundary_effects, lines_in_use}
-use Rattle.boundary_code.specs.links.InstructionLists.{boundary_list, last_list}
+use Rattle.boundary_code.specs.links.InstructionLists.{boundary_list, keep_locks, last_list}
 
 first : Boundary
 first = record { log = V1; thread = 0; locks = 0 ∷ []; live = []; resume = pos 0 }
 
 code : List Instr
-code = boundary_list (Lui 31 0x2_0000 ∷ []) (OpImmediate Addi 7 0 1 ∷ []) [] 0
+code = boundary_list V1 (Lui 31 0x2_0000 ∷ []) (record { first = OpImmediate Addi 7 0 1 ∷ []; others = []; slots = 0 ∷ [] }) [] 0
 
 zeros : List ℕ
 zeros = replicate 32 0
@@ -45,3 +45,30 @@ no_bank = refl
 
 lines_of_pending : lines_in_use V1 (0 ∷ 8 ∷ 28 ∷ 29 ∷ []) ≡ 0 ∷ 1 ∷ 3 ∷ []
 lines_of_pending = refl
+
+-- ---- A log that lists its locks: locks 5 and 9, and register 8
+
+listing : Boundary
+listing = record { log = V2; thread = 0; locks = 5 ∷ 9 ∷ []; live = 8 ∷ []; resume = pos 0 }
+
+lock_numbers : List (List Instr)
+lock_numbers = (OpImmediate Addi 5 0 5 ∷ []) ∷ (OpImmediate Addi 5 0 9 ∷ []) ∷ []
+
+list_code : List Instr
+unfolding lock_numbers
+list_code = boundary_list V2 (Lui 31 0x2_0000 ∷ [])
+    (record { first = OpImmediate Addi 7 0 2 ∷ []; others = keep_locks 32 lock_numbers; slots = 0 ∷ 32 ∷ 33 ∷ 8 ∷ [] }) (8 ∷ []) 0
+
+seen_of_list : effects list_code zeros 0x1_0000 ≡
+    Stores 0x2000_0440 8 2 ∷ Stores 0x2000_0540 8 5 ∷ Stores 0x2000_0548 8 9 ∷ Stores 0x2000_0480 8 0 ∷
+    Cleans 0x2000_0440 ∷ Cleans 0x2000_0480 ∷ Cleans 0x2000_0540 ∷ Fences ∷ Stores 0x2000_0000 8 0x1_0069 ∷ Cleans 0x2000_0000 ∷ Fences ∷ []
+unfolding list_code lock_numbers zeros row result_of
+seen_of_list = refl
+
+listed_as_defined : boundary_effects listing 0 0x1_0068 zeros ≡ effects list_code zeros 0x1_0000
+unfolding listing list_code lock_numbers zeros row result_of
+listed_as_defined = refl
+
+other_bank_of_list : read (registers_after list_code zeros 0x1_0000) 3 ≡ 1024
+unfolding list_code lock_numbers zeros row result_of
+other_bank_of_list = refl

@@ -1,9 +1,9 @@
 -- What the code of a boundary does.
-use Rattle.std.specs.Prelude.{◌≡◌, ◌≢◌, ℕ, ℤ, ◌+◌, ◌-◌, ◌*◌, ◌/◌, ◌%◌, ◌^◌, ◌<◌, List, [], ◌∷◌, ◌++◌, map, filter, length, Bool, true, false, ◌==◌}
+use Rattle.std.specs.Prelude.{◌≡◌, ◌≢◌, ℕ, ℤ, ◌+◌, ◌-◌, ◌*◌, ◌/◌, ◌%◌, ◌^◌, ◌<◌, ◌≤◌, List, [], ◌∷◌, ◌++◌, map, filter, length, Bool, true, false, ◌==◌}
 use Rattle.std.specs.Prelude.{if◌then◌else◌}
 use Rattle.std.specs.List.{list_any}
 use Rattle.ido_base.specs.declared.log.Log.{Log}
-use Rattle.ido_base.specs.declared.log.Log.TheVariants.{V1}
+use Rattle.ido_base.specs.declared.log.Log.TheVariants.{V1, V2}
 use Rattle.ido_base.specs.Layout.{point_at, slot_at, bank_bytes}
 use Rattle.ido_base.specs.Locks.{mask_with}
 use Rattle.rv64_isa.specs.declared.instr.Instr.{Instr}
@@ -30,14 +30,31 @@ is_empty (lock ∷ locks) = false
 -- a bank's lines
 abbrev pub bank_lines : Log → List ℕ
 bank_lines V1 = 0 ∷ 1 ∷ 2 ∷ 3 ∷ []
+bank_lines V2 = 0 ∷ 1 ∷ 2 ∷ 3 ∷ 4 ∷ 5 ∷ []
 
 -- the lines of a bank that have one of these slots
 abbrev pub lines_in_use : Log → (slots : List ℕ) → List ℕ
 lines_in_use log slots = filter (λ line. list_any (λ slot. slot / 8 == line) slots) (bank_lines log)
 
--- the slots that keep locks, each with its value: slot 0 has the mask of them
+-- the locks, one in each slot from this one on
+abbrev pub listed_from : (slot : ℕ) → (locks : List ℕ) → List (ℕ × ℕ)
+listed_from slot [] = []
+listed_from slot (lock ∷ locks) = (slot, lock) ∷ listed_from (slot + 1) locks
+
+-- the slots that keep locks, each with its value: slot 0 has the mask of them, or their number, and then they stand in slots of their own
 abbrev pub kept_locks : Log → (locks : List ℕ) → List (ℕ × ℕ)
 kept_locks V1 locks = (0, mask_with locks) ∷ []
+kept_locks V2 locks = (0, length locks) ∷ listed_from 32 locks
+
+-- a bank has slots for all of these locks
+abbrev pub HaveRoom : Log → (locks : List ℕ) → Type 0
+HaveRoom V1 locks = Unit {0}
+HaveRoom V2 locks = length locks ≤ 16
+
+-- how many words a boundary's code has at most, beside one for each live register, where one instruction gives each lock's number
+abbrev pub words_beside : Log → (locks : List ℕ) → ℕ
+words_beside V1 locks = 35
+words_beside V2 locks = 39 + 3 * length locks
 
 -- the slots of a bank that a boundary writes
 abbrev pub slots_kept : Log → (locks live : List ℕ) → List ℕ
@@ -93,3 +110,20 @@ pub record HasOffset (log : Log) (locks : List ℕ) (code : List Instr) : Type 0
 pub record KeepsRegisters (log : Log) (code : List Instr) : Type 0 where
   pub keeps : (x : List ℕ) (pc side : ℕ) → IsOnSide log side x → (r : ℕ) → is_temporary r ≡ false → r ≢ bank_offset →
       read (registers_after code x pc) r ≡ read x r
+
+-- ---- Numbers of locks
+
+-- code that leaves the number of a lock in x5. It writes no registers but x5, x6, x7 and x30, and memory sees nothing of it
+pub record GivesNumber (number : ℕ) (code : List Instr) : Type 0 where
+  pub unseen : (x : List ℕ) (pc : ℕ) → length x ≡ 32 → read x 0 ≡ 0 → effects code x pc ≡ []
+  pub count : (x : List ℕ) (pc : ℕ) → length x ≡ 32 → read x 0 ≡ 0 → length (registers_after code x pc) ≡ 32
+  pub number_is : (x : List ℕ) (pc : ℕ) → length x ≡ 32 → read x 0 ≡ 0 → read (registers_after code x pc) 5 ≡ number
+  pub others : (x : List ℕ) (pc r : ℕ) → length x ≡ 32 → read x 0 ≡ 0 → r ≢ 5 → r ≢ 6 → r ≢ 7 → r ≢ 30 →
+      read (registers_after code x pc) r ≡ read x r
+
+-- each of the lists of instructions leaves the lock's number at its place
+abbrev pub GiveNumbers : (numbers : List ℕ) → (codes : List (List Instr)) → Type 0
+GiveNumbers [] [] = Unit {0}
+GiveNumbers [] (code ∷ codes) = ⊥
+GiveNumbers (number ∷ numbers) [] = ⊥
+GiveNumbers (number ∷ numbers) (code ∷ codes) = GivesNumber number code × GiveNumbers numbers codes

@@ -3,4 +3,4 @@
 
 mod code;
 
-pub use code::boundary;
+pub use code::{boundary, boundary_list};

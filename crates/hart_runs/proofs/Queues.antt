@@ -9,7 +9,7 @@ use Rattle.ido_base.specs.declared.event.Event.{Event}
 use Rattle.ido_base.specs.declared.event.Event.TheVariants.{Step, Evict, Crash}
 use Rattle.ido_base.specs.Words.{Entry, entry_of, drained, stored, word_of, durable_value}
 use Rattle.ido_base.specs.Layout.{in_range, aligned, byte_number}
-use Rattle.ido_base.specs.Locks.{is_held_by, least_held, first_missing}
+use Rattle.ido_base.specs.Locks.{is_held_by, least_held, least_missing}
 use Rattle.rv64_isa.specs.declared.object.Slot.{Slot}
 use Rattle.rv64_isa.specs.declared.object.Slot.TheVariants.{Row, NoRow}
 use Rattle.rv64_isa.specs.declared.phase.Phase.{Phase}
@@ -135,7 +135,7 @@ settles h w v short (Some hart) e =
 
 module _ (program : List (List Slot)) (h : ℕ) (w : World) (short : AreShort w) where
   by_phase : (hart : Hart) → slice_get w.harts h ≡ Some hart → (phase : Phase) → AreShort (phase_step program w h hart phase).0
-  by_phase hart here Take = kept_short h w _ (takes h w hart (short h hart here) (first_missing w.holders (record_of w.log w.words h) h)) short
+  by_phase hart here Take = kept_short h w _ (takes h w hart (short h hart here) (least_missing w.holders (record_of w.log w.words h) h)) short
   by_phase hart here Wait = kept_short h w _ (waits h w hart (short h hart here) (taking_from 0 w.harts)) short
   by_phase hart here Resume = kept_short h w (resumed w h hart).0 (moves h w hart (short h hart here) w _ refl (short h hart here)) short
   by_phase hart here Run =

@@ -1,14 +1,14 @@
 -- What the steps of recovery do.
 use Rattle.std.proofs.Common.{◌≡◌, ◌≢◌, ◌⊎◌, inl, inr, ℕ, zero, suc, ◌+◌, ◌<◌, List, [], ◌∷◌, length, map, refl}
 use Rattle.std.proofs.Common.{ap, arith, sym, ◌∙◌, subst, get_or, Bool, true, false, Option, Some, None, add-zero}
-use Rattle.std.specs.Prelude.{slice_get, not, ◌==◌}
-use Rattle.std.proofs.lemmas.Bool.{cond_both, eqb-true}
+use Rattle.std.specs.Prelude.{slice_get, min, not, ◌==◌}
+use Rattle.std.proofs.lemmas.Bool.{cases_lt, cond_both, eqb-true}
 use Rattle.ido_base.specs.Words.{Word}
-use Rattle.ido_base.specs.declared.log.Log.TheVariants.{V1}
+use Rattle.ido_base.specs.declared.log.Log.TheVariants.{V1, V2}
 use Rattle.ido_base.specs.declared.log.Log.{Log}
 use Rattle.ido_base.specs.declared.event.Event.TheVariants.{Step}
 use Rattle.ido_base.specs.declared.event.Reply.TheVariants.{Still}
-use Rattle.ido_base.specs.Locks.{is_held_by, is_missing, has_lock, first_missing}
+use Rattle.ido_base.specs.Locks.{is_held_by, is_missing, has_lock, lesser, least_missing}
 use Rattle.rv64_isa.specs.declared.object.Slot.{Slot}
 use Rattle.rv64_isa.specs.declared.phase.Phase.{Phase}
 use Rattle.rv64_isa.specs.declared.phase.Phase.TheVariants.{Take, Wait, Resume, Run, Done, Ended}
@@ -19,7 +19,7 @@ use Rattle.hart_runs.specs.Calls.{IsInPhase, IsRecorded, TakesLocks, AwaitsOther
 use Rattle.hart_runs.proofs.OtherEventsKeepRuns.{moved_harts_begin}
 use Rattle.hart_runs.proofs.Worlds.{none_some, some_same, took, by_phase}
 
--- ---- The first lock that is missing
+-- ---- The least lock that is missing
 
 held_by_is : (h : ℕ) (holder : Option ℕ) → is_held_by h holder ≡ true → holder ≡ Some h
 held_by_is h None e = absurd (let no : false ≡ true = e in cc)
@@ -85,18 +85,32 @@ module _ (holders : List (Option ℕ)) (h : ℕ) where
   ]
   later_missing lock locks (Some other) e m = record { holder = m.holder; there = m.there; among = has_later lock locks other m.among; other = m.other }
 
-  missing : (locks : List ℕ) → Missing holders locks h (first_missing holders locks h)
+  -- the lesser of two that are missing is one of them
+  lesser_missing : (lock : ℕ) (locks : List ℕ) (found : Option ℕ) → is_missing holders h lock ≡ true → Missing holders locks h found →
+      IsMissing holders (lock ∷ locks) h (lesser lock found)
+  unfolding Missing
+  lesser_missing lock locks None e m = found_by lock locks (slice_get holders lock) refl (sym (missing_is holders h lock) ∙ e)
+  lesser_missing lock locks (Some other) e m = elim (cases_lt lock other) [
+    | inl less ↦
+        subst (IsMissing holders (lock ∷ locks) h) (let own : lock ≡ min lock other = omega (arith, less) in own)
+        (found_by lock locks (slice_get holders lock) refl (sym (missing_is holders h lock) ∙ e))
+    | inr no_less ↦
+        subst (IsMissing holders (lock ∷ locks) h) (let later : other ≡ min lock other = omega (arith, no_less) in later)
+        (record { holder = m.holder; there = m.there; among = has_later lock locks other m.among; other = m.other })
+  ]
+
+  missing : (locks : List ℕ) → Missing holders locks h (least_missing holders locks h)
   unfolding Missing HoldsAll
   missing [] = λ lock holder there has. absurd (let no : false ≡ true = has in cc)
   missing (lock ∷ locks) =
-      cond_both (is_missing holders h lock) (Some lock) (first_missing holders locks h) (λ (x : Option ℕ). Missing holders (lock ∷ locks) h x)
-      (λ e. found_by lock locks (slice_get holders lock) refl (sym (missing_is holders h lock) ∙ e))
-      (λ e. later_missing lock locks (first_missing holders locks h) e (missing locks))
+      cond_both (is_missing holders h lock) (Some (lesser lock (least_missing holders locks h))) (least_missing holders locks h)
+      (λ (x : Option ℕ). Missing holders (lock ∷ locks) h x) (λ e. lesser_missing lock locks (least_missing holders locks h) e (missing locks))
+      (λ e. later_missing lock locks (least_missing holders locks h) e (missing locks))
 
 -- ---- Take
 
 module _ (program : List (List Slot)) (w : World) (h : ℕ) (i : IsInPhase w h Take) where
-  takes_by : happens program w (Step h) ≡ taken w h i.hart (first_missing w.holders (record_of w.log w.words h) h)
+  takes_by : happens program w (Step h) ≡ taken w h i.hart (least_missing w.holders (record_of w.log w.words h) h)
   takes_by = by_phase program w h i.hart i.here Take i.phase_is
 
   by_holder : (lock : ℕ) (holder : Option ℕ) → IsRecorded w h lock holder → is_held_by h holder ≡ false →
@@ -111,7 +125,7 @@ module _ (program : List (List Slot)) (w : World) (h : ℕ) (i : IsInPhase w h T
   by_missing (Some lock) m e = by_holder lock m.holder (record { among = m.among; there = m.there }) m.other e
 
   pub takes_step : TakesLocks program w h i.hart
-  takes_step = by_missing (first_missing w.holders (record_of w.log w.words h) h) (missing w.holders h (record_of w.log w.words h)) takes_by
+  takes_step = by_missing (least_missing w.holders (record_of w.log w.words h) h) (missing w.holders h (record_of w.log w.words h)) takes_by
 
 -- ---- Wait
 
@@ -185,6 +199,7 @@ count_mapped f at (suc count) = let more = count_mapped f (at + 1) count in omeg
 
 count_resumed : (log : Log) (words : List Word) (h : ℕ) → length (resumed_registers log words h) ≡ 32
 count_resumed V1 words h = count_mapped (resumed_register V1 words h) 0 32
+count_resumed V2 words h = count_mapped (resumed_register V2 words h) 0 32
 
 resumed_hart : World → (h : ℕ) → Hart → Hart
 resumed_hart w h hart = record hart {

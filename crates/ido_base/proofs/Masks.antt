@@ -1,11 +1,11 @@
--- Locks of masks: a mask is that of its locks, and the first one that is missing is found bit by bit.
+-- Locks of masks: a mask is that of its locks, and the least one that is missing is found bit by bit.
 use Rattle.std.proofs.Common.{◌≡◌, inl, inr, ℕ, zero, suc, ◌+◌, ◌*◌, ◌/◌, ◌%◌, ◌^◌, ◌<◌, ◌≤◌, ◌≢◌, ◌==◌, ◌&&◌, ◌||◌, List, [], ◌∷◌, length, refl, ap, sym}
 use Rattle.std.proofs.Common.{◌∙◌, arith, cond, Bool, true, false, Option, Some, None, pow-suc}
 use Rattle.std.specs.Prelude.{slice_get, not}
 use Rattle.std.proofs.lemmas.Bool.{cases_Bool, cond-true, cond-false, eqb-true, eqb-false, eq-eqb, ne_eqb, or_left}
 use Rattle.std.proofs.lemmas.Nat.Bits.{bit_at_lowest, bit_at-suc}
 use Rattle.std.proofs.lemmas.Option.{none-some}
-use Rattle.ido_base.specs.Locks.{is_held_by, is_missing, has_lock, first_missing, locks_from, locks_in, mask_with}
+use Rattle.ido_base.specs.Locks.{is_held_by, is_missing, has_lock, lesser, least_missing, locks_from, locks_in, mask_with}
 
 -- ---- There and back
 
@@ -89,7 +89,7 @@ pub none_high : (m lock : ℕ) → 64 ≤ lock → has_lock (locks_in m) lock �
 unfolding locks_in
 none_high m lock past = none_past 0 64 m lock past
 
--- ---- The first one that is missing
+-- ---- The least one that is missing
 
 -- by the holders of the locks from the number on, and the bits of the mask from there on
 abbrev pub missing_from : (at : ℕ) → List (Option ℕ) → (rest hart : ℕ) → Option ℕ
@@ -102,20 +102,21 @@ none_left at [] hart = refl
 none_left at (holder ∷ holders) hart = none_left (at + 1) holders hart
 
 -- locks that don't exist don't count
-none_exists : (holders : List (Option ℕ)) (at bits m hart : ℕ) → length holders ≤ at → first_missing holders (locks_from at bits m) hart ≡ None
+none_exists : (holders : List (Option ℕ)) (at bits m hart : ℕ) → length holders ≤ at → least_missing holders (locks_from at bits m) hart ≡ None
 none_exists holders at zero m hart past = refl
 none_exists holders at (suc bits) m hart past =
     passed_by holders at bits m hart past (none_exists holders (at + 1) bits (m / 2) hart (omega (arith, past)))
   where
-    passed_by : (holders : List (Option ℕ)) (at bits m hart : ℕ) → length holders ≤ at → first_missing holders (locks_from (at + 1) bits (m / 2)) hart ≡ None →
-        first_missing holders (locks_from at (suc bits) m) hart ≡ None
+    passed_by : (holders : List (Option ℕ)) (at bits m hart : ℕ) → length holders ≤ at → least_missing holders (locks_from (at + 1) bits (m / 2)) hart ≡ None →
+        least_missing holders (locks_from at (suc bits) m) hart ≡ None
     passed_by holders at bits m hart past more = elim (cases_Bool (m % 2 == 1)) [
       | inl odd ↦
-          ap (λ (ls : List ℕ). first_missing holders ls hart)
+          ap (λ (ls : List ℕ). least_missing holders ls hart)
           (cond-true (m % 2 == 1) (at ∷ locks_from (at + 1) bits (m / 2)) (locks_from (at + 1) bits (m / 2)) odd)
-          ∙ (ap (λ (b : Bool). cond b (Some at) (first_missing holders (locks_from (at + 1) bits (m / 2)) hart)) (absent holders at hart past) ∙ more)
+          ∙ (ap (λ (b : Bool). cond b (Some (lesser at (least_missing holders (locks_from (at + 1) bits (m / 2)) hart)))
+          (least_missing holders (locks_from (at + 1) bits (m / 2)) hart)) (absent holders at hart past) ∙ more)
       | inr even ↦
-          ap (λ (ls : List ℕ). first_missing holders ls hart)
+          ap (λ (ls : List ℕ). least_missing holders ls hart)
           (cond-false (m % 2 == 1) (at ∷ locks_from (at + 1) bits (m / 2)) (locks_from (at + 1) bits (m / 2)) even)
           ∙ more
     ]
@@ -125,10 +126,21 @@ none_exists holders at (suc bits) m hart past =
         absent (o ∷ os) zero hart past = absurd (let z : ⊥ = omega (arith, past) in z)
         absent (o ∷ os) (suc at) hart past = absent os at hart (omega (arith, past))
 
--- the first of a mask's locks that is missing is found along the holders
+-- what is found from a number on is no less
+found_past : (at from : ℕ) (holders : List (Option ℕ)) (rest hart : ℕ) → at ≤ from → lesser at (missing_from from holders rest hart) ≡ at
+found_past at from [] rest hart below = refl
+found_past at from (holder ∷ holders) rest hart below =
+    by (rest % 2 == 1 && not (is_held_by hart holder)) (found_past at (from + 1) holders (rest / 2) hart (omega (arith, below)))
+  where
+    by : (missing : Bool) → lesser at (missing_from (from + 1) holders (rest / 2) hart) ≡ at →
+        lesser at (cond missing (Some from) (missing_from (from + 1) holders (rest / 2) hart)) ≡ at
+    by true more = omega (arith, below)
+    by false more = more
+
+-- the least of a mask's locks that is missing is found along the holders
 module _ (all : List (Option ℕ)) (hart : ℕ) where
   found_along : (at bits m : ℕ) (holders : List (Option ℕ)) → m < 2 ^ bits → ((k : ℕ) → slice_get all (at + k) ≡ slice_get holders k) →
-      first_missing all (locks_from at bits m) hart ≡ missing_from at holders m hart
+      least_missing all (locks_from at bits m) hart ≡ missing_from at holders m hart
   found_along at zero m holders below same =
       let none : m ≡ 0 = omega (arith, below) in sym (ap (λ (k : ℕ). missing_from at holders k hart) none ∙ none_left at holders hart)
   found_along at (suc bits) m [] below same = none_exists all at (suc bits) m hart (ends all at (sym_none (same 0)))
@@ -150,20 +162,23 @@ module _ (all : List (Option ℕ)) (hart : ℕ) where
       later k e = (let z : at + 1 + k ≡ at + suc k = omega arith in ap (λ (n : ℕ). slice_get all n) z) ∙ e
 
       found_at : (at bits m : ℕ) (holder : Option ℕ) (holders : List (Option ℕ)) → slice_get all at ≡ Some holder →
-          first_missing all (locks_from (at + 1) bits (m / 2)) hart ≡ missing_from (at + 1) holders (m / 2) hart →
-          first_missing all (locks_from at (suc bits) m) hart ≡ missing_from at (holder ∷ holders) m hart
+          least_missing all (locks_from (at + 1) bits (m / 2)) hart ≡ missing_from (at + 1) holders (m / 2) hart →
+          least_missing all (locks_from at (suc bits) m) hart ≡ missing_from at (holder ∷ holders) m hart
       found_at at bits m holder holders there more = by (m % 2 == 1)
         where
-          by : (odd : Bool) → first_missing all (cond odd (at ∷ locks_from (at + 1) bits (m / 2)) (locks_from (at + 1) bits (m / 2))) hart
+          by : (odd : Bool) → least_missing all (cond odd (at ∷ locks_from (at + 1) bits (m / 2)) (locks_from (at + 1) bits (m / 2))) hart
               ≡ cond (odd && not (is_held_by hart holder)) (Some at) (missing_from (at + 1) holders (m / 2) hart)
-          by true = ap (λ (x : Option (Option ℕ)). cond (missing_by x) (Some at) (first_missing all (locks_from (at + 1) bits (m / 2)) hart)) there
-              ∙ ap (λ (r : Option ℕ). cond (not (is_held_by hart holder)) (Some at) r) more
+          by true = ap (λ (x : Option (Option ℕ)). cond (missing_by x) (Some (lesser at (least_missing all (locks_from (at + 1) bits (m / 2)) hart)))
+              (least_missing all (locks_from (at + 1) bits (m / 2)) hart)) there
+              ∙ (ap (λ (r : Option ℕ). cond (not (is_held_by hart holder)) (Some (lesser at r)) r) more
+              ∙ ap (λ (n : ℕ). cond (not (is_held_by hart holder)) (Some n) (missing_from (at + 1) holders (m / 2) hart))
+              (found_past at (at + 1) holders (m / 2) hart (omega arith)))
             where
               missing_by : Option (Option ℕ) → Bool
               missing_by (Some o) = not (is_held_by hart o)
               missing_by None = false
           by false = more
 
-  pub first_of_mask : (m : ℕ) → m < 2 ^ 64 → first_missing all (locks_in m) hart ≡ missing_from 0 all m hart
+  pub least_of_mask : (m : ℕ) → m < 2 ^ 64 → least_missing all (locks_in m) hart ≡ missing_from 0 all m hart
   unfolding locks_in
-  first_of_mask m below = found_along 0 64 m all below (λ k. let z : 0 + k ≡ k = omega arith in ap (λ (n : ℕ). slice_get all n) z)
+  least_of_mask m below = found_along 0 64 m all below (λ k. let z : 0 + k ≡ k = omega arith in ap (λ (n : ℕ). slice_get all n) z)

@@ -1,6 +1,6 @@
 -- Worked rows: locks of lists and of masks.
 use Rattle.std.proofs.Common.{◌≡◌, ℕ, ◌^◌, List, [], ◌∷◌, refl, Bool, true, false, Option, Some, None}
-use Rattle.ido_base.specs.Locks.{has_lock, first_missing, locks_in, mask_with}
+use Rattle.ido_base.specs.Locks.{has_lock, least_missing, locks_in, mask_with}
 
 -- bits 0 and 2, the last bit, and one past that
 two_bits : locks_in 5 ≡ 0 ∷ 2 ∷ []
@@ -28,15 +28,15 @@ lacks_one = refl
 abbrev holders : List (Option ℕ)
 holders = Some 1 ∷ None ∷ Some 0 ∷ []
 
--- the first in the order of the list, that isn't the hart's own
-first_one : first_missing holders (0 ∷ 1 ∷ 2 ∷ []) 1 ≡ Some 1
-first_one = refl
+-- the least that isn't the hart's own, whatever the order of the list
+least_one : least_missing holders (0 ∷ 1 ∷ 2 ∷ []) 1 ≡ Some 1
+least_one = refl
 
-first_by_list : first_missing holders (2 ∷ 1 ∷ []) 1 ≡ Some 2
-first_by_list = refl
+in_any_order : least_missing holders (2 ∷ 0 ∷ 1 ∷ []) 1 ≡ Some 1
+in_any_order = refl
 
-has_its_own : first_missing holders (0 ∷ []) 1 ≡ None
+has_its_own : least_missing holders (0 ∷ []) 1 ≡ None
 has_its_own = refl
 
-none_exists : first_missing holders (7 ∷ []) 1 ≡ None
+none_exists : least_missing holders (7 ∷ []) 1 ≡ None
 none_exists = refl

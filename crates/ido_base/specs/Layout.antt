@@ -4,7 +4,7 @@ use Rattle.std.specs.Prelude.{replicate, Bool, nat_lt, nat_le, ◌==◌, ◌&&�
 use Rattle.std.specs.Int.{w64, from_le_bytes}
 use Rattle.ido_base.specs.declared.location.Shape.{Shape}
 use Rattle.ido_base.specs.declared.log.Log.{Log}
-use Rattle.ido_base.specs.declared.log.Log.TheVariants.{V1}
+use Rattle.ido_base.specs.declared.log.Log.TheVariants.{V1, V2}
 use Rattle.ido_base.specs.declared.limits.TheConstants.{LINE_BYTES, VARIABLE_LINES}
 
 -- bytes of a line
@@ -26,6 +26,7 @@ variable_lines = VARIABLE_LINES
 -- lines of a thread's log
 abbrev pub log_lines : Log → ℕ
 log_lines V1 = 16
+log_lines V2 = 32
 
 -- words of a thread's log
 abbrev pub log_words : Log → ℕ
@@ -66,8 +67,14 @@ point_at log thread = log_of log thread
 -- how far the second bank lies after the first
 abbrev pub bank_bytes : Log → ℕ
 bank_bytes V1 = 256
+bank_bytes V2 = 1024
 
--- the address of a slot: slot 0 of a bank is the mask of the held locks, slot r is register r
+-- how many slots a bank has
+abbrev pub bank_slots : Log → ℕ
+bank_slots V1 = 32
+bank_slots V2 = 48
+
+-- the address of a slot: of slots 1 to 31 of a bank slot r is register r; the others keep the held locks, each log in its own way
 abbrev pub slot_at : Log → (thread bank slot : ℕ) → ℕ
 slot_at log thread bank slot = log_of log thread + 64 + bank_bytes log * bank + 8 * slot
 

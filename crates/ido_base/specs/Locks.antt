@@ -1,6 +1,6 @@
 -- Who holds locks: a list has, of each lock, the hart that holds it, or none.
 use Rattle.std.specs.Prelude.{ℕ, zero, suc, ◌+◌, ◌/◌, ◌%◌, ◌^◌, List, [], ◌∷◌, slice_get, Option, Some, None, Bool, false, not, ◌==◌}
-use Rattle.std.specs.Prelude.{if◌then◌else◌, is_none}
+use Rattle.std.specs.Prelude.{if◌then◌else◌, is_none, min}
 use Rattle.std.specs.List.{list_any}
 
 -- the lock is held by the hart
@@ -34,10 +34,16 @@ is_missing holders hart lock = elim (slice_get holders lock) [
   | None ↦ false
 ]
 
--- the first of the locks that exists, and that the hart doesn't hold
-abbrev pub first_missing : List (Option ℕ) → (locks : List ℕ) → (hart : ℕ) → Option ℕ
-first_missing holders [] hart = None
-first_missing holders (lock ∷ locks) hart = if is_missing holders hart lock then Some lock else first_missing holders locks hart
+-- the lesser of a lock and another one, if there is another
+abbrev pub lesser : (lock : ℕ) → Option ℕ → ℕ
+lesser lock None = lock
+lesser lock (Some other) = min lock other
+
+-- the least of the locks that exist, and that the hart doesn't hold, in whatever order they are
+abbrev pub least_missing : List (Option ℕ) → (locks : List ℕ) → (hart : ℕ) → Option ℕ
+least_missing holders [] hart = None
+least_missing holders (lock ∷ locks) hart =
+    if is_missing holders hart lock then Some (lesser lock (least_missing holders locks hart)) else least_missing holders locks hart
 
 -- ---- Masks of locks: bit i stands for lock i
 

@@ -7,6 +7,9 @@ ghost use Rattle.ido_base.specs.Layout.{log_lines, log_words, bank_bytes};
 pub enum Log {
     /// 1,024 bytes a thread: a point, and two banks of 32 words at offsets 64 and 320. A bank keeps the mask of the locks held and the live registers.
     V1,
+    /// 2,048 bytes a thread: a point, and two banks of 48 words at offsets 64 and 1,088. A bank keeps how many locks are held, the live registers, and
+    /// from slot 32 on the numbers of these locks, 16 at most.
+    V2,
 }
 
 impl Log {
@@ -17,6 +20,7 @@ impl Log {
     {
         match self {
             Log::V1 => 16,
+            Log::V2 => 32,
         }
     }
 
@@ -35,6 +39,7 @@ impl Log {
     {
         match self {
             Log::V1 => 256,
+            Log::V2 => 1024,
         }
     }
 }

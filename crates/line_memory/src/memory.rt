@@ -32,7 +32,7 @@ impl LineMemory {
     ghost use Rattle.ido_base.specs.Words.{Word, Entry, word_of, word_at, last_position, live_value};
     ghost use Rattle.ido_base.specs.Words.{durable_value, loaded, stored, entry_of, drained, evicted, crashed};
     ghost use Rattle.ido_base.specs.Layout.{in_range as is_in_range, aligned, byte_number, line_bytes, line_count};
-    ghost use Rattle.ido_base.specs.Layout.{log_words, initial_words, spread_words, word_number, point_at, slot_at};
+    ghost use Rattle.ido_base.specs.Layout.{log_words, initial_words, spread_words, word_number, point_at, slot_at, bank_slots};
     ghost use Rattle.line_memory.specs.Access.{is_width};
     ghost use Rattle.line_memory.specs.links.Queues.{queue_length, RepresentsQueue};
     ghost use Rattle.line_memory.specs.declared.queue.Queue.{Queue};
@@ -153,7 +153,7 @@ impl LineMemory {
     pub fn durable_slot(&self, thread: u32, bank: u32, slot: u32) -> u64
         requires exists { thread < threads_of self.now }
         requires bank { bank < 2 }
-        requires slot { slot < 32 }
+        requires slot { slot < bank_slots (log_in self.now) }
         ensures { (words : List Word) → Represents self.now words
             → result ≡ durable_value (word_at words (word_number (slot_at (log_in self.now) thread bank slot))) }
     {

@@ -2,8 +2,8 @@
 use Rattle.std.proofs.Common.{◌≡◌, ℕ, zero, suc, ◌+◌, ◌/◌, ◌%◌, ◌^◌, ◌<◌, ◌≤◌, List, [], ◌∷◌, drop, length, Option, Some, None, true, false, ◌==◌, ◌&&◌}
 use Rattle.std.proofs.Common.{not, slice_index_or, refl, sym, add-one, arith}
 use Rattle.std.proofs.Math.Seq.{drop-cons}
-use Rattle.ido_base.specs.Locks.{is_held_by, first_missing, locks_in}
-use Rattle.ido_base.proofs.Public.{first_of_mask, missing_from}
+use Rattle.ido_base.specs.Locks.{is_held_by, least_missing, locks_in}
+use Rattle.ido_base.proofs.Public.{least_of_mask, missing_from}
 
 -- a lock that isn't missing is passed over, and the mask's bits go one down
 passed_over : (holders : List (Option ℕ)) (rest hart lock : ℕ) → lock < length holders →
@@ -41,6 +41,6 @@ none_there holders shown rest hart lock same past = ends lock lock holders rest 
     ends at zero (holder ∷ holders) rest hart past = absurd (let z : ⊥ = omega (arith, past) in z)
     ends at (suc lock) (holder ∷ holders) rest hart past = ends at lock holders rest hart (omega (arith, past))
 
--- what is found along the holders is the first of the mask's locks that is missing
-pub first_along : (holders : List (Option ℕ)) (mask hart : ℕ) → mask < 2 ^ 64 → missing_from 0 holders mask hart ≡ first_missing holders (locks_in mask) hart
-first_along holders mask hart below = sym (first_of_mask holders hart mask below)
+-- what is found along the holders is the least of the mask's locks that is missing
+pub least_along : (holders : List (Option ℕ)) (mask hart : ℕ) → mask < 2 ^ 64 → missing_from 0 holders mask hart ≡ least_missing holders (locks_in mask) hart
+least_along holders mask hart below = sym (least_of_mask holders hart mask below)

@@ -1,7 +1,8 @@
 //! The table of lock holders.
-ghost use Rattle.std.specs.Prelude.{◌≡◌, ◌<◌, ◌%◌, ◌==◌, ◌&&◌, not, ℕ, Option, Some, None, length, replicate, slice_get, slice_set, IfOk, IfSome, IsTrue, ◌↔◌};
+ghost use Rattle.std.specs.Prelude.{◌≡◌, ◌<◌, ◌%◌, ◌^◌, ◌==◌, ◌&&◌, not, ℕ, Option, Some, None, length};
+ghost use Rattle.std.specs.Prelude.{replicate, slice_get, slice_set, IfOk, IfSome, IsTrue, ◌↔◌};
 ghost use Rattle.std.specs.Bool.{OnTrue, OnFalse};
-ghost use Rattle.ido_base.specs.Locks.{is_held_by, least_held, holds_none, first_missing, locks_in};
+ghost use Rattle.ido_base.specs.Locks.{is_held_by, is_missing, least_held, holds_none, least_missing, locks_in};
 
 use ido_base::locks::is_held_by;
 use ido_base::memory::OutOfMemory;
@@ -105,10 +106,21 @@ impl LockTable {
         self.least_held(hart).is_none()
     }
 
+    /// There is a lock of this number, and the hart doesn't hold it.
+    pub fn lacks(&self, lock: u64, hart: u32) -> bool
+        ensures missing { result ≡ is_missing self.now hart lock }
+        ensures few { OnTrue result (lock < 2 ^ 32) }
+    {
+        if lock >= self.holders.len() as u64 {
+            return false;
+        }
+        !is_held_by(hart, self.holders[lock as usize])
+    }
+
     /// The least lock of the mask (bit i stands for lock i) that the hart doesn't hold. Bits without a lock
     /// don't count.
     pub fn least_missing(&self, mask: u64, hart: u32) -> Option<u32>
-        ensures value { result ≡ first_missing self.now (locks_in mask) hart }
+        ensures value { result ≡ least_missing self.now (locks_in mask) hart }
         ensures within { IfSome result (λ lock. lock < length self.now) }
     {
         let mut rest = mask;

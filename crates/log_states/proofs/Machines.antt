@@ -9,7 +9,7 @@ use Rattle.ido_base.specs.declared.event.Reply.TheVariants.{Moved, Waits}
 use Rattle.ido_base.specs.Words.{Word, Entry, word_of, word_at, entry_of, stored, drained, after_crash, durable_value}
 use Rattle.ido_base.specs.Growth.{AreChanged, AreEntries, IsPersisted}
 use Rattle.ido_base.specs.Layout.{log_words, in_range, aligned, byte_number}
-use Rattle.ido_base.specs.Locks.{is_held_by, least_held, first_missing}
+use Rattle.ido_base.specs.Locks.{is_held_by, least_held, least_missing}
 use Rattle.ido_base.proofs.Public.{changed_refl, changed_by_persisted, evictions_raise, write_backs_raise, persisted_refl}
 use Rattle.rv64_isa.specs.declared.object.Slot.{Slot}
 use Rattle.rv64_isa.specs.declared.object.Slot.TheVariants.{Row, NoRow}
@@ -322,7 +322,7 @@ steps_work program w g hart here = subst (λ (x : Option Hart). WorksTo (effect_
     by_slot (Some (Row instr)) e = applies g w hart here (effect_of program g hart) (row instr hart.registers hart.pc) e
 
     by_phase : (phase : Phase) → hart.phase ≡ phase → WorksTo (effect_of program g hart) g w hart (phase_step program w g hart phase).0
-    by_phase Take e = takes g w hart here (effect_of program g hart) (first_missing w.holders (record_of w.log w.words g) g)
+    by_phase Take e = takes g w hart here (effect_of program g hart) (least_missing w.holders (record_of w.log w.words g) g)
     by_phase Wait e = waits g w hart here (effect_of program g hart) (taking_from 0 w.harts)
     by_phase Resume e = goes_on g w hart here (effect_of program g hart) w.holders _ refl
     by_phase Run e = done_works (effect_of program g hart) g w hart (hart_step program w g hart).0

@@ -60,6 +60,7 @@ record_is_resumed log thread r words is h =
       point = left.point;
       live_point = h.point.live;
       locks = left_locks log thread r words is left;
+      kept = has_kept log thread r words is left;
       registers = λ some slot c. register log thread r words is left some slot c;
       side = record {
         registers = subst (λ (point : ℕ). IsOnSide log (bank_of point) (resumed_registers log words thread)) left.point ((scheme log).reads.side words thread);

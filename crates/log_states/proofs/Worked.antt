@@ -2,7 +2,7 @@
 -- nothing was recorded before it. A crash comes after each of its effects, with or without an eviction of the point's line.
 use Rattle.std.proofs.Common.{◌≡◌, ℕ, zero, suc, ◌+◌, ◌*◌, ◌/◌, List, [], ◌∷◌, ◌++◌, map, refl, pos, Bool, true, false, take, drop, replicate}
 use Rattle.std.specs.Prelude.{slice_set, if◌then◌else◌}
-use Rattle.ido_base.specs.declared.log.Log.TheVariants.{V1}
+use Rattle.ido_base.specs.declared.log.Log.TheVariants.{V1, V2}
 use Rattle.ido_base.specs.Words.{Word, word_of, entry_of, stored, evicted, crashed}
 use Rattle.ido_base.specs.Growth.{drained_all}
 use Rattle.ido_base.specs.Locks.{locks_in, mask_with}
@@ -123,3 +123,41 @@ other_bank = refl
 same_bank : left (mask_evicted 1029 (after 1 (next 0) (evicted_after 9 false))) ≡ 0x1_0041 ∷ 3 ∷ 7 ∷ 5 ∷ 256 ∷ []
 unfolding left locks_in evicted_after after made first effects b registers with_eviction next mask_evicted
 same_bank = refl
+
+-- ---- A log that lists its locks: locks 5 and 9 are held, and x8 and x9 kept
+
+listing : Boundary
+listing = record { log = V2; thread = 0; locks = 5 ∷ 9 ∷ []; live = 8 ∷ 9 ∷ []; resume = pos 0 }
+
+listed : LogConfig
+unfolding registers listing
+listed = record {
+  words = replicate (8 * (variable_lines + log_lines V2)) (word_of 0);
+  queue = [];
+  rest = boundary_effects listing 0 0x1_0040 registers;
+}
+
+-- what a crash leaves: the point, x8, x9, the bank's offset, and the locks in the list's order
+left_of_list : LogConfig → List ℕ
+left_of_list m = left_in (crashed m.words)
+  where
+    left_in : List Word → List ℕ
+    left_in words =
+        durable_point V2 words 0 ∷ resumed_register V2 words 0 8 ∷ resumed_register V2 words 0 9 ∷ resumed_register V2 words 0 3 ∷ record_of V2 words 0
+
+listed_after : (count : ℕ) → Bool → LogConfig
+unfolding after listed with_eviction registers listing
+listed_after count evicts = with_eviction evicts (after count (boundary_effects listing 0 0x1_0040 registers) listed)
+
+-- five stores, three cleans and a fence stand before the point's store
+not_before_point : left_of_list (listed_after 9 true) ≡ 0 ∷ 0 ∷ 0 ∷ 0 ∷ []
+unfolding left_of_list listed_after after made listed registers listing with_eviction
+not_before_point = refl
+
+from_point_on : left_of_list (listed_after 10 true) ≡ 0x1_0041 ∷ 7 ∷ 5 ∷ 1024 ∷ 5 ∷ 9 ∷ []
+unfolding left_of_list listed_after after made listed registers listing with_eviction
+from_point_on = refl
+
+all_listed : left_of_list (listed_after 12 false) ≡ 0x1_0041 ∷ 7 ∷ 5 ∷ 1024 ∷ 5 ∷ 9 ∷ []
+unfolding left_of_list listed_after after made listed registers listing with_eviction
+all_listed = refl

@@ -14,6 +14,7 @@ use Rattle.memory_layout.specs.Roles.{is_kept}
 use Rattle.boundary_code.specs.Boundaries.{Boundary, boundary_effects, is_empty, IsOnSide, other_side, side_after}
 use Rattle.log_states.specs.Logs.{Record, nothing_recorded, side_of, IsSideOf, IsKeepable, AreLoggable, IsRecord, log_word}
 use Rattle.log_states.specs.Logs.{bank_word, slot_index, point_in, HasLog, IsUnstored, IsDurable, IsRecorded}
+use Rattle.log_states.specs.Schemes.{HasKept}
 use Rattle.log_states.specs.Stages.{LogConfig, Moves, LogSteps, LogIs, fences_ahead, is_store, is_committed, left_by_crash}
 
 -- ---- Boundaries
@@ -189,6 +190,8 @@ pub record ResumesRecord (log : Log) (thread : ℕ) (r : Record) (words : List W
   pub point : durable_point log words thread ≡ r.point
   pub live_point : live_at words (point_at log thread) ≡ r.point
   pub locks : record_of log words thread ≡ (if r.point == 0 then [] else r.locks)
+  -- the bank that the point names keeps them
+  pub kept : r.point ≢ 0 → HasKept log words thread r.locks
   pub registers : r.point ≢ 0 → (register : ℕ) → Contains r.live register → read (resumed_registers log words thread) register ≡ read r.registers register
   pub side : IsAtRecord log r (side_of r) (resumed_registers log words thread)
 

@@ -2,7 +2,7 @@
 use Rattle.std.specs.Prelude.{◌≡◌, ◌≢◌, ℕ, ◌+◌, ◌*◌, ◌/◌, ◌^◌, ◌<◌, ◌≤◌, List, [], ◌∷◌, length, slice_index, ◌==◌, if◌then◌else◌}
 use Rattle.std.specs.List.{Contains}
 use Rattle.ido_base.specs.declared.log.Log.{Log}
-use Rattle.ido_base.specs.declared.log.Log.TheVariants.{V1}
+use Rattle.ido_base.specs.declared.log.Log.TheVariants.{V1, V2}
 use Rattle.ido_base.specs.Words.{Word, word_at, last_position, live_value}
 use Rattle.ido_base.specs.Locks.{locks_in, mask_with}
 use Rattle.ido_base.specs.Growth.{IsPersisted}
@@ -59,7 +59,12 @@ pub record AreOfMask (locks : List ℕ) : Type 0 where
   pub fits : mask_with locks < 2 ^ 64
   pub read_back : locks_in (mask_with locks) ≡ locks
 
--- one of 32 registers, but not x0, in whose slot the mask is, nor that of the bank offset, which the point gives
+-- the locks are a list of few numbers of 64 bits
+pub record AreListed (locks : List ℕ) : Type 0 where
+  pub few : length locks ≤ 16
+  pub fit : (lock : ℕ) → Contains locks lock → lock < 2 ^ 64
+
+-- one of 32 registers, but not x0, in whose slot no register is kept, nor that of the bank offset, which the point gives
 pub record HasOwnSlot (register : ℕ) : Type 0 where
   pub is_register : 0 < register
   pub exists : register < 32
@@ -68,10 +73,12 @@ pub record HasOwnSlot (register : ℕ) : Type 0 where
 -- a bank can keep these locks
 abbrev pub AreLoggable : Log → (locks : List ℕ) → Type 0
 AreLoggable V1 locks = AreOfMask locks
+AreLoggable V2 locks = AreListed locks
 
 -- a bank can keep this register
 abbrev pub IsKeepable : Log → (register : ℕ) → Type 0
 IsKeepable V1 register = HasOwnSlot register
+IsKeepable V2 register = HasOwnSlot register
 
 -- values of 64 bits, of locks and registers that the log can hold
 pub record IsRecord (log : Log) (r : Record) : Type 0 where

@@ -8,7 +8,7 @@ use Rattle.ido_base.specs.Layout.{log_lines, log_words, log_of, slot_at}
 use Rattle.rv64_isa.specs.Rows.{read}
 use Rattle.rv64_isa.specs.Machine.{bank_of, durable_point, recorded, record_of, resumed_registers}
 use Rattle.memory_layout.specs.Roles.{is_kept}
-use Rattle.boundary_code.specs.Boundaries.{kept_locks, IsOnSide}
+use Rattle.boundary_code.specs.Boundaries.{kept_locks, HaveRoom, IsOnSide}
 use Rattle.log_states.specs.Logs.{kept_in, slot_index, IsInBank, AreOfMask, AreLoggable, IsKeepable}
 
 -- ---- Where slots stand
@@ -39,8 +39,8 @@ pub record KeepsRegister (log : Log) (register : ℕ) : Type 0 where
 
 pub record BanksKeep (log : Log) : Type 0 where
   pub nothing : AreLoggable log []
-  -- any set of the source's mutexes
-  pub masks : (locks : List ℕ) → AreOfMask locks → AreLoggable log locks
+  -- any set of the source's mutexes for which a bank has room
+  pub masks : (locks : List ℕ) → AreOfMask locks → HaveRoom log locks → AreLoggable log locks
   pub locals : (register : ℕ) → is_kept register ≡ true → IsKeepable log register
   pub locks : (locks : List ℕ) (kept : ℕ × ℕ) → AreLoggable log locks → Contains (kept_locks log locks) kept → KeepsLocks log locks kept
   pub registers : (register : ℕ) → IsKeepable log register → KeepsRegister log register
@@ -54,9 +54,6 @@ HasKept log words thread locks = (kept : ℕ × ℕ) → Contains (kept_locks lo
 pub record BanksAreRead (log : Log) : Type 0 where
   pub locks : (words : List Word) (thread : ℕ) (locks : List ℕ) → AreLoggable log locks → durable_point log words thread ≢ 0 →
       HasKept log words thread locks → record_of log words thread ≡ locks
-  -- a bank keeps the locks that the machine reads, whoever left its words
-  pub said : (words : List Word) (thread : ℕ) → durable_point log words thread ≢ 0 →
-      ((slot : ℕ) → IsInBank log slot → recorded log words thread slot < 2 ^ 64) → HasKept log words thread (record_of log words thread)
   pub registers : (words : List Word) (thread register : ℕ) → IsKeepable log register →
       read (resumed_registers log words thread) register ≡ recorded log words thread register
   pub side : (words : List Word) (thread : ℕ) → IsOnSide log (bank_of (durable_point log words thread)) (resumed_registers log words thread)

@@ -17,7 +17,7 @@ use Rattle.rv64_isa.specs.declared.object.CodeItem.TheVariants.{ResumeNext}
 use Rattle.rv64_isa.specs.Rows.{Effect, Stores, Cleans, row, read, written}
 use Rattle.rv64_link.specs.LabelledCode.{most_words_of, stands_here, is_mark, is_resume, positions_from}
 use Rattle.boundary_code.specs.Boundaries.{Boundary, IsOnSide, boundary_effects, bank_effects, commit_effects}
-use Rattle.boundary_code.specs.Boundaries.{lines_in_use, kept_locks, slots_kept, resume_address, is_empty}
+use Rattle.boundary_code.specs.Boundaries.{lines_in_use, kept_locks, slots_kept, resume_address, is_empty, words_beside}
 use Rattle.operator_code.specs.StraightLineCode.{registers_after, left_by}
 use Rattle.operator_code.proofs.Public as s
 use Rattle.code_runs.specs.CodeTraces.{GoesThrough, AreMemory}
@@ -211,7 +211,9 @@ boundary_labels label code = labels_append label (plain code) (ResumeNext ∷ []
 pub is_boundary : (b : Boundary) (code : List Instr) → b.resume ≡ pos 0 → IsCodeOf b code → IsBoundaryPiece b (boundary_items code)
 is_boundary b code e h = record {
   closed = record { waits = boundary_waits_on code; labels = λ label. boundary_labels label code };
-  few = let z : sum_by most_words_of (boundary_items code) ≡ length code = boundary_words code in let l : length code ≤ length b.live + 35 = h.short in
+  few =
+      let z : sum_by most_words_of (boundary_items code) ≡ length code = boundary_words code in
+      let l : length code ≤ length b.live + words_beside b.log b.locks = h.short in
       omega arith;
   fences = boundary_items_fences b code h.effects_are;
   cleans = boundary_cleans b code h.effects_are;

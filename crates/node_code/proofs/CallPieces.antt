@@ -16,7 +16,7 @@ use Rattle.rv64_isa.specs.Arithmetic.{sign_extended}
 use Rattle.rv64_isa.specs.Rows.{read}
 use Rattle.rv64_link.specs.LabelledCode.{most_words_of, stands_here, is_mark, is_resume, positions_from}
 use Rattle.rv64_link.specs.LinkedCode.{IsInstructionAt}
-use Rattle.boundary_code.specs.Boundaries.{Boundary, IsOnSide, resume_address, is_empty, side_after}
+use Rattle.boundary_code.specs.Boundaries.{Boundary, IsOnSide, resume_address, is_empty, side_after, words_beside}
 use Rattle.operator_code.specs.StraightLineCode.{IsConstant}
 use Rattle.operator_code.specs.ComputingCode.{AreRegisters}
 use Rattle.operator_code.proofs.Public as s
@@ -42,7 +42,7 @@ use Rattle.node_code.proofs.BoundaryPieces.{boundary_words, boundary_exact, boun
 
 -- ---- Registers that ask
 
-small_constant : (r n : ℕ) → 0 < r → n < 2048 → IsConstant r n (OpImmediate Addi r 0 n ∷ [])
+pub small_constant : (r n : ℕ) → 0 < r → n < 2048 → IsConstant r n (OpImmediate Addi r 0 n ∷ [])
 small_constant r n some h =
     let e : sign_extended 12 64 n % 2 ^ 64 ≡ n = ap (λ (m : ℕ). m % 2 ^ 64) (small_immediate n h) ∙ mod-eq_of_lt (omega (arith, h)) in
     subst (λ (m : ℕ). IsConstant r m (OpImmediate Addi r 0 n ∷ [])) e (addi_row r n some)
@@ -150,6 +150,7 @@ module _ (b : Boundary) (mutex : ℕ) (code : List Instr) (small : mutex < 2048)
     pub locks : Locks b mutex piece site
     locks = record {
       call = to (k + 2);
+      calling = omega (arith, words);
       asks = λ x are.
           more_room site.linking.environment x (to k) (to (k + 2)) 2 (words_in piece site) [] (Asks takes mutex x) (omega (arith, words))
           (asking_leg site.items site.linking k mutex 1 (part_left site.items k (plain (asking mutex 1)) from_mark site.is_part) x
@@ -186,7 +187,7 @@ module _ (b : Boundary) (mutex : ℕ) (code : List Instr) (small : mutex < 2048)
   pub is_lock : IsLockPiece b mutex piece
   is_lock = record {
     closed = record { waits = boundary_waits_on code; labels = λ label. boundary_labels label code };
-    few = let l : length code ≤ length b.live + 35 = h.short in omega (arith, lock_words);
+    few = let l : length code ≤ length b.live + words_beside b.log b.locks = h.short in omega (arith, lock_words);
     fences = lock_items_fences b mutex code h.effects_are;
     cleans = lock_cleans b mutex code h.effects_are;
     at = locks;
@@ -375,6 +376,7 @@ module _ (b : Boundary) (mutex : ℕ) (code : List Instr) (small : mutex < 2048)
     pub unlocks : Unlocks b mutex given site
     unlocks = record {
       call = too (k₂ + 2);
+      calling = omega (arith, given_words);
       asks = gives_it;
       stands = stands_part site.items site.linking (k₂ + 2) Ecall (part_left site.items (k₂ + 2) (Instruction Ecall ∷ []) last call_part);
       after = after_call_is;
@@ -400,7 +402,7 @@ module _ (b : Boundary) (mutex : ℕ) (code : List Instr) (small : mutex < 2048)
   pub is_unlock : IsUnlockPiece b mutex given
   is_unlock = record {
     closed = unlock_closed;
-    few = let l : length code ≤ length b.live + 35 = h.short in omega (arith, unlock_words);
+    few = let l : length code ≤ length b.live + words_beside b.log b.locks = h.short in omega (arith, unlock_words);
     fences = unlock_items_fences b mutex (is_empty b.locks) code h.effects_are;
     cleans = unlock_cleans b mutex (is_empty b.locks) code h.effects_are;
     at = unlocks;

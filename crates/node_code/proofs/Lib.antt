@@ -6,6 +6,7 @@ mod LegComposition
 mod StorePieces
 mod BoundaryPieces
 mod CallPieces
+mod LockNumbers
 mod JumpPieces
 mod ComputingPieces
 mod PiecePlaces

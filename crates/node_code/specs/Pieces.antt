@@ -13,7 +13,7 @@ use Rattle.rv64_link.specs.LabelledCode.{most_words_of, stands_here, is_mark, is
 use Rattle.rv64_link.specs.LinkedCode.{IsInstructionAt}
 use Rattle.memory_layout.specs.Roles as roles
 use Rattle.memory_layout.specs.Roles.{is_temporary}
-use Rattle.boundary_code.specs.Boundaries.{Boundary, IsOnSide, boundary_effects, side_after, is_empty}
+use Rattle.boundary_code.specs.Boundaries.{Boundary, IsOnSide, boundary_effects, side_after, is_empty, words_beside}
 use Rattle.operator_code.specs.declared.branches.Test.{Test}
 use Rattle.operator_code.specs.ComputingCode.{AreRegisters, passes}
 use Rattle.code_runs.specs.ComputingRuns as r
@@ -98,7 +98,7 @@ pub record Keeps (b : Boundary) (piece : List CodeItem) (at : Site piece) : Type
 
 pub record IsBoundaryPiece (b : Boundary) (piece : List CodeItem) : Type 0 where
   pub closed : IsClosed piece
-  pub few : sum_by most_words_of piece ≤ length b.live + 35
+  pub few : sum_by most_words_of piece ≤ length b.live + words_beside b.log b.locks
   pub fences : fences_in piece ≡ 2
   pub cleans : CleansInBoundary b piece
   pub at : (at : Site piece) → Keeps b piece at
@@ -125,6 +125,8 @@ pub record Asks (number mutex : ℕ) (x y : List ℕ) : Type 0 where
 -- the call is the mark; after it stands a boundary
 pub record Locks (b : Boundary) (mutex : ℕ) (piece : List CodeItem) (at : Site piece) : Type 0 where
   pub call : ℕ
+  -- it takes three words, with those that set its registers
+  pub calling : 3 ≤ words_in piece at
   pub asks : (x : List ℕ) → AreRegisters x → PieceLeads at x (begin_of piece at) call [] (Asks takes mutex x)
   pub stands : IsInstructionAt at.linking.program.start at.linking.program.code call Ecall
   pub keeps : (x : List ℕ) (side : ℕ) → IsOnSide b.log side x → PieceLeads at x (call + 4) (end_of piece at) (boundary_observations b side (end_of piece at) x)
@@ -134,7 +136,7 @@ pub record Locks (b : Boundary) (mutex : ℕ) (piece : List CodeItem) (at : Site
 
 pub record IsLockPiece (b : Boundary) (mutex : ℕ) (piece : List CodeItem) : Type 0 where
   pub closed : IsClosed piece
-  pub few : sum_by most_words_of piece ≤ length b.live + 38
+  pub few : sum_by most_words_of piece ≤ length b.live + words_beside b.log b.locks + 3
   pub fences : fences_in piece ≡ 2
   pub cleans : CleansInBoundary b piece
   pub at : (at : Site piece) → Locks b mutex piece at
@@ -143,6 +145,8 @@ pub record IsLockPiece (b : Boundary) (mutex : ℕ) (piece : List CodeItem) : Ty
 -- holds a mutex
 pub record Unlocks (b : Boundary) (mutex : ℕ) (piece : List CodeItem) (at : Site piece) : Type 0 where
   pub call : ℕ
+  -- it takes three words, with those that set its registers
+  pub calling : 3 ≤ words_in piece at
   pub asks : (x : List ℕ) (side : ℕ) → IsOnSide b.log side x →
       PieceLeads at x (begin_of piece at) call (Mark ∷ boundary_observations b side (end_of piece at) x)
       (λ y. (z : List ℕ) × LeavesRegisters b side x z × Asks gives mutex z y)
@@ -154,7 +158,7 @@ pub record Unlocks (b : Boundary) (mutex : ℕ) (piece : List CodeItem) (at : Si
 
 pub record IsUnlockPiece (b : Boundary) (mutex : ℕ) (piece : List CodeItem) : Type 0 where
   pub closed : IsClosed piece
-  pub few : sum_by most_words_of piece ≤ length b.live + 38
+  pub few : sum_by most_words_of piece ≤ length b.live + words_beside b.log b.locks + 3
   pub fences : fences_in piece ≡ 2
   pub cleans : CleansInBoundary b piece
   pub at : (at : Site piece) → Unlocks b mutex piece at

@@ -1,22 +1,85 @@
 //! Boundaries.
-ghost use Rattle.std.specs.Prelude.{◌≡◌, ◌<◌, ◌++◌, ◌∷◌, [], IsTrue, IfOk, OnOk, pos, ◌≤ℤ◌, negsuc};
+ghost use Rattle.std.specs.Prelude.{◌≡◌, ◌<◌, ◌++◌, ◌∷◌, [], IsTrue, IfOk, OnOk, pos, ◌≤ℤ◌, negsuc, map, if◌then◌else◌};
 ghost use Rattle.std.specs.List.{list_all};
+ghost use Rattle.ido_base.specs.Locks.{locks_in};
 ghost use Rattle.ido_base.specs.declared.limits.TheConstants.{MOST_THREADS};
+ghost use Rattle.ido_base.specs.declared.log.Log.TheVariants.{V1, V2};
 ghost use Rattle.memory_layout.specs.Roles.{is_kept};
+ghost use Rattle.boundary_code.specs.Boundaries.{HaveRoom};
+ghost use Rattle.boundary_code.specs.links.InstructionLists.{lists_of};
 ghost use Rattle.node_code.specs.Pieces.{Appends, IsBoundaryPiece, boundary_of};
 ghost use Rattle.node_code.specs.links.ItemLists.{boundary_items};
-ghost use Rattle.node_code.specs.links.BoundaryCode.{IsCodeOf};
+ghost use Rattle.node_code.specs.links.BoundaryCode.{IsCodeOf, number_code};
 
-use crate::items::push_plain;
+use crate::items::{load_small, push_plain};
 use crate::kept::Kept;
-use boundary_code::boundary;
+use boundary_code::{boundary, boundary_list};
 use ido_base::log::Log;
 use ido_base::memory::OutOfMemory;
+use rv64_isa::field::Register;
 use rv64_isa::instr::Instr;
 use rv64_isa::object::CodeItem;
 use std::alloc::Global;
 
-/// The code of a boundary that resumes so many bytes after its end.
+/// The register in which a lock's number is left for a list.
+const NUMBER: Register = Register::X5;
+
+/// Appends code that leaves the mutex's number, where it is held.
+fn push_number(
+    alloc: Global,
+    codes: &mut Vec<Vec<Instr>>,
+    mutex: u16,
+    is_held: bool,
+) -> Result<(), OutOfMemory>
+    requires { mutex < 2048 }
+    ensures { OnOk result
+        (lists_of codes.new.items ≡ lists_of codes.old.items ++ (if is_held then number_code mutex ∷ [] else [])) }
+{
+    if is_held {
+        let code: Vec<Instr> = vec![in alloc; load_small(NUMBER, mutex)]?;
+        codes.push(code)?;
+    }
+    Ok(())
+}
+
+/// Of each mutex of the mask code that leaves its number.
+fn number_codes(alloc: Global, mask: u64) -> Result<Vec<Vec<Instr>>, OutOfMemory>
+    ensures { IfOk result (λ codes. lists_of codes.items ≡ map number_code (locks_in mask)) }
+{
+    let mut codes: Vec<Vec<Instr>> = Vec::new(alloc);
+    let mut rest = mask;
+    for mutex in 0..64 {
+        push_number(alloc, &mut codes, mutex, rest % 2 == 1)?;
+        rest /= 2;
+    }
+    Ok(codes)
+}
+
+/// The code of a boundary of a log that keeps a mask.
+fn mask_code(alloc: Global, kept: &Kept, resume: u16) -> Result<Vec<Instr>, OutOfMemory>
+    requires log { kept.now.log ≡ V1 }
+    requires thread { kept.now.thread < MOST_THREADS }
+    requires live { IsTrue (list_all is_kept kept.now.live.now) }
+    ensures { IfOk result (λ code. IsCodeOf (boundary_of kept.now resume) code.items) }
+{
+    let code = boundary(alloc, kept.thread, kept.mask, kept.live, i32::from(resume))?;
+    Ok(code)
+}
+
+/// The code of a boundary of a log that lists its locks.
+fn list_code(alloc: Global, kept: &Kept, resume: u16) -> Result<Vec<Instr>, OutOfMemory>
+    requires log { kept.now.log ≡ V2 }
+    requires thread { kept.now.thread < MOST_THREADS }
+    requires live { IsTrue (list_all is_kept kept.now.live.now) }
+    requires room { HaveRoom V2 (locks_in kept.now.mask) }
+    ensures { IfOk result (λ code. IsCodeOf (boundary_of kept.now resume) code.items) }
+{
+    let codes = number_codes(alloc, kept.mask)?;
+    let code = boundary_list(alloc, kept.thread, &codes, kept.live, i32::from(resume))?;
+    Ok(code)
+}
+
+/// The code of a boundary that resumes so many bytes after its end, as its log wants it.
 pub(crate) fn boundary_code(
     alloc: Global,
     kept: &Kept,
@@ -24,10 +87,12 @@ pub(crate) fn boundary_code(
 ) -> Result<Vec<Instr>, OutOfMemory>
     requires thread { kept.now.thread < MOST_THREADS }
     requires live { IsTrue (list_all is_kept kept.now.live.now) }
+    requires room { HaveRoom kept.now.log (locks_in kept.now.mask) }
     ensures { IfOk result (λ code. IsCodeOf (boundary_of kept.now resume) code.items) }
 {
     match kept.log {
-        Log::V1 => boundary(alloc, kept.thread, kept.mask, kept.live, i32::from(resume)),
+        Log::V1 => mask_code(alloc, kept, resume),
+        Log::V2 => list_code(alloc, kept, resume),
     }
 }
 
@@ -48,6 +113,7 @@ pub fn push_boundary(
 ) -> Result<(), OutOfMemory>
     requires thread { kept.now.thread < MOST_THREADS }
     requires live { IsTrue (list_all is_kept kept.now.live.now) }
+    requires room { HaveRoom kept.now.log (locks_in kept.now.mask) }
     ensures { OnOk result (Appends items.old.items items.new.items (IsBoundaryPiece (boundary_of kept.now 0))) }
 {
     let code = boundary_code(alloc, kept, 0)?;

@@ -1,8 +1,10 @@
 //! Calls: a mutex is taken or given back, a thread ends.
 ghost use Rattle.std.specs.Prelude.{◌≡◌, ◌<◌, ◌++◌, ◌∷◌, ◌==◌, [], IsTrue, OnOk};
 ghost use Rattle.std.specs.List.{list_all};
+ghost use Rattle.ido_base.specs.Locks.{locks_in};
 ghost use Rattle.ido_base.specs.declared.limits.TheConstants.{MOST_THREADS};
 ghost use Rattle.memory_layout.specs.Roles.{is_kept};
+ghost use Rattle.boundary_code.specs.Boundaries.{HaveRoom};
 ghost use Rattle.node_code.specs.Pieces.{Appends, IsLockPiece, IsUnlockPiece, IsEnd, boundary_of};
 ghost use Rattle.node_code.specs.links.ItemLists.{plain, asking, lock_items, unlock_items, end_items};
 
@@ -94,6 +96,7 @@ pub fn push_lock(
 ) -> Result<(), OutOfMemory>
     requires thread { kept.now.thread < MOST_THREADS }
     requires live { IsTrue (list_all is_kept kept.now.live.now) }
+    requires room { HaveRoom kept.now.log (locks_in kept.now.mask) }
     requires mutex { mutex < 2048 }
     ensures { OnOk result (Appends items.old.items items.new.items (IsLockPiece (boundary_of kept.now 0) mutex)) }
 {
@@ -111,6 +114,7 @@ pub fn push_unlock(
 ) -> Result<(), OutOfMemory>
     requires thread { kept.now.thread < MOST_THREADS }
     requires live { IsTrue (list_all is_kept kept.now.live.now) }
+    requires room { HaveRoom kept.now.log (locks_in kept.now.mask) }
     requires mutex { mutex < 2048 }
     ensures { OnOk result (Appends items.old.items items.new.items (IsUnlockPiece (boundary_of kept.now 12) mutex)) }
 {

@@ -1,4 +1,5 @@
 pub mod Public
 mod Points
+mod Lists
 mod Registers
 mod RecoveryStepCases

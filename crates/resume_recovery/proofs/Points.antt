@@ -1,11 +1,11 @@
 -- A point says at once what the machine's definitions say apart: where recovery goes on, and the bank.
-use Rattle.std.proofs.Common.{◌≡◌, ℕ, ◌-◌, ◌*◌, ◌%◌, ◌<◌, ◌==◌, eqb, List, [], map, Bool, true, false, refl, sym, ◌∙◌, ap, arith, if◌then◌else◌}
+use Rattle.std.proofs.Common.{◌≡◌, ℕ, ◌-◌, ◌*◌, ◌%◌, ◌<◌, ◌==◌, eqb, List, [], map, take, Option}
+use Rattle.std.proofs.Common.{None, Bool, true, false, refl, sym, ◌∙◌, ap, arith, if◌then◌else◌}
 use Rattle.std.proofs.lemmas.Bool.{cond-true, cond-false, eq-eqb, ne_eqb}
 use Rattle.ido_base.specs.declared.log.Log.{Log}
-use Rattle.ido_base.specs.declared.log.Log.TheVariants.{V1}
+use Rattle.ido_base.specs.declared.log.Log.TheVariants.{V1, V2}
 use Rattle.ido_base.specs.Layout.{bank_bytes, slot_at}
-use Rattle.ido_base.specs.Locks.{locks_in}
-use Rattle.ido_base.proofs.Public.{no_locks}
+use Rattle.ido_base.specs.Locks.{least_missing, locks_in}
 use Rattle.ido_base.specs.Words.{Word}
 use Rattle.memory_layout.specs.declared.point.Point.TheVariants.{Idle, At}
 use Rattle.memory_layout.specs.Points.{point_of}
@@ -50,15 +50,26 @@ bank-below word = omega (arith, bank-is word)
 -- ---- What a thread's log says durably, by its point
 
 module _ (words : List Word) (hart : ℕ) where
-  pub idle_record : (log : Log) → durable_point log words hart ≡ 0 → locks_in 0 ≡ record_of log words hart
-  idle_record log none = no_locks ∙ sym (cond-true (eqb (durable_point log words hart) 0) [] _ (eq-eqb _ 0 none))
+  -- an idle point has no record
+  pub idle_record : (log : Log) (locks : List (Option ℕ)) → durable_point log words hart ≡ 0 → None ≡ least_missing locks (record_of log words hart) hart
+  idle_record log locks none =
+      sym (ap (λ (ls : List ℕ). least_missing locks ls hart) (cond-true (eqb (durable_point log words hart) 0) [] _ (eq-eqb _ 0 none)))
 
-  pub kept_record : (log : Log) (address bank mask : ℕ) → IsPointTo (durable_point log words hart) address bank →
-      mask ≡ durable_at words (slot_at log hart bank 0) →
-      locks_in mask ≡ record_of log words hart
-  kept_record V1 address bank mask at is =
+  pub mask_record : (log : Log) (address bank mask : ℕ) → log ≡ V1 → IsPointTo (durable_point log words hart) address bank →
+      mask ≡ durable_at words (slot_at log hart bank 0) → locks_in mask ≡ record_of log words hart
+  mask_record V1 address bank mask first at is =
       ap locks_in (is ∙ ap (λ (b : ℕ). durable_at words (slot_at V1 hart b 0)) at.in_bank)
       ∙ sym (cond-false (eqb (durable_point V1 words hart) 0) [] _ at.other)
+  mask_record V2 address bank mask first at is = cc
+
+  -- what a list in this bank has
+  abbrev pub list_in : (bank : ℕ) → List ℕ
+  list_in bank = take (durable_at words (slot_at V2 hart bank 0)) (map (λ slot. durable_at words (slot_at V2 hart bank slot)) (numbers_from 32 16))
+
+  pub list_record : (log : Log) (address bank : ℕ) → log ≡ V2 → IsPointTo (durable_point log words hart) address bank → list_in bank ≡ record_of log words hart
+  list_record V1 address bank second at = cc
+  list_record V2 address bank second at =
+      ap (λ (b : ℕ). list_in b) at.in_bank ∙ sym (cond-false (eqb (durable_point V2 words hart) 0) [] _ at.other)
 
   pub register_0 : (log : Log) (r : ℕ) → r ≡ 0 → 0 ≡ resumed_register log words hart r
   register_0 log r zero_ = sym (ap (resumed_register log words hart) zero_)
@@ -82,3 +93,4 @@ taking_phase point other = sym (cond-false (eqb point 0) Done Take other)
 pub registers_are : (log : Log) (words : List Word) (hart : ℕ) (registers : List ℕ) → registers ≡ map (resumed_register log words hart) (numbers_from 0 32) →
     registers ≡ resumed_registers log words hart
 registers_are V1 words hart registers are = are
+registers_are V2 words hart registers are = are

@@ -4,7 +4,7 @@ use Rattle.std.proofs.Common.{slice_get, slice_set, Option, Some, None, is_some,
 use Rattle.ido_base.specs.declared.event.Reply.{Reply}
 use Rattle.ido_base.specs.declared.event.Reply.TheVariants.{Moved, Waits, Barrier, Still}
 use Rattle.ido_base.specs.Cores.{is_idle}
-use Rattle.ido_base.specs.Locks.{first_missing, locks_in}
+use Rattle.ido_base.specs.Locks.{least_missing}
 use Rattle.ido_base.specs.declared.log.Log.{Log}
 use Rattle.ido_base.specs.Words.{Word}
 use Rattle.line_memory.specs.declared.memory.LineMemory.{LineMemory}
@@ -22,46 +22,61 @@ use Rattle.resume_recovery.specs.links.LeastLockTaker.{taking_among}
 
 -- ---- Take
 
--- the lock that a hart lacks, by the record that was read and the table
-missing_is : (number mask : ℕ) (parts : Parts) (w : World) (model : HartModel) → locks_in mask ≡ record_of (log_in parts.memory) w.words number →
-    PartsStand parts number w model →
-    first_missing w.holders (record_of w.log w.words number) number ≡ first_missing parts.locks (locks_in mask) number
-missing_is number mask parts w model is s =
-    ap (λ (holders : List (Option ℕ)). first_missing holders (record_of w.log w.words number) number) s.holders
-    ∙ ap (λ (log : Log). first_missing parts.locks (record_of log w.words number) number) (ap (λ (l : Logs). l.log) s.logs)
-    ∙ ap (λ (ls : List ℕ). first_missing parts.locks ls number) (sym is)
+-- the lock that a hart lacks, by what was read and the table
+missing_is : (number : ℕ) (found : Option ℕ) (parts : Parts) (w : World) (model : HartModel) →
+    found ≡ least_missing parts.locks (record_of (log_in parts.memory) w.words number) number → PartsStand parts number w model →
+    least_missing w.holders (record_of w.log w.words number) number ≡ found
+missing_is number found parts w model is s =
+    ap (λ (holders : List (Option ℕ)). least_missing holders (record_of w.log w.words number) number) s.holders
+    ∙ ap (λ (log : Log). least_missing parts.locks (record_of log w.words number) number) (ap (λ (l : Logs). l.log) s.logs)
+    ∙ sym is
 
-module _ (number mask : ℕ) (hart : Hart) (memory : LineMemory) (locks : List (Option ℕ))
-    (is_record : (words : List Word) → Represents memory words → locks_in mask ≡ record_of (log_in memory) words number) where
+module _ (number : ℕ) (found : Option ℕ) (hart : Hart) (memory : LineMemory) (locks : List (Option ℕ))
+    (is_missing : (words : List Word) → Represents memory words → found ≡ least_missing locks (record_of (log_in memory) words number) number) where
+  -- the hart lacks none
+  pub take_ends : found ≡ None →
+      IsStep (λ w model. taken w number model (least_missing w.holders (record_of w.log w.words number) number)) number
+      (record { phase = Take; hart = hart; memory = memory; locks = locks }) (record { phase = Wait; hart = hart; memory = memory; locks = locks }) Moved
+  take_ends none = record {
+    each = λ w model s.
+        let parts : Parts = record { phase = Take; hart = hart; memory = memory; locks = locks } in
+        let after : Parts = record { phase = Wait; hart = hart; memory = memory; locks = locks } in
+        let lacked : least_missing w.holders (record_of w.log w.words number) number ≡ None =
+        missing_is number found parts w model (is_missing w.words s.words) s ∙ none in
+        subst (λ (o : Option ℕ). PartsEnd after Moved number w (taken w number model o)) (sym lacked)
+        (changed_end parts after Moved number w model (record model { phase = Wait }) w.words w.holders s s.words refl s.holders refl
+        (record { registers = s.hart.registers; pc = s.hart.pc; queue = s.hart.queue }) (λ any entries q. q));
+  }
+
   -- the hart lacks a lock that has a holder
-  pub take_waits : (lock holder : ℕ) → first_missing locks (locks_in mask) number ≡ Some lock → slice_get locks lock ≡ Some (Some holder) →
-      IsStep (λ w model. taken w number model (first_missing w.holders (record_of w.log w.words number) number)) number
+  pub take_waits : (lock holder : ℕ) → found ≡ Some lock → slice_get locks lock ≡ Some (Some holder) →
+      IsStep (λ w model. taken w number model (least_missing w.holders (record_of w.log w.words number) number)) number
       (record { phase = Take; hart = hart; memory = memory; locks = locks }) (record { phase = Take; hart = hart; memory = memory; locks = locks })
       (Waits lock holder)
   take_waits lock holder lacks held = record {
     each = λ w model s.
         let parts : Parts = record { phase = Take; hart = hart; memory = memory; locks = locks } in
-        let found : first_missing w.holders (record_of w.log w.words number) number ≡ Some lock =
-        missing_is number mask parts w model (is_record w.words s.words) s ∙ lacks in
+        let lacked : least_missing w.holders (record_of w.log w.words number) number ≡ Some lock =
+        missing_is number found parts w model (is_missing w.words s.words) s ∙ lacks in
         let there : slice_get w.holders lock ≡ Some (Some holder) = ap (λ (holders : List (Option ℕ)). slice_get holders lock) s.holders ∙ held in
-        subst (λ (o : Option ℕ). PartsEnd parts (Waits lock holder) number w (taken w number model o)) (sym found)
+        subst (λ (o : Option ℕ). PartsEnd parts (Waits lock holder) number w (taken w number model o)) (sym lacked)
         (rw (taken, there) (same_end parts (Waits lock holder) number w model s));
   }
 
   -- the hart lacks a lock that is free
-  pub take_takes : (lock : ℕ) (locks' : List (Option ℕ)) → first_missing locks (locks_in mask) number ≡ Some lock → slice_get locks lock ≡ Some None →
+  pub take_takes : (lock : ℕ) (locks' : List (Option ℕ)) → found ≡ Some lock → slice_get locks lock ≡ Some None →
       locks' ≡ slice_set locks lock (Some number) →
-      IsStep (λ w model. taken w number model (first_missing w.holders (record_of w.log w.words number) number)) number
+      IsStep (λ w model. taken w number model (least_missing w.holders (record_of w.log w.words number) number)) number
       (record { phase = Take; hart = hart; memory = memory; locks = locks }) (record { phase = Take; hart = hart; memory = memory; locks = locks' }) Moved
   take_takes lock locks' lacks free is = record {
     each = λ w model s.
         let parts : Parts = record { phase = Take; hart = hart; memory = memory; locks = locks } in
         let after : Parts = record { phase = Take; hart = hart; memory = memory; locks = locks' } in
-        let found : first_missing w.holders (record_of w.log w.words number) number ≡ Some lock =
-        missing_is number mask parts w model (is_record w.words s.words) s ∙ lacks in
+        let lacked : least_missing w.holders (record_of w.log w.words number) number ≡ Some lock =
+        missing_is number found parts w model (is_missing w.words s.words) s ∙ lacks in
         let there : slice_get w.holders lock ≡ Some None = ap (λ (holders : List (Option ℕ)). slice_get holders lock) s.holders ∙ free in
         let holders : slice_set w.holders lock (Some number) ≡ locks' = ap (λ (hs : List (Option ℕ)). slice_set hs lock (Some number)) s.holders ∙ sym is in
-        subst (λ (o : Option ℕ). PartsEnd after Moved number w (taken w number model o)) (sym found)
+        subst (λ (o : Option ℕ). PartsEnd after Moved number w (taken w number model o)) (sym lacked)
         (rw (taken, there) (changed_end parts after Moved number w model model w.words (slice_set w.holders lock (Some number)) s s.words refl holders s.phase
         s.hart (λ any entries q. q)));
   }

@@ -1,14 +1,18 @@
 //! What a thread's log says durably: the point, and its bank.
-ghost use Rattle.std.specs.Prelude.{◌≡◌, ◌<◌, ℕ, List};
-ghost use Rattle.ido_base.specs.Locks.{locks_in};
+ghost use Rattle.std.specs.Prelude.{◌≡◌, ◌<◌, ℕ, List, Option, Some, IfSome, length, map, take, if◌then◌else◌};
+ghost use Rattle.ido_base.specs.Layout.{slot_at};
+ghost use Rattle.ido_base.specs.Locks.{is_missing, lesser, least_missing};
+ghost use Rattle.ido_base.specs.declared.log.Log.TheVariants.{V2};
 ghost use Rattle.ido_base.specs.Words.{Word};
 ghost use Rattle.line_memory.specs.links.MemoryRepresentation.{Represents, log_in, threads_of};
 ghost use Rattle.memory_layout.specs.Points.{point_of};
 ghost use Rattle.resume_recovery.specs.links.Points.{bank_in};
-ghost use Rattle.rv64_isa.specs.Machine.{resume_of, durable_point, record_of, phase_after_crash, resumed_register, resumed_registers};
+ghost use Rattle.rv64_isa.specs.Machine.{numbers_from, resume_of, durable_at, durable_point, record_of, phase_after_crash, resumed_register, resumed_registers};
 
+use ido_base::log::Log;
 use line_memory::memory::LineMemory;
-use memory_layout::log::MASK_SLOT;
+use lock_table::LockTable;
+use memory_layout::log::{COUNT_SLOT, FIRST_LOCK_SLOT, MASK_SLOT, MOST_LISTED};
 use memory_layout::point::{Point, read_point};
 use memory_layout::roles::BANK_OFFSET;
 use rv64_isa::phase::Phase;
@@ -43,14 +47,53 @@ pub fn resume_address(hart: u32, memory: &LineMemory) -> u64
     }
 }
 
-/// The mask of the locks that the hart held at its durable point (bit i stands for lock i); 0 where that is idle.
-pub fn record_of(hart: u32, memory: &LineMemory) -> u64
+/// The lesser of a lock that the hart lacks and the least of others; the least of the others where the hart doesn't lack it.
+fn lesser_missing(hart: u32, locks: &LockTable, lock: u64, least: Option<u32>) -> Option<u32>
+    requires { IfSome least (λ other. other < length locks.now) }
+    ensures value { result ≡ (if is_missing locks.now hart lock then Some (lesser lock least) else least) }
+    ensures within { IfSome result (λ lock. lock < length locks.now) }
+{
+    if !locks.lacks(lock, hart) {
+        return least;
+    }
+    let lock = lock as u32;
+    match least {
+        None => Some(lock),
+        Some(other) => Some(lock.min(other)),
+    }
+}
+
+/// The least lock that a list in a bank has and the hart lacks: slot 0 says how many there are, and they stand from slot 32 on, 16 at most.
+fn missing_of_list(hart: u32, bank: u32, memory: &LineMemory, locks: &LockTable) -> Option<u32>
+    requires hart { hart < threads_of memory.now }
+    requires bank { bank < 2 }
+    requires log { log_in memory.now ≡ V2 }
+    ensures value { (words : List Word) → Represents memory.now words → result ≡ least_missing locks.now
+        (take (durable_at words (slot_at V2 hart bank 0)) (map (λ slot. durable_at words (slot_at V2 hart bank slot)) (numbers_from 32 16))) hart }
+    ensures within { IfSome result (λ lock. lock < length locks.now) }
+{
+    let count = memory.durable_slot(hart, bank, COUNT_SLOT).min(MOST_LISTED);
+    let mut least = None;
+    for index in 0..count as u32 {
+        let lock = memory.durable_slot(hart, bank, FIRST_LOCK_SLOT + index);
+        least = lesser_missing(hart, locks, lock, least);
+    }
+    least
+}
+
+/// The least lock of those that the hart held at its durable point that exists and that the hart doesn't hold.
+pub fn missing_lock(hart: u32, memory: &LineMemory, locks: &LockTable) -> Option<u32>
     requires { hart < threads_of memory.now }
-    ensures { (words : List Word) → Represents memory.now words → locks_in result ≡ record_of (log_in memory.now) words hart }
+    ensures value { (words : List Word) → Represents memory.now words →
+        result ≡ least_missing locks.now (record_of (log_in memory.now) words hart) hart }
+    ensures within { IfSome result (λ lock. lock < length locks.now) }
 {
     match point_of(hart, memory) {
-        Point::Idle => 0,
-        Point::At { bank, .. } => memory.durable_slot(hart, bank, MASK_SLOT),
+        Point::Idle => None,
+        Point::At { bank, .. } => match memory.log() {
+            Log::V1 => locks.least_missing(memory.durable_slot(hart, bank, MASK_SLOT), hart),
+            Log::V2 => missing_of_list(hart, bank, memory, locks),
+        },
     }
 }
 

@@ -1,7 +1,7 @@
 //! The step of a hart in recovery.
 ghost use Rattle.std.specs.Prelude.{◌≡◌, ◌<◌, ◌^◌, ℕ, List, Option, length, slice_set};
 ghost use Rattle.ido_base.specs.Cores.{is_idle};
-ghost use Rattle.ido_base.specs.Locks.{first_missing};
+ghost use Rattle.ido_base.specs.Locks.{least_missing};
 ghost use Rattle.line_memory.specs.declared.memory.LineMemory.{LineMemory};
 ghost use Rattle.line_memory.specs.links.MemoryRepresentation.{Represents, log_in, threads_of};
 ghost use Rattle.rv64_isa.specs.declared.object.Slot.{Slot};
@@ -12,7 +12,7 @@ ghost use Rattle.hart_core.specs.StepsOnParts.{Parts, PartsStand, PartsEnd, IsSt
 ghost use Rattle.resume_recovery.specs.RecoverySteps.{phase_at, phases_of, IsRecoveryStep};
 
 use crate::barrier::least_taking;
-use crate::record::{record_of, resume_address, resumed_registers};
+use crate::record::{missing_lock, resume_address, resumed_registers};
 use hart_core::hart::Hart;
 use ido_base::event::Reply;
 use line_memory::memory::LineMemory;
@@ -23,12 +23,12 @@ use rv64_isa::phase::Phase;
 /// on to wait for the others. The phase that it comes to, and the reply.
 fn take(hart: u32, memory: &LineMemory, locks: &mut LockTable) -> (Phase, Reply)
     requires { hart < threads_of memory.now }
-    ensures step { (it : Hart) → IsStep (λ w model. taken w hart model (first_missing w.holders (record_of w.log w.words hart) hart)) hart
+    ensures step { (it : Hart) → IsStep (λ w model. taken w hart model (least_missing w.holders (record_of w.log w.words hart) hart)) hart
         (record { phase = Take; hart = it; memory = memory.now; locks = locks.old })
         (record { phase = result.0; hart = it; memory = memory.now; locks = locks.new }) result.1 }
     ensures locks { length locks.new ≡ length locks.old }
 {
-    let Some(lock) = locks.least_missing(record_of(hart, memory), hart) else {
+    let Some(lock) = missing_lock(hart, memory, locks) else {
         return (Phase::Wait, Reply::Moved);
     };
     if let Some(holder) = locks.held_by(lock) {
@@ -67,9 +67,9 @@ fn resume(number: u32, hart: &mut Hart, memory: &LineMemory) -> (Phase, Reply)
 fn take_waits(hart: u32, memory: &LineMemory, locks: &LockTable) -> bool
     requires { hart < threads_of memory.now }
     ensures { (w : World) (model : HartModel) → Represents memory.now w.words → w.log ≡ log_in memory.now → w.holders ≡ locks.now →
-        result ≡ is_idle (taken w hart model (first_missing w.holders (record_of w.log w.words hart) hart)).1 }
+        result ≡ is_idle (taken w hart model (least_missing w.holders (record_of w.log w.words hart) hart)).1 }
 {
-    match locks.least_missing(record_of(hart, memory), hart) {
+    match missing_lock(hart, memory, locks) {
         None => false,
         Some(lock) => locks.held_by(lock).is_some(),
     }

@@ -7,7 +7,7 @@ use Rattle.ido_base.specs.declared.event.Event.TheVariants.{Step}
 use Rattle.ido_base.specs.declared.event.Reply.TheVariants.{Waits}
 use Rattle.ido_base.specs.Words.{Word, Entry, word_of, word_at}
 use Rattle.ido_base.specs.Layout.{in_range, aligned, byte_number}
-use Rattle.ido_base.specs.Locks.{is_held_by, least_held, first_missing}
+use Rattle.ido_base.specs.Locks.{is_held_by, least_held, least_missing}
 use Rattle.rv64_isa.specs.declared.object.Slot.{Slot}
 use Rattle.rv64_isa.specs.declared.object.Slot.TheVariants.{Row, NoRow}
 use Rattle.rv64_isa.specs.declared.phase.Phase.{Phase}
@@ -116,7 +116,7 @@ module _ (program : List (List Slot)) (h : ℕ) (w : World) where
       ap (λ (ws : List Word). (word_at ws j).durable) (settles h w outcome.0 (slice_get outcome.0.harts h)) ∙ executes h w hart (fetched program h hart.pc) e j
 
   by_phase : (hart : Hart) (phase : Phase) → Keeps w (phase_step program w h hart phase)
-  by_phase hart Take = takes h w hart (first_missing w.holders (record_of w.log w.words h) h)
+  by_phase hart Take = takes h w hart (least_missing w.holders (record_of w.log w.words h) h)
   by_phase hart Wait = waits h w hart (taking_from 0 w.harts)
   by_phase hart Resume = λ e j. refl
   by_phase hart Run = runs hart

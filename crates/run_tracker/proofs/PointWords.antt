@@ -1,7 +1,7 @@
 -- Where points stand.
 use Rattle.std.proofs.Common.{◌≡◌, ℕ, suc, ◌≤◌, ◌+◌, ◌-◌, ◌*◌, ◌/◌, Bool, true, false, nat_lt, if◌then◌else◌, refl, ap, ◌∙◌, arith, ◌<◌, length, sym, subst}
 use Rattle.std.proofs.lemmas.Bool.{ltb-true}
-use Rattle.ido_base.specs.declared.log.Log.TheVariants.{V1}
+use Rattle.ido_base.specs.declared.log.Log.TheVariants.{V1, V2}
 use Rattle.ido_base.specs.declared.log.Log.{Log}
 use Rattle.ido_base.specs.Layout.{logs_base, variables_base, point_at, byte_number, log_lines, line_count, word_count}
 use Rattle.rv64_isa.specs.Machine.{World}
@@ -24,6 +24,7 @@ point_place log h = by_test (nat_lt (point_at log h) logs_base) refl
 -- a log has a line
 some_lines : (log : Log) → 0 < log_lines log
 some_lines V1 = omega arith
+some_lines V2 = omega arith
 
 -- rows of one length end where the next begins
 rows_end : (lines few more : ℕ) → lines * few + lines ≤ lines * (few + 1 + more)

@@ -7,11 +7,11 @@ use Rattle.std.proofs.Math.ListN.{length-set, length-append}
 use Rattle.std.proofs.lemmas.List.{length-map, length-replicate, set_past}
 use Rattle.ido_base.specs.declared.event.Event.{Event}
 use Rattle.ido_base.specs.declared.log.Log.{Log}
-use Rattle.ido_base.specs.declared.log.Log.TheVariants.{V1}
+use Rattle.ido_base.specs.declared.log.Log.TheVariants.{V1, V2}
 use Rattle.ido_base.specs.declared.event.Event.TheVariants.{Step, Evict, Crash}
 use Rattle.ido_base.specs.declared.event.Reply.TheVariants.{Waits}
 use Rattle.ido_base.specs.Words.{Word, Entry, entry_of, stored, drained, evicted, word_of, durable_value}
-use Rattle.ido_base.specs.Locks.{is_held_by, least_held, first_missing}
+use Rattle.ido_base.specs.Locks.{is_held_by, least_held, least_missing}
 use Rattle.ido_base.specs.Layout.{in_range, aligned, byte_number, word_count, initial_words, words_of_bytes, variables_base, logs_base}
 use Rattle.ido_base.specs.Growth.{AreChanged, ArePersisted, IsEntry, AreEntries}
 use Rattle.ido_base.proofs.Public.{changed_refl, changed_by_persisted, stores_change, evictions_raise, write_backs_raise, entries_stay, entries_append}
@@ -71,6 +71,30 @@ line_inside V1 harts address inside = by_half (nat_lt address logs_base) refl (o
         → ((nat_le variables_base address && nat_le (address + 1) (variables_base + 65536)) ≡ true)
         ⊎ ((nat_le logs_base address && nat_le (address + 1) (logs_base + 1024 * harts)) ≡ true)
         → 8 * (byte_number address / 64) + 8 ≤ word_count V1 harts
+    by_half true e (inl h) =
+        let r = in_variables h in
+        let n : byte_number address ≡ address - variables_base = ap (λ b. cond b (address - variables_base) (65536 + (address - logs_base))) e in
+        omega (arith, n, r.0, r.1)
+    by_half true e (inr h) = absurd (omega (arith, (in_logs h).0, ltb-true _ _ e))
+    by_half false e (inl h) = absurd (omega (arith, (in_variables h).1, ltb-false _ _ e))
+    by_half false e (inr h) =
+        let r = in_logs h in
+        let n : byte_number address ≡ 65536 + (address - logs_base) = ap (λ b. cond b (address - variables_base) (65536 + (address - logs_base))) e in
+        omega (arith, n, r.0, r.1)
+line_inside V2 harts address inside = by_half (nat_lt address logs_base) refl (or_cases _ _ inside)
+  where
+    in_variables : (nat_le variables_base address && nat_le (address + 1) (variables_base + 65536)) ≡ true →
+        (variables_base ≤ address) × (address + 1 ≤ variables_base + 65536)
+    in_variables e = let h = and_parts _ _ e in (leb-true _ _ h.0, leb-true _ _ h.1)
+
+    in_logs : (nat_le logs_base address && nat_le (address + 1) (logs_base + 2048 * harts)) ≡ true →
+        (logs_base ≤ address) × (address + 1 ≤ logs_base + 2048 * harts)
+    in_logs e = let h = and_parts _ _ e in (leb-true _ _ h.0, leb-true _ _ h.1)
+
+    by_half : (b : Bool) → nat_lt address logs_base ≡ b
+        → ((nat_le variables_base address && nat_le (address + 1) (variables_base + 65536)) ≡ true)
+        ⊎ ((nat_le logs_base address && nat_le (address + 1) (logs_base + 2048 * harts)) ≡ true)
+        → 8 * (byte_number address / 64) + 8 ≤ word_count V2 harts
     by_half true e (inl h) =
         let r = in_variables h in
         let n : byte_number address ≡ address - variables_base = ap (λ b. cond b (address - variables_base) (65536 + (address - logs_base))) e in
@@ -281,7 +305,7 @@ module _ (program : List (List Slot)) (h : ℕ) (w : World) (sound : IsWellForme
       settles h w outcome.0 (executes h w hart here (sound.queues h hart here) sound.size (fetched program h hart.pc)) (slice_get outcome.0.harts h) refl
 
   by_phase : (hart : Hart) → slice_get w.harts h ≡ Some hart → (phase : Phase) → OwnQueueStays h w (phase_step program w h hart phase).0
-  by_phase hart here Take = takes h w hart here (sound.queues h hart here) sound.size (first_missing w.holders (record_of w.log w.words h) h)
+  by_phase hart here Take = takes h w hart here (sound.queues h hart here) sound.size (least_missing w.holders (record_of w.log w.words h) h)
   by_phase hart here Wait = waits h w hart here (sound.queues h hart here) sound.size (taking_from 0 w.harts)
   by_phase hart here Resume = moves h w hart here (sound.queues h hart here) sound.size _ refl
   by_phase hart here Run = runs hart here
@@ -350,6 +374,11 @@ length-initial V1 threads bytes =
     let a = length-words bytes 8192 in
     let b = length-replicate {A = ℕ} (128 * threads) 0 in
     let c = length-append (words_of_bytes bytes 8192) (replicate (128 * threads) 0) in
+    omega (arith, a, b, c)
+length-initial V2 threads bytes =
+    let a = length-words bytes 8192 in
+    let b = length-replicate {A = ℕ} (256 * threads) 0 in
+    let c = length-append (words_of_bytes bytes 8192) (replicate (256 * threads) 0) in
     omega (arith, a, b, c)
 
 fresh_harts : (program : List (List Slot)) (phase : ℕ → Phase) →

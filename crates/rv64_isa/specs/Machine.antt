@@ -1,9 +1,9 @@
 -- A machine of several harts over one memory: what each event does, and what it is replied.
-use Rattle.std.specs.Prelude.{ℕ, zero, suc, ◌+◌, ◌-◌, ◌*◌, ◌/◌, ◌%◌, ◌<◌, ◌≤◌, List, [], ◌∷◌, ◌++◌, map, length, slice_get}
+use Rattle.std.specs.Prelude.{ℕ, zero, suc, ◌+◌, ◌-◌, ◌*◌, ◌/◌, ◌%◌, ◌<◌, ◌≤◌, List, [], ◌∷◌, ◌++◌, map, length, slice_get, take}
 use Rattle.std.specs.Prelude.{slice_set, Option, Some, None, Bool, true, false, not, nat_lt, ◌==◌, ◌&&◌, if◌then◌else◌, replicate}
 use Rattle.ido_base.specs.declared.event.Event.{Event}
 use Rattle.ido_base.specs.declared.log.Log.{Log}
-use Rattle.ido_base.specs.declared.log.Log.TheVariants.{V1}
+use Rattle.ido_base.specs.declared.log.Log.TheVariants.{V1, V2}
 use Rattle.ido_base.specs.declared.event.Event.TheVariants.{Step, Evict, Crash}
 use Rattle.ido_base.specs.declared.event.Reply.{Reply}
 use Rattle.ido_base.specs.declared.event.Reply.TheVariants.{Moved, Drained, Waits, Barrier, Still, Stuck, Device}
@@ -11,7 +11,7 @@ use Rattle.ido_base.specs.declared.event.Cause.{Cause}
 use Rattle.ido_base.specs.declared.event.Cause.TheVariants.{Illegal, Outside, Unaligned, NoCode, NoCall, NoLock, NotHeld, EndHolding}
 use Rattle.ido_base.specs.Words.{Word, Entry, word_of, word_at, live_value, durable_value, loaded, stored, entry_of, drained, evicted}
 use Rattle.ido_base.specs.Cores.{IsValid}
-use Rattle.ido_base.specs.Locks.{is_held_by, least_held, holds_none, first_missing, locks_in}
+use Rattle.ido_base.specs.Locks.{is_held_by, least_held, holds_none, least_missing, locks_in}
 use Rattle.ido_base.specs.Layout.{in_range, aligned, byte_number, word_number, point_at, slot_at}
 use Rattle.ido_base.specs.Layout.{bank_bytes, line_bytes, line_count, initial_words, spread_words}
 use Rattle.rv64_isa.specs.declared.object.Object.{Object}
@@ -152,6 +152,11 @@ resume_of point = point - point % 2
 abbrev pub recorded : Log → List Word → (thread slot : ℕ) → ℕ
 recorded log words thread slot = durable_at words (slot_at log thread (bank_of (durable_point log words thread)) slot)
 
+-- the numbers from `at` on, so many
+abbrev pub numbers_from : (at count : ℕ) → List ℕ
+numbers_from at zero = []
+numbers_from at (suc count) = at ∷ numbers_from (at + 1) count
+
 -- the record of a thread: the locks that it held at its durable point, in the order in which recovery takes them
 abbrev pub record_of : Log → List Word → (thread : ℕ) → List ℕ
 record_of log words thread = if durable_point log words thread == 0 then [] else locks_of_bank log words thread
@@ -159,6 +164,8 @@ record_of log words thread = if durable_point log words thread == 0 then [] else
     -- the locks of the point's bank
     locks_of_bank : Log → List Word → ℕ → List ℕ
     locks_of_bank V1 ws t = locks_in (recorded V1 ws t 0)
+    -- as many as slot 0 says, of the 16 from slot 32 on
+    locks_of_bank V2 ws t = take (recorded V2 ws t 0) (map (recorded V2 ws t) (numbers_from 32 16))
 
 -- takes the lock, or waits for it
 abbrev pub taken : World → ℕ → Hart → Option ℕ → Outcome
@@ -192,14 +199,10 @@ resumed_register log words thread r =
     else if r == 3 then bank_bytes log * bank_of (durable_point log words thread)
     else recorded log words thread r
 
--- the numbers from `at` on, so many
-abbrev pub numbers_from : (at count : ℕ) → List ℕ
-numbers_from at zero = []
-numbers_from at (suc count) = at ∷ numbers_from (at + 1) count
-
 -- all registers as they are resumed
 abbrev pub resumed_registers : Log → List Word → (thread : ℕ) → List ℕ
 resumed_registers V1 words thread = map (resumed_register V1 words thread) (numbers_from 0 32)
+resumed_registers V2 words thread = map (resumed_register V2 words thread) (numbers_from 0 32)
 
 abbrev pub resumed : World → ℕ → Hart → Outcome
 resumed w h hart = moved w h (record hart {
@@ -225,7 +228,7 @@ run_step program w h hart =
 
 -- a step of hart h, by its phase
 abbrev pub phase_step : List (List Slot) → World → ℕ → Hart → Phase → Outcome
-phase_step program w h hart Take = taken w h hart (first_missing w.holders (record_of w.log w.words h) h)
+phase_step program w h hart Take = taken w h hart (least_missing w.holders (record_of w.log w.words h) h)
 phase_step program w h hart Wait = waited w h hart (taking_from 0 w.harts)
 phase_step program w h hart Resume = resumed w h hart
 phase_step program w h hart Run = run_step program w h hart

@@ -212,6 +212,21 @@ base_aligned : (k : Kind) (n : ℕ) → n % bytes_of k ≡ 0 → (variables_base
 base_aligned k n =
     by_size (λ b. n % b ≡ 0 → (variables_base + n) % b ≡ 0) (λ h. omega (arith, h)) (λ h. omega (arith, h)) (λ h. omega (arith, h)) (λ h. omega (arith, h)) k
 
+-- an element stands at its address
+pub element_stands : (vs : List Variable) (v e : ℕ) (is : Variable) → HaveRoom (shapes vs) → slice_get vs v ≡ Some is → e < elements_in is.length →
+    IsAtSpot (spots_of vs) v e is.kind (byte_number (variable_at (shapes vs) v e))
+element_stands vs v e is room h l =
+    let none : 0 + v ≡ v = omega arith in
+    let first = number_is vs v 0 is room h (omega arith) in
+    let own = number_is vs v e is room h (omega (arith, l)) in
+    record {
+      spot = spot (shapes vs) v is;
+      there = spot_there (shapes vs) 0 vs v is h ∙ ap (λ (k : ℕ). Some (spot (shapes vs) k is)) none;
+      within = l;
+      kind_is = refl;
+      number_is = omega (arith, first, own);
+    }
+
 pub addresses_reach : AddressesReach
 addresses_reach log vs threads v e is room h l =
     let a = address_is vs v e is h in
@@ -223,15 +238,5 @@ addresses_reach log vs threads v e is room h l =
       inside = or_left _ _
           (and_from _ _ (le-leb variables_base address (omega (arith, place))) (le-leb (address + bytes_of is.kind) _ (omega (arith, place, w.ends))));
       is_aligned = eq-eqb _ 0 (ap (λ (m : ℕ). m % bytes_of is.kind) place ∙ base_aligned is.kind n w.is_aligned);
-      at =
-          let none : 0 + v ≡ v = omega arith in
-          let first = number_is vs v 0 is room h (omega arith) in
-          let own = number_is vs v e is room h (omega (arith, l)) in
-          record {
-            spot = spot (shapes vs) v is;
-            there = spot_there (shapes vs) 0 vs v is h ∙ ap (λ (k : ℕ). Some (spot (shapes vs) k is)) none;
-            within = l;
-            kind_is = refl;
-            number_is = omega (arith, first, own);
-          };
+      at = element_stands vs v e is room h l;
     }

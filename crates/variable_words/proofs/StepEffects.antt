@@ -5,7 +5,7 @@ use Rattle.std.proofs.lemmas.Bool.{cond_both}
 use Rattle.ido_base.specs.declared.event.Event.TheVariants.{Step}
 use Rattle.ido_base.specs.declared.event.Reply.TheVariants.{Waits}
 use Rattle.ido_base.specs.Words.{Entry, entry_of}
-use Rattle.ido_base.specs.Locks.{is_held_by, least_held, first_missing}
+use Rattle.ido_base.specs.Locks.{is_held_by, least_held, least_missing}
 use Rattle.ido_base.specs.Layout.{in_range, aligned, byte_number}
 use Rattle.rv64_isa.specs.declared.object.Slot.{Slot}
 use Rattle.rv64_isa.specs.declared.object.Slot.TheVariants.{Row, NoRow}
@@ -145,7 +145,7 @@ module _ (program : List (List Slot)) (w : World) (h : ℕ) (hart : Hart) (here 
       settles outcome.0 (executes running (fetched program h hart.pc) refl) (slice_get outcome.0.harts h) refl
 
   by_phase : (phase : Phase) → hart.phase ≡ phase → Gives (phase_step program w h hart phase).0
-  by_phase Take e = takes (first_missing w.holders (record_of w.log w.words h) h)
+  by_phase Take e = takes (least_missing w.holders (record_of w.log w.words h) h)
   by_phase Wait e = waits (taking_from 0 w.harts)
   by_phase Resume e = moves _ refl
   by_phase Run e = runs e

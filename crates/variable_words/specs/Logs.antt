@@ -1,7 +1,7 @@
 -- The words of threads' logs: no element lies in one, and no two logs have one in common.
 use Rattle.std.specs.Prelude.{◌≡◌, ◌≢◌, ℕ, ◌*◌, ◌/◌, ◌<◌, List, true, map}
 use Rattle.ido_base.specs.declared.log.Log.{Log}
-use Rattle.ido_base.specs.Layout.{bank_bytes, point_at, slot_at, in_range, aligned, byte_number, word_number, line_bytes}
+use Rattle.ido_base.specs.Layout.{bank_slots, point_at, slot_at, in_range, aligned, byte_number, word_number, line_bytes}
 use Rattle.ido_ints.specs.declared.kinds.Kind.{Kind}
 use Rattle.c_tree.specs.Programs.{Variable}
 use Rattle.c_tree.specs.WellFormed.{shape_of}
@@ -17,7 +17,7 @@ pub data LogWord : Type 0 where
 -- a log has two banks
 abbrev pub IsThere : Log → LogWord → Type 0
 IsThere log Point = Unit {0}
-IsThere log (Slot bank slot) = (bank < 2) × (8 * slot < bank_bytes log)
+IsThere log (Slot bank slot) = (bank < 2) × (slot < bank_slots log)
 
 abbrev pub log_address : Log → (thread : ℕ) → LogWord → ℕ
 log_address log thread Point = point_at log thread

@@ -1,6 +1,9 @@
 -- Names for the pieces of the code of boundaries and constants. What they do is said in Boundaries and Straight.
-use Rattle.std.specs.Prelude.{ℕ, ◌+◌, ◌*◌, ◌/◌, ◌%◌, ◌^◌, List, [], ◌∷◌, ◌++◌, Bool, true, false}
-use Rattle.ido_base.specs.declared.log.Log.TheVariants.{V1}
+use Rattle.std.specs.Prelude.{ℕ, ◌+◌, ◌*◌, ◌/◌, ◌%◌, ◌^◌, ◌≤◌, List, [], ◌∷◌, ◌++◌, length, map, Vec, Bool, true, false}
+use Rattle.std.specs.Global.{Global}
+use Rattle.ido_base.specs.declared.log.Log.{Log}
+use Rattle.ido_base.specs.declared.log.Log.TheVariants.{V1, V2}
+use Rattle.ido_base.specs.Layout.{bank_bytes}
 use Rattle.rv64_isa.specs.declared.instr.Instr.{Instr}
 use Rattle.rv64_isa.specs.declared.instr.Instr.TheVariants.{Auipc, Store, OpImmediate, ShiftImmediate, Op, CboClean, Fence}
 use Rattle.rv64_isa.specs.declared.instr.Operation.TheVariants.{Add}
@@ -9,9 +12,21 @@ use Rattle.rv64_isa.specs.declared.instr.ShiftOperation.TheVariants.{Srli}
 use Rattle.rv64_isa.specs.declared.instr.StoreKind.TheVariants.{Sd}
 use Rattle.boundary_code.specs.Boundaries.{lines_in_use}
 
+-- what a log's bank needs of the code beside the live registers: the instructions that leave in x7 what slot 0 gets, those that store the locks in
+-- slots of their own, and the slots that are written
+pub record KeptCode : Type 0 where
+  pub first : List Instr
+  pub others : List Instr
+  pub slots : List ℕ
+
 abbrev pub keep_slots : (live : List ℕ) → List Instr
 keep_slots [] = []
 keep_slots (r ∷ rs) = Store Sd r 30 (64 + 8 * r) ∷ keep_slots rs
+
+-- each lock's number gets a slot, from this one on
+abbrev pub keep_locks : (slot : ℕ) → (codes : List (List Instr)) → List Instr
+keep_locks slot [] = []
+keep_locks slot (code ∷ codes) = code ++ Op Add 30 31 3 ∷ Store Sd 5 30 (64 + 8 * slot) ∷ keep_locks (slot + 1) codes
 
 abbrev pub clean_lines : (lines : List ℕ) → List Instr
 clean_lines [] = []
@@ -22,21 +37,37 @@ abbrev pub clean_where : Bool → (line : ℕ) → List Instr
 clean_where true line = clean_lines (line ∷ [])
 clean_where false line = []
 
+-- by so many bits the offset of a bank is its number
+abbrev pub offset_bits : Log → ℕ
+offset_bits V1 = 8
+offset_bits V2 = 10
+
 -- the resume address's distance from the boundary's end, in two's complement of 32 bits
-abbrev pub point : (resume : ℕ) → List Instr
-point resume =
-    Auipc 30 ((resume + 28 + 2048) % 2 ^ 32 / 4096) ∷ OpImmediate Addi 30 30 ((resume + 28) % 4096) ∷ ShiftImmediate Srli 7 3 8 ∷ Op Add 30 30 7 ∷ []
+abbrev pub point : Log → (resume : ℕ) → List Instr
+point log resume =
+    Auipc 30 ((resume + 28 + 2048) % 2 ^ 32 / 4096) ∷ OpImmediate Addi 30 30 ((resume + 28) % 4096) ∷ ShiftImmediate Srli 7 3 (offset_bits log) ∷
+    Op Add 30 30 7 ∷ []
 
 abbrev pub commit : (register : ℕ) → List Instr
 commit register = Store Sd register 31 0 ∷ CboClean 31 ∷ Fence ∷ []
 
 -- a boundary's code up to its first fence
-abbrev pub bank_part : (log mask : List Instr) → (live : List ℕ) → List Instr
-bank_part log mask live =
-    OpImmediate Xori 3 3 256 ∷ log ++ Op Add 30 31 3 ∷ mask ++ Store Sd 7 30 64 ∷ keep_slots live ++ clean_lines (lines_in_use V1 (0 ∷ live))
+abbrev pub bank_part : Log → (address : List Instr) → KeptCode → (live : List ℕ) → List Instr
+bank_part log address kept live =
+    OpImmediate Xori 3 3 (bank_bytes log) ∷ address ++ Op Add 30 31 3 ∷ kept.first ++ Store Sd 7 30 64 ∷ kept.others ++ keep_slots live
+    ++ clean_lines (lines_in_use log kept.slots)
 
-abbrev pub boundary_list : (log mask : List Instr) → (live : List ℕ) → (resume : ℕ) → List Instr
-boundary_list log mask live resume = bank_part log mask live ++ Fence ∷ point resume ++ commit 30
+abbrev pub boundary_list : Log → (address : List Instr) → KeptCode → (live : List ℕ) → (resume : ℕ) → List Instr
+boundary_list log address kept live resume = bank_part log address kept live ++ Fence ∷ point log resume ++ commit 30
 
-abbrev pub last_list : (log : List Instr) → List Instr
-last_list log = log ++ Fence ∷ commit 0
+abbrev pub last_list : (address : List Instr) → List Instr
+last_list address = address ++ Fence ∷ commit 0
+
+-- each of the lists has so many instructions at most
+abbrev pub AreShort : (most : ℕ) → List (List Instr) → Type 0
+AreShort most [] = Unit {0}
+AreShort most (code ∷ codes) = (length code ≤ most) × AreShort most codes
+
+-- the instructions in each of them
+abbrev pub lists_of : List (Vec Instr Global) → List (List Instr)
+lists_of codes = map (λ (code : Vec Instr Global). code.items) codes

@@ -1,11 +1,17 @@
 -- Code of boundaries.
-use Rattle.std.specs.Prelude.{◌+◌, ◌≤◌, List, length}
+use Rattle.std.specs.Prelude.{ℕ, ◌+◌, ◌≤◌, List, [], ◌∷◌, length}
 use Rattle.rv64_isa.specs.declared.instr.Instr.{Instr}
-use Rattle.boundary_code.specs.Boundaries.{Boundary, HasEffects, HasOffset, KeepsRegisters}
+use Rattle.rv64_isa.specs.declared.instr.Instr.TheVariants.{OpImmediate}
+use Rattle.rv64_isa.specs.declared.instr.ImmediateOperation.TheVariants.{Addi}
+use Rattle.boundary_code.specs.Boundaries.{Boundary, HasEffects, HasOffset, KeepsRegisters, words_beside}
+
+-- leaves the number of a mutex in x5
+abbrev pub number_code : (mutex : ℕ) → List Instr
+number_code mutex = OpImmediate Addi 5 0 mutex ∷ []
 
 -- the code is that of the boundary
 pub record IsCodeOf (b : Boundary) (code : List Instr) : Type 0 where
-  pub short : length code ≤ length b.live + 35
+  pub short : length code ≤ length b.live + words_beside b.log b.locks
   pub effects_are : HasEffects b code
   pub offset : HasOffset b.log b.locks code
   pub keeps : KeepsRegisters b.log code

@@ -1,5 +1,4 @@
-use Rattle.std.proofs.Common.{◌≡◌, ◌≢◌, ◌≤◌, ◌<◌, ◌+◌, ◌^◌, length, ℕ, List, true, false, subst, ap, sym, ◌∙◌, eq-eqb, rules}
-use Rattle.std.specs.Prelude.{ℤ}
+use Rattle.std.proofs.Common.{◌≡◌, ◌≢◌, ◌≤◌, ◌<◌, ◌+◌, ◌^◌, length, ℕ, List, [], true, false, refl, subst, sym, ◌∙◌, eq-eqb, rules, arith}
 use Rattle.std.specs.Int.{cast_signed, cast_unsigned, w32}
 use Rattle.std.proofs.lemmas.Int.{to_z-of_z}
 use Rattle.std.proofs.lemmas.Bool.{ne_eqb}
@@ -11,9 +10,9 @@ use Rattle.ido_base.proofs.Public.{mask_of_locks}
 use Rattle.rv64_isa.specs.declared.instr.Instr.{Instr}
 use Rattle.rv64_isa.specs.Signed.{twos_complement}
 use Rattle.operator_code.specs.StraightLineCode.{IsConstant}
-use Rattle.boundary_code.specs.Boundaries.{Boundary, HasEffects, HasOffset, KeepsRegisters, is_empty}
+use Rattle.boundary_code.specs.Boundaries.{Boundary, is_empty}
 use Rattle.boundary_code.specs.links.InstructionLists.{boundary_list, last_list}
-use Rattle.boundary_code.proofs.WholeBoundaries.{Pieces, boundary-effects, boundary-offset, boundary-others, last-effects, last-offset, last-others}
+use Rattle.boundary_code.proofs.BoundariesByPieces.{Parts, IsMade, by_mask_made, last_made}
 use Rattle.boundary_code.proofs.EmptyLists.{empty_where}
 use Rattle.boundary_code.proofs.Lengths.{boundary_short, last_short}
 use Rattle.boundary_code.proofs.code.boundary.Goals as goal
@@ -30,100 +29,83 @@ some_mask mask small n = empty_where mask small ∙ ne_eqb mask 0 n
 is_mask : (mask : ℕ) (code : List Instr) → mask < 2 ^ 64 → IsConstant 7 mask code → IsConstant 7 (mask_with (locks_in mask)) code
 is_mask mask code small c = subst (λ (n : ℕ). IsConstant 7 n code) (sym (mask_of_locks mask small)) c
 
-listed : (log log' mask mask' code : List Instr) (live : List ℕ) (resume resume' : ℤ) → log' ≡ log → mask' ≡ mask → resume' ≡ resume →
-    code ≡ boundary_list log' mask' live (twos_complement 32 resume') →
-    code ≡ boundary_list log mask live (twos_complement 32 resume)
-listed log log' mask mask' code live resume resume' e f g k =
-    k ∙ ap (λ (is : List Instr). boundary_list is mask' live (twos_complement 32 resume')) e ∙
-    ap (λ (is : List Instr). boundary_list log is live (twos_complement 32 resume')) f ∙
-    ap (λ (z : ℤ). boundary_list log mask live (twos_complement 32 z)) g
+short_as : (code list : List Instr) (n : ℕ) → code ≡ list → length list ≤ n → length code ≤ n
+short_as code list n e h = subst (λ (is : List Instr). length is ≤ n) (sym e) h
 
 pub returns-then-mask-eq0-clause-effects : goal.returns-then-mask-eq0-clause-effects
 returns-then-mask-eq0-clause-effects c =
     let b : Boundary = record { log = V1; thread = c.args.thread; locks = locks_in c.args.mask; live = c.args.live.now; resume = c.args.resume } in
     IfOk-weaker c.emit_last_boundary.result _ _
-    (λ code k. subst (λ (is : List Instr). HasEffects b is) (sym (k ∙ ap (λ (is : List Instr). last_list is) c.deref.ensures.value))
-    (last-effects b c.in_ok-log.log.items c.requires.thread (no_mask c.args.mask (search rules) c.if-mask-eq0.true)
-    (is_log c.log_of.result c.args.thread c.in_ok-log.log.items c.log_of.ensures c.in_ok-log.ensures.code)))
+    (λ code k. (last_made b c.in_ok-log.log.items c.deref.result.now code.items c.requires.thread (no_mask c.args.mask (search rules) c.if-mask-eq0.true)
+    (is_log c.log_of.result c.args.thread c.in_ok-log.log.items c.log_of.ensures c.in_ok-log.ensures.code) c.deref.ensures.value k).effects)
     c.emit_last_boundary.ensures
 
 pub returns-then-mask-eq0-clause-offset : goal.returns-then-mask-eq0-clause-offset
 returns-then-mask-eq0-clause-offset c =
     let b : Boundary = record { log = V1; thread = c.args.thread; locks = locks_in c.args.mask; live = c.args.live.now; resume = c.args.resume } in
     IfOk-weaker c.emit_last_boundary.result _ _
-    (λ code k. subst (λ (is : List Instr). HasOffset V1 (locks_in c.args.mask) is) (sym (k ∙ ap (λ (is : List Instr). last_list is) c.deref.ensures.value))
-    (last-offset (locks_in c.args.mask) c.args.thread c.in_ok-log.log.items c.requires.thread (no_mask c.args.mask (search rules) c.if-mask-eq0.true)
-    (is_log c.log_of.result c.args.thread c.in_ok-log.log.items c.log_of.ensures c.in_ok-log.ensures.code)))
+    (λ code k. (last_made b c.in_ok-log.log.items c.deref.result.now code.items c.requires.thread (no_mask c.args.mask (search rules) c.if-mask-eq0.true)
+    (is_log c.log_of.result c.args.thread c.in_ok-log.log.items c.log_of.ensures c.in_ok-log.ensures.code) c.deref.ensures.value k).offset)
     c.emit_last_boundary.ensures
 
 pub returns-then-mask-eq0-clause-others : goal.returns-then-mask-eq0-clause-others
 returns-then-mask-eq0-clause-others c =
     let b : Boundary = record { log = V1; thread = c.args.thread; locks = locks_in c.args.mask; live = c.args.live.now; resume = c.args.resume } in
     IfOk-weaker c.emit_last_boundary.result _ _
-    (λ code k. subst (λ (is : List Instr). KeepsRegisters V1 is) (sym (k ∙ ap (λ (is : List Instr). last_list is) c.deref.ensures.value))
-    (last-others c.args.thread c.in_ok-log.log.items c.requires.thread
-    (is_log c.log_of.result c.args.thread c.in_ok-log.log.items c.log_of.ensures c.in_ok-log.ensures.code)))
+    (λ code k. (last_made b c.in_ok-log.log.items c.deref.result.now code.items c.requires.thread (no_mask c.args.mask (search rules) c.if-mask-eq0.true)
+    (is_log c.log_of.result c.args.thread c.in_ok-log.log.items c.log_of.ensures c.in_ok-log.ensures.code) c.deref.ensures.value k).others)
     c.emit_last_boundary.ensures
 
 pub returns-clause-effects : goal.returns-clause-effects
 returns-clause-effects c =
-    let b : Boundary = record { log = V1; thread = c.args.thread; locks = locks_in c.args.mask; live = c.args.live.now; resume = c.args.resume } in
-    let pieces : Pieces b c.in_ok-log.log.items c.in_ok-record.record.items = record {
-      thread = c.requires.thread;
-      some = some_mask c.args.mask (search rules) c.if-mask-eq0.false;
-      live = c.requires.live;
+    let parts : Parts V1 c.args.thread c.args.live.now c.args.resume c.in_ok-log.log.items = record {
+      thread_is = c.requires.thread;
+      live_are = c.requires.live;
       low = c.requires.low;
       high = c.requires.high;
       is_log = is_log c.log_of.result c.args.thread c.in_ok-log.log.items c.log_of.ensures c.in_ok-log.ensures.code;
-      is_mask = is_mask c.args.mask c.in_ok-record.record.items (search rules) c.in_ok-record.ensures.code;
     } in
     IfOk-weaker c.emit_boundary.result _ _
-    (λ code k. subst (λ (is : List Instr). HasEffects b is)
-    (sym (listed c.in_ok-log.log.items c.deref-2.result.now c.in_ok-record.record.items c.deref-3.result.now _ c.args.live.now c.args.resume
-    (cast_signed w32 (cast_unsigned w32 c.args.resume)) c.deref-2.ensures.value c.deref-3.ensures.value (to_z-of_z w32 c.args.resume c.ranges.resume) k))
-    (boundary-effects b c.in_ok-log.log.items c.in_ok-record.record.items pieces))
+    (λ code k. (by_mask_made c.args.thread (locks_in c.args.mask) c.args.live.now c.args.resume c.in_ok-log.log.items c.in_ok-record.record.items
+    c.deref-2.result.now c.deref-3.result.now c.deref-4.result.now
+    (cast_signed w32 (cast_unsigned w32 c.args.resume)) code.items parts (some_mask c.args.mask (search rules) c.if-mask-eq0.false)
+    (is_mask c.args.mask c.in_ok-record.record.items (search rules) c.in_ok-record.ensures.code) c.deref-2.ensures.value c.deref-3.ensures.value
+    (c.deref-4.ensures.value ∙ c.in_ok-slots.ensures) (to_z-of_z w32 c.args.resume c.ranges.resume) k).effects)
     c.emit_boundary.ensures
 
 pub returns-clause-offset : goal.returns-clause-offset
 returns-clause-offset c =
-    let b : Boundary = record { log = V1; thread = c.args.thread; locks = locks_in c.args.mask; live = c.args.live.now; resume = c.args.resume } in
-    let pieces : Pieces b c.in_ok-log.log.items c.in_ok-record.record.items = record {
-      thread = c.requires.thread;
-      some = some_mask c.args.mask (search rules) c.if-mask-eq0.false;
-      live = c.requires.live;
+    let parts : Parts V1 c.args.thread c.args.live.now c.args.resume c.in_ok-log.log.items = record {
+      thread_is = c.requires.thread;
+      live_are = c.requires.live;
       low = c.requires.low;
       high = c.requires.high;
       is_log = is_log c.log_of.result c.args.thread c.in_ok-log.log.items c.log_of.ensures c.in_ok-log.ensures.code;
-      is_mask = is_mask c.args.mask c.in_ok-record.record.items (search rules) c.in_ok-record.ensures.code;
     } in
     IfOk-weaker c.emit_boundary.result _ _
-    (λ code k. subst (λ (is : List Instr). HasOffset V1 (locks_in c.args.mask) is)
-    (sym (listed c.in_ok-log.log.items c.deref-2.result.now c.in_ok-record.record.items c.deref-3.result.now _ c.args.live.now c.args.resume
-    (cast_signed w32 (cast_unsigned w32 c.args.resume)) c.deref-2.ensures.value c.deref-3.ensures.value (to_z-of_z w32 c.args.resume c.ranges.resume) k))
-    (boundary-offset b c.in_ok-log.log.items c.in_ok-record.record.items pieces))
+    (λ code k. (by_mask_made c.args.thread (locks_in c.args.mask) c.args.live.now c.args.resume c.in_ok-log.log.items c.in_ok-record.record.items
+    c.deref-2.result.now c.deref-3.result.now c.deref-4.result.now
+    (cast_signed w32 (cast_unsigned w32 c.args.resume)) code.items parts (some_mask c.args.mask (search rules) c.if-mask-eq0.false)
+    (is_mask c.args.mask c.in_ok-record.record.items (search rules) c.in_ok-record.ensures.code) c.deref-2.ensures.value c.deref-3.ensures.value
+    (c.deref-4.ensures.value ∙ c.in_ok-slots.ensures) (to_z-of_z w32 c.args.resume c.ranges.resume) k).offset)
     c.emit_boundary.ensures
 
 pub returns-clause-others : goal.returns-clause-others
 returns-clause-others c =
-    let b : Boundary = record { log = V1; thread = c.args.thread; locks = locks_in c.args.mask; live = c.args.live.now; resume = c.args.resume } in
-    let pieces : Pieces b c.in_ok-log.log.items c.in_ok-record.record.items = record {
-      thread = c.requires.thread;
-      some = some_mask c.args.mask (search rules) c.if-mask-eq0.false;
-      live = c.requires.live;
+    let parts : Parts V1 c.args.thread c.args.live.now c.args.resume c.in_ok-log.log.items = record {
+      thread_is = c.requires.thread;
+      live_are = c.requires.live;
       low = c.requires.low;
       high = c.requires.high;
       is_log = is_log c.log_of.result c.args.thread c.in_ok-log.log.items c.log_of.ensures c.in_ok-log.ensures.code;
-      is_mask = is_mask c.args.mask c.in_ok-record.record.items (search rules) c.in_ok-record.ensures.code;
     } in
     IfOk-weaker c.emit_boundary.result _ _
-    (λ code k. subst (λ (is : List Instr). KeepsRegisters V1 is)
-    (sym (listed c.in_ok-log.log.items c.deref-2.result.now c.in_ok-record.record.items c.deref-3.result.now _ c.args.live.now c.args.resume
-    (cast_signed w32 (cast_unsigned w32 c.args.resume)) c.deref-2.ensures.value c.deref-3.ensures.value (to_z-of_z w32 c.args.resume c.ranges.resume) k))
-    (boundary-others b c.in_ok-log.log.items c.in_ok-record.record.items pieces))
+    (λ code k. (by_mask_made c.args.thread (locks_in c.args.mask) c.args.live.now c.args.resume c.in_ok-log.log.items c.in_ok-record.record.items
+    c.deref-2.result.now c.deref-3.result.now c.deref-4.result.now
+    (cast_signed w32 (cast_unsigned w32 c.args.resume)) code.items parts (some_mask c.args.mask (search rules) c.if-mask-eq0.false)
+    (is_mask c.args.mask c.in_ok-record.record.items (search rules) c.in_ok-record.ensures.code) c.deref-2.ensures.value c.deref-3.ensures.value
+    (c.deref-4.ensures.value ∙ c.in_ok-slots.ensures) (to_z-of_z w32 c.args.resume c.ranges.resume) k).others)
     c.emit_boundary.ensures
-
-short_as : (code list : List Instr) (n : ℕ) → code ≡ list → length list ≤ n → length code ≤ n
-short_as code list n e h = subst (λ (is : List Instr). length is ≤ n) (sym e) h
 
 pub returns-then-mask-eq0-clause-short : goal.returns-then-mask-eq0-clause-short
 returns-then-mask-eq0-clause-short c =
@@ -135,10 +117,13 @@ returns-then-mask-eq0-clause-short c =
 pub returns-clause-short : goal.returns-clause-short
 returns-clause-short c =
     IfOk-weaker c.emit_boundary.result _ _
-    (λ code k. short_as code.items
-    (boundary_list c.deref-2.result.now c.deref-3.result.now c.args.live.now (twos_complement 32 (cast_signed w32 (cast_unsigned w32 c.args.resume))))
-    (length c.args.live.now + 35) k
-    (boundary_short c.deref-2.result.now c.deref-3.result.now c.args.live.now (twos_complement 32 (cast_signed w32 (cast_unsigned w32 c.args.resume)))
+    (λ code k.
+    let most = boundary_short V1 c.deref-2.result.now (record { first = c.deref-3.result.now; others = []; slots = c.deref-4.result.now }) c.args.live.now
+    (twos_complement 32 (cast_signed w32 (cast_unsigned w32 c.args.resume)))
     (subst (λ (is : List Instr). length is ≤ 8) (sym c.deref-2.ensures.value) c.in_ok-log.ensures.short)
-    (subst (λ (is : List Instr). length is ≤ 8) (sym c.deref-3.ensures.value) c.in_ok-record.ensures.short)))
+    (subst (λ (is : List Instr). length is ≤ 8) (sym c.deref-3.ensures.value) c.in_ok-record.ensures.short) in
+    short_as code.items
+    (boundary_list V1 c.deref-2.result.now (record { first = c.deref-3.result.now; others = []; slots = c.deref-4.result.now }) c.args.live.now
+    (twos_complement 32 (cast_signed w32 (cast_unsigned w32 c.args.resume))))
+    (length c.args.live.now + 35) k (omega (arith, most)))
     c.emit_boundary.ensures
