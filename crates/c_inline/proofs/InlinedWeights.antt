@@ -8,7 +8,7 @@ use Rattle.c_tree.specs.Exprs as e
 use Rattle.c_tree.specs.Programs as p
 use Rattle.c_tree.specs.Flats as f
 use Rattle.c_tree.specs.Inlining as i
-use Rattle.c_tree.specs.Prices.{nodes_of, statement_price, statements_price, arms_price, thread_price, assign_price}
+use Rattle.c_tree.specs.Prices.{key_nodes, nodes_of, statement_price, statements_price, arms_price, thread_price, assign_price}
 use Rattle.c_inline.specs.declared.weight.Weights.{Weights}
 use Rattle.c_inline.specs.links.Weights as v
 use Rattle.c_inline.specs.links.KnownWeights.{AreRight, IsUnknown}
@@ -30,6 +30,11 @@ same_nodes n (e.Binary operator left right) = ap₂ (λ (a b : ℕ). 1 + a + b) 
 same_nodes n (e.Conditional kind condition chosen otherwise) =
     ap₂ (λ (a b : ℕ). a + b) (ap₂ (λ (a b : ℕ). 1 + a + b) (same_nodes n condition) (same_nodes n chosen)) (same_nodes n otherwise)
 
+same_key : (n mutex : ℕ) (key : Option e.Placed) →
+    key_nodes (record { mutex = mutex; key = option_map (i.shifted_placed n) key }) ≡ key_nodes (record { mutex = mutex; key = key })
+same_key n mutex None = refl
+same_key n mutex (Some key) = same_nodes n key.expr
+
 module _ (w : Weights) where
   abbrev mutual
     pub made_statement : f.Statement → ℕ
@@ -37,8 +42,8 @@ module _ (w : Weights) where
     made_statement (f.If place arms otherwise) = made_arms arms + made_statements otherwise + w.branch
     made_statement (f.While place condition body) = v.node_weight w (nodes_of condition.expr) + made_statements body
     made_statement (f.Do place body condition) = v.node_weight w (nodes_of condition.expr) + made_statements body
-    made_statement (f.Lock place name) = v.node_weight w 0
-    made_statement (f.Unlock place name) = v.node_weight w 0
+    made_statement (f.Lock place name) = v.node_weight w (key_nodes name)
+    made_statement (f.Unlock place name) = v.node_weight w (key_nodes name)
 
     pub made_statements : f.Statements → ℕ
     made_statements f.no_statement = 0
@@ -105,8 +110,8 @@ module _ (w : Weights) where
           plus_zero _ ∙ sum3 _ _ _ _ (ap (λ (m : ℕ). v.node_weight w m) (same_nodes n condition.expr)) (statements_made n ks body)
       statement_made n ks (p.Do place body condition) =
           plus_zero _ ∙ sum3 _ _ _ _ (ap (λ (m : ℕ). v.node_weight w m) (same_nodes n condition.expr)) (statements_made n ks body)
-      statement_made n ks (p.Lock place name) = plus_zero _
-      statement_made n ks (p.Unlock place name) = plus_zero _
+      statement_made n ks (p.Lock place name) = plus_zero _ ∙ ap (λ (m : ℕ). v.node_weight w m) (same_key n name.mutex name.key)
+      statement_made n ks (p.Unlock place name) = plus_zero _ ∙ ap (λ (m : ℕ). v.node_weight w m) (same_key n name.mutex name.key)
 
       pub statements_made : (n : ℕ) (ks : List Kind) (xs : p.Statements) → made_statements (i.statements fs B n ks xs).made ≡ v.statements_weight w 0 fs F xs
       statements_made n ks p.no_statement = refl

@@ -4,14 +4,12 @@ use Rattle.std.specs.Prelude.{Contains}
 use Rattle.ido_base.specs.declared.place.Place.{Place}
 use Rattle.c_tree.specs.Programs as p
 use Rattle.c_tree.specs.Inlining as i
-use Rattle.c_tree.specs.Temporaries.{price_fault}
 use Rattle.c_inline.specs.declared.calls.Call.{Call}
 use Rattle.c_inline.specs.links.Calls as c
 use Rattle.c_inline.specs.links.Calls.{calls_at, lists_of, function_calls}
 use Rattle.c_inline.specs.links.Weights as v
 use Rattle.c_inline.specs.links.KnownWeights.{AreRight, IsUnknown, IsClosed}
 use Rattle.c_inline.specs.links.InlinedBodies.{AreSized}
-use Rattle.c_inline.specs.links.Faults.{fault_among}
 use Rattle.c_inline.proofs.CallLists.{calls_at_function}
 use Rattle.c_inline.proofs.WeightUpdates.{known_cases}
 use Rattle.c_inline.proofs.Cycle.{call_back}
@@ -54,10 +52,6 @@ module _ (fs : List p.Function) (known : List (Option ℕ)) (closed : IsClosed f
   are_sized is_right = record { right = is_right; known = λ g l. known_cases known g (omega (arith, l, is_right.covers)) (none_unknown g) }
 
 -- ---- What is answered
-
-pub fault_is : (x : p.Program) → price_fault (i.flat_form x) ≡ fault_among x.functions x.threads
-unfolding price_fault i.flat_form
-fault_is x = refl
 
 pub flat_is : (x : p.Program) → i.flat_form x ≡ record { mutexes = x.mutexes; variables = x.variables; threads = map (i.flat_thread x.functions) x.threads }
 unfolding i.flat_form

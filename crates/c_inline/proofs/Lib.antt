@@ -10,6 +10,7 @@ mod FirstRecursiveCall
 mod InlinedWeights
 mod InlinedStatements
 mod InliningAnswers
+mod ThreadFaults
 mod FormLaws
 mod CallDepth
 mod CallLocals

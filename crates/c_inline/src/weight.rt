@@ -8,7 +8,7 @@ ghost use Rattle.c_inline.specs.links.Weights.{called_weight, statement_weight, 
 ghost use Rattle.c_tree.specs.Programs.{statement_of, statements_of, arms_list_of, function_of, returned_of};
 
 use c_tree::expr::{Lvalue, Placed};
-use c_tree::price::nodes;
+use c_tree::price::{key_nodes, nodes};
 use c_tree::program::{Arm, Function, Returned, Statement};
 
 /// What the parts of the flat form weigh.
@@ -171,7 +171,8 @@ fn statement_weight(
             condition,
             ..
         } => test_weight(weights, functions, known, body, condition),
-        Statement::Lock { .. } | Statement::Unlock { .. } => node_weight(weights, 0),
+        Statement::Lock { lock, .. } => node_weight(weights, key_nodes(lock.as_ref())),
+        Statement::Unlock { lock, .. } => node_weight(weights, key_nodes(lock.as_ref())),
     }
 }
 

@@ -4,6 +4,8 @@ mod ProgramRows
 mod FlatRows
 mod PlainNames
 mod SameNames
+mod KnownNames
+mod HeldPrices
 mod Samples
 mod WorkedReading
 mod WorkedValues

@@ -1,5 +1,5 @@
 -- Worked rows: an array of mutexes, each of which guards an element, and what breaks the rules of its name and its length.
-use Rattle.std.proofs.Common.{◌≡◌, ℕ, List, [], ◌∷◌, map, replicate, Option, Some, None, Bool, true, false, refl}
+use Rattle.std.proofs.Common.{◌≡◌, ℕ, [], ◌∷◌, map, replicate, Option, Some, None, Bool, true, false, refl}
 use Rattle.std.specs.Prelude.{pos, codes}
 use Rattle.ido_ints.specs.declared.kinds.Kind.TheVariants as kind
 use Rattle.ido_ints.specs.declared.operators.Binary.TheVariants as b
@@ -15,7 +15,8 @@ use Rattle.c_tree.specs.Elaboration.{typed_program}
 use Rattle.c_tree.specs.Inlining.{flat_form}
 use Rattle.c_tree.specs.TypeRules.{type_faults}
 use Rattle.c_tree.specs.LockNames.{lock_names}
-use Rattle.c_tree.specs.Source.{State, start, source_step, after_from, ended_from}
+use Rattle.c_tree.specs.HoldPrices.{full_price}
+use Rattle.c_tree.specs.Source.{start, source_step, after_from, ended_from}
 use Rattle.c_tree.proofs.Samples.{at, int, name, length_at, thread, block, buckets}
 
 -- ---- Buckets
@@ -49,6 +50,16 @@ buckets_holders = refl
 buckets_sections : ended_from (start flat) (replicate 24 0) 0 ≡ 4
 unfolding typed_program flat_form source_step reduction.from_least_on reduction.residue
 buckets_sections = refl
+
+-- eight nodes, 16 for each of 22 nodes of expressions, and 56 at each of the four nodes before or after which the lock is held
+buckets_price : map (full_price Full flat) flat.threads ≡ 1344 ∷ []
+unfolding typed_program flat_form reduction.from_least_on
+buckets_price = refl
+
+-- without what is held
+buckets_plain : map (full_price Plain flat) flat.threads ≡ 1120 ∷ []
+unfolding typed_program flat_form reduction.from_least_on
+buckets_plain = refl
 
 -- ---- Names and lengths
 

@@ -1,6 +1,7 @@
 -- Worked rows: where a thread breaks the lock discipline.
 use Rattle.std.proofs.Common.{◌≡◌, ℕ, List, Option, Some, None, refl}
 use Rattle.ido_ints.specs.Reduction as reduction
+use Rattle.c_tree.specs.declared.language.Language.TheVariants.{Plain}
 use Rattle.c_tree.specs.declared.rule.Rule as r
 use Rattle.c_tree.specs.declared.rule.Rule.TheVariants as rule
 use Rattle.c_tree.specs.Trees as t
@@ -10,10 +11,10 @@ use Rattle.c_tree.specs.LockDiscipline.{Fault, lock_fault}
 use Rattle.c_tree.proofs.Samples.{at, operators, calls, unheld, unheld_element, again, not_held, join, least_join, loop_join, end_held}
 
 abbrev fault_of : List t.Item → Option Fault
-fault_of xs = lock_fault (flat_form (typed_program xs))
+fault_of xs = lock_fault Plain (flat_form (typed_program xs))
 
 abbrev fault : r.Rule → ℕ → ℕ → Option Fault
-fault found place mutex = Some (record { rule = found; place = at place; mutex = mutex })
+fault found place mutex = Some (record { rule = found; place = at place; lock = record { mutex = mutex; key = None } })
 
 disciplined : fault_of operators ≡ None
 unfolding typed_program flat_form lock_fault reduction.from_least_on

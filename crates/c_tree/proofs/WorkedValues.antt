@@ -12,7 +12,9 @@ use Rattle.c_tree.specs.Values.{value, lock_number}
 use Rattle.c_tree.specs.Prices.{nodes_of, need_of, thread_price}
 use Rattle.c_tree.specs.Elaboration.{typed_program, conditional}
 use Rattle.c_tree.specs.Inlining.{flat_form}
-use Rattle.c_tree.specs.Temporaries.{temporaries_fault, price_fault}
+use Rattle.c_tree.specs.declared.language.Language.TheVariants.{Plain}
+use Rattle.c_tree.specs.HoldPrices.{price_fault}
+use Rattle.c_tree.specs.Temporaries.{temporaries_fault}
 use Rattle.c_tree.proofs.Samples.{at, int, operators, bytes, calls}
 
 abbrev number : ℕ → e.Expr
@@ -102,7 +104,7 @@ few_temporaries : temporaries_fault (flat_form (typed_program operators)) ≡ No
 unfolding typed_program flat_form temporaries_fault
 few_temporaries = refl
 
-cheap : price_fault (flat_form (typed_program calls)) ≡ None
+cheap : price_fault Plain (flat_form (typed_program calls)) ≡ None
 unfolding typed_program flat_form price_fault
 cheap = refl
 

@@ -14,7 +14,7 @@ use Rattle.c_tree.specs.Ranges.{AllFit, Index, IsFirstUnfit}
 use Rattle.c_tree.specs.Inlining.{Call, IsFirstBack, LeadsBack, flat_form}
 use Rattle.c_tree.specs.LockDiscipline as d
 use Rattle.c_tree.specs.LockDiscipline.{lock_fault}
-use Rattle.c_tree.specs.Temporaries.{price_fault}
+use Rattle.c_tree.specs.HoldPrices.{price_fault}
 
 -- no call leads back
 abbrev pub HasNoBack : p.Program → Type 0
@@ -37,13 +37,13 @@ pub record IsFlattened (l : Language) (text : List ℕ) (flat : f.Flat) : Type 0
   pub program : p.Program
   pub ranged : IsRanged l text program
   pub ends : HasNoBack program
-  pub short : price_fault (flat_form program) ≡ None
+  pub short : price_fault l (flat_form program) ≡ None
   pub flattened : flat ≡ flat_form program
 
 -- the text has a flat form whose threads keep the lock discipline
 pub record IsChecked (l : Language) (text : List ℕ) (flat : f.Flat) : Type 0 where
   pub flattened : IsFlattened l text flat
-  pub disciplined : lock_fault flat ≡ None
+  pub disciplined : lock_fault l flat ≡ None
 
 -- the text is refused by the rule at the place: the first check that fails says which
 pub data IsFaulty (l : Language) (text : List ℕ) (found : r.Rule) (place : Place) : Type 0 where
@@ -51,6 +51,6 @@ pub data IsFaulty (l : Language) (text : List ℕ) (found : r.Rule) (place : Pla
   mistyped : (items : List Item) → IsRead l text items → IsFirst (type_faults l items) (record { rule = found; place = place }) → IsFaulty l text found place
   unfit : (x : p.Program) (i : Index) → IsTyped l text x → IsFirstUnfit x i → found ≡ rule.Index → place ≡ i.place → IsFaulty l text found place
   leads_back : (x : p.Program) → IsRanged l text x → IsFirstBack x.functions place → found ≡ rule.Recursion → IsFaulty l text found place
-  too_long : (x : p.Program) → IsRanged l text x → HasNoBack x → price_fault (flat_form x) ≡ Some place → found ≡ rule.Code → IsFaulty l text found place
-  undisciplined : (flat : f.Flat) (x : d.Fault) → IsFlattened l text flat → lock_fault flat ≡ Some x → found ≡ x.rule → place ≡ x.place
+  too_long : (x : p.Program) → IsRanged l text x → HasNoBack x → price_fault l (flat_form x) ≡ Some place → found ≡ rule.Code → IsFaulty l text found place
+  undisciplined : (flat : f.Flat) (x : d.Fault) → IsFlattened l text flat → lock_fault l flat ≡ Some x → found ≡ x.rule → place ≡ x.place
       → IsFaulty l text found place

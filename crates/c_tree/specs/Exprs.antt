@@ -9,6 +9,8 @@ use Rattle.ido_ints.specs.TypedNumbers.{Typed}
 use Rattle.c_tree.specs.declared.expr.Expr as e
 use Rattle.c_tree.specs.declared.expr.Placed as placed
 use Rattle.c_tree.specs.declared.expr.LockName as lock
+use Rattle.c_tree.specs.declared.expr.LockRef as lock_ref
+use Rattle.c_tree.specs.declared.expr.PlacedRef as placed_ref
 use Rattle.c_tree.specs.declared.expr.Lvalue as target
 use Rattle.c_tree.specs.declared.expr.Lvalue.TheVariants as targets
 
@@ -61,6 +63,13 @@ placed_of x = record { place = x.place; expr = expr_of x.expr }
 
 abbrev pub lock_name_of : lock.LockName → LockName
 lock_name_of x = record { mutex = x.mutex; key = option_map placed_of x.key }
+
+-- names whose keys stand elsewhere
+abbrev pub placed_ref_of : placed_ref.PlacedRef → Placed
+placed_ref_of x = record { place = x.place; expr = expr_of x.expr.now }
+
+abbrev pub lock_ref_of : lock_ref.LockRef → LockName
+lock_ref_of x = record { mutex = x.mutex; key = option_map placed_ref_of x.key }
 
 abbrev pub lvalue_of : target.Lvalue → Lvalue
 lvalue_of (targets.Local place local kind) = ToLocal place local kind

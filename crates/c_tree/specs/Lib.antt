@@ -12,6 +12,7 @@ pub mod Flats
 pub mod LockNames
 pub mod Source
 pub mod Prices
+pub mod HoldPrices
 pub mod Names
 pub mod Elaboration
 pub mod TypeRules
@@ -22,3 +23,4 @@ pub mod LockDiscipline
 pub mod Temporaries
 pub mod AcceptedTexts
 pub mod Refusals
+pub mod links

@@ -1,14 +1,17 @@
 -- The lock discipline: which locks a thread holds where, and the first place that breaks it.
 use Rattle.std.specs.Prelude.{◌≡◌, ℕ, zero, suc, List, [], ◌∷◌, ◌++◌, length, slice_index_or, slice_get}
-use Rattle.std.specs.Prelude.{slice_set, Option, Some, None, Bool, true, false, not, find, ◌&&◌, ◌==◌, if◌then◌else◌}
+use Rattle.std.specs.Prelude.{slice_set, Option, Some, None, Bool, true, false, not, find, nat_lt, ◌&&◌, ◌==◌, if◌then◌else◌}
 use Rattle.std.specs.List.{list_any, list_all}
 use Rattle.ido_base.specs.declared.place.Place.{Place}
+use Rattle.c_tree.specs.declared.language.Language.{Language}
+use Rattle.c_tree.specs.declared.language.Language.TheVariants.{Plain, Full}
+use Rattle.c_tree.specs.declared.language.TheConstants.{MOST_HELD}
 use Rattle.c_tree.specs.declared.rule.Rule as r
 use Rattle.c_tree.specs.declared.rule.Rule.TheVariants as rule
 use Rattle.c_tree.specs.Exprs as e
 use Rattle.c_tree.specs.Programs.{Variable, Guard, By, Each}
 use Rattle.c_tree.specs.Flats as f
-use Rattle.c_tree.specs.LockNames.{Held, holds, none_held, held_names, lock_names, number_in}
+use Rattle.c_tree.specs.LockNames.{Held, holds, none_held, count_held, held_names, lock_names, number_in}
 
 -- 0 up to a number, without it
 abbrev pub numbers_below : ℕ → List ℕ
@@ -130,13 +133,20 @@ abbrev pub IsDisciplined : f.Flat → f.Thread → Type 0
 IsDisciplined x t =
     let names = lock_names x t in KeepAll x.variables names (none_held (length names)) t.body (none_held (length names))
 
--- ---- The first place that breaks it, walking through a thread
+-- ---- How many are held
 
--- a rule, a place and a mutex
+-- more than may be; where there are no arrays of mutexes, as many may be as there are
+abbrev pub are_too_many : Language → Held → Bool
+are_too_many Plain h = false
+are_too_many Full h = nat_lt MOST_HELD (count_held h)
+
+-- ---- The first place that breaks it, or where too many are held, walking through a thread
+
+-- a rule, a place and a lock
 pub record Fault : Type 0 where
   pub rule : r.Rule
   pub place : Place
-  pub mutex : ℕ
+  pub lock : e.LockName
 
 -- the set after a part, or the first fault in it
 pub data Walked : Type 0 where
@@ -159,7 +169,7 @@ least_difference names hs = find (λ m. is_in_some hs m && not (is_in_all hs m))
 
 module _ (vs : List Variable) (names : List e.LockName) where
   abbrev pub broken : r.Rule → Place → e.LockName → Walked
-  broken found place it = Broken (record { rule = found; place = place; mutex = it.mutex })
+  broken found place it = Broken (record { rule = found; place = place; lock = it })
 
   -- of the lock of this number
   abbrev pub broken_at : r.Rule → Place → (name : ℕ) → Walked
@@ -193,16 +203,33 @@ module _ (vs : List Variable) (names : List e.LockName) where
   join_all place [] = After []
   join_all place (h ∷ hs) = join place h hs
 
+  -- nothing is held at the end
+  abbrev pub walk_end : Place → Held → Walked
+  walk_end closing h = elim (find (λ m. holds h m) (numbers_below (length names))) [
+    | Some m ↦ broken_at rule.EndHeld closing m
+    | None ↦ After h
+  ]
+
+module _ (l : Language) (vs : List Variable) (names : List e.LockName) where
+  -- the lock of the name is taken: it isn't held before, and not too many are after
+  abbrev pub walk_lock : Held → Place → e.LockName → Walked
+  walk_lock h place x =
+      let after = slice_set h (number_in names x) true in
+      if holds h (number_in names x) then broken vs names rule.Again place x
+      else if are_too_many l after then broken vs names rule.Held place x
+      else After after
+
   abbrev mutual
     pub walk : Held → f.Statement → Walked
-    walk h (f.Assign place target value) = and_then (walk_uses h (assign_uses target value)) (λ _. walk_target h target)
-    walk h (f.If place arms otherwise) = walk_arms h [] arms (λ left. and_then (walk_all h otherwise) (λ after. join_all place (left ++ after ∷ [])))
+    walk h (f.Assign place target value) = and_then (walk_uses vs names h (assign_uses target value)) (λ _. walk_target vs names h target)
+    walk h (f.If place arms otherwise) = walk_arms h [] arms (λ left. and_then (walk_all h otherwise) (λ after. join_all vs names place (left ++ after ∷ [])))
     walk h (f.While place condition body) =
-        and_then (walk_uses h (expr_uses condition.expr)) (λ _. and_then (walk_all h body) (λ after. join place h (after ∷ [])))
+        and_then (walk_uses vs names h (expr_uses condition.expr)) (λ _. and_then (walk_all h body) (λ after. join vs names place h (after ∷ [])))
     walk h (f.Do place body condition) =
-        and_then (walk_all h body) (λ after. and_then (walk_uses after (expr_uses condition.expr)) (λ _. join place h (after ∷ [])))
-    walk h (f.Lock place x) = if holds h (number_in names x) then broken rule.Again place x else After (slice_set h (number_in names x) true)
-    walk h (f.Unlock place x) = if holds h (number_in names x) then After (slice_set h (number_in names x) false) else broken rule.NotHeld place x
+        and_then (walk_all h body) (λ after. and_then (walk_uses vs names after (expr_uses condition.expr)) (λ _. join vs names place h (after ∷ [])))
+    walk h (f.Lock place x) = walk_lock h place x
+    walk h (f.Unlock place x) =
+        if holds h (number_in names x) then After (slice_set h (number_in names x) false) else broken vs names rule.NotHeld place x
 
     pub walk_all : Held → f.Statements → Walked
     walk_all h f.no_statement = After h
@@ -212,25 +239,18 @@ module _ (vs : List Variable) (names : List e.LockName) where
     pub walk_arms : Held → (left : List Held) → f.Arms → (later : List Held → Walked) → Walked
     walk_arms h left f.no_arm later = later left
     walk_arms h left (f.arm_and condition body rest) later =
-        and_then (walk_uses h (expr_uses condition.expr)) (λ _. and_then (walk_all h body) (λ after. walk_arms h (left ++ after ∷ []) rest later))
-
-  -- nothing is held at the end
-  abbrev pub walk_end : Place → Held → Walked
-  walk_end closing h = elim (find (λ m. holds h m) (numbers_below (length names))) [
-    | Some m ↦ broken_at rule.EndHeld closing m
-    | None ↦ After h
-  ]
+        and_then (walk_uses vs names h (expr_uses condition.expr)) (λ _. and_then (walk_all h body) (λ after. walk_arms h (left ++ after ∷ []) rest later))
 
   abbrev pub walk_thread : f.Thread → Walked
-  walk_thread t = and_then (walk_all (none_held (length names)) t.body) (walk_end t.closing)
+  walk_thread t = and_then (walk_all (none_held (length names)) t.body) (walk_end vs names t.closing)
 
 -- the first fault of the first thread that has one
-abbrev pub walk_threads : f.Flat → List f.Thread → Option Fault
-walk_threads x [] = None
-walk_threads x (t ∷ ts) = elim (walk_thread x.variables (lock_names x t) t) [
+abbrev pub walk_threads : Language → f.Flat → List f.Thread → Option Fault
+walk_threads l x [] = None
+walk_threads l x (t ∷ ts) = elim (walk_thread l x.variables (lock_names x t) t) [
   | Broken fault ↦ Some fault
-  | After h ↦ walk_threads x ts
+  | After h ↦ walk_threads l x ts
 ]
 
-unfoldable pub lock_fault : f.Flat → Option Fault
-lock_fault x = walk_threads x x.threads
+unfoldable pub lock_fault : Language → f.Flat → Option Fault
+lock_fault l x = walk_threads l x x.threads

@@ -1,5 +1,5 @@
 -- What an expression and a thread of the flat form cost.
-use Rattle.std.specs.Prelude.{ℕ, ◌+◌, ◌*◌, max, Bool, true, false, ◌==◌, if◌then◌else◌}
+use Rattle.std.specs.Prelude.{ℕ, ◌+◌, ◌*◌, max, Some, None, Bool, true, false, ◌==◌, if◌then◌else◌}
 use Rattle.ido_ints.specs.declared.operators.Binary.{Binary}
 use Rattle.ido_ints.specs.declared.operators.Binary.TheVariants as b
 use Rattle.c_tree.specs.Exprs as e
@@ -53,14 +53,18 @@ assign_price (e.ToLocal place local kind) value = node_price value
 assign_price (e.ToVariable place variable kind) value = node_price value + node_price 0
 assign_price (e.ToElement place variable kind index) value = node_price (nodes_of index.expr + value) + node_price 0
 
+-- of the key of a lock's name, which is evaluated where it is locked and where it is unlocked
+abbrev pub key_nodes : e.LockName → ℕ
+key_nodes x = elim x.key [ None ↦ 0 | Some key ↦ nodes_of key.expr ]
+
 abbrev mutual
   pub statement_price : f.Statement → ℕ
   statement_price (f.Assign place x value) = assign_price x (nodes_of value.expr)
   statement_price (f.If place arms otherwise) = arms_price arms + statements_price otherwise
   statement_price (f.While place condition body) = node_price (nodes_of condition.expr) + statements_price body
   statement_price (f.Do place body condition) = node_price (nodes_of condition.expr) + statements_price body
-  statement_price (f.Lock place lock) = node_price 0
-  statement_price (f.Unlock place lock) = node_price 0
+  statement_price (f.Lock place lock) = node_price (key_nodes lock)
+  statement_price (f.Unlock place lock) = node_price (key_nodes lock)
 
   pub statements_price : f.Statements → ℕ
   statements_price f.no_statement = 0

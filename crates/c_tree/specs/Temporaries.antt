@@ -2,10 +2,10 @@
 use Rattle.std.specs.Prelude.{List, [], ◌∷◌, ◌++◌, find, flat_map, Option, Some, None, nat_lt}
 use Rattle.std.specs.Option.{option_map}
 use Rattle.ido_base.specs.declared.place.Place.{Place}
-use Rattle.ido_base.specs.declared.limits.TheConstants.{MOST_TEMPORARIES, MOST_PRICE}
+use Rattle.ido_base.specs.declared.limits.TheConstants.{MOST_TEMPORARIES}
 use Rattle.c_tree.specs.Exprs as e
 use Rattle.c_tree.specs.Flats as f
-use Rattle.c_tree.specs.Prices.{need_of, thread_price}
+use Rattle.c_tree.specs.Prices.{need_of}
 
 -- the index before the value
 abbrev pub assign_exprs : e.Lvalue → e.Placed → List e.Placed
@@ -38,9 +38,3 @@ abbrev mutual
 unfoldable pub temporaries_fault : f.Flat → Option Place
 temporaries_fault x = option_map (λ (y : e.Placed). y.place)
     (find (λ (y : e.Placed). nat_lt MOST_TEMPORARIES (need_of y.expr)) (flat_map (λ (t : f.Thread). statements_exprs t.body) x.threads))
-
--- ---- Prices
-
--- the name of the first thread whose price is too high
-unfoldable pub price_fault : f.Flat → Option Place
-price_fault x = option_map (λ (t : f.Thread). t.name.place) (find (λ (t : f.Thread). nat_lt MOST_PRICE (thread_price t)) x.threads)

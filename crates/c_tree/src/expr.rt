@@ -1,13 +1,13 @@
 //! Expressions whose names are resolved and whose kinds are fixed.
 ghost use Rattle.std.specs.Prelude.{◌≡◌};
-ghost use Rattle.c_tree.specs.Exprs.{expr_of};
+ghost use Rattle.c_tree.specs.Exprs.{expr_of, lock_name_of, lock_ref_of};
 ghost use Rattle.c_tree.specs.Elaboration.{kind_of};
 
 use ido_base::place::Place;
 use ido_ints::{Binary, Kind, Unary, Value};
 
 /// An expression. It has no side effects.
-#[derive(Drop)]
+#[derive(Debug, Drop)]
 pub enum Expr {
     /// A number.
     Constant {
@@ -99,6 +99,40 @@ pub struct LockName {
     pub mutex: u32,
     /// It reads locals alone.
     pub key: Option<Placed>,
+}
+
+impl LockName {
+    /// The name, whose key stays where it stands.
+    pub fn as_ref(&self) -> LockRef<'_>
+        ensures { lock_ref_of result ≡ lock_name_of self.now }
+    {
+        let key = match &self.key {
+            Some(key) => Some(PlacedRef {
+                place: key.place,
+                expr: &key.expr,
+            }),
+            None => None,
+        };
+        LockRef {
+            mutex: self.mutex,
+            key,
+        }
+    }
+}
+
+/// An expression that stands elsewhere, with the place of its first token.
+#[derive(Clone, Copy, Debug, Drop)]
+pub struct PlacedRef<'a> {
+    pub place: Place,
+    pub expr: &'a Expr,
+}
+
+/// The name of a lock whose key stands elsewhere.
+#[derive(Clone, Copy, Debug, Drop)]
+pub struct LockRef<'a> {
+    /// The number of the mutex; of an array that of its first one.
+    pub mutex: u32,
+    pub key: Option<PlacedRef<'a>>,
 }
 
 /// What is assigned.

@@ -3,7 +3,9 @@
 
 pub mod expr;
 pub mod flat;
+pub mod hold;
 pub mod language;
+pub mod lock_names;
 pub mod price;
 pub mod program;
 pub mod refusal;

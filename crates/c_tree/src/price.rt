@@ -1,11 +1,11 @@
 //! What expressions and threads cost: nodes, temporaries and prices. No call takes memory.
 ghost use Rattle.std.specs.Prelude.{◌≡◌, ◌<◌, ◌+◌, ◌*◌, length, min, max, slice_get, IfSome};
-ghost use Rattle.c_tree.specs.Prices.{nodes_of, need_of, need_of_both, is_logical, node_price, assign_price};
+ghost use Rattle.c_tree.specs.Prices.{nodes_of, key_nodes, need_of, need_of_both, is_logical, node_price, assign_price};
 ghost use Rattle.c_tree.specs.Prices.{thread_price, statement_price, statements_price, arms_price};
-ghost use Rattle.c_tree.specs.Exprs.{expr_of, lvalue_of};
+ghost use Rattle.c_tree.specs.Exprs.{expr_of, lock_ref_of, lvalue_of};
 ghost use Rattle.c_tree.specs.Flats.{statement_of, statements_of, arms_list_of, flat_of};
 
-use crate::expr::{Expr, Lvalue};
+use crate::expr::{Expr, LockRef, Lvalue};
 use crate::flat::{Arm, Flat, Statement};
 use ido_ints::Binary;
 
@@ -119,6 +119,16 @@ fn assign_price(target: &Lvalue, value: u64) -> u64
     }
 }
 
+/// How many nodes the key of a lock's name has; none where there is no key.
+pub fn key_nodes(lock: LockRef<'_>) -> u64
+    ensures { result ≡ min (key_nodes (lock_ref_of lock.entry)) u64.MAX }
+{
+    match lock.key {
+        Some(key) => nodes(key.expr),
+        None => 0,
+    }
+}
+
 /// The price of a condition and what is done where it holds.
 #[cycle(prices)]
 fn test_price(body: &[Statement], condition: &Expr) -> u64
@@ -149,7 +159,8 @@ fn statement_price(statement: &Statement) -> u64
             condition,
             ..
         } => test_price(body, &condition.expr),
-        Statement::Lock { .. } | Statement::Unlock { .. } => 96,
+        Statement::Lock { lock, .. } => node_price(key_nodes(lock.as_ref())),
+        Statement::Unlock { lock, .. } => node_price(key_nodes(lock.as_ref())),
     }
 }
 

@@ -47,6 +47,8 @@ pub enum Rule {
     EndHeld,
     /// A local that a key names is assigned while the mutex of that key is held.
     Frozen,
+    /// A mutex that is locked while as many are held as may be.
+    Held,
     /// More locals alive at once than there are registers for them.
     Locals,
     /// An expression that needs too many temporaries.

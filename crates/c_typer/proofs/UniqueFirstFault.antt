@@ -54,6 +54,7 @@ back rule.NotHeld h = absurd (omega (arith, h))
 back rule.Join h = absurd (omega (arith, h))
 back rule.EndHeld h = absurd (omega (arith, h))
 back rule.Frozen h = absurd (omega (arith, h))
+back rule.Held h = absurd (omega (arith, h))
 back rule.Locals h = absurd (omega (arith, h))
 back rule.Temporaries h = absurd (omega (arith, h))
 

@@ -1,6 +1,7 @@
 -- Flat forms that can be compiled, and the one rule and place by which any other is refused.
 use Rattle.std.specs.Prelude.{◌≡◌, ℕ, Some, None}
 use Rattle.ido_base.specs.declared.place.Place.{Place}
+use Rattle.c_tree.specs.declared.language.Language.TheVariants.{Plain}
 use Rattle.c_tree.specs.declared.refusal.SourceError.{SourceError}
 use Rattle.c_tree.specs.declared.refusal.SourceError.TheVariants.{Refused, Memory}
 use Rattle.c_tree.specs.declared.rule.Rule.{Rule}
@@ -8,24 +9,25 @@ use Rattle.c_tree.specs.declared.rule.Rule.TheVariants as rule
 use Rattle.c_tree.specs.Flats.{Flat}
 use Rattle.c_tree.specs.WellFormed.{IsWellFormed}
 use Rattle.c_tree.specs.LockDiscipline.{Fault, lock_fault}
-use Rattle.c_tree.specs.Temporaries.{price_fault, temporaries_fault}
+use Rattle.c_tree.specs.HoldPrices.{price_fault}
+use Rattle.c_tree.specs.Temporaries.{temporaries_fault}
 use Rattle.flow_graph.specs.Lowering.{lowered}
 use Rattle.flow_graph.specs.Liveness.{HasRoom, IsFirstCrowded}
 
 -- no check refuses it
 pub record IsAcceptedForm (flat : Flat) : Type 0 where
   pub formed : IsWellFormed flat
-  pub disciplined : lock_fault flat ≡ None
-  pub priced : price_fault flat ≡ None
+  pub disciplined : lock_fault Plain flat ≡ None
+  pub priced : price_fault Plain flat ≡ None
   pub room : HasRoom (lowered flat)
   pub shallow : temporaries_fault flat ≡ None
 
 -- the form is refused by the rule at the place: the first check that fails says which
 pub data IsRefusedForm (flat : Flat) (found : Rule) (place : Place) : Type 0 where
-  undisciplined : (x : Fault) → lock_fault flat ≡ Some x → found ≡ x.rule → place ≡ x.place → IsRefusedForm flat found place
-  crowded : (wanted : ℕ) → lock_fault flat ≡ None → IsFirstCrowded (lowered flat) place wanted → found ≡ rule.Locals →
+  undisciplined : (x : Fault) → lock_fault Plain flat ≡ Some x → found ≡ x.rule → place ≡ x.place → IsRefusedForm flat found place
+  crowded : (wanted : ℕ) → lock_fault Plain flat ≡ None → IsFirstCrowded (lowered flat) place wanted → found ≡ rule.Locals →
       IsRefusedForm flat found place
-  too_deep : lock_fault flat ≡ None → HasRoom (lowered flat) → temporaries_fault flat ≡ Some place → found ≡ rule.Temporaries →
+  too_deep : lock_fault Plain flat ≡ None → HasRoom (lowered flat) → temporaries_fault flat ≡ Some place → found ≡ rule.Temporaries →
       IsRefusedForm flat found place
 
 -- want of memory may come at any time

@@ -2,7 +2,9 @@
 ghost use Rattle.std.specs.Prelude.{◌≡◌, None, IfErr, IfOk};
 ghost use Rattle.c_tree.specs.Flats.{flat_of};
 ghost use Rattle.c_tree.specs.LockDiscipline.{lock_fault};
-ghost use Rattle.c_tree.specs.Temporaries.{price_fault, temporaries_fault};
+ghost use Rattle.c_tree.specs.declared.language.Language.TheVariants.{Plain};
+ghost use Rattle.c_tree.specs.HoldPrices.{price_fault};
+ghost use Rattle.c_tree.specs.Temporaries.{temporaries_fault};
 ghost use Rattle.c_tree.specs.WellFormed.{IsWellFormed};
 ghost use Rattle.lock_discipline.specs.HeldSetsByStep.{AreAllSetsOf};
 ghost use Rattle.flow_graph.specs.Nodes.{graph_of};
@@ -14,6 +16,7 @@ ghost use Rattle.flat_analysis.specs.Analyses.{IsAnalysis};
 ghost use Rattle.flat_analysis.specs.links.Refusing.{of_lock, refusal_by, IsLocalsRefusal, IsTemporariesRefusal};
 
 use c_tree::flat::Flat;
+use c_tree::language::Language;
 use c_tree::refusal::{Refusal, SourceError};
 use c_tree::rule::Rule;
 use flow_graph::colours::Colours;
@@ -47,8 +50,8 @@ fn refusal_by(rule: Rule, place: Place) -> SourceError
 }
 
 /// The rule of the lock discipline that is broken, and where.
-fn of_lock(error: LockError) -> SourceError
-    ensures { result ≡ of_lock error }
+fn of_lock(error: LockError<'_>) -> SourceError
+    ensures { result ≡ of_lock error.entry }
 {
     match error {
         LockError::Unheld { place, .. } => refusal_by(Rule::Unheld, place),
@@ -56,6 +59,7 @@ fn of_lock(error: LockError) -> SourceError
         LockError::NotHeld { place, .. } => refusal_by(Rule::NotHeld, place),
         LockError::Join { place, .. } => refusal_by(Rule::Join, place),
         LockError::EndHeld { place, .. } => refusal_by(Rule::EndHeld, place),
+        LockError::Held { place, .. } => refusal_by(Rule::Held, place),
         LockError::Memory => SourceError::Memory,
     }
 }
@@ -64,10 +68,10 @@ fn of_lock(error: LockError) -> SourceError
 fn held(alloc: Global, flat: &Flat) -> Result<Held, SourceError>
     requires { IsWellFormed (flat_of flat.now) }
     ensures sets { IfOk result (AreAllSetsOf (flat_of flat.now)) }
-    ensures disciplined { IfOk result (λ _. lock_fault (flat_of flat.now) ≡ None) }
+    ensures disciplined { IfOk result (λ _. lock_fault Plain (flat_of flat.now) ≡ None) }
     ensures refused { IfErr result (IsFormRefusal (flat_of flat.now)) }
 {
-    match lock_discipline::check(alloc, flat) {
+    match lock_discipline::check(alloc, Language::Plain, flat) {
         Ok(held) => Ok(held),
         Err(error) => Err(of_lock(error)),
     }
@@ -103,7 +107,7 @@ fn check_temporaries(flat: &Flat) -> Result<(), SourceError>
 /// of these checks that it fails.
 pub fn analyse<'a>(alloc: Global, flat: &'a Flat) -> Result<Analysis<'a>, SourceError>
     requires formed { IsWellFormed (flat_of flat.now) }
-    requires priced { price_fault (flat_of flat.now) ≡ None }
+    requires priced { price_fault Plain (flat_of flat.now) ≡ None }
     ensures of_flat { IfOk result (λ a. a.flat.now ≡ flat.now) }
     ensures analysed { IfOk result (λ a. IsAnalysis a) }
     ensures refused { IfErr result (IsFormRefusal (flat_of flat.now)) }

@@ -1,15 +1,16 @@
 -- The bits of masks.
 use Rattle.std.proofs.Common.{◌≡◌, ◌≢◌, ℕ, zero, suc, ◌+◌, ◌*◌, ◌/◌, ◌%◌, ◌^◌, ◌<◌, ◌≤◌, ◌==◌, Bool, true, false, cond, ◌||◌, [], ◌∷◌}
 use Rattle.std.proofs.Common.{length, set, find, Some, None, refl, ap, ap₂, sym, subst, ◌∙◌, inl, inr, ◌⊎◌, max, arith, w64, pow_mono}
-use Rattle.std.proofs.Common.{pow_pos, lt_of_lt_of_le, bit_and, bit_or, bit_xor, length-set, get_or-set_same, get_or-set_other}
+use Rattle.std.proofs.Common.{pow_pos, lt_of_lt_of_le, bit_and, bit_or, bit_xor, count_ones, length-set, get_or-set_same, get_or-set_other}
 use Rattle.std.specs.Int.{bit_at, bit_not, trailing_zeros}
 use Rattle.std.specs.Option.{option_or}
-use Rattle.std.proofs.lemmas.Nat.{or_lt, xor_lt}
+use lib.Count.{ones_step}
+use Rattle.std.proofs.lemmas.Nat.{ones_le_self, or_lt, xor_lt}
 use Rattle.std.proofs.lemmas.List.{get_or_past}
 use Rattle.std.proofs.lemmas.List.Folds.{find-append}
 use Rattle.std.proofs.lemmas.Nat.Bits.{bit_at_lowest, bit_at-suc, bit_at-zero, bit_at_and, bit_at_or, bit_at_xor, shr_and_one, bit_at_above}
 use Rattle.std.proofs.lemmas.Nat.Bits.{bit_at_set_same, bit_at_set_other, bit_at_clear_same, bit_at_clear_other, same_from_bits, bit_at-trailing_zeros}
-use Rattle.c_tree.specs.LockNames.{Held, holds, none_held}
+use Rattle.c_tree.specs.LockNames.{Held, count_held, holds, none_held}
 use Rattle.c_tree.specs.LockDiscipline.{numbers_below}
 use Rattle.lock_discipline.specs.Masks.{mask_of}
 use Rattle.lock_discipline.specs.links.Sets.{held_of, differ, length-held_of, mask_of-held_of}
@@ -34,6 +35,17 @@ bit_at-mask_of (b ∷ h) (suc i) = bit_at-suc (mask_of (b ∷ h)) i ∙ ap (λ m
 -- at the lowest bits of a mask
 pub bit_at-held_of : (n w i : ℕ) → w < 2 ^ n → bit_at w i ≡ bit (holds (held_of n w) i)
 bit_at-held_of n w i h = ap (λ m. bit_at m i) (sym (mask_of-held_of n w h)) ∙ bit_at-mask_of (held_of n w) i
+
+counted : (b : Bool) (n : ℕ) → bit b + n ≡ cond b (suc n) n
+counted true n = omega arith
+counted false n = omega arith
+
+-- as many bits as are held
+pub ones_of_mask : (h : Held) → count_ones (mask_of h) ≡ count_held h
+ones_of_mask [] = let least = ones_le_self 0 in omega (arith, least)
+ones_of_mask (b ∷ h) =
+    ones_step (mask_of (b ∷ h)) ∙ (ap₂ (λ (low rest : ℕ). low + count_ones rest) (lowest b (mask_of h)) (half b (mask_of h))
+    ∙ (ap (λ (n : ℕ). bit b + n) (ones_of_mask h) ∙ counted b (count_held h)))
 
 same_or_other : (i m : ℕ) → (i ≡ m) ⊎ (i ≢ m)
 same_or_other i m = grind arith

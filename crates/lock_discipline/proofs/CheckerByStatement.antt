@@ -8,6 +8,7 @@ use Rattle.std.proofs.lemmas.List.Elements.{All-nil, All-cons, All-head, All-tai
 use Rattle.ido_base.specs.declared.place.Place.{Place}
 use Rattle.c_tree.specs.Exprs.{expr_of, lvalue_of}
 use Rattle.c_tree.specs.declared.expr.Placed.{Placed}
+use Rattle.c_tree.specs.declared.language.Language.{Language}
 use Rattle.c_tree.specs.declared.expr.Lvalue.{Lvalue}
 use Rattle.c_tree.specs.declared.flat.Statement as s
 use Rattle.c_tree.specs.declared.flat.Arm as arm
@@ -70,39 +71,39 @@ join_last vs n place h [] l ls = refl
 join_last vs n place h (k ∷ ks) l ls =
     let long = all_long n (k ∷ ks) ls in
     let count = length (plain_names n) in
-    let fault : ℕ → Fault = λ m. record { rule = rule.Join; place = place; mutex = (slice_index_or (plain_names n) m (named 0)).mutex } in
+    let fault : ℕ → Fault = λ m. record { rule = rule.Join; place = place; lock = slice_index_or (plain_names n) m (named 0) } in
     same_end (least_difference count (k ∷ ks ++ h ∷ [])) (least_difference count (h ∷ k ∷ ks)) fault k h (difference_last count (k ∷ ks) h)
     (λ e. sym (AllAre-right k ks (h ∷ []) (same_where_none n k (ks ++ h ∷ []) long.0 (AllLong-append n ks (h ∷ []) long.1 (l, tt))
     (ap (λ (m : ℕ). least_difference m (k ∷ ks ++ h ∷ [])) (sym (length-plain_names n)) ∙ e))).0)
 
 -- where sets of so many mutexes meet
 pub join_is : (vs : List Variable) (n : ℕ) (place : Place) (h : Held) (hs : List Held) (o : Option ℕ) → o ≡ least_difference n (h ∷ hs) →
-    join vs (plain_names n) place h hs ≡ none_or o (λ m. record { rule = rule.Join; place = place; mutex = m }) h
+    join vs (plain_names n) place h hs ≡ none_or o (λ m. record { rule = rule.Join; place = place; lock = named m }) h
 join_is vs n place h hs o e =
-    let fault : ℕ → Fault = λ m. record { rule = rule.Join; place = place; mutex = (slice_index_or (plain_names n) m (named 0)).mutex } in
-    let told : ℕ → Fault = λ m. record { rule = rule.Join; place = place; mutex = m } in
+    let fault : ℕ → Fault = λ m. record { rule = rule.Join; place = place; lock = slice_index_or (plain_names n) m (named 0) } in
+    let told : ℕ → Fault = λ m. record { rule = rule.Join; place = place; lock = named m } in
     ap (λ (m : ℕ). none_or (least_difference m (h ∷ hs)) fault h) (length-plain_names n)
     ∙ ap (λ (p : Option ℕ). none_or p fault h) (sym e)
-    ∙ same_faults o fault told h (λ m is. ap (λ (x : LockName). let y : Fault = record { rule = rule.Join; place = place; mutex = x.mutex } in y)
+    ∙ same_faults o fault told h (λ m is. ap (λ (x : LockName). let y : Fault = record { rule = rule.Join; place = place; lock = x } in y)
     (named_at n m (found_below _ n m (sym e ∙ is))))
 
 -- ---- A statement of a list
 
-module _ (vs : List Variable) (n : ℕ) (w : Walked) where
+module _ (language : Language) (vs : List Variable) (n : ℕ) (w : Walked) where
   pub at_next : (h : Held) (xs : List s.Statement) (i : ℕ) (x : s.Statement) → i < length xs → x ≡ get_or xs i x → length h ≡ n →
-      w ≡ walk_all vs (plain_names n) h (f.statements_of (drop i xs)) → w ≡ and_then (walk vs (plain_names (length h)) h (f.statement_of x))
-      (λ after. walk_all vs (plain_names n) after (f.statements_of (drop (i + 1) xs)))
+      w ≡ walk_all language vs (plain_names n) h (f.statements_of (drop i xs)) → w ≡ and_then (walk language vs (plain_names (length h)) h (f.statement_of x))
+      (λ after. walk_all language vs (plain_names n) after (f.statements_of (drop (i + 1) xs)))
   at_next h xs i x lt is l e =
-      let next = λ (after : Held). walk_all vs (plain_names n) after (f.statements_of (drop (i + 1) xs)) in
-      e ∙ ap (λ (ys : List s.Statement). walk_all vs (plain_names n) h (f.statements_of ys)) (drop_more xs i x lt)
-      ∙ ap (λ (y : s.Statement). and_then (walk vs (plain_names n) h (f.statement_of y)) next) (sym is)
-      ∙ ap (λ (m : ℕ). and_then (walk vs (plain_names m) h (f.statement_of x)) next) (sym l)
+      let next = λ (after : Held). walk_all language vs (plain_names n) after (f.statements_of (drop (i + 1) xs)) in
+      e ∙ ap (λ (ys : List s.Statement). walk_all language vs (plain_names n) h (f.statements_of ys)) (drop_more xs i x lt)
+      ∙ ap (λ (y : s.Statement). and_then (walk language vs (plain_names n) h (f.statement_of y)) next) (sym is)
+      ∙ ap (λ (m : ℕ). and_then (walk language vs (plain_names m) h (f.statement_of x)) next) (sym l)
 
   pub next_walk : (h k : Held) (xs : List s.Statement) (i : ℕ) (x : s.Statement) → i < length xs → x ≡ get_or xs i x → length h ≡ n →
-      w ≡ walk_all vs (plain_names n) h (f.statements_of (drop i xs)) → walk vs (plain_names (length h)) h (f.statement_of x) ≡ After k →
-      w ≡ walk_all vs (plain_names n) k (f.statements_of (drop (i + 1) xs))
+      w ≡ walk_all language vs (plain_names n) h (f.statements_of (drop i xs)) → walk language vs (plain_names (length h)) h (f.statement_of x) ≡ After k →
+      w ≡ walk_all language vs (plain_names n) k (f.statements_of (drop (i + 1) xs))
   next_walk h k xs i x lt is l e walked =
-      at_next h xs i x lt is l e ∙ after_then _ (λ after. walk_all vs (plain_names n) after (f.statements_of (drop (i + 1) xs))) k walked
+      at_next h xs i x lt is l e ∙ after_then _ (λ after. walk_all language vs (plain_names n) after (f.statements_of (drop (i + 1) xs))) k walked
 
 pub next_sets : (names : List LockName) (h k : Held) (xs : List s.Statement) (i : ℕ) (x : s.Statement) (old new all : List Held) → i < length xs →
     x ≡ get_or xs i x →
@@ -118,45 +119,45 @@ next_sets names h k xs i x old new all lt is b p e =
 
 -- ---- An arm of a list
 
-module _ (vs : List Variable) (h : Held) (w : (List Held → Walked) → Walked) where
+module _ (language : Language) (vs : List Variable) (h : Held) (w : (List Held → Walked) → Walked) where
   -- the walk of an arm begins with its condition
   pub at_arm : (left : List Held) (xs : List arm.Arm) (i : ℕ) (x : arm.Arm) → i < length xs → x ≡ get_or xs i x →
-      ((onward : List Held → Walked) → w onward ≡ walk_arms vs (plain_names (length h)) h left (f.arms_list_of (drop i xs)) onward) →
+      ((onward : List Held → Walked) → w onward ≡ walk_arms language vs (plain_names (length h)) h left (f.arms_list_of (drop i xs)) onward) →
       (onward : List Held → Walked) →
       w onward ≡ and_then (walk_uses vs (plain_names (length h)) h (expr_uses (expr_of x.condition.expr)))
-      (λ _. and_then (walk_all vs (plain_names (length h)) h (f.statements_of x.body.items))
-      (λ after. walk_arms vs (plain_names (length h)) h (left ++ after ∷ []) (f.arms_list_of (drop (i + 1) xs)) onward))
+      (λ _. and_then (walk_all language vs (plain_names (length h)) h (f.statements_of x.body.items))
+      (λ after. walk_arms language vs (plain_names (length h)) h (left ++ after ∷ []) (f.arms_list_of (drop (i + 1) xs)) onward))
   at_arm left xs i x lt is e onward =
-      e onward ∙ ap (λ (ys : List arm.Arm). walk_arms vs (plain_names (length h)) h left (f.arms_list_of ys) onward) (drop_more xs i x lt)
+      e onward ∙ ap (λ (ys : List arm.Arm). walk_arms language vs (plain_names (length h)) h left (f.arms_list_of ys) onward) (drop_more xs i x lt)
       ∙ ap (λ (y : arm.Arm). and_then (walk_uses vs (plain_names (length h)) h (expr_uses (expr_of y.condition.expr)))
-      (λ _. and_then (walk_all vs (plain_names (length h)) h (f.statements_of y.body.items))
-      (λ after. walk_arms vs (plain_names (length h)) h (left ++ after ∷ []) (f.arms_list_of (drop (i + 1) xs)) onward))) (sym is)
+      (λ _. and_then (walk_all language vs (plain_names (length h)) h (f.statements_of y.body.items))
+      (λ after. walk_arms language vs (plain_names (length h)) h (left ++ after ∷ []) (f.arms_list_of (drop (i + 1) xs)) onward))) (sym is)
 
   -- after its condition the walk of an arm comes to its body
   pub in_arm_body : (left : List Held) (xs : List arm.Arm) (i : ℕ) (x : arm.Arm) (body : List s.Statement) → i < length xs → x ≡ get_or xs i x →
       body ≡ x.body.items →
-      ((onward : List Held → Walked) → w onward ≡ walk_arms vs (plain_names (length h)) h left (f.arms_list_of (drop i xs)) onward) →
+      ((onward : List Held → Walked) → w onward ≡ walk_arms language vs (plain_names (length h)) h left (f.arms_list_of (drop i xs)) onward) →
       walk_uses vs (plain_names (length h)) h (expr_uses (expr_of x.condition.expr)) ≡ After h → (onward : List Held → Walked) →
-      w onward ≡ and_then (walk_all vs (plain_names (length h)) h (f.statements_of body))
-      (λ after. walk_arms vs (plain_names (length h)) h (left ++ after ∷ []) (f.arms_list_of (drop (i + 1) xs)) onward)
+      w onward ≡ and_then (walk_all language vs (plain_names (length h)) h (f.statements_of body))
+      (λ after. walk_arms language vs (plain_names (length h)) h (left ++ after ∷ []) (f.arms_list_of (drop (i + 1) xs)) onward)
   in_arm_body left xs i x body lt is same e tested onward =
       at_arm left xs i x lt is e onward
-      ∙ after_then _ (λ _. and_then (walk_all vs (plain_names (length h)) h (f.statements_of x.body.items))
-      (λ after. walk_arms vs (plain_names (length h)) h (left ++ after ∷ []) (f.arms_list_of (drop (i + 1) xs)) onward)) h tested
-      ∙ ap (λ (ys : List s.Statement). and_then (walk_all vs (plain_names (length h)) h (f.statements_of ys))
-      (λ after. walk_arms vs (plain_names (length h)) h (left ++ after ∷ []) (f.arms_list_of (drop (i + 1) xs)) onward)) (sym same)
+      ∙ after_then _ (λ _. and_then (walk_all language vs (plain_names (length h)) h (f.statements_of x.body.items))
+      (λ after. walk_arms language vs (plain_names (length h)) h (left ++ after ∷ []) (f.arms_list_of (drop (i + 1) xs)) onward)) h tested
+      ∙ ap (λ (ys : List s.Statement). and_then (walk_all language vs (plain_names (length h)) h (f.statements_of ys))
+      (λ after. walk_arms language vs (plain_names (length h)) h (left ++ after ∷ []) (f.arms_list_of (drop (i + 1) xs)) onward)) (sym same)
 
   pub next_arm : (left ends : List Held) (k : Held) (xs : List arm.Arm) (i : ℕ) (x : arm.Arm) (body : List s.Statement) → i < length xs → x ≡ get_or xs i x →
       body ≡ x.body.items →
-      ((onward : List Held → Walked) → w onward ≡ walk_arms vs (plain_names (length h)) h left (f.arms_list_of (drop i xs)) onward) →
+      ((onward : List Held → Walked) → w onward ≡ walk_arms language vs (plain_names (length h)) h left (f.arms_list_of (drop i xs)) onward) →
       walk_uses vs (plain_names (length h)) h (expr_uses (expr_of x.condition.expr)) ≡ After h →
-      walk_all vs (plain_names (length h)) h (f.statements_of body) ≡ After k →
+      walk_all language vs (plain_names (length h)) h (f.statements_of body) ≡ After k →
       ends ≡ left ++ k ∷ [] → (onward : List Held → Walked) →
-      w onward ≡ walk_arms vs (plain_names (length h)) h ends (f.arms_list_of (drop (i + 1) xs)) onward
+      w onward ≡ walk_arms language vs (plain_names (length h)) h ends (f.arms_list_of (drop (i + 1) xs)) onward
   next_arm left ends k xs i x body lt is same e tested walked p onward =
       in_arm_body left xs i x body lt is same e tested onward
-      ∙ after_then _ (λ after. walk_arms vs (plain_names (length h)) h (left ++ after ∷ []) (f.arms_list_of (drop (i + 1) xs)) onward) k walked
-      ∙ ap (λ (hs : List Held). walk_arms vs (plain_names (length h)) h hs (f.arms_list_of (drop (i + 1) xs)) onward) (sym p)
+      ∙ after_then _ (λ after. walk_arms language vs (plain_names (length h)) h (left ++ after ∷ []) (f.arms_list_of (drop (i + 1) xs)) onward) k walked
+      ∙ ap (λ (hs : List Held). walk_arms language vs (plain_names (length h)) h hs (f.arms_list_of (drop (i + 1) xs)) onward) (sym p)
 
 pub next_arm_sets : (names : List LockName) (h : Held) (xs : List arm.Arm) (i : ℕ) (x : arm.Arm) (body : List s.Statement) (old one new all : List Held) →
     i < length xs →
@@ -171,20 +172,22 @@ next_arm_sets names h xs i x body old one new all lt is same p q e =
     ∙ ap (λ (y : arm.Arm). old ++ (h ∷ sets_in_all names h (f.statements_of y.body.items) ++ rest)) is
     ∙ ap (λ (ys : List arm.Arm). old ++ sets_in_arms names h (f.arms_list_of ys)) (sym (drop_more xs i x lt)) ∙ e
 
-module _ (vs : List Variable) (h : Held) where
+module _ (language : Language) (vs : List Variable) (h : Held) where
   -- ---- The set after a part
 
-  pub walked_length : (x : f.Statement) (k : Held) → walk vs (plain_names (length h)) h x ≡ After k → length k ≡ length h
-  walked_length x k e = (after_walk vs (plain_names (length h)) x h k (sym (length-plain_names (length h))) e).0 ∙ length-plain_names (length h)
+  pub walked_length : (x : f.Statement) (k : Held) → walk language vs (plain_names (length h)) h x ≡ After k → length k ≡ length h
+  walked_length x k e = (after_walk language vs (plain_names (length h)) x h k (sym (length-plain_names (length h))) e).0 ∙ length-plain_names (length h)
 
-  pub walked_after : (x : f.Statement) (k : Held) → walk vs (plain_names (length h)) h x ≡ After k → held_after (plain_names (length h)) h x ≡ k
-  walked_after x k e = (after_walk vs (plain_names (length h)) x h k (sym (length-plain_names (length h))) e).1
+  pub walked_after : (x : f.Statement) (k : Held) → walk language vs (plain_names (length h)) h x ≡ After k → held_after (plain_names (length h)) h x ≡ k
+  walked_after x k e = (after_walk language vs (plain_names (length h)) x h k (sym (length-plain_names (length h))) e).1
 
-  pub walked_all_length : (x : f.Statements) (k : Held) → walk_all vs (plain_names (length h)) h x ≡ After k → length k ≡ length h
-  walked_all_length x k e = (after_walk_all vs (plain_names (length h)) x h k (sym (length-plain_names (length h))) e).0 ∙ length-plain_names (length h)
+  pub walked_all_length : (x : f.Statements) (k : Held) → walk_all language vs (plain_names (length h)) h x ≡ After k → length k ≡ length h
+  walked_all_length x k e =
+      (after_walk_all language vs (plain_names (length h)) x h k (sym (length-plain_names (length h))) e).0 ∙ length-plain_names (length h)
 
-  pub walked_all_after : (x : f.Statements) (k : Held) → walk_all vs (plain_names (length h)) h x ≡ After k → held_after_all (plain_names (length h)) h x ≡ k
-  walked_all_after x k e = (after_walk_all vs (plain_names (length h)) x h k (sym (length-plain_names (length h))) e).1
+  pub walked_all_after : (x : f.Statements) (k : Held) → walk_all language vs (plain_names (length h)) h x ≡ After k →
+      held_after_all (plain_names (length h)) h x ≡ k
+  walked_all_after x k e = (after_walk_all language vs (plain_names (length h)) x h k (sym (length-plain_names (length h))) e).1
 
   -- a local that is assigned is never in a key
   target_walks : (target : Lvalue) → walk_target vs (plain_names (length h)) h (lvalue_of target) ≡ After h
@@ -198,12 +201,12 @@ module _ (vs : List Variable) (h : Held) where
   -- ---- An assignment
 
   pub assign_is : (x : s.Statement) (place : Place) (target : Lvalue) (value : Placed) → x ≡ s.Assign place target value →
-      walk vs (plain_names (length h)) h (f.statement_of x) ≡ and_then (walk_uses vs (plain_names (length h)) h (expr_uses (expr_of value.expr)))
+      walk language vs (plain_names (length h)) h (f.statement_of x) ≡ and_then (walk_uses vs (plain_names (length h)) h (expr_uses (expr_of value.expr)))
       (λ _. walk_uses vs (plain_names (length h)) h (target_uses (lvalue_of target)))
   assign_is x place target value is =
       let names = plain_names (length h) in
       let uses = assign_uses (lvalue_of target) (placed_of value) in
-      ap (λ y. walk vs names h (f.statement_of y)) is
+      ap (λ y. walk language vs names h (f.statement_of y)) is
       ∙ free_uses (find (λ u. not (is_guarded vs names h u)) uses) _
       ∙ uses_append vs names h (expr_uses (expr_of value.expr)) (target_uses (lvalue_of target))
     where
@@ -217,15 +220,16 @@ module _ (vs : List Variable) (h : Held) where
   pub while_is : (x : s.Statement) (place : Place) (condition : Placed) (body : Vec s.Statement Global) (xs : List s.Statement) →
       x ≡ s.While place condition body → xs ≡ body.items →
       walk_uses vs (plain_names (length h)) h (expr_uses (expr_of condition.expr)) ≡ After h →
-      walk vs (plain_names (length h)) h (f.statement_of x)
-      ≡ and_then (walk_all vs (plain_names (length h)) h (f.statements_of xs)) (λ after. join vs (plain_names (length h)) place h (after ∷ []))
+      walk language vs (plain_names (length h)) h (f.statement_of x)
+      ≡ and_then (walk_all language vs (plain_names (length h)) h (f.statements_of xs)) (λ after. join vs (plain_names (length h)) place h (after ∷ []))
   while_is x place condition body xs is same tested =
-      ap (λ y. walk vs (plain_names (length h)) h (f.statement_of y)) is
-      ∙ ap (walk vs (plain_names (length h)) h) (of_while place condition body)
-      ∙ after_then _ (λ _. and_then (walk_all vs (plain_names (length h)) h (f.statements_of body.items))
+      ap (λ y. walk language vs (plain_names (length h)) h (f.statement_of y)) is
+      ∙ ap (walk language vs (plain_names (length h)) h) (of_while place condition body)
+      ∙ after_then _ (λ _. and_then (walk_all language vs (plain_names (length h)) h (f.statements_of body.items))
       (λ after. join vs (plain_names (length h)) place h (after ∷ []))) h tested
       ∙ ap (λ (y : List s.Statement).
-      and_then (walk_all vs (plain_names (length h)) h (f.statements_of y)) (λ after. join vs (plain_names (length h)) place h (after ∷ []))) (sym same)
+      and_then (walk_all language vs (plain_names (length h)) h (f.statements_of y)) (λ after. join vs (plain_names (length h)) place h (after ∷ [])))
+      (sym same)
 
   pub while_sets : (x : s.Statement) (place : Place) (condition : Placed) (body : Vec s.Statement Global) (xs : List s.Statement) (old one all : List Held) →
       x ≡ s.While place condition body → xs ≡ body.items →
@@ -240,21 +244,21 @@ module _ (vs : List Variable) (h : Held) where
 
   pub do_is : (x : s.Statement) (place : Place) (body : Vec s.Statement Global) (condition : Placed) (xs : List s.Statement) → x ≡ s.Do place body condition →
       xs ≡ body.items →
-      walk vs (plain_names (length h)) h (f.statement_of x) ≡ and_then (walk_all vs (plain_names (length h)) h (f.statements_of xs))
+      walk language vs (plain_names (length h)) h (f.statement_of x) ≡ and_then (walk_all language vs (plain_names (length h)) h (f.statements_of xs))
       (λ after. and_then (walk_uses vs (plain_names (length h)) after (expr_uses (expr_of condition.expr)))
       (λ _. join vs (plain_names (length h)) place h (after ∷ [])))
   do_is x place body condition xs is same =
-      ap (λ y. walk vs (plain_names (length h)) h (f.statement_of y)) is
-      ∙ ap (walk vs (plain_names (length h)) h) (of_do place body condition)
-      ∙ ap (λ (y : List s.Statement). and_then (walk_all vs (plain_names (length h)) h (f.statements_of y))
+      ap (λ y. walk language vs (plain_names (length h)) h (f.statement_of y)) is
+      ∙ ap (walk language vs (plain_names (length h)) h) (of_do place body condition)
+      ∙ ap (λ (y : List s.Statement). and_then (walk_all language vs (plain_names (length h)) h (f.statements_of y))
       (λ after. and_then (walk_uses vs (plain_names (length h)) after (expr_uses (expr_of condition.expr)))
       (λ _. join vs (plain_names (length h)) place h (after ∷ [])))) (sym same)
 
   -- after its body
   pub do_tests : (x : s.Statement) (place : Place) (body : Vec s.Statement Global) (condition : Placed) (xs : List s.Statement) (k : Held) →
       x ≡ s.Do place body condition → xs ≡ body.items →
-      walk_all vs (plain_names (length h)) h (f.statements_of xs) ≡ After k →
-      walk vs (plain_names (length h)) h (f.statement_of x) ≡ and_then (walk_uses vs (plain_names (length k)) k (expr_uses (expr_of condition.expr)))
+      walk_all language vs (plain_names (length h)) h (f.statements_of xs) ≡ After k →
+      walk language vs (plain_names (length h)) h (f.statement_of x) ≡ and_then (walk_uses vs (plain_names (length k)) k (expr_uses (expr_of condition.expr)))
       (λ _. join vs (plain_names (length h)) place h (k ∷ []))
   do_tests x place body condition xs k is same walked =
       do_is x place body condition xs is same
@@ -265,7 +269,7 @@ module _ (vs : List Variable) (h : Held) where
 
   pub do_sets : (x : s.Statement) (place : Place) (body : Vec s.Statement Global) (condition : Placed) (xs : List s.Statement) (k : Held)
       (old some all : List Held) → x ≡ s.Do place body condition → xs ≡ body.items →
-      walk_all vs (plain_names (length h)) h (f.statements_of xs) ≡ After k →
+      walk_all language vs (plain_names (length h)) h (f.statements_of xs) ≡ After k →
       some ≡ old ++ sets_in_all (plain_names (length h)) h (f.statements_of xs) → all ≡ some ++ k ∷ [] →
       all ≡ old ++ sets_in (plain_names (length h)) h (f.statement_of x)
   do_sets x place body condition xs k old some all is same walked p q =
@@ -283,38 +287,38 @@ module _ (vs : List Variable) (h : Held) where
 
   pub if_is : (x : s.Statement) (place : Place) (arms : Vec arm.Arm Global) (otherwise : Vec s.Statement Global) (choices : List arm.Arm) →
       x ≡ s.If place arms otherwise → choices ≡ arms.items →
-      walk vs (plain_names (length h)) h (f.statement_of x) ≡ walk_arms vs (plain_names (length h)) h [] (f.arms_list_of choices)
-      (λ left. and_then (walk_all vs (plain_names (length h)) h (f.statements_of otherwise.items))
+      walk language vs (plain_names (length h)) h (f.statement_of x) ≡ walk_arms language vs (plain_names (length h)) h [] (f.arms_list_of choices)
+      (λ left. and_then (walk_all language vs (plain_names (length h)) h (f.statements_of otherwise.items))
       (λ after. join_all vs (plain_names (length h)) place (left ++ after ∷ [])))
   if_is x place arms otherwise choices is same =
-      ap (λ y. walk vs (plain_names (length h)) h (f.statement_of y)) is
-      ∙ ap (walk vs (plain_names (length h)) h) (of_if place arms otherwise)
-      ∙ ap (λ (y : List arm.Arm). walk_arms vs (plain_names (length h)) h [] (f.arms_list_of y)
-      (λ left. and_then (walk_all vs (plain_names (length h)) h (f.statements_of otherwise.items))
+      ap (λ y. walk language vs (plain_names (length h)) h (f.statement_of y)) is
+      ∙ ap (walk language vs (plain_names (length h)) h) (of_if place arms otherwise)
+      ∙ ap (λ (y : List arm.Arm). walk_arms language vs (plain_names (length h)) h [] (f.arms_list_of y)
+      (λ left. and_then (walk_all language vs (plain_names (length h)) h (f.statements_of otherwise.items))
       (λ after. join_all vs (plain_names (length h)) place (left ++ after ∷ []))))
       (sym same)
 
   -- after its arms
   pub otherwise_is : (x : s.Statement) (place : Place) (arms : Vec arm.Arm Global) (otherwise : Vec s.Statement Global) (choices : List arm.Arm)
       (xs : List s.Statement) (ends : List Held) → x ≡ s.If place arms otherwise → choices ≡ arms.items → xs ≡ otherwise.items →
-      ((onward : List Held → Walked) → walk_arms vs (plain_names (length h)) h [] (f.arms_list_of choices) onward ≡ onward ends) →
-      walk vs (plain_names (length h)) h (f.statement_of x) ≡ and_then (walk_all vs (plain_names (length h)) h (f.statements_of xs))
+      ((onward : List Held → Walked) → walk_arms language vs (plain_names (length h)) h [] (f.arms_list_of choices) onward ≡ onward ends) →
+      walk language vs (plain_names (length h)) h (f.statement_of x) ≡ and_then (walk_all language vs (plain_names (length h)) h (f.statements_of xs))
       (λ after. join_all vs (plain_names (length h)) place (ends ++ after ∷ []))
   otherwise_is x place arms otherwise choices xs ends is same equal walked =
       if_is x place arms otherwise choices is same
-      ∙ walked (λ left. and_then (walk_all vs (plain_names (length h)) h (f.statements_of otherwise.items))
+      ∙ walked (λ left. and_then (walk_all language vs (plain_names (length h)) h (f.statements_of otherwise.items))
       (λ after. join_all vs (plain_names (length h)) place (left ++ after ∷ [])))
       ∙ ap (λ (y : List s.Statement).
-      and_then (walk_all vs (plain_names (length h)) h (f.statements_of y)) (λ after. join_all vs (plain_names (length h)) place (ends ++ after ∷ [])))
+      and_then (walk_all language vs (plain_names (length h)) h (f.statements_of y)) (λ after. join_all vs (plain_names (length h)) place (ends ++ after ∷ [])))
       (sym equal)
 
   -- where its paths meet
   pub ends_meet : (x : s.Statement) (place : Place) (arms : Vec arm.Arm Global) (otherwise : Vec s.Statement Global) (choices : List arm.Arm)
       (xs : List s.Statement) (ends others : List Held) (end : Held) → x ≡ s.If place arms otherwise → choices ≡ arms.items → xs ≡ otherwise.items →
-      ((onward : List Held → Walked) → walk_arms vs (plain_names (length h)) h [] (f.arms_list_of choices) onward ≡ onward ends) →
+      ((onward : List Held → Walked) → walk_arms language vs (plain_names (length h)) h [] (f.arms_list_of choices) onward ≡ onward ends) →
       All (λ y. length y ≡ length h) ends →
-      walk_all vs (plain_names (length h)) h (f.statements_of xs) ≡ After end → others ≡ ends →
-      walk vs (plain_names (length h)) h (f.statement_of x) ≡ join vs (plain_names (length end)) place end others
+      walk_all language vs (plain_names (length h)) h (f.statements_of xs) ≡ After end → others ≡ ends →
+      walk language vs (plain_names (length h)) h (f.statement_of x) ≡ join vs (plain_names (length end)) place end others
   ends_meet x place arms otherwise choices xs ends others end is same equal walked long reached e =
       otherwise_is x place arms otherwise choices xs ends is same equal walked
       ∙ after_then _ (λ after. join_all vs (plain_names (length h)) place (ends ++ after ∷ [])) end reached
@@ -322,7 +326,7 @@ module _ (vs : List Variable) (h : Held) where
       ∙ ap₂ (λ (n : ℕ) (hs : List Held). join vs (plain_names n) place end hs) (sym (walked_all_length (f.statements_of xs) end reached)) (sym e)
 
   pub ends_long : (xs : List s.Statement) (end : Held) (ends others : List Held) →
-      walk_all vs (plain_names (length h)) h (f.statements_of xs) ≡ After end → others ≡ ends →
+      walk_all language vs (plain_names (length h)) h (f.statements_of xs) ≡ After end → others ≡ ends →
       All (λ y. length y ≡ length h) ends → All (λ y. length y ≡ length end) others
   ends_long xs end ends others reached e long =
       subst (λ (ys : List Held). All (λ y. length y ≡ length end) ys) (sym e)

@@ -1,9 +1,8 @@
--- The walk finds no fault exactly where the discipline is kept.
-use Rattle.std.proofs.Common.{◌≡◌, ◌↔◌, ◌<◌, ℕ, Bool, true, false, not, cond, List, [], ◌∷◌, ◌++◌, length, set, find}
-use Rattle.std.proofs.Common.{Option, Some, None, All, refl, sym, ap, ◌∙◌, subst, append_assoc, append-nil, length-set, arith}
-use Rattle.std.proofs.lemmas.List.{length-replicate}
-use Rattle.std.proofs.lemmas.List.Elements.{All-nil, All-cons, All-head, All-tail}
+-- After the walk of a part the discipline is kept in it, and the walk comes to its end where that is so and nowhere too many are held.
+use Rattle.std.proofs.Common.{◌≡◌, ◌<◌, Bool, true, false, not, cond, List, [], ◌∷◌, ◌++◌, length, set, find}
+use Rattle.std.proofs.Common.{Option, Some, None, refl, sym, ap, ap₂, ◌∙◌, subst, append_assoc, append-nil, length-set, arith}
 use Rattle.ido_base.specs.declared.place.Place.{Place}
+use Rattle.c_tree.specs.declared.language.Language.{Language}
 use Rattle.c_tree.specs.declared.rule.Rule.TheVariants as rule
 use Rattle.std.specs.List.{AllByRecursion}
 use Rattle.std.specs.Prelude.{slice_get}
@@ -11,18 +10,20 @@ use Rattle.std.proofs.lemmas.Option.{slice_get-get_or, get_or_from_slice_get}
 use Rattle.ido_ints.specs.declared.kinds.Kind.{Kind}
 use Rattle.c_tree.specs.Exprs as e
 use Rattle.c_tree.specs.Programs.{Variable}
-use Rattle.c_tree.specs.WellFormed.{IsSingle, IsLockName, IsFlatStatement, AreFlatStatements, AreFlatArms, IsWellFormed}
+use Rattle.c_tree.specs.WellFormed.{IsSingle, IsLockName, IsFlatStatement, AreFlatStatements, AreFlatArms}
 use Rattle.c_tree.proofs.Public.{length-plain_names, names_are_plain, plain_number}
-use Rattle.lock_discipline.specs.links.Flow.{held_after, held_after_all}
+use Rattle.lock_discipline.specs.links.Flow.{held_after, held_after_all, sets_in, sets_in_all, sets_in_arms}
 use Rattle.c_tree.specs.Flats as f
-use Rattle.c_tree.specs.LockNames.{Held, holds, none_held, lock_names, number_in, plain_names}
-use Rattle.c_tree.specs.LockDiscipline.{numbers_below, Use, expr_uses, assign_uses, is_guarded, AreGuarded, Keeps}
+use Rattle.c_tree.specs.LockNames.{Held, holds, lock_names, number_in, plain_names}
+use Rattle.c_tree.specs.LockDiscipline.{Use, expr_uses, assign_uses, is_guarded, AreGuarded, Keeps}
 use Rattle.c_tree.specs.LockDiscipline.{KeepAll, KeepArms, assign, choose, repeat, again, lock, unlock, no_more, then, no_more_arms, arm}
-use Rattle.c_tree.specs.LockDiscipline.{IsDisciplined, Fault, Walked, After, Broken, and_then, least_difference}
-use Rattle.c_tree.specs.LockDiscipline.{broken, walk_uses, walk_target, join, IsFree, freezing}
-use Rattle.c_tree.specs.LockDiscipline.{join_all, walk, walk_all, walk_arms, walk_end, walk_thread, walk_threads, lock_fault}
+use Rattle.c_tree.specs.LockDiscipline.{Fault, Walked, After, Broken, and_then, least_difference}
+use Rattle.c_tree.specs.LockDiscipline.{are_too_many, broken, walk_uses, walk_target, join, IsFree, freezing}
+use Rattle.c_tree.specs.LockDiscipline.{join_all, walk, walk_all, walk_arms}
 use Rattle.lock_discipline.proofs.Sets.{AllAre, AllLong, AllLong-append, AllAre-append, AllAre-left, AllAre-right}
-use Rattle.lock_discipline.proofs.Sets.{no_difference, same_where_none, none_held-found, none_held-where_none}
+use Rattle.lock_discipline.proofs.Sets.{no_difference, same_where_none}
+use Rattle.lock_discipline.proofs.FewHeld.{Few, AllFew, few_left, few_right, few_first}
+use Rattle.lock_discipline.proofs.Flows.{boundary_after_is, after_all_is}
 
 -- ---- Answers of the walk
 
@@ -40,18 +41,21 @@ none_or o fault h = elim o [
   | None ↦ After h
 ]
 
-none_after : {A : Type 0} (o : Option A) (fault : A → Fault) (h k : Held) → none_or o fault h ≡ After k → (o ≡ None) × (h ≡ k)
+pub none_after : {A : Type 0} (o : Option A) (fault : A → Fault) (h k : Held) → none_or o fault h ≡ After k → (o ≡ None) × (h ≡ k)
 none_after None fault h k e = (refl, cc)
 none_after (Some x) fault h k e = absurd (cc)
 
 pub none_is_after : {A : Type 0} (o : Option A) (fault : A → Fault) (h : Held) → o ≡ None → none_or o fault h ≡ After h
 none_is_after o fault h e = ap (λ y. none_or y fault h) e
 
-unless_after : (b : Bool) (x : Fault) (h k : Held) → cond b (Broken x) (After h) ≡ After k → (b ≡ false) × (h ≡ k)
-unless_after true x h k e = absurd (cc)
-unless_after false x h k e = (refl, cc)
+-- neither is so
+pub taken_after : (b : Bool) (x : Fault) (c : Bool) (y : Fault) (h k : Held) → cond b (Broken x) (cond c (Broken y) (After h)) ≡ After k →
+    (b ≡ false) × (c ≡ false) × (h ≡ k)
+taken_after true x c y h k e = absurd (cc)
+taken_after false x true y h k e = absurd (cc)
+taken_after false x false y h k e = (refl, refl, cc)
 
-where_after : (b : Bool) (x : Fault) (h k : Held) → cond b (After h) (Broken x) ≡ After k → (b ≡ true) × (h ≡ k)
+pub where_after : (b : Bool) (x : Fault) (h k : Held) → cond b (After h) (Broken x) ≡ After k → (b ≡ true) × (h ≡ k)
 where_after true x h k e = (refl, cc)
 where_after false x h k e = absurd (cc)
 
@@ -87,7 +91,7 @@ module _ (vs : List Variable) (names : List e.LockName) where
       let both = none_after (least_difference (length names) (h ∷ hs)) _ h k e in
       (both.1, same_where_none (length names) h hs l ls both.0)
 
-  after_join_all : (place : Place) (after k : Held) (hs : List Held) → length after ≡ length names → AllLong (length names) hs →
+  pub after_join_all : (place : Place) (after k : Held) (hs : List Held) → length after ≡ length names → AllLong (length names) hs →
       join_all vs names place (hs ++ after ∷ []) ≡ After k → (after ≡ k) × AllAre after hs
   after_join_all place after k [] l ls e = ((after_join place after k [] l tt e).0, tt)
   after_join_all place after k (h ∷ hs) l ls e =
@@ -95,58 +99,59 @@ module _ (vs : List Variable) (names : List e.LockName) where
       let is : after ≡ h = (AllAre-right h hs (after ∷ []) both.1).0 in
       (is ∙ both.0, (sym is, subst (λ x. AllAre x hs) (sym is) (AllAre-left h hs (after ∷ []) both.1)))
 
+module _ (language : Language) (vs : List Variable) (names : List e.LockName) where
   -- ---- After a walk there is the set that the flow computes
 
   mutual
-    pub after_walk : (s : f.Statement) (h k : Held) → length h ≡ length names → walk vs names h s ≡ After k →
+    pub after_walk : (s : f.Statement) (h k : Held) → length h ≡ length names → walk language vs names h s ≡ After k →
         (length k ≡ length names) × (held_after names h s ≡ k)
     after_walk (f.Assign place target value) h k l w =
         let first = after_both (walk_uses vs names h (assign_uses target value)) (λ _. walk_target vs names h target) k w in
-        let is = (after_target target h k first.2).1 in
+        let is = (after_target vs names target h k first.2).1 in
         (ap length (sym is) ∙ l, is)
     after_walk (f.If place arms otherwise) h k l w =
-        let walked = after_walk_arms arms h [] (λ left. and_then (walk_all vs names h otherwise)
+        let walked = after_walk_arms arms h [] (λ left. and_then (walk_all language vs names h otherwise)
         (λ after. join_all vs names place (left ++ after ∷ []))) k l w in
-        let rest = after_both (walk_all vs names h otherwise) _ k walked.1 in
+        let rest = after_both (walk_all language vs names h otherwise) _ k walked.1 in
         let made = after_walk_all otherwise h rest.0 l rest.1 in
-        let joined = after_join_all place rest.0 k walked.0 made.0 walked.2 rest.2 in
+        let joined = after_join_all vs names place rest.0 k walked.0 made.0 walked.2 rest.2 in
         (ap length (sym joined.0) ∙ made.0, made.1 ∙ joined.0)
     after_walk (f.While place condition body) h k l w =
         let tested = after_both (walk_uses vs names h (expr_uses condition.expr)) _ k w in
-        let rest = after_both (walk_all vs names h body) _ k tested.2 in
+        let rest = after_both (walk_all language vs names h body) _ k tested.2 in
         let made = after_walk_all body h rest.0 l rest.1 in
-        let joined = after_join place h k (rest.0 ∷ []) l (made.0, tt) rest.2 in
+        let joined = after_join vs names place h k (rest.0 ∷ []) l (made.0, tt) rest.2 in
         (ap length (sym joined.0) ∙ l, joined.0)
     after_walk (f.Do place body condition) h k l w =
-        let rest = after_both (walk_all vs names h body) _ k w in
+        let rest = after_both (walk_all language vs names h body) _ k w in
         let made = after_walk_all body h rest.0 l rest.1 in
         let tested = after_both (walk_uses vs names rest.0 (expr_uses condition.expr)) _ k rest.2 in
-        let joined = after_join place h k (rest.0 ∷ []) l (made.0, tt) tested.2 in
+        let joined = after_join vs names place h k (rest.0 ∷ []) l (made.0, tt) tested.2 in
         (ap length (sym joined.0) ∙ l, joined.0)
     after_walk (f.Lock place name) h k l w =
         let n = number_in names name in
-        let both = unless_after (holds h n) _ (set h n true) k w in
-        (ap length (sym both.1) ∙ (length-set h n true ∙ l), both.1)
+        let both = taken_after (holds h n) _ (are_too_many language (set h n true)) _ (set h n true) k w in
+        (ap length (sym both.2) ∙ (length-set h n true ∙ l), both.2)
     after_walk (f.Unlock place name) h k l w =
         let n = number_in names name in
         let both = where_after (holds h n) _ (set h n false) k w in
         (ap length (sym both.1) ∙ (length-set h n false ∙ l), both.1)
 
-    pub after_walk_all : (ss : f.Statements) (h k : Held) → length h ≡ length names → walk_all vs names h ss ≡ After k →
+    pub after_walk_all : (ss : f.Statements) (h k : Held) → length h ≡ length names → walk_all language vs names h ss ≡ After k →
         (length k ≡ length names) × (held_after_all names h ss ≡ k)
     after_walk_all f.no_statement h k l w = let is : h ≡ k = cc in (ap length (sym is) ∙ l, is)
     after_walk_all (f.statement_and y rest) h k l w =
-        let both = after_both (walk vs names h y) _ k w in
+        let both = after_both (walk language vs names h y) _ k w in
         let first = after_walk y h both.0 l both.1 in
         let more = after_walk_all rest both.0 k first.0 both.2 in
         (more.0, ap (λ (z : Held). held_after_all names z rest) first.1 ∙ more.1)
 
-    after_walk_arms : (arms : f.Arms) (h : Held) (left : List Held) (later : List Held → Walked) (k : Held) → length h ≡ length names →
-        walk_arms vs names h left arms later ≡ After k → (ends : List Held) × (later (left ++ ends) ≡ After k) × AllLong (length names) ends
+    pub after_walk_arms : (arms : f.Arms) (h : Held) (left : List Held) (later : List Held → Walked) (k : Held) → length h ≡ length names →
+        walk_arms language vs names h left arms later ≡ After k → (ends : List Held) × (later (left ++ ends) ≡ After k) × AllLong (length names) ends
     after_walk_arms f.no_arm h left later k l w = ([], ap later (append-nil left) ∙ w, tt)
     after_walk_arms (f.arm_and condition body rest) h left later k l w =
         let tested = after_both (walk_uses vs names h (expr_uses condition.expr)) _ k w in
-        let both = after_both (walk_all vs names h body) _ k tested.2 in
+        let both = after_both (walk_all language vs names h body) _ k tested.2 in
         let made = after_walk_all body h both.0 l both.1 in
         let more = after_walk_arms rest h (left ++ both.0 ∷ []) later k l both.2 in
         (both.0 ∷ more.0, ap later (sym (append_assoc left (both.0 ∷ []) more.0)) ∙ more.1, (made.0, more.2))
@@ -155,68 +160,70 @@ module _ (vs : List Variable) (names : List e.LockName) where
 
   module _ (x : f.Flat) (ks : List Kind) (known : (y : e.LockName) → IsLockName (length x.mutexes) y → number_in names y < length names) where
     mutual
-      pub after_keeps : (s : f.Statement) (h k : Held) → IsFlatStatement x ks s → length h ≡ length names → walk vs names h s ≡ After k → Keeps vs names h s k
+      pub after_keeps : (s : f.Statement) (h k : Held) → IsFlatStatement x ks s → length h ≡ length names → walk language vs names h s ≡ After k →
+          Keeps vs names h s k
       after_keeps (f.Assign place target value) h k w l e =
           let first = after_both (walk_uses vs names h (assign_uses target value)) (λ _. walk_target vs names h target) k e in
-          let guarded = after_guarded h first.0 (assign_uses target value) first.1 in
-          let free = after_target target h k first.2 in
+          let guarded = after_guarded vs names h first.0 (assign_uses target value) first.1 in
+          let free = after_target vs names target h k first.2 in
           subst (λ y. Keeps vs names h (f.Assign place target value) y) free.1 (assign place target value guarded.0 free.0)
       after_keeps (f.If place arms otherwise) h k w l e =
-          let walked = after_keep_arms arms h [] (λ left. and_then (walk_all vs names h otherwise)
+          let walked = after_keep_arms arms h [] (λ left. and_then (walk_all language vs names h otherwise)
           (λ after. join_all vs names place (left ++ after ∷ []))) k w.1 l e in
-          let rest = after_both (walk_all vs names h otherwise) _ k walked.1 in
+          let rest = after_both (walk_all language vs names h otherwise) _ k walked.1 in
           let kept = after_keep_all otherwise h rest.0 w.2 l rest.1 in
-          let joined = after_join_all place rest.0 k walked.0 (keep_all_length kept ∙ l) walked.2 rest.2 in
+          let joined = after_join_all vs names place rest.0 k walked.0 (keep_all_length vs names kept ∙ l) walked.2 rest.2 in
           subst (λ y. Keeps vs names h (f.If place arms otherwise) y) joined.0 (choose place arms otherwise (walked.3 rest.0 joined.1) kept)
       after_keeps (f.While place condition body) h k w l e =
           let tested = after_both (walk_uses vs names h (expr_uses condition.expr)) _ k e in
-          let guarded = after_guarded h tested.0 (expr_uses condition.expr) tested.1 in
-          let rest = after_both (walk_all vs names h body) _ k tested.2 in
+          let guarded = after_guarded vs names h tested.0 (expr_uses condition.expr) tested.1 in
+          let rest = after_both (walk_all language vs names h body) _ k tested.2 in
           let kept = after_keep_all body h rest.0 w.1 l rest.1 in
-          let joined = after_join place h k (rest.0 ∷ []) l (keep_all_length kept ∙ l, tt) rest.2 in
+          let joined = after_join vs names place h k (rest.0 ∷ []) l (keep_all_length vs names kept ∙ l, tt) rest.2 in
           subst (λ y. Keeps vs names h (f.While place condition body) y) joined.0
           (repeat place condition body guarded.0 (subst (λ y. KeepAll vs names h body y) joined.1.0 kept))
       after_keeps (f.Do place body condition) h k w l e =
-          let rest = after_both (walk_all vs names h body) _ k e in
+          let rest = after_both (walk_all language vs names h body) _ k e in
           let kept = after_keep_all body h rest.0 w.0 l rest.1 in
           let tested = after_both (walk_uses vs names rest.0 (expr_uses condition.expr)) _ k rest.2 in
-          let guarded = after_guarded rest.0 tested.0 (expr_uses condition.expr) tested.1 in
-          let joined = after_join place h k (rest.0 ∷ []) l (keep_all_length kept ∙ l, tt) tested.2 in
+          let guarded = after_guarded vs names rest.0 tested.0 (expr_uses condition.expr) tested.1 in
+          let joined = after_join vs names place h k (rest.0 ∷ []) l (keep_all_length vs names kept ∙ l, tt) tested.2 in
           subst (λ y. Keeps vs names h (f.Do place body condition) y) joined.0
           (again place body condition (subst (λ y. KeepAll vs names h body y) joined.1.0 kept)
           (subst (λ y. AreGuarded vs names y (expr_uses condition.expr)) joined.1.0 guarded.0))
       after_keeps (f.Lock place name) h k w l e =
-          let both = unless_after (holds h (number_in names name)) _ (set h (number_in names name) true) k e in
+          let taken = set h (number_in names name) true in
+          let both = taken_after (holds h (number_in names name)) _ (are_too_many language taken) _ taken k e in
           let low : number_in names name < length h = omega (arith, known name w, l) in
           let free : slice_get h (number_in names name) ≡ Some false = slice_get-get_or h (number_in names name) false low ∙ ap Some both.0 in
-          subst (λ y. Keeps vs names h (f.Lock place name) y) both.1 (lock place name free)
+          subst (λ y. Keeps vs names h (f.Lock place name) y) both.2 (lock place name free)
       after_keeps (f.Unlock place name) h k w l e =
           let both = where_after (holds h (number_in names name)) _ (set h (number_in names name) false) k e in
           subst (λ y. Keeps vs names h (f.Unlock place name) y) both.1 (unlock place name both.0)
 
-      pub after_keep_all : (ss : f.Statements) (h k : Held) → AreFlatStatements x ks ss → length h ≡ length names → walk_all vs names h ss ≡ After k →
+      pub after_keep_all : (ss : f.Statements) (h k : Held) → AreFlatStatements x ks ss → length h ≡ length names → walk_all language vs names h ss ≡ After k →
           KeepAll vs names h ss k
       after_keep_all f.no_statement h k w l e = subst (λ y. KeepAll vs names h f.no_statement y) (cc) no_more
       after_keep_all (f.statement_and y rest) h k w l e =
-          let both = after_both (walk vs names h y) _ k e in
+          let both = after_both (walk language vs names h y) _ k e in
           let kept = after_keeps y h both.0 w.0 l both.1 in
-          then y rest kept (after_keep_all rest both.0 k w.1 (keeps_length kept ∙ l) both.2)
+          then y rest kept (after_keep_all rest both.0 k w.1 (keeps_length vs names kept ∙ l) both.2)
 
       after_keep_arms : (arms : f.Arms) (h : Held) (left : List Held) (later : List Held → Walked) (k : Held) → AreFlatArms x ks arms →
           length h ≡ length names →
-          walk_arms vs names h left arms later ≡ After k →
+          walk_arms language vs names h left arms later ≡ After k →
           (ends : List Held) × (later (left ++ ends) ≡ After k) × AllLong (length names) ends
           × ((after : Held) → AllAre after ends → KeepArms vs names h arms after)
       after_keep_arms f.no_arm h left later k w l e = ([], ap later (append-nil left) ∙ e, tt, λ after p. no_more_arms)
       after_keep_arms (f.arm_and condition body rest) h left later k w l e =
           let tested = after_both (walk_uses vs names h (expr_uses condition.expr)) _ k e in
-          let guarded = after_guarded h tested.0 (expr_uses condition.expr) tested.1 in
-          let both = after_both (walk_all vs names h body) _ k tested.2 in
+          let guarded = after_guarded vs names h tested.0 (expr_uses condition.expr) tested.1 in
+          let both = after_both (walk_all language vs names h body) _ k tested.2 in
           let kept = after_keep_all body h both.0 w.1 l both.1 in
           let more = after_keep_arms rest h (left ++ both.0 ∷ []) later k w.2 l both.2 in (
             both.0 ∷ more.0,
             ap later (sym (append_assoc left (both.0 ∷ []) more.0)) ∙ more.1,
-            (keep_all_length kept ∙ l, more.2),
+            (keep_all_length vs names kept ∙ l, more.2),
             λ after p.
                 arm condition body rest guarded.0 (subst (λ y. KeepAll vs names h body y) p.0 kept) (more.3 after p.1),
           )
@@ -234,45 +241,60 @@ module _ (vs : List Variable) (names : List e.LockName) where
   pub same_after : (place : Place) (h : Held) (hs : List Held) → AllAre h hs → join vs names place h hs ≡ After h
   same_after place h hs p = none_is_after (least_difference (length names) (h ∷ hs)) _ h (no_difference (length names) h hs p)
 
-  same_after_all : (place : Place) (after : Held) (hs : List Held) → AllAre after hs → join_all vs names place (hs ++ after ∷ []) ≡ After after
+  pub same_after_all : (place : Place) (after : Held) (hs : List Held) → AllAre after hs → join_all vs names place (hs ++ after ∷ []) ≡ After after
   same_after_all place after [] p = same_after place after [] tt
   same_after_all place after (h ∷ hs) p =
       same_after place h (hs ++ after ∷ []) (AllAre-append h hs (after ∷ []) (subst (λ x. AllAre x hs) (sym p.0) p.1) (sym p.0, tt)) ∙ ap After p.0
 
   mutual
-    keeps_after : {h after : Held} {s : f.Statement} → Keeps vs names h s after → walk vs names h s ≡ After after
-    keeps_after (assign {h = h} place target value g free) =
+    keeps_after : {h after : Held} {s : f.Statement} → Keeps vs names h s after → AllFew language (sets_in names h s) → Few language after →
+        walk language vs names h s ≡ After after
+    keeps_after (assign {h = h} place target value g free) fs few =
         after_then _ (λ _. walk_target vs names h target) h (guarded_after h (assign_uses target value) g) ∙ target_after target h free
-    keeps_after (choose {h = h} {after = after} place arms otherwise p q) =
-        let walked = keep_arms_after p [] (λ left. and_then (walk_all vs names h otherwise) (λ after. join_all vs names place (left ++ after ∷ []))) in
-        walked.2 ∙ after_then _ (λ after. join_all vs names place (walked.0 ++ after ∷ [])) after (keep_all_after q)
+    keeps_after (choose {h = h} {after = after} place arms otherwise p q) fs few =
+        let first = few_left language (sets_in_arms names h arms) (sets_in_all names h otherwise) fs in
+        let last = few_right language (sets_in_arms names h arms) (sets_in_all names h otherwise) fs in
+        let walked = keep_arms_after p [] (λ left.
+        and_then (walk_all language vs names h otherwise) (λ after. join_all vs names place (left ++ after ∷ []))) first few in
+        walked.2 ∙ after_then _ (λ after. join_all vs names place (walked.0 ++ after ∷ [])) after (keep_all_after q last few)
         ∙ same_after_all place after walked.0 walked.1
-    keeps_after (repeat {h = h} place condition body g p) =
+    keeps_after (repeat {h = h} place condition body g p) fs few =
         after_then _ _ h (guarded_after h (expr_uses condition.expr) g)
-        ∙ after_then _ (λ after. join vs names place h (after ∷ [])) h (keep_all_after p) ∙ same_after place h (h ∷ []) (refl, tt)
-    keeps_after (again {h = h} place body condition p g) =
-        after_then _ _ h (keep_all_after p) ∙ after_then _ (λ _. join vs names place h (h ∷ [])) h (guarded_after h (expr_uses condition.expr) g)
+        ∙ after_then _ (λ after. join vs names place h (after ∷ [])) h (keep_all_after p fs.1 few) ∙ same_after place h (h ∷ []) (refl, tt)
+    keeps_after (again {h = h} place body condition p g) fs few =
+        after_then _ _ h (keep_all_after p (few_left language (sets_in_all names h body) (held_after_all names h body ∷ []) fs) few)
+        ∙ after_then _ (λ _. join vs names place h (h ∷ [])) h (guarded_after h (expr_uses condition.expr) g)
         ∙ same_after place h (h ∷ []) (refl, tt)
-    keeps_after (lock {h = h} place name free) =
-        ap (λ b. cond b (broken vs names rule.Again place name) (After (set h (number_in names name) true)))
-        (get_or_from_slice_get h (number_in names name) false false free)
-    keeps_after (unlock {h = h} place name held) = ap (λ b. cond b (After (set h (number_in names name) false)) (broken vs names rule.NotHeld place name)) held
+    keeps_after (lock {h = h} place name free) fs few =
+        let taken = set h (number_in names name) true in
+        ap₂ (λ b c. cond b (broken vs names rule.Again place name) (cond c (broken vs names rule.Held place name) (After taken)))
+        (get_or_from_slice_get h (number_in names name) false false free) few
+    keeps_after (unlock {h = h} place name held) fs few =
+        ap (λ b. cond b (After (set h (number_in names name) false)) (broken vs names rule.NotHeld place name)) held
 
-    keep_all_after : {h after : Held} {ss : f.Statements} → KeepAll vs names h ss after → walk_all vs names h ss ≡ After after
-    keep_all_after no_more = refl
-    keep_all_after (then {between = between} x rest p q) = after_then _ (λ after. walk_all vs names after rest) between (keeps_after p)
-        ∙ keep_all_after q
+    pub keep_all_after : {h after : Held} {ss : f.Statements} → KeepAll vs names h ss after → AllFew language (sets_in_all names h ss) → Few language after →
+        walk_all language vs names h ss ≡ After after
+    keep_all_after no_more fs few = refl
+    keep_all_after (then {h = h} {between = between} {after = after} x rest p q) fs few =
+        let first = few_left language (sets_in names h x) (sets_in_all names (held_after names h x) rest) fs in
+        let later : AllFew language (sets_in_all names between rest) =
+        subst (λ (b : Held). AllFew language (sets_in_all names b rest)) (boundary_after_is vs names p)
+        (few_right language (sets_in names h x) (sets_in_all names (held_after names h x) rest) fs) in
+        let middle : Few language between = few_first language names rest between later (subst (Few language) (sym (after_all_is vs names q)) few) in
+        after_then _ (λ after. walk_all language vs names after rest) between (keeps_after p first middle) ∙ keep_all_after q later few
 
     keep_arms_after : {h after : Held} {arms : f.Arms} → KeepArms vs names h arms after → (left : List Held) (later : List Held → Walked) →
-        (ends : List Held) × AllAre after ends × (walk_arms vs names h left arms later ≡ later (left ++ ends))
-    keep_arms_after no_more_arms left later = ([], tt, ap later (sym (append-nil left)))
-    keep_arms_after (arm {h = h} {after = after} condition body rest g p q) left later =
-        let more = keep_arms_after q (left ++ after ∷ []) later in (
+        AllFew language (sets_in_arms names h arms) → Few language after →
+        (ends : List Held) × AllAre after ends × (walk_arms language vs names h left arms later ≡ later (left ++ ends))
+    keep_arms_after no_more_arms left later fs few = ([], tt, ap later (sym (append-nil left)))
+    keep_arms_after (arm {h = h} {after = after} condition body rest g p q) left later fs few =
+        let first = few_left language (sets_in_all names h body) (sets_in_arms names h rest) fs.1 in
+        let more = keep_arms_after q (left ++ after ∷ []) later (few_right language (sets_in_all names h body) (sets_in_arms names h rest) fs.1) few in (
           after ∷ more.0,
           (refl, more.1),
-          after_then _ (λ _. and_then (walk_all vs names h body) (λ after. walk_arms vs names h (left ++ after ∷ []) rest later)) h
+          after_then _ (λ _. and_then (walk_all language vs names h body) (λ after. walk_arms language vs names h (left ++ after ∷ []) rest later)) h
               (guarded_after h (expr_uses condition.expr) g)
-              ∙ after_then _ (λ after. walk_arms vs names h (left ++ after ∷ []) rest later) after (keep_all_after p)
+              ∙ after_then _ (λ after. walk_arms language vs names h (left ++ after ∷ []) rest later) after (keep_all_after p first few)
               ∙ more.2 ∙ ap later (append_assoc left (after ∷ []) more.0),
         )
 
@@ -288,50 +310,9 @@ known x t single y w =
     let low : number_in (plain_names count) y < length (plain_names count) = omega (arith, at, w.0, length-plain_names count) in
     subst (λ (ns : List e.LockName). number_in ns y < length ns) (sym (names_are_plain x t single)) low
 
-pub after_disciplined : (x : f.Flat) (t : f.Thread) (k : Held) → AllByRecursion IsSingle x.mutexes → AreFlatStatements x t.locals t.body →
-    walk_thread x.variables (lock_names x t) t ≡ After k → IsDisciplined x t
-after_disciplined x t k single w e =
-    let names = lock_names x t in
-    let n = length names in
-    let both = after_both (walk_all x.variables names (none_held n) t.body) (walk_end x.variables names t.closing) k e in
-    let kept = after_keep_all x.variables names x t.locals (known x t single) t.body (none_held n) both.0 w (length-replicate n false) both.1 in
-    let ended = none_after (find (λ m. holds both.0 m) (numbers_below n)) _ both.0 k both.2 in
-    let is = none_held-where_none n both.0 (keep_all_length x.variables names kept ∙ length-replicate n false) ended.0 in
-    subst (λ y. KeepAll x.variables names (none_held n) t.body y) is kept
-
-disciplined_after : (x : f.Flat) (t : f.Thread) → IsDisciplined x t →
-    walk_thread x.variables (lock_names x t) t ≡ After (none_held (length (lock_names x t)))
-disciplined_after x t p =
-    let names = lock_names x t in
-    let n = length names in
-    after_then _ (walk_end x.variables names t.closing) (none_held n) (keep_all_after x.variables names p)
-    ∙ none_is_after (find (λ m. holds (none_held n) m) (numbers_below n)) _ (none_held n) (none_held-found n)
-
 -- the fault of a thread, else that of those after it
 abbrev pub fault_or : Walked → Option Fault → Option Fault
 fault_or w rest = elim w [
   | Broken x ↦ Some x
   | After h ↦ rest
 ]
-
-none_from : (w : Walked) (rest : Option Fault) → fault_or w rest ≡ None → ((k : Held) × (w ≡ After k)) × (rest ≡ None)
-none_from (After k) rest e = ((k, refl), e)
-none_from (Broken x) rest e = absurd (cc)
-
-all_disciplined : (x : f.Flat) (ts : List f.Thread) → AllByRecursion IsSingle x.mutexes →
-    AllByRecursion (λ (t : f.Thread). AreFlatStatements x t.locals t.body) ts → walk_threads x ts ≡ None → All (IsDisciplined x) ts
-all_disciplined x [] single w e = All-nil (IsDisciplined x)
-all_disciplined x (t ∷ ts) single w e =
-    let both = none_from (walk_thread x.variables (lock_names x t) t) (walk_threads x ts) e in
-    All-cons (IsDisciplined x) t ts (after_disciplined x t both.0.0 single w.0 both.0.1) (all_disciplined x ts single w.1 both.1)
-
-no_fault : (x : f.Flat) (ts : List f.Thread) → All (IsDisciplined x) ts → walk_threads x ts ≡ None
-no_fault x [] p = refl
-no_fault x (t ∷ ts) p =
-    ap (λ w. fault_or w (walk_threads x ts)) (disciplined_after x t (All-head (IsDisciplined x) t ts p))
-    ∙ no_fault x ts (All-tail (IsDisciplined x) t ts p)
-
-pub walk-is_discipline : (x : f.Flat) → (All (IsDisciplined x) x.threads → lock_fault x ≡ None)
-    × (IsWellFormed x → lock_fault x ≡ None → All (IsDisciplined x) x.threads)
-unfolding lock_fault
-walk-is_discipline x = (no_fault x x.threads, λ w. all_disciplined x x.threads w.single w.threads)

@@ -203,7 +203,7 @@ last_of_body x t p n k i e =
     subst (λ j. HeldBefore x t j k) (sym i) (at_end (subst (λ h. KeepAll x.variables (lock_names x t) (none_held (length (lock_names x t))) t.body h)
     (sym (after_all_is x.variables (lock_names x t) p) ∙ e) p))
 
-held_before : (x : f.Flat) (t : f.Thread) → IsDisciplined x t → (n : ℕ) (k : Held) → slice_get (thread_sets (lock_names x t) t) n ≡ Some k →
+pub held_before : (x : f.Flat) (t : f.Thread) → IsDisciplined x t → (n : ℕ) (k : Held) → slice_get (thread_sets (lock_names x t) t) n ≡ Some k →
     HeldBefore x t n k
 held_before x t p n k e =
     let first = none_held (length (lock_names x t)) in
@@ -216,7 +216,7 @@ held_before x t p n k e =
           last_of_body x t p n k (omega (arith, one.0, there.1, length-sets_in_all (lock_names x t) t.body first)) one.1
     ]
 
-before_held : (x : f.Flat) (t : f.Thread) {n : ℕ} {k : Held} → HeldBefore x t n k → slice_get (thread_sets (lock_names x t) t) n ≡ Some k
+pub before_held : (x : f.Flat) (t : f.Thread) {n : ℕ} {k : Held} → HeldBefore x t n k → slice_get (thread_sets (lock_names x t) t) n ≡ Some k
 before_held x t (in_body {k = k} {n = n} p) = at_left (sets_in_all (lock_names x t) (none_held (length (lock_names x t))) t.body)
     (held_after_all (lock_names x t) (none_held (length (lock_names x t))) t.body ∷ []) n k (held_at_all x.variables (lock_names x t) p)
 before_held x t (at_end p) =

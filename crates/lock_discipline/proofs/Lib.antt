@@ -2,11 +2,14 @@ pub mod Public
 mod Masks
 mod Bits
 mod Sets
+mod FewHeld
 mod CheckerCorrectness
 mod PlainSets
 mod HeldLengths
 mod Flows
+mod WalkLaw
 mod Refusals
 mod CheckerByStatement
 mod Threads
 mod DisciplinedContinuations
+mod SmallSets

@@ -1,7 +1,7 @@
 -- Sets over the names of mutexes that are in no array: a mutex's number is its name's.
 use Rattle.std.proofs.Common.{◌≡◌, ◌<◌, ◌≤◌, ◌⊎◌, inl, inr, ℕ, zero, suc, List, [], ◌∷◌, length, Option, Some, None, Bool, true, false, cond, find}
 use Rattle.std.proofs.Common.{refl, sym, ap, ◌∙◌, subst, arith, ⊎_elim}
-use Rattle.std.specs.Prelude.{slice_index_or, slice_set, is_some}
+use Rattle.std.specs.Prelude.{slice_index_or, slice_set}
 use Rattle.std.specs.List.{AllByRecursion}
 use Rattle.std.specs.Option.{option_or}
 use Rattle.std.proofs.lemmas.Bool.{cases_lt}
@@ -13,9 +13,8 @@ use Rattle.c_tree.specs.LockNames.{Held, holds, number_in, plain_names}
 use Rattle.c_tree.specs.Programs.{Variable, Guard, By, Each}
 use Rattle.c_tree.specs.LockDiscipline.{Fault, Use, numbers_below, variable_guard, name_under, is_guarded}
 use Rattle.c_tree.specs.WellFormed.{IsGuard, IsVariable}
-use Rattle.c_tree.proofs.Public.{plain_at, plain_keyed, plain_number, plain_past}
+use Rattle.c_tree.proofs.Public.{plain_at, plain_number, plain_past}
 use Rattle.source_machine.specs.ElementLocks.{lock_under, element_lock}
-use Rattle.lock_discipline.specs.links.Uses.{guard_number}
 use Rattle.lock_discipline.proofs.CheckerCorrectness.{none_or}
 
 abbrev pub named : ℕ → e.LockName
@@ -38,23 +37,6 @@ set_plain h mutex b = ⊎_elim
     (λ high. ap (λ (n : ℕ). slice_set h n b) (plain_past (length h) mutex (λ l. omega (arith, l, high)))
     ∙ (set_past h (length h) b (omega arith) ∙ sym (set_past h mutex b high)))
     (cases_lt mutex (length h))
-
--- a name with a key is in none
-pub holds_indexed : (h : Held) (mutex : ℕ) (index : Option e.Placed) → is_some index ≡ true →
-    holds h (number_in (plain_names (length h)) (record { mutex = mutex; key = index })) ≡ false
-holds_indexed h mutex None i = cc
-holds_indexed h mutex (Some key) i = ap (holds h) (plain_keyed (length h) mutex key) ∙ past_holds h (length h) (omega arith)
-
-pub holds_unindexed : (h : Held) (mutex : ℕ) (index : Option e.Placed) → is_some index ≡ false →
-    holds h (number_in (plain_names (length h)) (record { mutex = mutex; key = index })) ≡ holds h mutex
-holds_unindexed h mutex None i = holds_plain h mutex
-holds_unindexed h mutex (Some key) i = cc
-
--- ---- What guards an access
-
-pub number_under : (guard : Guard) (index : Option e.Placed) → (name_under guard index).mutex ≡ guard_number guard
-number_under (By mutex) index = refl
-number_under (Each first) index = refl
 
 -- ---- What guards a variable of a well formed form
 

@@ -1,5 +1,5 @@
 -- Errors that are passed on.
-use Rattle.std.proofs.Common.{◌≡◌, ◌++◌, ℕ, not, List, Option, Some, None, Result, MatchResult, IfSome, find, refl, sym, ap, ◌∙◌, subst}
+use Rattle.std.proofs.Common.{◌≡◌, ◌++◌, not, List, Option, Some, None, Result, MatchResult, IfSome, find, refl, sym, ap, ◌∙◌, subst}
 use Rattle.std.specs.Option.{option_or}
 use Rattle.std.proofs.lemmas.List.Folds.{find-append}
 use Rattle.c_tree.specs.declared.rule.Rule.TheVariants as rule
@@ -47,7 +47,7 @@ pub uses_append : (vs : List Variable) (names : List LockName) (h : Held) (us ws
     walk_uses vs names h (us ++ ws) ≡ and_then (walk_uses vs names h us) (λ _. walk_uses vs names h ws)
 uses_append vs names h us ws =
     let missing = λ (u : Use). not (is_guarded vs names h u) in
-    let fault : Use → Fault = λ u. record { rule = rule.Unheld; place = u.place; mutex = (guard_name vs u).mutex } in
+    let fault : Use → Fault = λ u. record { rule = rule.Unheld; place = u.place; lock = guard_name vs u } in
     ap (λ (o : Option Use). none_or o fault h) (find-append missing us ws) ∙ either (find missing us) (find missing ws) fault h
 
 -- the walk over uses that are put together of two lists goes over the one and then over the other

@@ -3,6 +3,7 @@ use Rattle.std.proofs.Common.{◌≡◌, ◌<◌, ◌≤◌, ℕ, zero, suc, ◌
 use Rattle.std.proofs.Common.{drop, get_or, map, slice_get, find, Option, Some, None, false, refl, sym, ap, ap₂, ◌∙◌, subst}
 use Rattle.std.proofs.lemmas.List.{length-replicate, length-map, map-append, take_more, drop_more, drop_all}
 use Rattle.std.proofs.lemmas.List.Elements.{All-head, All-tail}
+use Rattle.c_tree.specs.declared.language.Language.{Language}
 use Rattle.c_tree.specs.declared.rule.Rule.TheVariants as rule
 use Rattle.c_tree.specs.declared.flat.Statement as s
 use Rattle.c_tree.specs.declared.flat.Thread as thread
@@ -20,50 +21,53 @@ use Rattle.c_tree.specs.LockDiscipline.{numbers_below, Fault, Walked, After, Bro
 use Rattle.c_tree.specs.LockDiscipline.{walk_all, walk_end, walk_thread, walk_threads, lock_fault, IsDisciplined}
 use Rattle.lock_discipline.specs.HeldSetsByStep.{AreSetsOf, AreAllSetsOf}
 use Rattle.lock_discipline.specs.links.Flow.{held_after_all, sets_in_all, thread_sets}
-use Rattle.lock_discipline.proofs.CheckerCorrectness.{none_or, after_then, fault_or, walk-is_discipline}
+use Rattle.lock_discipline.proofs.CheckerCorrectness.{none_or, after_then, fault_or}
+use Rattle.lock_discipline.proofs.WalkLaw.{walk-is_discipline}
 use Rattle.lock_discipline.proofs.Flows.{thread_sets_are}
 use Rattle.lock_discipline.proofs.CheckerByStatement.{walked_all_length, walked_all_after}
 
-module _ (vs : List Variable) (n : ℕ) (t : thread.Thread) (first : Held) (xs : List s.Statement) where
+module _ (language : Language) (vs : List Variable) (n : ℕ) (t : thread.Thread) (first : Held) (xs : List s.Statement) where
   pub begins : first ≡ none_held n → xs ≡ t.body.items →
-      walk_thread vs (plain_names n) (f.thread_of t)
-      ≡ and_then (walk_all vs (plain_names (length first)) first (f.statements_of xs)) (walk_end vs (plain_names n) t.closing)
+      walk_thread language vs (plain_names n) (f.thread_of t)
+      ≡ and_then (walk_all language vs (plain_names (length first)) first (f.statements_of xs)) (walk_end vs (plain_names n) t.closing)
   begins is same =
-      ap (λ (m : ℕ). and_then (walk_all vs (plain_names n) (none_held m) (f.statements_of t.body.items)) (walk_end vs (plain_names n) t.closing))
+      ap (λ (m : ℕ). and_then (walk_all language vs (plain_names n) (none_held m) (f.statements_of t.body.items)) (walk_end vs (plain_names n) t.closing))
       (length-plain_names n)
-      ∙ ap (λ (ys : List s.Statement). and_then (walk_all vs (plain_names n) (none_held n) (f.statements_of ys)) (walk_end vs (plain_names n) t.closing))
+      ∙ ap (λ (ys : List s.Statement).
+      and_then (walk_all language vs (plain_names n) (none_held n) (f.statements_of ys)) (walk_end vs (plain_names n) t.closing))
       (sym same)
-      ∙ ap₂ (λ (m : ℕ) (h : Held). and_then (walk_all vs (plain_names m) h (f.statements_of xs)) (walk_end vs (plain_names n) t.closing))
+      ∙ ap₂ (λ (m : ℕ) (h : Held). and_then (walk_all language vs (plain_names m) h (f.statements_of xs)) (walk_end vs (plain_names n) t.closing))
       (sym (ap length is ∙ length-replicate n false))
       (sym is)
 
   ends : (end : Held) (o : Option ℕ) → first ≡ none_held n → xs ≡ t.body.items →
-      walk_all vs (plain_names (length first)) first (f.statements_of xs) ≡ After end →
+      walk_all language vs (plain_names (length first)) first (f.statements_of xs) ≡ After end →
       o ≡ find (λ m. holds end m) (numbers_below (length end)) →
-      walk_thread vs (plain_names n) (f.thread_of t) ≡ none_or o (λ m. record { rule = rule.EndHeld; place = t.closing; mutex = m }) end
+      walk_thread language vs (plain_names n) (f.thread_of t) ≡ none_or o (λ m. record { rule = rule.EndHeld; place = t.closing; lock = named m }) end
   ends end o is same walked e =
-      let long : length end ≡ n = walked_all_length vs first (f.statements_of xs) end walked ∙ ap length is ∙ length-replicate n false in
-      let fault : ℕ → Fault = λ m. record { rule = rule.EndHeld; place = t.closing; mutex = (slice_index_or (plain_names n) m (named 0)).mutex } in
-      let told : ℕ → Fault = λ m. record { rule = rule.EndHeld; place = t.closing; mutex = m } in
+      let long : length end ≡ n = walked_all_length language vs first (f.statements_of xs) end walked ∙ ap length is ∙ length-replicate n false in
+      let fault : ℕ → Fault = λ m. record { rule = rule.EndHeld; place = t.closing; lock = slice_index_or (plain_names n) m (named 0) } in
+      let told : ℕ → Fault = λ m. record { rule = rule.EndHeld; place = t.closing; lock = named m } in
       let found : o ≡ find (λ m. holds end m) (numbers_below n) = e ∙ ap (λ (m : ℕ). find (λ k. holds end k) (numbers_below m)) long in
       begins is same ∙ after_then _ (walk_end vs (plain_names n) t.closing) end walked
       ∙ ap (λ (m : ℕ). none_or (find (λ k. holds end k) (numbers_below m)) fault end) (length-plain_names n)
       ∙ ap (λ (p : Option ℕ). none_or p fault end) (sym found)
-      ∙ same_faults o fault told end (λ m is. ap (λ (x : LockName). let y : Fault = record { rule = rule.EndHeld; place = t.closing; mutex = x.mutex } in y)
+      ∙ same_faults o fault told end (λ m is. ap (λ (x : LockName). let y : Fault = record { rule = rule.EndHeld; place = t.closing; lock = x } in y)
       (named_at n m (found_below _ n m (sym found ∙ is))))
 
   pub ends_held : (end : Held) (m : ℕ) → first ≡ none_held n → xs ≡ t.body.items →
-      walk_all vs (plain_names (length first)) first (f.statements_of xs) ≡ After end →
-      Some m ≡ find (λ m. holds end m) (numbers_below (length end)) → walk_thread vs (plain_names n) (f.thread_of t) ≡ Broken
-      (record { rule = rule.EndHeld; place = t.closing; mutex = m })
+      walk_all language vs (plain_names (length first)) first (f.statements_of xs) ≡ After end →
+      Some m ≡ find (λ m. holds end m) (numbers_below (length end)) → walk_thread language vs (plain_names n) (f.thread_of t) ≡ Broken
+      (record { rule = rule.EndHeld; place = t.closing; lock = named m })
   ends_held end m is same walked e = ends end (Some m) is same walked e
 
-  pub ends_free : (end : Held) → first ≡ none_held n → xs ≡ t.body.items → walk_all vs (plain_names (length first)) first (f.statements_of xs) ≡ After end →
-      None ≡ find (λ m. holds end m) (numbers_below (length end)) → walk_thread vs (plain_names n) (f.thread_of t) ≡ After end
+  pub ends_free : (end : Held) → first ≡ none_held n → xs ≡ t.body.items →
+      walk_all language vs (plain_names (length first)) first (f.statements_of xs) ≡ After end →
+      None ≡ find (λ m. holds end m) (numbers_below (length end)) → walk_thread language vs (plain_names n) (f.thread_of t) ≡ After end
   ends_free end is same walked e = ends end None is same walked e
 
   pub sets_are : (end : Held) (old some all : List Held) → first ≡ none_held n → xs ≡ t.body.items →
-      walk_all vs (plain_names (length first)) first (f.statements_of xs) ≡ After end →
+      walk_all language vs (plain_names (length first)) first (f.statements_of xs) ≡ After end →
       old ≡ [] → some ≡ old ++ sets_in_all (plain_names (length first)) first (f.statements_of xs) → all ≡ some ++ end ∷ [] →
       all ≡ thread_sets (plain_names n) (f.thread_of t)
   sets_are end old some all is same walked p q r =
@@ -71,7 +75,7 @@ module _ (vs : List Variable) (n : ℕ) (t : thread.Thread) (first : Held) (xs :
       r ∙ ap (λ (ys : List Held). ys ++ end ∷ [])
       (q ∙ ap (λ (ys : List Held). ys ++ sets_in_all (plain_names (length first)) first (f.statements_of xs)) p)
       ∙ ap (λ (k : Held). sets_in_all (plain_names (length first)) first (f.statements_of xs) ++ k ∷ [])
-      (sym (walked_all_after vs first (f.statements_of xs) end walked))
+      (sym (walked_all_after language vs first (f.statements_of xs) end walked))
       ∙ ap₂ (λ (m : ℕ) (h : Held). sets_in_all (plain_names m) h (f.statements_of xs) ++ held_after_all (plain_names m) h (f.statements_of xs) ∷ []) long is
       ∙ ap₂ (λ (m : ℕ) (ys : List s.Statement). sets_in_all (plain_names n) (none_held m) (f.statements_of ys)
       ++ held_after_all (plain_names n) (none_held m) (f.statements_of ys) ∷ []) (sym (length-plain_names n)) same
@@ -81,39 +85,44 @@ module _ (vs : List Variable) (n : ℕ) (t : thread.Thread) (first : Held) (xs :
 abbrev pub variables_in : d.Flat → List Variable
 variables_in x = map variable_of x.variables.items
 
-abbrev pub walk_from : d.Flat → ℕ → Option Fault
-walk_from x i = walk_threads (f.flat_of x) (map f.thread_of (drop i x.threads.items))
+abbrev pub walk_from : Language → d.Flat → ℕ → Option Fault
+walk_from language x i = walk_threads language (f.flat_of x) (map f.thread_of (drop i x.threads.items))
 
-pub whole_walk : (x : d.Flat) → lock_fault (f.flat_of x) ≡ walk_from x 0
+pub whole_walk : (language : Language) (x : d.Flat) → lock_fault language (f.flat_of x) ≡ walk_from language x 0
 unfolding lock_fault
-whole_walk x = refl
+whole_walk language x = refl
 
 -- where no mutex is in an array, a thread's names are those of all mutexes
 names_in : (x : d.Flat) (t : f.Thread) (n : ℕ) → IsWellFormed (f.flat_of x) → n ≡ length x.mutexes.items → lock_names (f.flat_of x) t ≡ plain_names n
 names_in x t n w count = names_are_plain (f.flat_of x) t w.single ∙ ap plain_names (length-map x.mutexes.items mutex_of ∙ sym count)
 
-module _ (x : d.Flat) (w : IsWellFormed (f.flat_of x)) (i : ℕ) (t : thread.Thread) (variables : List variable.Variable) (n : ℕ)
+module _ (language : Language) (x : d.Flat) (w : IsWellFormed (f.flat_of x)) (i : ℕ) (t : thread.Thread) (variables : List variable.Variable) (n : ℕ)
     (all : variables ≡ x.variables.items)
     (count : n ≡ length x.mutexes.items) (within : i < length x.threads.items) (is : t ≡ get_or x.threads.items i t)
-    (before : walk_from x 0 ≡ walk_from x i) where
-  at_thread : walk_from x 0 ≡ fault_or (walk_thread (map variable_of variables) (plain_names n) (f.thread_of t)) (walk_from x (i + 1))
+    (before : walk_from language x 0 ≡ walk_from language x i) where
+  at_thread : walk_from language x 0 ≡ fault_or (walk_thread language (map variable_of variables) (plain_names n) (f.thread_of t))
+      (walk_from language x (i + 1))
   at_thread =
-      before ∙ ap (λ (ys : List thread.Thread). walk_threads (f.flat_of x) (map f.thread_of ys)) (drop_more x.threads.items i t within)
-      ∙ ap (λ (y : thread.Thread). fault_or (walk_thread (variables_in x) (lock_names (f.flat_of x) (f.thread_of y)) (f.thread_of y)) (walk_from x (i + 1)))
+      before ∙ ap (λ (ys : List thread.Thread). walk_threads language (f.flat_of x) (map f.thread_of ys)) (drop_more x.threads.items i t within)
+      ∙ ap (λ (y : thread.Thread). fault_or (walk_thread language (variables_in x) (lock_names (f.flat_of x) (f.thread_of y)) (f.thread_of y))
+      (walk_from language x (i + 1)))
       (sym is)
-      ∙ ap₂ (λ (ys : List variable.Variable) (names : List LockName). fault_or (walk_thread (map variable_of ys) names (f.thread_of t)) (walk_from x (i + 1)))
+      ∙ ap₂ (λ (ys : List variable.Variable) (names : List LockName).
+      fault_or (walk_thread language (map variable_of ys) names (f.thread_of t)) (walk_from language x (i + 1)))
       (sym all) (names_in x (f.thread_of t) n w count)
 
-  pub thread_breaks : (fault : Fault) → walk_thread (map variable_of variables) (plain_names n) (f.thread_of t) ≡ Broken fault →
-      lock_fault (f.flat_of x) ≡ Some fault
-  thread_breaks fault e = whole_walk x ∙ at_thread ∙ ap (λ (v : Walked). fault_or v (walk_from x (i + 1))) e
+  pub thread_breaks : (fault : Fault) → walk_thread language (map variable_of variables) (plain_names n) (f.thread_of t) ≡ Broken fault →
+      lock_fault language (f.flat_of x) ≡ Some fault
+  thread_breaks fault e = whole_walk language x ∙ at_thread ∙ ap (λ (v : Walked). fault_or v (walk_from language x (i + 1))) e
 
-  pub thread_keeps : (end : Held) × (walk_thread (map variable_of variables) (plain_names n) (f.thread_of t) ≡ After end) → walk_from x 0 ≡ walk_from x (i + 1)
-  thread_keeps e = at_thread ∙ ap (λ (v : Walked). fault_or v (walk_from x (i + 1))) e.1
+  pub thread_keeps : (end : Held) × (walk_thread language (map variable_of variables) (plain_names n) (f.thread_of t) ≡ After end) →
+      walk_from language x 0 ≡ walk_from language x (i + 1)
+  thread_keeps e = at_thread ∙ ap (λ (v : Walked). fault_or v (walk_from language x (i + 1))) e.1
 
-pub no_thread_breaks : (x : d.Flat) (i : ℕ) → length x.threads.items ≤ i → walk_from x 0 ≡ walk_from x i → lock_fault (f.flat_of x) ≡ None
-no_thread_breaks x i le e =
-    whole_walk x ∙ e ∙ ap (λ (ys : List thread.Thread). walk_threads (f.flat_of x) (map f.thread_of ys)) (drop_all i x.threads.items le)
+pub no_thread_breaks : (language : Language) (x : d.Flat) (i : ℕ) → length x.threads.items ≤ i → walk_from language x 0 ≡ walk_from language x i →
+    lock_fault language (f.flat_of x) ≡ None
+no_thread_breaks language x i le e =
+    whole_walk language x ∙ e ∙ ap (λ (ys : List thread.Thread). walk_threads language (f.flat_of x) (map f.thread_of ys)) (drop_all i x.threads.items le)
 
 -- ---- The table of all threads
 
@@ -160,13 +169,13 @@ map-twice : {X Y Z : Type 0} (g : Y → Z) (h : X → Y) (k : X → Z) (xs : Lis
 map-twice g h k [] e = refl
 map-twice g h k (x ∷ xs) e = ap₂ (λ y ys. y ∷ ys) (e x) (map-twice g h k xs e)
 
-pub all_rows : (x : d.Flat) → IsWellFormed (f.flat_of x) → (i : ℕ) (table : List (Vec Held Global)) → length x.threads.items ≤ i →
-    walk_from x 0 ≡ walk_from x i →
+pub all_rows : (language : Language) (x : d.Flat) → IsWellFormed (f.flat_of x) → (i : ℕ) (table : List (Vec Held Global)) → length x.threads.items ≤ i →
+    walk_from language x 0 ≡ walk_from language x i →
     rows table ≡ map (row_of x) (take i x.threads.items) → AreAllSetsOf (f.flat_of x) (rows table)
-all_rows x w i table le e p =
+all_rows language x w i table le e p =
     let whole = f.flat_of x in
     let is : map (sets_of whole) whole.threads ≡ rows table =
     sym (map-twice (sets_of whole) f.thread_of (row_of x) x.threads.items
     (λ t. ap (λ (names : List LockName). thread_sets names (f.thread_of t)) (sym (names_in x (f.thread_of t) (length x.mutexes.items) w refl))))
     ∙ ap (map (row_of x)) (sym (take_all i x.threads.items le)) ∙ sym p in
-    subst (AreAllSetsOf whole) is (are_all_sets whole ((walk-is_discipline whole).1 w (no_thread_breaks x i le e)))
+    subst (AreAllSetsOf whole) is (are_all_sets whole ((walk-is_discipline language whole).1 w (no_thread_breaks language x i le e)).0)

@@ -1,12 +1,13 @@
 -- The steps of a thread by number, in the order of its text, and the set of held locks before each, by their names.
-use Rattle.std.specs.Prelude.{◌≡◌, ◌↔◌, ℕ, suc, ◌+◌, List, length, slice_get, Some}
+use Rattle.std.specs.Prelude.{◌≡◌, ◌↔◌, ℕ, suc, ◌+◌, List, length, slice_get, Some, false}
 use Rattle.ido_base.specs.declared.place.Place.{Place}
 use Rattle.ido_ints.specs.declared.kinds.Kind.{Kind}
+use Rattle.c_tree.specs.declared.language.Language.{Language}
 use Rattle.c_tree.specs.Exprs as e
 use Rattle.c_tree.specs.Programs.{Variable}
 use Rattle.c_tree.specs.Flats as f
 use Rattle.c_tree.specs.LockNames.{Held, none_held, lock_names}
-use Rattle.c_tree.specs.LockDiscipline.{Keeps, KeepAll, IsDisciplined}
+use Rattle.c_tree.specs.LockDiscipline.{Keeps, KeepAll, IsDisciplined, are_too_many}
 
 -- ---- How many steps
 
@@ -79,6 +80,10 @@ module _ (vs : List Variable) (names : List e.LockName) where
 pub data HeldBefore (x : f.Flat) (t : f.Thread) : (step : ℕ) → Held → Type 0 where
   in_body : {k : Held} {n : ℕ} → HeldInAll x.variables (lock_names x t) (none_held (length (lock_names x t))) t.body n k → HeldBefore x t n k
   at_end : {k : Held} → KeepAll x.variables (lock_names x t) (none_held (length (lock_names x t))) t.body k → HeldBefore x t (steps_of_all t.body) k
+
+-- before none of its steps a thread holds too many
+abbrev pub HoldsFew : Language → f.Flat → f.Thread → Type 0
+HoldsFew l x t = (n : ℕ) (k : Held) → HeldBefore x t n k → are_too_many l k ≡ false
 
 -- ---- All the sets of a program
 

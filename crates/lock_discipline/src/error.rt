@@ -2,33 +2,37 @@
 ghost use Rattle.std.specs.Prelude.{◌≡◌};
 ghost use Rattle.lock_discipline.specs.declared.error.LockError.TheVariants.{Memory};
 
+use c_tree::expr::LockRef;
 use ido_base::place::Place;
 use std::alloc::AllocFailed;
 use thiserror::Error;
 
-/// The first fault of a walk, with its place and one mutex, or want of memory.
-#[derive(Clone, Copy, Debug, PartialEq, Eq, Drop, Error)]
-pub enum LockError {
-    /// A variable is used, and the mutex that guards it isn't held.
-    #[error("mutex {mutex} guards the variable and is not held")]
-    Unheld { place: Place, mutex: u32 },
-    /// A mutex is locked that is held.
-    #[error("mutex {mutex} is held already")]
-    Again { place: Place, mutex: u32 },
-    /// A mutex is unlocked that isn't held.
-    #[error("mutex {mutex} is not held")]
-    NotHeld { place: Place, mutex: u32 },
-    /// Paths meet, and only some of them hold the mutex.
-    #[error("mutex {mutex} is held on some paths and not on others")]
-    Join { place: Place, mutex: u32 },
-    /// A thread ends and holds the mutex.
-    #[error("mutex {mutex} is held at the end")]
-    EndHeld { place: Place, mutex: u32 },
+/// The first fault of a walk, with its place and one lock, or want of memory.
+#[derive(Clone, Copy, Debug, Drop, Error)]
+pub enum LockError<'a> {
+    /// A variable is used, and the lock that guards it isn't held.
+    #[error("the lock that guards the variable is not held")]
+    Unheld { place: Place, lock: LockRef<'a> },
+    /// A lock is taken that is held.
+    #[error("the lock is held already")]
+    Again { place: Place, lock: LockRef<'a> },
+    /// A lock is given back that isn't held.
+    #[error("the lock is not held")]
+    NotHeld { place: Place, lock: LockRef<'a> },
+    /// Paths meet, and only some of them hold the lock.
+    #[error("the lock is held on some paths and not on others")]
+    Join { place: Place, lock: LockRef<'a> },
+    /// A thread ends and holds the lock.
+    #[error("the lock is held at the end")]
+    EndHeld { place: Place, lock: LockRef<'a> },
+    /// A lock is taken, and more are held after it than may be.
+    #[error("as many locks are held as may be")]
+    Held { place: Place, lock: LockRef<'a> },
     #[error("out of memory")]
     Memory,
 }
 
-impl<T: Drop> From<AllocFailed<T>> for LockError {
+impl<'a, T: Drop> From<AllocFailed<T>> for LockError<'a> {
     ghost from_gives = { λ _ e. e ≡ Memory };
 
     fn from(_: AllocFailed<T>) -> Self {

@@ -1,7 +1,8 @@
 //! The check of a flat form.
-ghost use Rattle.std.specs.Prelude.{◌≡◌, ◌<◌, ◌≤◌, [], None, Some, length, slice_index_or, IfOk, IfErr, IfSome};
+ghost use Rattle.std.specs.Prelude.{◌≡◌, ◌<◌, ◌≤◌, ◌↔◌, ℕ, [], None, Some, length, slice_index_or, IfOk, IfErr, IfSome, IsTrue};
 ghost use Rattle.ido_base.specs.declared.limits.TheConstants.{MOST_MUTEXES};
 ghost use Rattle.c_tree.specs.Flats.{flat_of};
+ghost use Rattle.c_tree.specs.LockNames.{count_held};
 ghost use Rattle.c_tree.specs.LockDiscipline.{lock_fault};
 ghost use Rattle.c_tree.specs.WellFormed.{IsWellFormed};
 ghost use Rattle.lock_discipline.specs.Faults.{fault_of};
@@ -12,6 +13,7 @@ use crate::error::LockError;
 use crate::set::MutexSet;
 use crate::walk::walk_thread;
 use c_tree::flat::Flat;
+use c_tree::language::Language;
 use std::alloc::Global;
 use std::marker::Model;
 
@@ -27,6 +29,18 @@ impl Model for Held {
     ghost Value = { List (List (List Bool)) };
 
     ghost view = { λ h. map (λ sets. sets.items) h.threads.items };
+}
+
+/// No more than so many mutexes are held in any of the sets.
+fn are_small(sets: &[MutexSet], most: u32) -> bool
+    ensures { IsTrue result ↔ ((step : ℕ) → count_held (slice_index_or sets.now step []) ≤ most) }
+{
+    for set in sets {
+        if set.count() > most {
+            return false;
+        }
+    }
+    true
 }
 
 impl Held {
@@ -57,24 +71,37 @@ impl Held {
         let set = sets[step as usize];
         set.mask()
     }
+
+    /// No more than so many mutexes are held before any step.
+    pub fn are_at_most(&self, most: u32) -> bool
+        ensures { IsTrue result ↔ ((thread step : ℕ) → count_held (slice_index_or (slice_index_or self.now thread []) step []) ≤ most) }
+    {
+        for sets in &self.threads {
+            if !are_small(sets, most) {
+                return false;
+            }
+        }
+        true
+    }
 }
 
 /// Walks through the threads in order, each from its beginning, to the first fault: a variable that is used while
-/// its mutex isn't held, a mutex that is locked while it is held or unlocked while it isn't, paths that meet with
-/// different mutexes held, or a thread that ends with one held. A well formed flat form has no more than 64 mutexes
+/// its mutex isn't held, a mutex that is locked while it is held or unlocked while it isn't, one by whose lock more are held
+/// than may be in the language, paths that meet with different mutexes held, or a thread that ends with one held. A well formed flat form has no more than 64
+/// mutexes
 /// (`laws::well_formed_has_few_mutexes`), and none of them is in an array: a lock's name has its mutex's number.
 ///
 /// The sets are said by relations of before, statement and after, and not by the walk.
-pub fn check(alloc: Global, flat: &Flat) -> Result<Held, LockError>
+pub fn check(alloc: Global, language: Language, flat: &Flat) -> Result<Held, LockError<'_>>
     requires { IsWellFormed (flat_of flat.now) }
-    ensures accepts { IfOk result (λ _. lock_fault (flat_of flat.now) ≡ None) }
-    ensures refuses { IfErr result (λ error. IfSome (fault_of error) (λ fault. lock_fault (flat_of flat.now) ≡ Some fault)) }
+    ensures accepts { IfOk result (λ _. lock_fault language (flat_of flat.now) ≡ None) }
+    ensures refuses { IfErr result (λ error. IfSome (fault_of error) (λ fault. lock_fault language (flat_of flat.now) ≡ Some fault)) }
     ensures sets { IfOk result (λ held. AreAllSetsOf (flat_of flat.now) held) }
 {
     let mutexes = flat.mutexes.len() as u32;
     let mut threads = Vec::new(alloc);
     for thread in &flat.threads {
-        threads.push(walk_thread(alloc, &flat.variables, mutexes, thread)?)?;
+        threads.push(walk_thread(alloc, language, &flat.variables, mutexes, thread)?)?;
     }
     Ok(Held { threads })
 }

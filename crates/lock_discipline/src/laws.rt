@@ -3,7 +3,7 @@ ghost use Rattle.lock_discipline.specs.Discipline.{WalkIsDiscipline};
 ghost use Rattle.lock_discipline.specs.FormLaws.{HasFewMutexes};
 ghost use Rattle.lock_discipline.specs.StepContinuations.{HeldIsHeld};
 
-/// The walk finds no fault exactly where each thread keeps the discipline.
+/// The walk finds no fault exactly where each thread keeps the discipline and nowhere holds too many.
 pub fn walk_is_discipline()
     ensures { WalkIsDiscipline }
 {}

@@ -1,13 +1,13 @@
 //! Sets of mutexes.
 ghost use Rattle.std.specs.Prelude.{◌≡◌, ◌≤◌, ◌||◌, ℕ, true, false, length, slice_set, find};
 ghost use Rattle.ido_base.specs.declared.limits.TheConstants.{MOST_MUTEXES};
-ghost use Rattle.c_tree.specs.Exprs.{lock_name_of};
-ghost use Rattle.c_tree.specs.LockNames.{holds, none_held, number_in, plain_names};
+ghost use Rattle.c_tree.specs.Exprs.{lock_ref_of};
+ghost use Rattle.c_tree.specs.LockNames.{count_held, holds, none_held, number_in, plain_names};
 ghost use Rattle.c_tree.specs.LockDiscipline.{numbers_below};
 ghost use Rattle.lock_discipline.specs.Masks.{mask_of};
 ghost use Rattle.lock_discipline.specs.links.Sets.{differ};
 
-use c_tree::expr::LockName;
+use c_tree::expr::LockRef;
 use std::alloc::AllocError;
 use std::marker::Model;
 
@@ -72,11 +72,11 @@ impl MutexSet {
     }
 
     /// The number of a lock's name among those of so many mutexes; past all of them where it has a key.
-    pub fn number(self, lock: &LockName) -> u32
-        ensures { let n = number_in (plain_names (length self)) (lock_name_of lock.now) in
+    pub fn number(self, lock: LockRef<'_>) -> u32
+        ensures { let n = number_in (plain_names (length self)) (lock_ref_of lock.entry) in
             (holds self result ≡ holds self n) × (slice_set self result true ≡ slice_set self n true) × (slice_set self result false ≡ slice_set self n false) }
     {
-        match &lock.key {
+        match lock.key {
             None => lock.mutex,
             Some(_) => self.mutexes,
         }
@@ -87,6 +87,13 @@ impl MutexSet {
         ensures { result ≡ holds self mutex }
     {
         mutex < self.mutexes && self.mask >> mutex & 1 == 1
+    }
+
+    /// How many are held.
+    pub fn count(self) -> u32
+        ensures { result ≡ count_held self }
+    {
+        self.mask.count_ones()
     }
 
     /// The set with the mutex, where there is such a one.

@@ -1,28 +1,19 @@
 //! The variables that a step uses, each under its mutex.
-ghost use Rattle.std.specs.Prelude.{◌≡◌, [], ◌∷◌, length, map, Option, is_some, MatchResult};
+ghost use Rattle.std.specs.Prelude.{◌≡◌, [], ◌∷◌, length, map, None, MatchResult};
+ghost use Rattle.std.specs.Option.{option_map};
 ghost use Rattle.c_tree.specs.Programs as program;
 ghost use Rattle.c_tree.specs.Programs.{variable_of};
-ghost use Rattle.c_tree.specs.Exprs.{Placed, expr_of, lvalue_of};
-ghost use Rattle.c_tree.specs.LockNames.{holds, number_in, plain_names};
+ghost use Rattle.c_tree.specs.Exprs.{expr_of, lvalue_of, lock_ref_of, placed_ref_of};
+ghost use Rattle.c_tree.specs.LockNames.{plain_names};
 ghost use Rattle.c_tree.specs.LockDiscipline.{After, variable_guard, name_under, walk_uses, expr_uses, target_uses};
 ghost use Rattle.lock_discipline.specs.links.Refusals.{Refuses};
-ghost use Rattle.lock_discipline.specs.links.Uses.{use_of, guard_number};
+ghost use Rattle.lock_discipline.specs.links.Uses.{use_of};
 
 use crate::error::LockError;
 use crate::set::MutexSet;
-use c_tree::expr::{Expr, Lvalue};
+use c_tree::expr::{Expr, LockRef, Lvalue, PlacedRef};
 use c_tree::program::{Guard, Variable};
 use ido_base::place::Place;
-
-/// The number of the mutex, of an array of them that of its first one.
-fn guard_number(guard: Guard) -> u32
-    ensures { result ≡ guard_number (program.guard_of guard) }
-{
-    match guard {
-        Guard::By { mutex } => mutex,
-        Guard::Each { first } => first,
-    }
-}
 
 /// What guards the variable; mutex 0 where there is no such variable.
 fn variable_guard(variables: &[Variable], variable: u32) -> Guard
@@ -34,42 +25,47 @@ fn variable_guard(variables: &[Variable], variable: u32) -> Guard
     }
 }
 
-/// The lock of an access under the guard is held. No set has the lock of an element that has a mutex of its own: its name has a key.
-fn holds_guard(held: MutexSet, guard: Guard, indexed: bool) -> bool
-    ensures { (index : Option Placed) → is_some index ≡ indexed →
-        result ≡ holds held (number_in (plain_names (length held)) (name_under (program.guard_of guard) index)) }
+/// The name of the lock that guards an access with this index.
+fn name_under<'a>(guard: Guard, index: Option<PlacedRef<'a>>) -> LockRef<'a>
+    ensures { lock_ref_of result ≡ name_under (program.guard_of guard) (option_map placed_ref_of index.entry) }
 {
     match guard {
-        Guard::By { mutex } => held.holds(mutex),
-        Guard::Each { first } => !indexed && held.holds(first),
+        Guard::By { mutex } => LockRef { mutex, key: None },
+        Guard::Each { first } => LockRef {
+            mutex: first,
+            key: index,
+        },
     }
 }
 
 /// The use of a variable whose name stands at the place, with an index or without one.
-fn check_use(
+fn check_use<'a>(
     variables: &[Variable],
     held: MutexSet,
     variable: u32,
     place: Place,
-    indexed: bool,
-) -> Result<(), LockError>
-    ensures { (index : Option Placed) → is_some index ≡ indexed →
-        (let w = walk_uses (map variable_of variables.now) (plain_names (length held)) held (use_of variable place index ∷ []) in
-        MatchResult result (λ _. w ≡ After held) (Refuses w)) }
+    index: Option<PlacedRef<'a>>,
+) -> Result<(), LockError<'a>>
+    ensures { let w = walk_uses (map variable_of variables.now) (plain_names (length held)) held
+        (use_of variable place (option_map placed_ref_of index.entry) ∷ []) in
+        MatchResult result (λ _. w ≡ After held) (Refuses w) }
 {
     let guard = variable_guard(variables, variable);
-    if holds_guard(held, guard, indexed) {
+    let lock = name_under(guard, index);
+    let number = held.number(lock);
+    if held.holds(number) {
         Ok(())
     } else {
-        Err(LockError::Unheld {
-            place,
-            mutex: guard_number(guard),
-        })
+        Err(LockError::Unheld { place, lock })
     }
 }
 
 /// The uses in an expression, from left to right.
-pub fn check_expr(variables: &[Variable], held: MutexSet, expr: &Expr) -> Result<(), LockError>
+pub fn check_expr<'a>(
+    variables: &[Variable],
+    held: MutexSet,
+    expr: &'a Expr,
+) -> Result<(), LockError<'a>>
     ensures { let w = walk_uses (map variable_of variables.now) (plain_names (length held)) held (expr_uses (expr_of expr.now)) in
         MatchResult result (λ _. w ≡ After held) (Refuses w) }
 {
@@ -79,14 +75,19 @@ pub fn check_expr(variables: &[Variable], held: MutexSet, expr: &Expr) -> Result
             place,
             variable,
             ..
-        } => check_use(variables, held, *variable, *place, false),
+        } => check_use(variables, held, *variable, *place, None),
         Expr::Element {
             place,
             variable,
+            index_place,
             index,
             ..
         } => {
-            check_use(variables, held, *variable, *place, true)?;
+            let key = PlacedRef {
+                place: *index_place,
+                expr: index,
+            };
+            check_use(variables, held, *variable, *place, Some(key))?;
             check_expr(variables, held, index)
         }
         Expr::Unary { operand, .. }
@@ -110,11 +111,11 @@ pub fn check_expr(variables: &[Variable], held: MutexSet, expr: &Expr) -> Result
 }
 
 /// The uses in a target.
-pub fn check_target(
+pub fn check_target<'a>(
     variables: &[Variable],
     held: MutexSet,
-    target: &Lvalue,
-) -> Result<(), LockError>
+    target: &'a Lvalue,
+) -> Result<(), LockError<'a>>
     ensures { let w = walk_uses (map variable_of variables.now) (plain_names (length held)) held (target_uses (lvalue_of target.now)) in
         MatchResult result (λ _. w ≡ After held) (Refuses w) }
 {
@@ -124,14 +125,18 @@ pub fn check_target(
             place,
             variable,
             ..
-        } => check_use(variables, held, *variable, *place, false),
+        } => check_use(variables, held, *variable, *place, None),
         Lvalue::Element {
             place,
             variable,
             index,
             ..
         } => {
-            check_use(variables, held, *variable, *place, true)?;
+            let key = PlacedRef {
+                place: index.place,
+                expr: &index.expr,
+            };
+            check_use(variables, held, *variable, *place, Some(key))?;
             check_expr(variables, held, &index.expr)
         }
     }

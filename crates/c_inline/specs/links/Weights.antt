@@ -2,7 +2,7 @@
 use Rattle.std.specs.Prelude.{ℕ, zero, suc, ◌+◌, ◌*◌, List, [], ◌∷◌, Option, Some, None, slice_get}
 use Rattle.c_tree.specs.Exprs as e
 use Rattle.c_tree.specs.Programs as p
-use Rattle.c_tree.specs.Prices.{nodes_of}
+use Rattle.c_tree.specs.Prices.{key_nodes, nodes_of}
 use Rattle.c_inline.specs.declared.weight.Weights.{Weights}
 
 -- the price of a thread is the sum of these
@@ -45,8 +45,8 @@ module _ (w : Weights) (call : ℕ) (fs : List p.Function) (weight : (function :
     statement_weight (p.If place arms otherwise) = arms_weight arms + statements_weight otherwise + w.branch
     statement_weight (p.While place condition body) = node_weight w (nodes_of condition.expr) + statements_weight body
     statement_weight (p.Do place body condition) = node_weight w (nodes_of condition.expr) + statements_weight body
-    statement_weight (p.Lock place name) = node_weight w 0
-    statement_weight (p.Unlock place name) = node_weight w 0
+    statement_weight (p.Lock place name) = node_weight w (key_nodes name)
+    statement_weight (p.Unlock place name) = node_weight w (key_nodes name)
 
     pub statements_weight : p.Statements → ℕ
     statements_weight p.no_statement = 0

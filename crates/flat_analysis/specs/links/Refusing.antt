@@ -16,11 +16,12 @@ abbrev pub refusal_by : Rule → Place → SourceError
 refusal_by found place = source.Refused (record { rule = found; place = place })
 
 abbrev pub of_lock : lock.LockError → SourceError
-of_lock (lock_error.Unheld place mutex) = refusal_by rule.Unheld place
-of_lock (lock_error.Again place mutex) = refusal_by rule.Again place
-of_lock (lock_error.NotHeld place mutex) = refusal_by rule.NotHeld place
-of_lock (lock_error.Join place mutex) = refusal_by rule.Join place
-of_lock (lock_error.EndHeld place mutex) = refusal_by rule.EndHeld place
+of_lock (lock_error.Unheld place name) = refusal_by rule.Unheld place
+of_lock (lock_error.Again place name) = refusal_by rule.Again place
+of_lock (lock_error.NotHeld place name) = refusal_by rule.NotHeld place
+of_lock (lock_error.Join place name) = refusal_by rule.Join place
+of_lock (lock_error.EndHeld place name) = refusal_by rule.EndHeld place
+of_lock (lock_error.Held place name) = refusal_by rule.Held place
 of_lock lock_error.Memory = source.Memory
 
 -- registers don't suffice for the locals of the graph

@@ -19,9 +19,9 @@ returns-in_err-walk_thread-clause-refuses c =
     let item = c.thread-item.is ∙ ap (λ (xs : List Thread). get_or xs c.loop-thread.thread-index t) c.deref-thread-items.ensures.value in
     let within : c.loop-thread.thread-index < length x.threads.items = omega arith in
     rw (q.1, q.2) (same_fault (fault_of c.in_err-walk_thread.field-0.0)
-    (λ fault. walk_thread (map variable_of c.deref.result.now) (plain_names c.len-mutexes.result) (thread_of t) ≡ Broken fault)
-    (λ fault. lock_fault (flat_of x) ≡ Some fault)
-    (thread_breaks x c.requires c.loop-thread.thread-index t c.deref.result.now c.len-mutexes.result c.deref.ensures.value count within item
+    (λ fault. walk_thread c.args.language (map variable_of c.deref.result.now) (plain_names c.len-mutexes.result) (thread_of t) ≡ Broken fault)
+    (λ fault. lock_fault c.args.language (flat_of x) ≡ Some fault)
+    (thread_breaks c.args.language x c.requires c.loop-thread.thread-index t c.deref.result.now c.len-mutexes.result c.deref.ensures.value count within item
     c.loop-thread.invariant.walk)
     c.in_err-walk_thread.ensures.walk)
 
@@ -33,15 +33,16 @@ loop-thread-preserved c =
     let item = c.thread-item.is ∙ ap (λ (xs : List Thread). get_or xs c.loop-thread.thread-index t) c.deref-thread-items.ensures.value in
     let within : c.loop-thread.thread-index < length x.threads.items = omega arith in
     record {
-      walk = thread_keeps x c.requires c.loop-thread.thread-index t c.deref.result.now c.len-mutexes.result c.deref.ensures.value count within item
+      walk =
+          thread_keeps c.args.language x c.requires c.loop-thread.thread-index t c.deref.result.now c.len-mutexes.result c.deref.ensures.value count within item
           c.loop-thread.invariant.walk c.in_ok-walk_thread.ensures.walk;
       sets = next_row x c.loop-thread.thread-index t c.len-mutexes.result c.in_ok-walk_thread.field-0 _ _ count within item c.in_ok-push.ensures.items
           c.in_ok-walk_thread.ensures.sets c.loop-thread.invariant.sets;
     }
 
 pub returns-clause-accepts : goal.returns-clause-accepts
-returns-clause-accepts c = no_thread_breaks c.args.flat.now c.loop-thread.thread-index (omega arith) c.loop-thread.invariant.walk
+returns-clause-accepts c = no_thread_breaks c.args.language c.args.flat.now c.loop-thread.thread-index (omega arith) c.loop-thread.invariant.walk
 
 pub returns-clause-sets : goal.returns-clause-sets
-returns-clause-sets c = all_rows c.args.flat.now c.requires c.loop-thread.thread-index c.loop-thread.threads.items
+returns-clause-sets c = all_rows c.args.language c.args.flat.now c.requires c.loop-thread.thread-index c.loop-thread.threads.items
     (omega arith) c.loop-thread.invariant.walk c.loop-thread.invariant.sets

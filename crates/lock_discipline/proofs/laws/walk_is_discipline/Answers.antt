@@ -1,4 +1,4 @@
-use Rattle.lock_discipline.proofs.CheckerCorrectness.{walk-is_discipline}
+use Rattle.lock_discipline.proofs.WalkLaw.{walk-is_discipline}
 use Rattle.lock_discipline.proofs.laws.walk_is_discipline.Goals as goal
 
 pub returns : goal.returns

@@ -14,16 +14,17 @@ pub returns-in_err-check_use-in-Element : goal.returns-in_err-check_use-in-Eleme
 returns-in_err-check_use-in-Element t c =
     let p = err_from_is_err_and c.from_residual.result c.from_residual.ensures.1 in
     let w = c.in-Element in
-    let index : Placed = record { place = w.index_place; expr = expr_of w.index.value } in
+    let inner : c.deref.result.now ≡ w.index.value = cc in
+    let index : Placed = record { place = w.index_place; expr = expr_of c.deref.result.now } in
     let u = use_of w.variable w.place (Some index) in
     let more = expr_uses (expr_of w.index.value) in
-    let all : expr_uses (expr_of c.args.expr.now) ≡ (u ∷ []) ++ more = ap (λ (x : Expr). expr_uses (expr_of x)) w.is in
+    let all : expr_uses (expr_of c.args.expr.now) ≡ (u ∷ []) ++ more = rw inner (ap (λ (x : Expr). expr_uses (expr_of x)) w.is) in
     let vs = map variable_of c.args.variables.now in
     let n = plain_names (length c.args.held) in
     let h = c.args.held in
     rw (p.1, p.2) (refuses_then (walk_uses vs n h (u ∷ [])) (walk_uses vs n h (expr_uses (expr_of c.args.expr.now))) (λ _. walk_uses vs n h more) _
     (uses_split vs n h (expr_uses (expr_of c.args.expr.now)) (u ∷ []) more all)
-    (c.in_err-check_use-in-Element.ensures (Some index) refl))
+    c.in_err-check_use-in-Element.ensures)
 
 pub returns-in_err-check_expr-in-Binary : goal.returns-in_err-check_expr-in-Binary
 returns-in_err-check_expr-in-Binary t c =

@@ -1,4 +1,4 @@
-use Rattle.std.proofs.Common.{◌≡◌, [], ◌∷◌, ◌++◌, Some, length, map, refl, ap}
+use Rattle.std.proofs.Common.{◌≡◌, [], ◌∷◌, ◌++◌, Some, length, map, ap}
 use Rattle.std.proofs.lemmas.Result.{err_from_is_err_and}
 use Rattle.c_tree.specs.Programs.{variable_of}
 use Rattle.c_tree.specs.Exprs.{expr_of, placed_of, lvalue_of}
@@ -21,4 +21,4 @@ returns-in_err-check_use-in-Element c =
     let h = c.args.held in
     rw (p.1, p.2) (refuses_then (walk_uses vs n h (u ∷ [])) (walk_uses vs n h (target_uses (lvalue_of c.args.target.now))) (λ _. walk_uses vs n h more) _
     (uses_split vs n h (target_uses (lvalue_of c.args.target.now)) (u ∷ []) more all)
-    (c.in_err-check_use-in-Element.ensures (Some (placed_of w.index)) refl))
+    c.in_err-check_use-in-Element.ensures)
