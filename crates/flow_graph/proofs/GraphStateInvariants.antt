@@ -1,12 +1,13 @@
 -- What every run of a graph keeps: its edges, what steps leave, and that the source keeps step.
-use Rattle.std.proofs.Common.{◌≡◌, ◌≢◌, ◌⊎◌, inl, inr, ⊎_elim, ◌<◌, ◌≤◌, refl, ℕ, zero, suc, List, [], ◌∷◌, length, map}
+use Rattle.std.proofs.Common.{◌≡◌, ◌≢◌, ◌⊎◌, inl, inr, ⊎_elim, ◌<◌, ◌≤◌, refl, ℕ, zero, suc, List, [], ◌∷◌, length, map, ◌+◌}
+use Rattle.flow_graph.proofs.SuccessorsInThread.{closed_from, contained}
 use Rattle.std.proofs.Common.{replicate, ◌∙◌, ap, sym, subst, arith, Option, Some, None, Bool, true, false, slice_set}
 use Rattle.std.specs.Prelude.{slice_get, is_some, Contains, if◌then◌else◌, ℤ}
 use Rattle.std.specs.List.{AllByRecursion, AllZip}
 use Rattle.std.specs.Option.{option_map}
 use Rattle.std.proofs.lemmas.Bool.{cases_eq}
 use Rattle.std.proofs.lemmas.Bool.Decides.{nat_tests}
-use Rattle.std.proofs.lemmas.Option.{slice_get_within}
+use Rattle.std.proofs.lemmas.Option.{slice_get_within, same_Some}
 use Rattle.ido_base.specs.declared.location.Location.{Location}
 use Rattle.ido_base.specs.Locations.{overlap, same}
 use Rattle.ido_base.specs.declared.limits.TheConstants.{MOST_ELEMENTS}
@@ -17,24 +18,26 @@ use Rattle.c_tree.specs.Programs.{Variable}
 use Rattle.c_tree.specs.Flats as f
 use Rattle.c_tree.specs.Source as m
 use Rattle.c_tree.specs.Source.{Pending}
-use Rattle.c_tree.specs.Ranges.{range_of}
+use Rattle.c_tree.specs.LockNames.{lock_names}
 use Rattle.c_tree.specs.WellFormed.{elements_in, IsVariable, IsWellFormed, IsFlatStatement, IsFlatPlaced}
 use Rattle.c_ranges.specs.RunInvariants.{AreNumbersOf, IsStatementLeft, IsThreadOf, IsStateOf}
 use Rattle.c_ranges.proofs.Public.{Pair, zip_found, begins_so, stays_so}
 use Rattle.flow_graph.specs.declared.graph.Part.{Part}
 use Rattle.flow_graph.specs.Nodes.{Action, Eval, Store, Test, Lock, Unlock, End, Node, Graph, successors}
-use Rattle.flow_graph.specs.Lowering.{lowered, threads_nodes, scalar, elements, expr_reads, target_reads}
+use Rattle.flow_graph.specs.Lowering.{table_of, lowered, threads_nodes, scalar, elements, expr_reads, target_reads, parts, part, thread_count}
 use Rattle.flow_graph.specs.Liveness.{NodeAt}
 use Rattle.flow_graph.specs.Actions as g
 use Rattle.flow_graph.specs.Actions.{Seen, GraphThread, FlowState, Effect, Sets, Owes, Makes, Goes, Takes, Gives, Ends, effect_of}
 use Rattle.flow_graph.specs.Actions.{effect_step, node_step, graph_thread_step, seen_by, graph_start, graph_step, graph_after, graph_runs}
-use Rattle.flow_graph.specs.Lockstep.{Standing, free, threads_standings, GraphThreadMatches, Matches, StepsMatch}
+use Rattle.flow_graph.specs.Lockstep.{Standing, free, threads_standings, GraphThreadMatches, Matches, StepsMatch, IsOwnNode}
 use Rattle.flow_graph.specs.IdempotentCuts.{Boundaries, IsEdge, IsBoundary, BeginsRegion, IsInside, stays, goes_on, ReadsAt, WritesAt, IsWrittenBefore, AreCuts}
 use Rattle.flow_graph.specs.Paths.{Element, expr_elements, target_elements, reads_of, stored_element, write_of, Visit, solo_path}
-use Rattle.flow_graph.specs.Paths.{ReadsElement, WritesElement, IsWithinRegion, IsReachedFlow, no_names, Lies, LiesInOne, LiesInWritten, IsAtNode}
+use Rattle.flow_graph.specs.Paths.{ReadsElement, WritesElement, IsWithinRegion, IsReachedFlow, Naming, naming_of, no_names, Lies, LiesInOne, LiesInWritten}
+use Rattle.flow_graph.specs.Paths.{IsAtNode, ReadsLie, WritesLie}
 use Rattle.flow_graph.proofs.NodeContinuations.{ActionLeads, chooses, repeats, node_at}
-use Rattle.flow_graph.proofs.Lockstep.{set_same, set_other, found_in, graph_is, lowered_nodes, begins_lockstep, steps_lockstep}
-use Rattle.flow_graph.proofs.Shapes.{ShapedAs, node_shaped}
+use Rattle.flow_graph.proofs.Lockstep.{set_same, set_other, found_in, graph_is, lowered_nodes, begins_lockstep, steps_lockstep, lowered_threads}
+use Rattle.flow_graph.proofs.Shapes.{ShapedBy, own_shaped}
+use Rattle.flow_graph.proofs.HeldKeys.{plain_lies}
 use Rattle.flow_graph.proofs.ElementsInLocations.{contains_none, one_of_both, lies_scalar, lies_element, lies_expr, lies_target}
 
 -- ---- What a step is
@@ -150,8 +153,8 @@ goes_by (Eval (e.ToElement place variable kind index) value next) seen graph_thr
     subst (OnlyNext next graph_thread) (sym (effects_same _ effect h)) (inl (0, omega arith, refl))
 goes_by (Store variable kind next) seen graph_thread effect h = goes_store next graph_thread effect seen.pending h
 goes_by (Test condition holds fails) seen graph_thread effect h = goes_test holds fails graph_thread effect (is_zero (g.number_in seen condition.expr)) h
-goes_by (Lock mutex next) seen graph_thread effect h = subst (OnlyNext next graph_thread) (sym (effects_same _ effect h)) (inl (0, omega arith, refl))
-goes_by (Unlock mutex next) seen graph_thread effect h = subst (OnlyNext next graph_thread) (sym (effects_same _ effect h)) (inl (0, omega arith, refl))
+goes_by (Lock lock next) seen graph_thread effect h = subst (OnlyNext next graph_thread) (sym (effects_same _ effect h)) (inl (0, omega arith, refl))
+goes_by (Unlock lock next) seen graph_thread effect h = subst (OnlyNext next graph_thread) (sym (effects_same _ effect h)) (inl (0, omega arith, refl))
 goes_by End seen graph_thread effect h = inr (effects_same Ends effect h)
 
 pub after_is : (graph : Graph) (s next : FlowState) (t : ℕ) (st : Stepped graph s next t) (after : GraphThread) → slice_get next.graph_threads t ≡ Some after →
@@ -190,17 +193,18 @@ steps_go_along_edges graph s next t graph_thread after h found there live =
 -- ---- What every run keeps
 
 -- the store that is pending at a node lies in what the node writes
-pub record OwesThere (x : f.Flat) (at : ℕ) (p : Pending) : Type 0 where
+pub record OwesThere (x : f.Flat) (naming : Naming) (at : ℕ) (p : Pending) : Type 0 where
   pub node : Node
-  pub here : slice_get (threads_nodes x.threads 0) at ≡ Some node
-  pub lies : LiesInWritten no_names node.writes (stored_element p)
+  pub here : slice_get (threads_nodes x x.threads 0) at ≡ Some node
+  pub lies : LiesInWritten naming node.writes (stored_element p)
 
 pub record Good (x : f.Flat) (s : FlowState) : Type 0 where
+  pub own : (t : ℕ) (graph_thread : GraphThread) → slice_get s.graph_threads t ≡ Some graph_thread → IsOwnNode x t graph_thread.at
   pub source : m.State
   pub matches : Matches x s source
   pub formed : IsStateOf x source
-  pub owes : (t : ℕ) (graph_thread : GraphThread) (p : Pending) → slice_get s.graph_threads t ≡ Some graph_thread → graph_thread.pending ≡ Some p →
-      OwesThere x graph_thread.at p
+  pub owes : (t : ℕ) (text : f.Thread) (graph_thread : GraphThread) (p : Pending) → slice_get s.graph_threads t ≡ Some graph_thread →
+      slice_get x.threads t ≡ Some text → graph_thread.pending ≡ Some p → OwesThere x (naming_of x text graph_thread.locals) graph_thread.at p
 
 pub all_at : {X : Type 0} (P : X → Type 0) (xs : List X) (k : ℕ) (y : X) → AllByRecursion P xs → slice_get xs k ≡ Some y → P y
 all_at P [] k y h e = cc
@@ -216,7 +220,7 @@ module _ (x : f.Flat) (w : IsWellFormed x) (s : FlowState) (good : Good x s) (t 
   all = threads_standings x.threads
 
   abbrev nodes : List Node
-  nodes = threads_nodes x.threads 0
+  nodes = threads_nodes x x.threads 0
 
   abbrev Own : m.Thread → Type 0
   Own thread = Pair (λ (u : f.Thread) (own : m.Thread). IsThreadOf x u.locals own) x.threads t thread
@@ -226,7 +230,7 @@ module _ (x : f.Flat) (w : IsWellFormed x) (s : FlowState) (good : Good x s) (t 
     pub match : GraphThreadMatches x graph_thread thread
     pub own : Own thread
 
-  here : Here
+  pub here : Here
   here =
       let there = found_in good.source.threads t (omega (arith, good.matches.count, slice_get_within s.graph_threads t graph_thread found)) in
       record {
@@ -271,118 +275,189 @@ module _ (x : f.Flat) (w : IsWellFormed x) (s : FlowState) (good : Good x s) (t 
 
   -- ---- Locations
 
-  reads_lie_by : (h : Here) (node : Node) (a : Action) (one : Element) → ActionLeads all a (standing h) → ShapedAs nodes node a →
-      Contains (reads_of a (seen_by s graph_thread)) one → LiesInOne no_names node.reads one
-  reads_lie_by h node (Eval target value next) one d shape c =
-      let formed = left_formed h (f.Assign d.place target value) d.rest d.is in
-      let ks = h.own.it.locals in
-      let P : List Location → Type 0 = λ ls. LiesInOne no_names ls one in
-      subst P (sym shape.reads) (one_of_both (target_elements target (seen_by s graph_thread)) (expr_elements value.expr (seen_by s graph_thread))
-      (target_reads target)
-      (expr_reads value.expr) one
-      (lies_target x.variables ks graph_thread.locals s.variables (locals_held h) variables_held (bounded x w) target graph_thread.pending one
-      formed.0.0 formed.0.1)
-      (lies_expr x.variables ks graph_thread.locals s.variables (locals_held h) variables_held (bounded x w) value.expr graph_thread.pending one
-      formed.1.0 formed.1.1) c)
-  reads_lie_by h node (Store variable kind next) one d shape c = absurd (contains_none one c)
-  reads_lie_by h node (Test condition holds fails) one d shape c =
-      let formed = test_formed h condition holds fails d in
-      let P : List Location → Type 0 = λ ls. LiesInOne no_names ls one in
-      subst P (sym shape.reads)
-      (lies_expr x.variables h.own.it.locals graph_thread.locals s.variables (locals_held h) variables_held
-      (bounded x w) condition.expr graph_thread.pending one formed.0 formed.1 c)
-  reads_lie_by h node (Lock mutex next) one d shape c = absurd (contains_none one c)
-  reads_lie_by h node (Unlock mutex next) one d shape c = absurd (contains_none one c)
-  reads_lie_by h node End one d shape c = absurd (contains_none one c)
+  -- the thread's text, and what its keys name
+  abbrev text : f.Thread
+  text = here.own.it
 
-  pub reads_lie_here : (node : Node) (one : Element) → slice_get nodes graph_thread.at ≡ Some node →
+  abbrev naming : Naming
+  naming = naming_of x text graph_thread.locals
+
+  shaped : (node : Node) → slice_get nodes graph_thread.at ≡ Some node → ShapedBy (table_of x text) nodes node node.action
+  shaped node at = own_shaped x t graph_thread.at text node here.own.found (good.own t graph_thread found) at
+
+  reads_lie_by : (node : Node) (a : Action) (one : Element) → ActionLeads all a (standing here) → ShapedBy (table_of x text) nodes node a →
+      Contains (reads_of a (seen_by s graph_thread)) one → LiesInOne naming node.reads one
+  reads_lie_by node (Eval target value next) one d shape c =
+      let formed = left_formed here (f.Assign d.place target value) d.rest d.is in
+      let ks = text.locals in
+      let P : List Location → Type 0 = λ ls. LiesInOne naming ls one in
+      subst P (sym shape.reads) (one_of_both naming (target_elements target (seen_by s graph_thread)) (expr_elements value.expr (seen_by s graph_thread))
+      (target_reads (table_of x text) target)
+      (expr_reads (table_of x text) value.expr) one
+      (lies_target x.variables ks graph_thread.locals s.variables (locals_held here) variables_held (bounded x w) (lock_names x text) target
+      graph_thread.pending one
+      formed.0.0 formed.0.1)
+      (lies_expr x.variables ks graph_thread.locals s.variables (locals_held here) variables_held (bounded x w) (lock_names x text) value.expr
+      graph_thread.pending one
+      formed.1.0 formed.1.1) c)
+  reads_lie_by node (Store variable kind next) one d shape c = absurd (contains_none one c)
+  reads_lie_by node (Test condition holds fails) one d shape c =
+      let formed = test_formed here condition holds fails d in
+      let P : List Location → Type 0 = λ ls. LiesInOne naming ls one in
+      subst P (sym shape.reads)
+      (lies_expr x.variables text.locals graph_thread.locals s.variables (locals_held here) variables_held
+      (bounded x w) (lock_names x text) condition.expr graph_thread.pending one formed.0 formed.1 c)
+  reads_lie_by node (Lock lock next) one d shape c = absurd (contains_none one c)
+  reads_lie_by node (Unlock lock next) one d shape c = absurd (contains_none one c)
+  reads_lie_by node End one d shape c = absurd (contains_none one c)
+
+  pub reads_lie_named : (node : Node) (one : Element) → slice_get nodes graph_thread.at ≡ Some node →
       Contains (reads_of node.action (seen_by s graph_thread)) one →
-      LiesInOne no_names node.reads one
-  reads_lie_here node one at c = reads_lie_by here node node.action one (does_at here node at) (node_shaped x graph_thread.at node at) c
+      LiesInOne naming node.reads one
+  reads_lie_named node one at c = reads_lie_by node node.action one (does_at here node at) (shaped node at) c
 
   stored_lies : (node : Node) (o : Option Pending) (one : Element) → slice_get nodes graph_thread.at ≡ Some node → graph_thread.pending ≡ o →
-      option_map stored_element o ≡ Some one → LiesInWritten no_names node.writes one
+      option_map stored_element o ≡ Some one → LiesInWritten naming node.writes one
   stored_lies node None one at is h = cc
   stored_lies node (Some p) one at is h =
-      let owes = good.owes t graph_thread p found is in
+      let owes = good.owes t text graph_thread p found here.own.found is in
       let same_node : owes.node ≡ node = let e = owes.here in cc in
       let same_one : stored_element p ≡ one = cc in
-      let P : Node → Type 0 = λ z. LiesInWritten no_names z.writes one in
-      let Q : Element → Type 0 = λ z. LiesInWritten no_names owes.node.writes z in
+      let P : Node → Type 0 = λ z. LiesInWritten naming z.writes one in
+      let Q : Element → Type 0 = λ z. LiesInWritten naming owes.node.writes z in
       subst P same_node (subst Q same_one owes.lies)
 
   writes_lie_by : (node : Node) (a : Action) (one : Element) → slice_get nodes graph_thread.at ≡ Some node → write_of a (seen_by s graph_thread) ≡ Some one →
-      LiesInWritten no_names node.writes one
+      LiesInWritten naming node.writes one
   writes_lie_by node (Eval target value next) one at h = cc
   writes_lie_by node (Store variable kind next) one at h = stored_lies node graph_thread.pending one at refl h
   writes_lie_by node (Test condition holds fails) one at h = cc
-  writes_lie_by node (Lock mutex next) one at h = cc
-  writes_lie_by node (Unlock mutex next) one at h = cc
+  writes_lie_by node (Lock lock next) one at h = cc
+  writes_lie_by node (Unlock lock next) one at h = cc
   writes_lie_by node End one at h = cc
+
+  pub writes_lie_named : (node : Node) (one : Element) → slice_get nodes graph_thread.at ≡ Some node →
+      write_of node.action (seen_by s graph_thread) ≡ Some one →
+      LiesInWritten naming node.writes one
+  writes_lie_named node one at h = writes_lie_by node node.action one at h
+
+  -- ---- Where one mutex guards each variable
+
+  pub reads_lie_here : (node : Node) (one : Element) → slice_get nodes graph_thread.at ≡ Some node →
+      Contains (reads_of node.action (seen_by s graph_thread)) one → LiesInOne no_names node.reads one
+  reads_lie_here node one at c =
+      let h = reads_lie_named node one at c in
+      record {
+        location = h.location;
+        of = h.of;
+        lies = plain_lies (length x.mutexes) x.variables (lock_names x text) graph_thread.locals h.location one w.shared.variables h.lies;
+      }
 
   pub writes_lie_here : (node : Node) (one : Element) → slice_get nodes graph_thread.at ≡ Some node → write_of node.action (seen_by s graph_thread) ≡ Some one →
       LiesInWritten no_names node.writes one
-  writes_lie_here node one at h = writes_lie_by node node.action one at h
+  writes_lie_here node one at c =
+      let h = writes_lie_named node one at c in
+      record {
+        location = h.location;
+        of = h.of;
+        lies = plain_lies (length x.mutexes) x.variables (lock_names x text) graph_thread.locals h.location one w.shared.variables h.lies;
+      }
+
+  pub owes_plain : (p : Pending) → graph_thread.pending ≡ Some p → OwesThere x no_names graph_thread.at p
+  owes_plain p is =
+      let o = good.owes t text graph_thread p found here.own.found is in
+      record {
+        node = o.node;
+        here = o.here;
+        lies = record {
+          location = o.lies.location;
+          of = o.lies.of;
+          lies = plain_lies (length x.mutexes) x.variables (lock_names x text) graph_thread.locals o.lies.location (stored_element p)
+              w.shared.variables o.lies.lies;
+        };
+      }
 
   -- ---- The store that is pending after a step
 
   abbrev Owing : Effect → Type 0
-  Owing effect = (q : Pending) → (moved graph_thread effect).pending ≡ Some q → OwesThere x (moved graph_thread effect).at q
+  Owing effect = (q : Pending) → (moved graph_thread effect).pending ≡ Some q →
+      OwesThere x (naming_of x text (moved graph_thread effect).locals) (moved graph_thread effect).at q
 
   owes_stored : (next : ℕ) (effect : Effect) (o : Option Pending) →
       (let step : Option Effect = elim o [ Some store ↦ Some (Makes store next) | None ↦ None ] in step ≡ Some effect) → Owing effect
   owes_stored next effect None h = cc
   owes_stored next effect (Some store) h = subst Owing (sym (effects_same (Makes store next) effect h)) (λ q i. cc)
 
-  owes_by : (h : Here) (node : Node) (a : Action) (effect : Effect) → ActionLeads all a (standing h) → ShapedAs nodes node a →
+  owes_by : (node : Node) (a : Action) (effect : Effect) → ActionLeads all a (standing here) → ShapedBy (table_of x text) nodes node a →
       effect_of a (seen_by s graph_thread) ≡ Some effect →
       Owing effect
-  owes_by h node (Eval (e.ToLocal place local kind) value next) effect d shape is = subst Owing (sym (effects_same _ effect is)) (λ q i. absurd
-      (free_idle h _ q d.is i))
-  owes_by h node (Eval (e.ToVariable place variable kind) value next) effect d shape is = subst Owing (sym (effects_same _ effect is))
+  owes_by node (Eval (e.ToLocal place local kind) value next) effect d shape is = subst Owing (sym (effects_same _ effect is)) (λ q i. absurd
+      (free_idle here _ q d.is i))
+  owes_by node (Eval (e.ToVariable place variable kind) value next) effect d shape is = subst Owing (sym (effects_same _ effect is))
       (λ q i.
-      let P : Pending → Type 0 = λ z. OwesThere x next z in
+      let P : Pending → Type 0 = λ z. OwesThere x naming next z in
       subst P (pending_same _ q i) (record {
         node = shape.owed.node;
         here = shape.owed.at;
-        lies = record { location = scalar variable; of = shape.owed.writes; lies = lies_scalar variable };
+        lies = record { location = scalar variable; of = shape.owed.writes; lies = lies_scalar naming variable };
       }))
-  owes_by h node (Eval (e.ToElement place variable kind index) value next) effect d shape is = subst Owing (sym (effects_same _ effect is))
+  owes_by node (Eval (e.ToElement place variable kind index) value next) effect d shape is = subst Owing (sym (effects_same _ effect is))
       (λ q i.
-      let formed = left_formed h (f.Assign d.place (e.ToElement place variable kind index) value) d.rest d.is in
-      let P : Pending → Type 0 = λ z. OwesThere x next z in
+      let formed = left_formed here (f.Assign d.place (e.ToElement place variable kind index) value) d.rest d.is in
+      let P : Pending → Type 0 = λ z. OwesThere x naming next z in
       subst P (pending_same _ q i) (record {
         node = shape.owed.node;
         here = shape.owed.at;
         lies = record {
-          location = elements variable (range_of index.expr);
+          location = elements (table_of x text) variable index;
           of = shape.owed.writes;
-          lies = lies_element x.variables h.own.it.locals graph_thread.locals s.variables (locals_held h) variables_held
-              (bounded x w) variable kind index.place index.expr
+          lies = lies_element x.variables text.locals graph_thread.locals s.variables (locals_held here) variables_held
+              (bounded x w) (lock_names x text) variable kind index.place index.expr
               formed.0.0.0 formed.0.0.1 formed.0.1.0;
         };
       }))
-  owes_by h node (Store variable kind next) effect d shape is = owes_stored next effect graph_thread.pending is
-  owes_by h node (Test condition holds fails) effect d shape is = subst Owing (sym (effects_same _ effect is))
+  owes_by node (Store variable kind next) effect d shape is = owes_stored next effect graph_thread.pending is
+  owes_by node (Test condition holds fails) effect d shape is = subst Owing (sym (effects_same _ effect is))
       (λ q i. elim d [
-        | chooses place body arms otherwise rest free a b ↦ absurd (free_idle h _ q free i)
-        | repeats place body rest free a b ↦ absurd (free_idle h _ q free i)
+        | chooses place body arms otherwise rest free a b ↦ absurd (free_idle here _ q free i)
+        | repeats place body rest free a b ↦ absurd (free_idle here _ q free i)
       ])
-  owes_by h node (Lock mutex next) effect d shape is = subst Owing (sym (effects_same _ effect is)) (λ q i. absurd (free_idle h _ q d.is i))
-  owes_by h node (Unlock mutex next) effect d shape is = subst Owing (sym (effects_same _ effect is)) (λ q i. absurd (free_idle h _ q d.is i))
-  owes_by h node End effect d shape is = subst Owing (sym (effects_same _ effect is)) (λ q i. absurd (free_idle h _ q d i))
+  owes_by node (Lock lock next) effect d shape is = subst Owing (sym (effects_same _ effect is)) (λ q i. absurd (free_idle here _ q d.is i))
+  owes_by node (Unlock lock next) effect d shape is = subst Owing (sym (effects_same _ effect is)) (λ q i. absurd (free_idle here _ q d.is i))
+  owes_by node End effect d shape is = subst Owing (sym (effects_same _ effect is)) (λ q i. absurd (free_idle here _ q d i))
 
   pub owes_here : (node : Node) (effect : Effect) → slice_get nodes graph_thread.at ≡ Some node → effect_of node.action (seen_by s graph_thread) ≡ Some effect →
       Owing effect
-  owes_here node effect at is = owes_by here node node.action effect (does_at here node at) (node_shaped x graph_thread.at node at) is
+  owes_here node effect at is = owes_by node node.action effect (does_at here node at) (shaped node at) is
 
 -- ---- Runs
 
-pub nodes_at : (x : f.Flat) (k : ℕ) (node : Node) → NodeAt (lowered x) k node → slice_get (threads_nodes x.threads 0) k ≡ Some node
+pub nodes_at : (x : f.Flat) (k : ℕ) (node : Node) → NodeAt (lowered x) k node → slice_get (threads_nodes x x.threads 0) k ≡ Some node
 nodes_at x k node h = ap (λ (ns : List Node). slice_get ns k) (sym (lowered_nodes x)) ∙ h
 
-pub at_nodes : (x : f.Flat) (k : ℕ) (node : Node) → slice_get (threads_nodes x.threads 0) k ≡ Some node → NodeAt (lowered x) k node
+pub at_nodes : (x : f.Flat) (k : ℕ) (node : Node) → slice_get (threads_nodes x x.threads 0) k ≡ Some node → NodeAt (lowered x) k node
 at_nodes x k node h = ap (λ (ns : List Node). slice_get ns k) (lowered_nodes x) ∙ h
+
+-- a node of a thread's own goes on to nodes of its own
+pub own_next : (x : f.Flat) (t at next : ℕ) (node : Node) → IsOwnNode x t at → NodeAt (lowered x) at node → Contains (successors node.action) next →
+    IsOwnNode x t next
+own_next x t at next node own here goes =
+    let part_is : slice_get (parts x.threads 0) t ≡ Some own.part = ap (λ (ps : List Part). slice_get ps t) (sym (lowered_threads x)) ∙ own.of_thread in
+    let all = closed_from x x.threads 0 t own.part part_is at node (nodes_at x at node here) (omega (arith, own.from_first)) (omega (arith, own.below_end)) in
+    let there = contained own.part.first own.part.end (successors node.action) next all goes in
+    record { part = own.part; of_thread = own.of_thread; from_first = there.0; below_end = there.1 }
+
+own_after : (x : f.Flat) (s next : FlowState) (t : ℕ) (st : Stepped (lowered x) s next t) → IsOwnNode x t st.graph_thread.at →
+    IsOwnNode x t (moved st.graph_thread st.effect).at
+own_after x s next t st own = ⊎_elim
+    (λ goes. own_next x t st.graph_thread.at (moved st.graph_thread st.effect).at st.node own st.at goes)
+    (λ over. subst (λ (z : Effect). IsOwnNode x t (moved st.graph_thread z).at) (sym over) own)
+    (goes_by st.node.action (seen_by s st.graph_thread) st.graph_thread st.effect st.does)
+
+part_some : (ts : List f.Thread) (first k : ℕ) (p : Part) → slice_get (parts ts first) k ≡ Some p → p.first < p.end
+part_some [] first k p h = cc
+part_some (t ∷ ts) first zero p h = let is : part t first ≡ p = cc in subst (λ (q : Part). q.first < q.end) is (omega arith)
+part_some (t ∷ ts) first (suc k) p h = part_some ts (first + thread_count t) k p h
 
 pub matched : (x : f.Flat) (next : FlowState) (o : Option m.State) → StepsMatch x (Some next) o → (after : m.State) × (o ≡ Some after) × Matches x next after
 matched x next None h = absurd h
@@ -395,19 +470,34 @@ good_step x s next t w good h =
     let after = matched x next (m.source_step good.source t) (subst P h (steps_lockstep x s good.source t w good.matches)) in
     let set = graph_threads_after s next t st.graph_thread st.effect st.is in
     record {
-      source = after.0;
-      matches = after.2;
-      formed = stays_so x good.source after.0 t good.formed after.1;
-      owes = λ k graph_thread p there is. ⊎_elim
+      own = λ k graph_thread there. ⊎_elim
           (λ same_thread.
           let there' : slice_get next.graph_threads t ≡ Some graph_thread = ap (slice_get next.graph_threads) (sym same_thread) ∙ there in
           let is_moved = after_is (lowered x) s next t st graph_thread there' in
-          let Q : GraphThread → Type 0 = λ z. OwesThere x z.at p in
-          subst Q (sym is_moved) (owes_here x w s good t st.graph_thread st.found st.node st.effect (nodes_at x st.graph_thread.at st.node st.at) st.does p
-          (ap (λ (z : GraphThread). z.pending) (sym is_moved) ∙ is)))
+          subst (λ (z : GraphThread). IsOwnNode x k z.at) (sym is_moved)
+          (subst (λ (j : ℕ). IsOwnNode x j (moved st.graph_thread st.effect).at) (sym same_thread)
+          (own_after x s next t st (good.own t st.graph_thread st.found))))
           (λ differs.
-          good.owes k graph_thread p (sym (set_other s.graph_threads t k (moved st.graph_thread st.effect) differs)
-          ∙ (ap (λ (ws : List GraphThread). slice_get ws k) (sym set) ∙ there)) is)
+          good.own k graph_thread (sym (set_other s.graph_threads t k (moved st.graph_thread st.effect) differs)
+          ∙ (ap (λ (ws : List GraphThread). slice_get ws k) (sym set) ∙ there)))
+          (cases_eq k t);
+      source = after.0;
+      matches = after.2;
+      formed = stays_so x good.source after.0 t good.formed after.1;
+      owes = λ k text graph_thread p there its is. ⊎_elim
+          (λ same_thread.
+          let there' : slice_get next.graph_threads t ≡ Some graph_thread = ap (slice_get next.graph_threads) (sym same_thread) ∙ there in
+          let is_moved = after_is (lowered x) s next t st graph_thread there' in
+          let Q : GraphThread → Type 0 = λ z. OwesThere x (naming_of x text z.locals) z.at p in
+          let R : f.Thread → Type 0 = λ z. OwesThere x (naming_of x z (moved st.graph_thread st.effect).locals) (moved st.graph_thread st.effect).at p in
+          let own = (here x w s good t st.graph_thread st.found).own in
+          let its' : slice_get x.threads t ≡ Some text = ap (slice_get x.threads) (sym same_thread) ∙ its in
+          subst Q (sym is_moved) (subst R (same_Some own.it text (sym own.found ∙ its'))
+          (owes_here x w s good t st.graph_thread st.found st.node st.effect (nodes_at x st.graph_thread.at st.node st.at) st.does p
+          (ap (λ (z : GraphThread). z.pending) (sym is_moved) ∙ is))))
+          (λ differs.
+          good.owes k text graph_thread p (sym (set_other s.graph_threads t k (moved st.graph_thread st.effect) differs)
+          ∙ (ap (λ (ws : List GraphThread). slice_get ws k) (sym set) ∙ there)) its is)
           (cases_eq k t);
     }
 
@@ -417,12 +507,28 @@ start_idle [] k graph_thread h = cc
 start_idle (p ∷ ps) zero graph_thread h = let is : g.graph_thread_start p ≡ graph_thread = cc in ap (λ (z : GraphThread). z.pending) (sym is)
 start_idle (p ∷ ps) (suc k) graph_thread h = start_idle ps k graph_thread h
 
+part_from : (ts : List f.Thread) (first k : ℕ) (graph_thread : GraphThread) → slice_get (map g.graph_thread_start (parts ts first)) k ≡ Some graph_thread →
+    (p : Part) × (slice_get (parts ts first) k ≡ Some p) × (graph_thread ≡ g.graph_thread_start p)
+part_from [] first k graph_thread h = cc
+part_from (t ∷ ts) first zero graph_thread h = (part t first, refl, cc)
+part_from (t ∷ ts) first (suc k) graph_thread h = part_from ts (first + thread_count t) k graph_thread h
+
 pub good_start : (x : f.Flat) → IsWellFormed x → Good x (graph_start (lowered x) x)
 good_start x w = record {
+  own = λ k graph_thread there.
+      let found : slice_get (map g.graph_thread_start (parts x.threads 0)) k ≡ Some graph_thread =
+      ap (λ (ps : List Part). slice_get (map g.graph_thread_start ps) k) (sym (lowered_threads x)) ∙ there in
+      let from = part_from x.threads 0 k graph_thread found in
+      subst (λ (z : GraphThread). IsOwnNode x k z.at) (sym from.2) (record {
+        part = from.0;
+        of_thread = ap (λ (ps : List Part). slice_get ps k) (lowered_threads x) ∙ from.1;
+        from_first = omega arith;
+        below_end = part_some x.threads 0 k from.0 from.1;
+      });
   source = m.start x;
   matches = begins_lockstep x w;
   formed = begins_so x w;
-  owes = λ t graph_thread p there is. let none = start_idle (lowered x).threads t graph_thread there in cc;
+  owes = λ t text graph_thread p there its is. let none = start_idle (lowered x).threads t graph_thread there in cc;
 }
 
 abbrev pub after_by : Graph → FlowState → List ℕ → Option FlowState → FlowState
@@ -443,13 +549,16 @@ good_after x (t ∷ ts) w s good = good_by x s t ts (graph_step (lowered x) s t)
 pub good_reached : (x : f.Flat) (s : FlowState) → IsWellFormed x → IsReachedFlow x s → Good x s
 good_reached x s w r = subst (Good x) (sym r.is) (good_after x r.schedule w (graph_start (lowered x) x) (good_start x w))
 
-pub reads_lie : (x : f.Flat) (s : FlowState) (thread : ℕ) (graph_thread : GraphThread) (node : Node) (read : Element) → IsWellFormed x →
-    IsAtNode x s thread graph_thread node →
-    Contains (reads_of node.action (seen_by s graph_thread)) read → LiesInOne no_names node.reads read
-reads_lie x s thread graph_thread node read w st c =
-    reads_lie_here x w s (good_reached x s w st.reached) thread graph_thread st.found node read (nodes_at x graph_thread.at node st.at) c
+pub reads_lie : ReadsLie
+reads_lie x s thread text graph_thread node read w st its c =
+    let good = good_reached x s w st.reached in
+    let own = (here x w s good thread graph_thread st.found).own in
+    subst (λ (z : f.Thread). LiesInOne (naming_of x z graph_thread.locals) node.reads read) (same_Some own.it text (sym own.found ∙ its))
+    (reads_lie_named x w s good thread graph_thread st.found node read (nodes_at x graph_thread.at node st.at) c)
 
-pub writes_lie : (x : f.Flat) (s : FlowState) (thread : ℕ) (graph_thread : GraphThread) (node : Node) (written : Element) → IsWellFormed x →
-    IsAtNode x s thread graph_thread node → write_of node.action (seen_by s graph_thread) ≡ Some written → LiesInWritten no_names node.writes written
-writes_lie x s thread graph_thread node written w st h =
-    writes_lie_here x w s (good_reached x s w st.reached) thread graph_thread st.found node written (nodes_at x graph_thread.at node st.at) h
+pub writes_lie : WritesLie
+writes_lie x s thread text graph_thread node written w st its h =
+    let good = good_reached x s w st.reached in
+    let own = (here x w s good thread graph_thread st.found).own in
+    subst (λ (z : f.Thread). LiesInWritten (naming_of x z graph_thread.locals) node.writes written) (same_Some own.it text (sym own.found ∙ its))
+    (writes_lie_named x w s good thread graph_thread st.found node written (nodes_at x graph_thread.at node st.at) h)

@@ -3,8 +3,10 @@ mod Words
 mod NodeContinuations
 mod Lockstep
 mod NodeCounts
+mod SuccessorsInThread
 mod Shapes
 mod Locations
+mod HeldKeys
 mod ElementsInLocations
 mod GraphStateInvariants
 mod Paths
@@ -12,3 +14,4 @@ mod Worked
 mod WorkedSets
 mod WorkedColours
 mod WorkedActions
+mod WorkedHeldKeys

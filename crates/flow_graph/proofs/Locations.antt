@@ -32,6 +32,15 @@ names_one names variable one other None k t h l = cc
 
 -- ---- Locations
 
+-- what lies in a location without key lies there whatever keys name
+pub lies_named : (names : Naming) (l : Location) (one : Element) → Lies no_names l one → Lies names l one
+lies_named names l one h = record {
+  variable = h.variable;
+  from_lo = h.from_lo;
+  to_hi = h.to_hi;
+  by_key = λ key is. let none = h.by_key key is in cc;
+}
+
 pub common_overlaps : (names : Naming) (l r : Location) (one : Element) → AreApart names → Lies names l one → Lies names r one → overlap l r ≡ true
 common_overlaps names l r one apart h k =
     let v : l.variable ≡ r.variable = h.variable ∙ sym k.variable in

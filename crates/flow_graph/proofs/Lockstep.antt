@@ -1,5 +1,6 @@
 -- A source and the graph of its flat form step in lockstep.
 use Rattle.std.proofs.Common.{◌≡◌, ◌≢◌, ◌<◌, ◌≤◌, ◌⊎◌, inl, inr, ⊎_elim, refl, ℕ, zero, suc, ◌+◌, List, [], ◌∷◌, ◌++◌, length}
+use Rattle.c_tree.specs.Values.{lock_number}
 use Rattle.std.proofs.Common.{map, replicate, sym, ◌∙◌, ap, ap₂, subst, arith, Option, Some, None, Bool, true, false, slice_set}
 use Rattle.std.specs.Prelude.{slice_get, is_some, not, if◌then◌else◌, ℤ, pos}
 use Rattle.std.proofs.lemmas.Bool.{cases_eq}
@@ -130,13 +131,13 @@ module _ (x : f.Flat) (graph_threads : List GraphThread) (threads : List m.Threa
     after_loop true holds fails again rest a b = b
     after_loop false holds fails again rest a b = a
 
-    takes : (o : Option (Option ℕ)) (mutex next at : ℕ) (ls : List ℤ) (ended : Bool) (rest : List f.Statement) → At all next (free rest) →
+    takes : (o : Option (Option ℕ)) (number next at : ℕ) (ls : List ℤ) (ended : Bool) (rest : List f.Statement) → At all next (free rest) →
         ParseLockstep
-        (elim o [ Some None ↦ Some (g.with_graph_thread (g.with_holder flow_now mutex (Some t)) t (graph_thread_at next ls None ended)) | _ ↦ None ])
-        (elim o [ Some None ↦ Some (m.with_thread (m.with_holder source_now mutex (Some t)) t (thread_with rest ls None ended)) | _ ↦ None ])
-    takes None mutex next at ls ended rest a = tt
-    takes (Some (Some other)) mutex next at ls ended rest a = tt
-    takes (Some None) mutex next at ls ended rest a = one_changes vs (slice_set hs mutex (Some t)) _ _ (moved next rest ls None ended a)
+        (elim o [ Some None ↦ Some (g.with_graph_thread (g.with_holder flow_now number (Some t)) t (graph_thread_at next ls None ended)) | _ ↦ None ])
+        (elim o [ Some None ↦ Some (m.with_thread (m.with_holder source_now number (Some t)) t (thread_with rest ls None ended)) | _ ↦ None ])
+    takes None number next at ls ended rest a = tt
+    takes (Some (Some other)) number next at ls ended rest a = tt
+    takes (Some None) number next at ls ended rest a = one_changes vs (slice_set hs number (Some t)) _ _ (moved next rest ls None ended a)
 
     ends : (at : ℕ) (ls : List ℤ) (ended : Bool) → At all at (free []) → ActionLockstep End at ls None ended []
     ends at ls true a = tt
@@ -171,14 +172,16 @@ module _ (x : f.Flat) (graph_threads : List GraphThread) (threads : List m.Threa
               subst P (sym (ap (λ (z : Standing). z.left) is))
               (one_changes vs hs _ _ (moved _ _ ls None ended (after_loop z holds fails (opened_all body ++ (f.While place condition body ∷ rest)) rest h k)))
         ]
-    step_by (Lock mutex next) at ls (Some p) ended left s d = absurd (not_owing p left _ d.is)
-    step_by (Lock mutex next) at ls None ended left s d =
-        let P : List f.Statement → Type 0 = λ l. ActionLockstep (Lock mutex next) at ls None ended l in
-        subst P (sym (ap (λ (z : Standing). z.left) d.is)) (takes (slice_get hs mutex) mutex next at ls ended d.rest d.follows)
-    step_by (Unlock mutex next) at ls (Some p) ended left s d = absurd (not_owing p left _ d.is)
-    step_by (Unlock mutex next) at ls None ended left s d =
-        let P : List f.Statement → Type 0 = λ l. ActionLockstep (Unlock mutex next) at ls None ended l in
-        subst P (sym (ap (λ (z : Standing). z.left) d.is)) (one_changes vs (slice_set hs mutex None) _ _ (moved next d.rest ls None ended d.follows))
+    step_by (Lock lock next) at ls (Some p) ended left s d = absurd (not_owing p left _ d.is)
+    step_by (Lock lock next) at ls None ended left s d =
+        let P : List f.Statement → Type 0 = λ l. ActionLockstep (Lock lock next) at ls None ended l in
+        let number = lock_number ls lock in
+        subst P (sym (ap (λ (z : Standing). z.left) d.is)) (takes (slice_get hs number) number next at ls ended d.rest d.follows)
+    step_by (Unlock lock next) at ls (Some p) ended left s d = absurd (not_owing p left _ d.is)
+    step_by (Unlock lock next) at ls None ended left s d =
+        let P : List f.Statement → Type 0 = λ l. ActionLockstep (Unlock lock next) at ls None ended l in
+        subst P (sym (ap (λ (z : Standing). z.left) d.is))
+        (one_changes vs (slice_set hs (lock_number ls lock) None) _ _ (moved next d.rest ls None ended d.follows))
     step_by End at ls (Some p) ended left s d = absurd (not_owing p left _ d)
     step_by End at ls None ended left s d =
         let none : left ≡ [] = ap (λ (z : Standing). z.left) d in
@@ -203,7 +206,7 @@ pub graph_is : (graph : Graph) (s : FlowState) (t : ℕ) (o : Option GraphThread
 unfolding graph_step
 graph_is graph s t o h = ap (g.graph_thread_step graph s t) h
 
-pub lowered_nodes : (x : f.Flat) → (lowered x).nodes ≡ threads_nodes x.threads 0
+pub lowered_nodes : (x : f.Flat) → (lowered x).nodes ≡ threads_nodes x x.threads 0
 unfolding lowered
 lowered_nodes x = refl
 

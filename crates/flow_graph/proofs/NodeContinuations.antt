@@ -11,7 +11,7 @@ use Rattle.c_tree.specs.Source.{opened, opened_all}
 use Rattle.c_tree.specs.WellFormed.{HasArm, IsFlatStatement, AreFlatStatements, AreFlatArms}
 use Rattle.flow_graph.specs.declared.graph.Part.{Part}
 use Rattle.flow_graph.specs.Nodes.{Action, Eval, Store, Test, Lock, Unlock, End, Node}
-use Rattle.flow_graph.specs.Lowering.{assign_nodes, assign_count, count, statements_count, arms_count, thread_count, entry}
+use Rattle.flow_graph.specs.Lowering.{Table, table_of, assign_nodes, assign_count, count, statements_count, arms_count, thread_count, entry}
 use Rattle.flow_graph.specs.Lowering.{statement_nodes, statements_nodes, arms_nodes, thread_nodes, threads_nodes, part, parts}
 use Rattle.flow_graph.specs.Lockstep.{Standing, free, owing, assign_standings, standings, all_standings, arms_standings, thread_standings, threads_standings}
 
@@ -92,24 +92,26 @@ pub data Tests (all : List Standing) (condition : e.Placed) (holds fails : ℕ) 
       s ≡ free (f.While place condition body ∷ rest) →
       At all holds (free (opened_all body ++ (f.While place condition body ∷ rest))) → At all fails (free rest) → Tests all condition holds fails s
 
-pub record Locks (all : List Standing) (mutex next : ℕ) (s : Standing) : Type 0 where
+pub record Locks (all : List Standing) (lock : e.LockName) (next : ℕ) (s : Standing) : Type 0 where
   pub place : Place
   pub rest : List f.Statement
-  pub is : s ≡ free (f.Lock place (record { mutex = mutex; key = None }) ∷ rest)
+  pub is : s ≡ free (f.Lock place lock ∷ rest)
+  pub keyless : lock.key ≡ None
   pub follows : At all next (free rest)
 
-pub record Unlocks (all : List Standing) (mutex next : ℕ) (s : Standing) : Type 0 where
+pub record Unlocks (all : List Standing) (lock : e.LockName) (next : ℕ) (s : Standing) : Type 0 where
   pub place : Place
   pub rest : List f.Statement
-  pub is : s ≡ free (f.Unlock place (record { mutex = mutex; key = None }) ∷ rest)
+  pub is : s ≡ free (f.Unlock place lock ∷ rest)
+  pub keyless : lock.key ≡ None
   pub follows : At all next (free rest)
 
 abbrev pub ActionLeads : List Standing → Action → Standing → Type 0
 ActionLeads all (Eval target value next) s = Assigns all target value next s
 ActionLeads all (Store variable kind next) s = Stores all next s
 ActionLeads all (Test condition holds fails) s = Tests all condition holds fails s
-ActionLeads all (Lock mutex next) s = Locks all mutex next s
-ActionLeads all (Unlock mutex next) s = Unlocks all mutex next s
+ActionLeads all (Lock lock next) s = Locks all lock next s
+ActionLeads all (Unlock lock next) s = Unlocks all lock next s
 ActionLeads all End s = s ≡ free []
 
 abbrev pub Agree : List Standing → List Node → List Standing → Type 0
@@ -233,70 +235,69 @@ module _ (x : f.Flat) (ks : List Kind) (all : List Standing) where
 
   -- ---- Nodes
 
-  agree_assign : (target : e.Lvalue) (place : Place) (value : e.Placed) (first next : ℕ) (rest : List f.Statement) →
+  agree_assign : (table : Table) (target : e.Lvalue) (place : Place) (value : e.Placed) (first next : ℕ) (rest : List f.Statement) →
       Has all first (assign_standings place target value rest) → At all next (free rest) →
-      Agree all (assign_nodes place target value first next) (assign_standings place target value rest)
-  agree_assign (e.ToLocal name local kind) place value first next rest h a = (record { place = place; rest = rest; is = refl; follows = a }, tt)
-  agree_assign (e.ToVariable name variable kind) place value first next rest h a = (
+      Agree all (assign_nodes table place target value first next) (assign_standings place target value rest)
+  agree_assign table (e.ToLocal name local kind) place value first next rest h a = (record { place = place; rest = rest; is = refl; follows = a }, tt)
+  agree_assign table (e.ToVariable name variable kind) place value first next rest h a = (
     record { place = place; rest = rest; is = refl; follows = has_head all (suc first) _ _ (has_tail all first _ _ h) },
     (record { rest = rest; is = refl; follows = a }, tt),
   )
-  agree_assign (e.ToElement name variable kind index) place value first next rest h a = (
+  agree_assign table (e.ToElement name variable kind index) place value first next rest h a = (
     record { place = place; rest = rest; is = refl; follows = has_head all (suc first) _ _ (has_tail all first _ _ h) },
     (record { rest = rest; is = refl; follows = a }, tt),
   )
 
   mutual
-    agree : (y : f.Statement) (first next : ℕ) (rest : List f.Statement) → IsFlatStatement x ks y → Has all first (standings y rest) →
+    agree : (table : Table) (y : f.Statement) (first next : ℕ) (rest : List f.Statement) → IsFlatStatement x ks y → Has all first (standings y rest) →
         At all next (free rest) →
-        Agree all (statement_nodes y first next) (standings y rest)
-    agree (f.Assign place target value) first next rest w h a = agree_assign target place value first next rest h a
-    agree (f.If place arms otherwise) first next rest w h a =
+        Agree all (statement_nodes table y first next) (standings y rest)
+    agree table (f.Assign place target value) first next rest w h a = agree_assign table target place value first next rest h a
+    agree table (f.If place arms otherwise) first next rest w h a =
         let after = has_suffix all first (arms_count arms) (arms_standings arms place otherwise rest) (all_standings otherwise rest)
         (length-arms_standings arms place otherwise rest) h in
         let last = enters_all otherwise (first + arms_count arms) next rest w.2 after a in
         agree_append all _ _ _ _
-        (agree_arms arms place otherwise _ first next rest w.1 (has_prefix all first _ _ h) last a)
-        (agree_all otherwise (first + arms_count arms) next rest w.2 after a)
-    agree (f.While place condition body) first next rest w h a =
+        (agree_arms table arms place otherwise _ first next rest w.1 (has_prefix all first _ _ h) last a)
+        (agree_all table otherwise (first + arms_count arms) next rest w.2 after a)
+    agree table (f.While place condition body) first next rest w h a =
         let again : List f.Statement = f.While place condition body ∷ rest in
         let here = has_head all first _ _ h in
         let inner = has_tail all first _ _ h in
-        (repeats place body rest refl (enters_all body (suc first) first again w.1 inner here) a, agree_all body (suc first) first again w.1 inner here)
-    agree (f.Do place body condition) first next rest w h a =
+        (repeats place body rest refl (enters_all body (suc first) first again w.1 inner here) a, agree_all table body (suc first) first again w.1 inner here)
+    agree table (f.Do place body condition) first next rest w h a =
         let again : List f.Statement = f.While place condition body ∷ rest in
         let test = first + statements_count body in
         let inner = has_prefix all first (all_standings body again) (free again ∷ []) h in
         let there = has_head all test _ [] (has_suffix all first (statements_count body) (all_standings body again) (free again ∷ [])
         (length-all_standings body again) h) in
-        agree_append all _ _ _ _ (agree_all body first test again w.0 inner there) (
+        agree_append all _ _ _ _ (agree_all table body first test again w.0 inner there) (
           repeats place body rest refl (at_same all _ first _ (entry_end (statements_count body) first)
               (enters_all body first test again w.0 inner there)) a,
           tt,
         )
-    agree (f.Lock place name) first next rest w h a =
-        let P : Option e.Placed → Standing = λ key. free (f.Lock place (record { mutex = name.mutex; key = key }) ∷ rest) in
-        (record { place = place; rest = rest; is = ap P w.1; follows = a }, tt)
-    agree (f.Unlock place name) first next rest w h a =
-        let P : Option e.Placed → Standing = λ key. free (f.Unlock place (record { mutex = name.mutex; key = key }) ∷ rest) in
-        (record { place = place; rest = rest; is = ap P w.1; follows = a }, tt)
+    agree table (f.Lock place name) first next rest w h a = (record { place = place; rest = rest; is = refl; keyless = w.1; follows = a }, tt)
+    agree table (f.Unlock place name) first next rest w h a = (record { place = place; rest = rest; is = refl; keyless = w.1; follows = a }, tt)
 
-    agree_all : (ys : f.Statements) (first next : ℕ) (rest : List f.Statement) → AreFlatStatements x ks ys → Has all first (all_standings ys rest) →
-        At all next (free rest) → Agree all (statements_nodes ys first next) (all_standings ys rest)
-    agree_all f.no_statement first next rest w h a = tt
-    agree_all (f.statement_and y more) first next rest w h a =
+    agree_all : (table : Table) (ys : f.Statements) (first next : ℕ) (rest : List f.Statement) → AreFlatStatements x ks ys →
+        Has all first (all_standings ys rest) →
+        At all next (free rest) → Agree all (statements_nodes table ys first next) (all_standings ys rest)
+    agree_all table f.no_statement first next rest w h a = tt
+    agree_all table (f.statement_and y more) first next rest w h a =
         let later : List f.Statement = opened_all more ++ rest in
         let after = has_suffix all first (count y) (standings y later) (all_standings more rest) (length-standings y later) h in
         agree_append all _ _ _ _
-        (agree y first (entry (statements_count more) (first + count y) next) later w.0 (has_prefix all first (standings y later) (all_standings more rest) h)
+        (agree table y first (entry (statements_count more) (first + count y) next) later w.0
+        (has_prefix all first (standings y later) (all_standings more rest) h)
         (enters_all more (first + count y) next rest w.1 after a))
-        (agree_all more (first + count y) next rest w.1 after a)
+        (agree_all table more (first + count y) next rest w.1 after a)
 
-    agree_arms : (arms : f.Arms) (place : Place) (otherwise : f.Statements) (last first next : ℕ) (rest : List f.Statement) → AreFlatArms x ks arms →
+    agree_arms : (table : Table) (arms : f.Arms) (place : Place) (otherwise : f.Statements) (last first next : ℕ) (rest : List f.Statement) →
+        AreFlatArms x ks arms →
         Has all first (arms_standings arms place otherwise rest) → At all last (free (opened_all otherwise ++ rest)) → At all next (free rest) →
-        Agree all (arms_nodes arms place last first next) (arms_standings arms place otherwise rest)
-    agree_arms f.no_arm place otherwise last first next rest w h l a = tt
-    agree_arms (f.arm_and condition body arms) place otherwise last first next rest w h l a =
+        Agree all (arms_nodes table arms place last first next) (arms_standings arms place otherwise rest)
+    agree_arms table f.no_arm place otherwise last first next rest w h l a = tt
+    agree_arms table (f.arm_and condition body arms) place otherwise last first next rest w h l a =
         let inner = has_tail all first _ _ h in
         let prefix = has_prefix all (suc first) (all_standings body rest) (arms_standings arms place otherwise rest) inner in
         let after = has_suffix all (suc first) (statements_count body) (all_standings body rest) (arms_standings arms place otherwise rest)
@@ -304,16 +305,17 @@ module _ (x : f.Flat) (ks : List Kind) (all : List Standing) where
         let more = suc first + statements_count body in (
           chooses place body arms otherwise rest refl (enters_all body (suc first) next rest w.1 prefix a)
               (enters_arms arms place otherwise more last rest after l),
-          agree_append all _ _ _ _ (agree_all body (suc first) next rest w.1 prefix a) (agree_arms arms place otherwise last more next rest w.2 after l a),
+          agree_append all _ _ _ _ (agree_all table body (suc first) next rest w.1 prefix a)
+              (agree_arms table arms place otherwise last more next rest w.2 after l a),
         )
 
-  agree_thread : (t : f.Thread) (first : ℕ) → AreFlatStatements x ks t.body → Has all first (thread_standings t) →
-      Agree all (thread_nodes t first) (thread_standings t)
-  agree_thread t first w h =
+  agree_thread : (table : Table) (t : f.Thread) (first : ℕ) → AreFlatStatements x ks t.body → Has all first (thread_standings t) →
+      Agree all (thread_nodes table t first) (thread_standings t)
+  agree_thread table t first w h =
       let end = first + statements_count t.body in
       let there = has_head all end _ [] (has_suffix all first (statements_count t.body) (all_standings t.body []) (free [] ∷ [])
       (length-all_standings t.body []) h) in
-      agree_append all _ _ _ _ (agree_all t.body first end [] w (has_prefix all first _ _ h) there) (refl, tt)
+      agree_append all _ _ _ _ (agree_all table t.body first end [] w (has_prefix all first _ _ h) there) (refl, tt)
 
 -- ---- The whole graph
 
@@ -324,14 +326,14 @@ length-thread_standings : (t : f.Thread) → length (thread_standings t) ≡ thr
 length-thread_standings t = omega (arith, length-append (all_standings t.body []) (free [] ∷ []), length-all_standings t.body [])
 
 agree_threads : (x : f.Flat) (all : List Standing) (ts : List f.Thread) (first : ℕ) → AreThreads x ts → Has all first (threads_standings ts) →
-    Agree all (threads_nodes ts first) (threads_standings ts)
+    Agree all (threads_nodes x ts first) (threads_standings ts)
 agree_threads x all [] first w h = tt
 agree_threads x all (t ∷ ts) first w h =
-    agree_append all _ _ _ _ (agree_thread x t.locals all t first w.0 (has_prefix all first _ _ h))
+    agree_append all _ _ _ _ (agree_thread x t.locals all (table_of x t) t first w.0 (has_prefix all first _ _ h))
     (agree_threads x all ts (first + thread_count t) w.1 (has_suffix all first (thread_count t) (thread_standings t) (threads_standings ts)
     (length-thread_standings t) h))
 
-pub agrees : (x : f.Flat) → AreThreads x x.threads → Agree (threads_standings x.threads) (threads_nodes x.threads 0) (threads_standings x.threads)
+pub agrees : (x : f.Flat) → AreThreads x x.threads → Agree (threads_standings x.threads) (threads_nodes x x.threads 0) (threads_standings x.threads)
 agrees x w = agree_threads x (threads_standings x.threads) x.threads 0 w (has_itself (threads_standings x.threads))
 
 begun_at : (n first : ℕ) (all : List Standing) (s : Standing) → At all (entry n first (first + n)) s → At all first s
@@ -380,5 +382,5 @@ agree_at all (n ∷ ns) (r ∷ ss) (suc k) s h g = agree_at all ns ss k s h.1 g
 
 -- where something stands, a node does it
 pub node_at : (x : f.Flat) (k : ℕ) (s : Standing) → AreThreads x x.threads → At (threads_standings x.threads) k s →
-    (n : Node) × (slice_get (threads_nodes x.threads 0) k ≡ Some n) × ActionLeads (threads_standings x.threads) n.action s
-node_at x k s w a = agree_at (threads_standings x.threads) (threads_nodes x.threads 0) (threads_standings x.threads) k s (agrees x w) a
+    (n : Node) × (slice_get (threads_nodes x x.threads 0) k ≡ Some n) × ActionLeads (threads_standings x.threads) n.action s
+node_at x k s w a = agree_at (threads_standings x.threads) (threads_nodes x x.threads 0) (threads_standings x.threads) k s (agrees x w) a

@@ -52,8 +52,8 @@ ends_at_end (Eval (e.ToVariable place variable kind) value next) seen h = cc
 ends_at_end (Eval (e.ToElement place variable kind index) value next) seen h = cc
 ends_at_end (Store variable kind next) seen h = absurd (ends_store next seen.pending h)
 ends_at_end (Test condition holds fails) seen h = cc
-ends_at_end (Lock mutex next) seen h = cc
-ends_at_end (Unlock mutex next) seen h = cc
+ends_at_end (Lock lock next) seen h = cc
+ends_at_end (Unlock lock next) seen h = cc
 ends_at_end End seen h = refl
 
 -- a visit of a path: the thread stands there in a state that a run may reach, and makes a step
@@ -267,8 +267,8 @@ not_both : (a : Action) (seen : Seen) (one other : Element) → Contains (reads_
 not_both (Eval target value next) seen one other c h = cc
 not_both (Store variable kind next) seen one other c h = contains_none one c
 not_both (Test condition holds fails) seen one other c h = cc
-not_both (Lock mutex next) seen one other c h = cc
-not_both (Unlock mutex next) seen one other c h = cc
+not_both (Lock lock next) seen one other c h = cc
+not_both (Unlock lock next) seen one other c h = cc
 not_both End seen one other c h = cc
 
 stored_by : (o : Option Pending) (next : ℕ) (effect : Effect) →
@@ -281,12 +281,12 @@ stored_by (Some p) next effect h = (stored_element p, refl)
 written_by : (ns : List Node) (a : Action) (node : Node) (seen : Seen) (effect : Effect) (l : Location) → ShapedAs ns node a → node.writes ≡ Some l →
     effect_of a seen ≡ Some effect →
     (one : Element) × (write_of a seen ≡ Some one)
-written_by ns (Eval target value next) node seen effect l shape h is = let none = shape.writes in cc
+written_by ns (Eval target value next) node seen effect l shape h is = let none = shape.1.writes in cc
 written_by ns (Store variable kind next) node seen effect l shape h is = stored_by seen.pending next effect is
-written_by ns (Test condition holds fails) node seen effect l shape h is = let none = shape.writes in cc
-written_by ns (Lock mutex next) node seen effect l shape h is = cc
-written_by ns (Unlock mutex next) node seen effect l shape h is = cc
-written_by ns End node seen effect l shape h is = cc
+written_by ns (Test condition holds fails) node seen effect l shape h is = let none = shape.1.writes in cc
+written_by ns (Lock lock next) node seen effect l shape h is = let none = shape.1 in cc
+written_by ns (Unlock lock next) node seen effect l shape h is = let none = shape.1 in cc
+written_by ns End node seen effect l shape h is = let none = shape.1 in cc
 
 module _ (x : f.Flat) (w : IsWellFormed x) (t : ℕ) (visit : Visit) (v : IsVisit x t visit) (node : Node)
     (at : NodeAt (lowered x) visit.graph_thread.at node) where
@@ -309,7 +309,7 @@ module _ (x : f.Flat) (w : IsWellFormed x) (t : ℕ) (visit : Visit) (v : IsVisi
       write_of node.action (seen_by visit.before visit.graph_thread) ≡ Some one
   written_at l r one is lockstep lies =
       let st = stepped (lowered x) visit.before v.next t v.step in
-      let made = written_by (threads_nodes x.threads 0) node.action node (seen_by visit.before visit.graph_thread) st.effect l
+      let made = written_by (threads_nodes x x.threads 0) node.action node (seen_by visit.before visit.graph_thread) st.effect l
       (node_shaped x visit.graph_thread.at node (nodes_at x visit.graph_thread.at node at)) is (does_here st) in
       made.1 ∙ ap Some (same_element no_names l r made.0 one lockstep (writes_here l made.0 is made.1) lies)
 

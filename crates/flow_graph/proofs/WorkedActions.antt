@@ -9,9 +9,10 @@ use Rattle.ido_ints.specs.Reduction.{residue, from_least_on}
 use Rattle.c_tree.specs.Exprs as e
 use Rattle.c_tree.specs.Programs.{By}
 use Rattle.c_tree.specs.Flats as f
-use Rattle.flow_graph.specs.Nodes.{Eval, Store, Test}
-use Rattle.flow_graph.specs.Lowering.{lowered}
-use Rattle.flow_graph.specs.Actions.{Sets, Owes, Goes, Seen, effect_of, FlowState, graph_start, graph_step, graph_after, graph_runs, graph_ended, seen_by}
+use Rattle.flow_graph.specs.Nodes.{Eval, Store, Test, Lock, Unlock}
+use Rattle.flow_graph.specs.Lowering.{lowered, lock_node}
+use Rattle.flow_graph.specs.Actions.{Sets, Owes, Goes, Takes, Gives, Seen, effect_of, FlowState}
+use Rattle.flow_graph.specs.Actions.{graph_start, graph_step, graph_after, graph_runs, graph_ended, seen_by}
 use Rattle.flow_graph.specs.Paths.{Visit, element, reads_of, write_of, solo_path}
 
 abbrev at : ℕ → Place
@@ -46,6 +47,24 @@ no_store = refl
 
 fails : effect_of (Test (placed (e.Local 1 kind.Int)) 8 9) seen ≡ Some (Goes 9)
 fails = refl
+
+-- the lock of a name is that of its mutex and of its key's number, over the locals alone
+abbrev named : e.LockName
+named = record { mutex = 4; key = Some (placed (e.Local 0 kind.Int)) }
+
+takes : effect_of (Lock named 8) seen ≡ Some (Takes 7 8)
+takes = refl
+
+gives : effect_of (Unlock named 8) seen ≡ Some (Gives 7 8)
+gives = refl
+
+-- without key it is the mutex
+takes_plain : effect_of (Lock (record { mutex = 4; key = None }) 8) seen ≡ Some (Takes 4 8)
+takes_plain = refl
+
+-- its node reads the locals of the key
+reads_key : (lock_node (at 0) (Lock named 8) named).uses ≡ 0 ∷ []
+reads_key = refl
 
 -- ---- A run
 

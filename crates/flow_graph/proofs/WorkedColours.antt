@@ -16,7 +16,8 @@ part end locals = record { first = 0; end = end; locals = locals }
 
 -- a node that assigns a local, and one that reads some and is the thread's last
 abbrev assigning : (local next : ℕ) → Node
-assigning local next = record { place = at 0; action = Lock 0 next; uses = []; assigns = Some local; reads = []; writes = None }
+assigning local next =
+    record { place = at 0; action = Lock (record { mutex = 0; key = None }) next; uses = []; assigns = Some local; reads = []; writes = None }
 
 abbrev reading : List ℕ → Node
 reading uses = record { place = at 5; action = End; uses = uses; assigns = None; reads = []; writes = None }

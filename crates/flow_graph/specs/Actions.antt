@@ -5,7 +5,7 @@ use Rattle.ido_base.specs.Locks.{holds_none}
 use Rattle.ido_ints.specs.Operators.{is_zero}
 use Rattle.ido_ints.specs.Reduction.{reduced}
 use Rattle.c_tree.specs.Exprs.{Expr, ToLocal, ToVariable, ToElement}
-use Rattle.c_tree.specs.Values.{element_at, value}
+use Rattle.c_tree.specs.Values.{element_at, value, lock_number}
 use Rattle.c_tree.specs.Programs.{Variable}
 use Rattle.c_tree.specs.Flats as f
 use Rattle.c_tree.specs.Source.{Pending}
@@ -23,8 +23,9 @@ pub data Effect : Type 0 where
   Makes : Pending → (next : ℕ) → Effect
   -- nothing but the place changes
   Goes : (next : ℕ) → Effect
-  Takes : (mutex next : ℕ) → Effect
-  Gives : (mutex next : ℕ) → Effect
+  -- the lock of that number is taken, or given back
+  Takes : (lock next : ℕ) → Effect
+  Gives : (lock next : ℕ) → Effect
   -- the thread's last step
   Ends : Effect
 
@@ -52,8 +53,8 @@ effect_of (Store variable kind next) seen = elim seen.pending [
   | None ↦ None
 ]
 effect_of (Test condition holds fails) seen = Some (Goes (if is_zero (number_in seen condition.expr) then fails else holds))
-effect_of (Lock mutex next) seen = Some (Takes mutex next)
-effect_of (Unlock mutex next) seen = Some (Gives mutex next)
+effect_of (Lock lock next) seen = Some (Takes (lock_number seen.locals lock) next)
+effect_of (Unlock lock next) seen = Some (Gives (lock_number seen.locals lock) next)
 effect_of End seen = Some Ends
 
 -- ---- States
@@ -70,7 +71,7 @@ pub record GraphThread : Type 0 where
 pub record FlowState : Type 0 where
   -- of each variable the numbers of its elements
   pub variables : List (List ℤ)
-  -- of each mutex the thread that holds it, or none
+  -- of each lock the thread that holds it, or none
   pub holders : List (Option ℕ)
   pub graph_threads : List GraphThread
 
@@ -78,7 +79,7 @@ pub record FlowState : Type 0 where
 abbrev pub graph_thread_start : Part → GraphThread
 graph_thread_start part = record { at = part.first; locals = replicate part.locals (pos 0); pending = None; ended = false }
 
--- the variables and mutexes are those of the flat form: initial numbers, all free
+-- the variables and locks are those of the flat form: initial numbers, all free
 abbrev pub graph_start : Graph → f.Flat → FlowState
 graph_start g x = record {
   variables = map (λ (v : Variable). v.initial) x.variables;
@@ -91,8 +92,8 @@ graph_start g x = record {
 abbrev pub with_graph_thread : FlowState → ℕ → GraphThread → FlowState
 with_graph_thread s t graph_thread = record s { graph_threads = slice_set s.graph_threads t graph_thread }
 
-abbrev pub with_holder : FlowState → (mutex : ℕ) → Option ℕ → FlowState
-with_holder s mutex holder = record s { holders = slice_set s.holders mutex holder }
+abbrev pub with_holder : FlowState → (lock : ℕ) → Option ℕ → FlowState
+with_holder s lock holder = record s { holders = slice_set s.holders lock holder }
 
 abbrev pub stored : FlowState → Pending → FlowState
 stored s p = record s { variables = slice_set s.variables p.variable (slice_set (slice_index_or s.variables p.variable []) p.element p.number) }
@@ -100,18 +101,18 @@ stored s p = record s { variables = slice_set s.variables p.variable (slice_set 
 abbrev pub seen_by : FlowState → GraphThread → Seen
 seen_by s graph_thread = record { locals = graph_thread.locals; pending = graph_thread.pending; variables = s.variables }
 
--- the state after what thread t does; none where it can't be done now: a mutex isn't free, or the thread has ended
+-- the state after what thread t does; none where it can't be done now: a lock isn't free, or the thread has ended
 abbrev pub done : FlowState → ℕ → GraphThread → Effect → Option FlowState
 done s t graph_thread (Sets local number next) =
     Some (with_graph_thread s t (record graph_thread { at = next; locals = slice_set graph_thread.locals local number }))
 done s t graph_thread (Owes store next) = Some (with_graph_thread s t (record graph_thread { at = next; pending = Some store }))
 done s t graph_thread (Makes store next) = Some (with_graph_thread (stored s store) t (record graph_thread { at = next; pending = None }))
 done s t graph_thread (Goes next) = Some (with_graph_thread s t (record graph_thread { at = next }))
-done s t graph_thread (Takes mutex next) = elim (slice_get s.holders mutex) [
-  | Some None ↦ Some (with_graph_thread (with_holder s mutex (Some t)) t (record graph_thread { at = next }))
+done s t graph_thread (Takes lock next) = elim (slice_get s.holders lock) [
+  | Some None ↦ Some (with_graph_thread (with_holder s lock (Some t)) t (record graph_thread { at = next }))
   | _ ↦ None
 ]
-done s t graph_thread (Gives mutex next) = Some (with_graph_thread (with_holder s mutex None) t (record graph_thread { at = next }))
+done s t graph_thread (Gives lock next) = Some (with_graph_thread (with_holder s lock None) t (record graph_thread { at = next }))
 done s t graph_thread Ends = if graph_thread.ended then None else Some (with_graph_thread s t (record graph_thread { ended = true }))
 
 abbrev pub effect_step : FlowState → ℕ → GraphThread → Option Effect → Option FlowState

@@ -1,5 +1,6 @@
 -- Idempotent cuts: where a thread can be resumed, so that what is run again reads nothing that it has overwritten.
 use Rattle.std.specs.Prelude.{◌≡◌, ◌⊎◌, ◌<◌, ℕ, List, [], ◌∷◌, length, slice_get, slice_set, Contains, Some, Bool, true, false, IsTrue}
+use Rattle.c_tree.specs.Exprs.{LockName}
 use Rattle.ido_base.specs.declared.location.Location.{Location}
 use Rattle.ido_base.specs.Locations.{overlap, same}
 use Rattle.ido_ints.specs.declared.kinds.Kind.{Kind}
@@ -7,7 +8,7 @@ use Rattle.flow_graph.specs.declared.cuts.Cuts.{Cuts}
 use Rattle.flow_graph.specs.Nodes.{Store, Lock, Unlock, Node, Graph, successors}
 use Rattle.flow_graph.specs.Liveness.{NodeAt}
 
--- of each node whether a boundary stands before it, and of each that takes a mutex whether one stands after it
+-- of each node whether a boundary stands before it, and of each that takes a lock whether one stands after it
 pub record Boundaries : Type 0 where
   pub before : List Bool
   pub after_lock : List Bool
@@ -23,10 +24,10 @@ pub record IsEdge (g : Graph) (from to : ℕ) : Type 0 where
 -- ---- Boundaries
 
 pub data IsLock (g : Graph) (node : ℕ) : Type 0 where
-  locks : (x : Node) (mutex next : ℕ) → NodeAt g node x → x.action ≡ Lock mutex next → IsLock g node
+  locks : (x : Node) (lock : LockName) (next : ℕ) → NodeAt g node x → x.action ≡ Lock lock next → IsLock g node
 
 pub data IsUnlock (g : Graph) (node : ℕ) : Type 0 where
-  unlocks : (x : Node) (mutex next : ℕ) → NodeAt g node x → x.action ≡ Unlock mutex next → IsUnlock g node
+  unlocks : (x : Node) (lock : LockName) (next : ℕ) → NodeAt g node x → x.action ≡ Unlock lock next → IsUnlock g node
 
 pub data IsStoreNode (g : Graph) (node : ℕ) : Type 0 where
   stores : (x : Node) (variable : ℕ) (kind : Kind) (next : ℕ) → NodeAt g node x → x.action ≡ Store variable kind next → IsStoreNode g node
@@ -34,7 +35,7 @@ pub data IsStoreNode (g : Graph) (node : ℕ) : Type 0 where
 abbrev pub HasBefore : Boundaries → (node : ℕ) → Type 0
 HasBefore b node = slice_get b.before node ≡ Some true
 
--- the node takes a mutex, and a boundary stands after it
+-- the node takes a lock, and a boundary stands after it
 pub record HasBoundaryAfter (g : Graph) (b : Boundaries) (node : ℕ) : Type 0 where
   pub locks : IsLock g node
   pub stands : slice_get b.after_lock node ≡ Some true

@@ -7,6 +7,7 @@ pub mod LocalSets
 pub mod Colours
 pub mod IdempotentCuts
 pub mod Paths
+pub mod HeldKeys
 pub mod OmittedCleans
 pub mod Refusals
 pub mod links

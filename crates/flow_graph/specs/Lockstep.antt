@@ -1,11 +1,12 @@
 -- A source and the flow graph of its flat form step in lockstep: what is left to do stands at a node.
-use Rattle.std.specs.Prelude.{◌≡◌, ℕ, List, [], ◌∷◌, ◌++◌, length, slice_get, Option, Some, None, Bool, true, false, is_some}
+use Rattle.std.specs.Prelude.{◌≡◌, ◌≤◌, ◌<◌, ℕ, List, [], ◌∷◌, ◌++◌, length, slice_get, Option, Some, None, Bool, true, false, is_some}
 use Rattle.ido_base.specs.declared.place.Place.{Place}
 use Rattle.c_tree.specs.Exprs as e
 use Rattle.c_tree.specs.Flats as f
 use Rattle.c_tree.specs.Source as m
 use Rattle.c_tree.specs.Source.{opened_all}
 use Rattle.c_tree.specs.WellFormed.{IsWellFormed}
+use Rattle.flow_graph.specs.declared.graph.Part.{Part}
 use Rattle.flow_graph.specs.Lowering.{lowered}
 use Rattle.flow_graph.specs.Actions.{GraphThread, FlowState, graph_start, graph_step, graph_after, graph_runs, graph_ended}
 
@@ -63,6 +64,13 @@ threads_standings (t ∷ ts) = thread_standings t ++ threads_standings ts
 -- what is left to do at the node of the flat form's graph
 abbrev pub HasStandingAt : f.Flat → (node : ℕ) → Standing → Type 0
 HasStandingAt x node standing = slice_get (threads_standings x.threads) node ≡ Some standing
+
+-- the node is one of the thread's own
+pub record IsOwnNode (x : f.Flat) (thread node : ℕ) : Type 0 where
+  pub part : Part
+  pub of_thread : slice_get (lowered x).threads thread ≡ Some part
+  pub from_first : part.first ≤ node
+  pub below_end : node < part.end
 
 -- ---- States that match
 

@@ -3,7 +3,7 @@ use Rattle.std.specs.Prelude.{ℕ, List, [], ◌∷◌, map, Option, Some, None}
 use Rattle.ido_base.specs.declared.place.Place.{Place}
 use Rattle.ido_base.specs.declared.location.Location.{Location}
 use Rattle.ido_ints.specs.declared.kinds.Kind.{Kind}
-use Rattle.c_tree.specs.Exprs.{Placed, Lvalue, placed_of, lvalue_of}
+use Rattle.c_tree.specs.Exprs.{Placed, LockName, Lvalue, placed_of, lock_name_of, lvalue_of}
 use Rattle.flow_graph.specs.declared.graph.Action as action
 use Rattle.flow_graph.specs.declared.graph.Action.TheVariants as actions
 use Rattle.flow_graph.specs.declared.graph.Node as node
@@ -16,8 +16,8 @@ pub data Action : Type 0 where
   -- the pending store is made
   Store : (variable : ℕ) → Kind → (next : ℕ) → Action
   Test : (condition : Placed) → (holds fails : ℕ) → Action
-  Lock : (mutex next : ℕ) → Action
-  Unlock : (mutex next : ℕ) → Action
+  Lock : LockName → (next : ℕ) → Action
+  Unlock : LockName → (next : ℕ) → Action
   End : Action
 
 pub record Node : Type 0 where
@@ -41,8 +41,8 @@ abbrev pub next_of : Action → Option ℕ
 next_of (Eval target value next) = Some next
 next_of (Store variable kind next) = Some next
 next_of (Test condition holds fails) = Some holds
-next_of (Lock mutex next) = Some next
-next_of (Unlock mutex next) = Some next
+next_of (Lock lock next) = Some next
+next_of (Unlock lock next) = Some next
 next_of End = None
 
 -- the node after a test where its condition is 0
@@ -50,8 +50,8 @@ abbrev pub other_of : Action → Option ℕ
 other_of (Eval target value next) = None
 other_of (Store variable kind next) = None
 other_of (Test condition holds fails) = Some fails
-other_of (Lock mutex next) = None
-other_of (Unlock mutex next) = None
+other_of (Lock lock next) = None
+other_of (Unlock lock next) = None
 other_of End = None
 
 -- the nodes that may follow
@@ -59,8 +59,8 @@ abbrev pub successors : Action → List ℕ
 successors (Eval target value next) = next ∷ []
 successors (Store variable kind next) = next ∷ []
 successors (Test condition holds fails) = holds ∷ fails ∷ []
-successors (Lock mutex next) = next ∷ []
-successors (Unlock mutex next) = next ∷ []
+successors (Lock lock next) = next ∷ []
+successors (Unlock lock next) = next ∷ []
 successors End = []
 
 -- ---- What the types of `graph` represent
@@ -69,8 +69,8 @@ abbrev pub action_of : action.Action → Action
 action_of (actions.Eval target value next) = Eval (lvalue_of target.now) (placed_of value.now) next
 action_of (actions.Store variable kind next) = Store variable kind next
 action_of (actions.Test condition holds fails) = Test (placed_of condition.now) holds fails
-action_of (actions.Lock mutex next) = Lock mutex next
-action_of (actions.Unlock mutex next) = Unlock mutex next
+action_of (actions.Lock lock next) = Lock (lock_name_of lock.now) next
+action_of (actions.Unlock lock next) = Unlock (lock_name_of lock.now) next
 action_of actions.End = End
 
 abbrev pub node_of : node.Node → Node

@@ -1,12 +1,14 @@
 -- The path of one thread alone through a graph, and which elements are read and written on it.
-use Rattle.std.specs.Prelude.{◌≡◌, ℕ, zero, suc, ◌<◌, ◌≤◌, List, [], ◌∷◌, ◌++◌, length, replicate, slice_get, Contains, Option, Some, None, true}
+use Rattle.std.specs.Prelude.{◌≡◌, ℕ, zero, suc, ◌<◌, ◌≤◌, List, [], ◌∷◌, ◌++◌, length, replicate, slice_get, Contains, Option, Some, None, true, ℤ}
 use Rattle.std.specs.Option.{option_map}
 use Rattle.ido_base.specs.declared.location.Location.{Location}
 use Rattle.ido_base.specs.Locations.{overlap, same}
 use Rattle.c_tree.specs.Exprs as e
 use Rattle.c_tree.specs.Flats as f
 use Rattle.c_tree.specs.Source.{Pending}
+use Rattle.c_tree.specs.LockNames.{lock_names}
 use Rattle.c_tree.specs.WellFormed.{IsWellFormed}
+use Rattle.flow_graph.specs.HeldKeys.{names_in}
 use Rattle.flow_graph.specs.Nodes.{Action, Eval, Store, Test, Lock, Unlock, End, Node, Graph}
 use Rattle.flow_graph.specs.Lowering.{lowered}
 use Rattle.flow_graph.specs.Liveness.{NodeAt}
@@ -45,8 +47,8 @@ abbrev pub reads_of : Action → Seen → List Element
 reads_of (Eval target value next) seen = target_elements target seen ++ expr_elements value.expr seen
 reads_of (Store variable kind next) seen = []
 reads_of (Test condition holds fails) seen = expr_elements condition.expr seen
-reads_of (Lock mutex next) seen = []
-reads_of (Unlock mutex next) seen = []
+reads_of (Lock lock next) seen = []
+reads_of (Unlock lock next) seen = []
 reads_of End seen = []
 
 abbrev pub stored_element : Pending → Element
@@ -57,8 +59,8 @@ abbrev pub write_of : Action → Seen → Option Element
 write_of (Eval target value next) seen = None
 write_of (Store variable kind next) seen = option_map stored_element seen.pending
 write_of (Test condition holds fails) seen = None
-write_of (Lock mutex next) seen = None
-write_of (Unlock mutex next) seen = None
+write_of (Lock lock next) seen = None
+write_of (Unlock lock next) seen = None
 write_of End seen = None
 
 -- ---- Solo paths
@@ -111,6 +113,10 @@ pub record IsReachedFlow (x : f.Flat) (s : FlowState) : Type 0 where
 abbrev pub Naming : Type 0
 Naming = (variable key : ℕ) → Option ℕ
 
+-- what the keys of a thread name, where its locals have these numbers: a key is the number of one of its names
+abbrev pub naming_of : f.Flat → f.Thread → (locals : List ℤ) → Naming
+naming_of x t locals = names_in x.variables (lock_names x t) locals
+
 -- two keys name two elements of a variable
 abbrev pub AreApart : Naming → Type 0
 AreApart names = (variable one other element : ℕ) → names variable one ≡ Some element → names variable other ≡ Some element → one ≡ other
@@ -151,17 +157,18 @@ pub record IsAtNode (x : f.Flat) (s : FlowState) (thread : ℕ) (graph_thread : 
   pub found : slice_get s.graph_threads thread ≡ Some graph_thread
   pub at : NodeAt (lowered x) graph_thread.at node
 
--- what a node reads lies in the locations that it reads
+-- what a node reads lies in the locations that it reads, by what the thread's keys name
 abbrev pub ReadsLie : Type 0
 ReadsLie =
-    (x : f.Flat) (s : FlowState) (thread : ℕ) (graph_thread : GraphThread) (node : Node) (read : Element) → IsWellFormed x →
-    IsAtNode x s thread graph_thread node →
-    Contains (reads_of node.action (seen_by s graph_thread)) read → LiesInOne no_names node.reads read
+    (x : f.Flat) (s : FlowState) (thread : ℕ) (text : f.Thread) (graph_thread : GraphThread) (node : Node) (read : Element) → IsWellFormed x →
+    IsAtNode x s thread graph_thread node → slice_get x.threads thread ≡ Some text →
+    Contains (reads_of node.action (seen_by s graph_thread)) read → LiesInOne (naming_of x text graph_thread.locals) node.reads read
 
--- what a node writes lies in the location that it writes
+-- what a node writes lies in the location that it writes, by what the thread's keys name
 abbrev pub WritesLie : Type 0
-WritesLie = (x : f.Flat) (s : FlowState) (thread : ℕ) (graph_thread : GraphThread) (node : Node) (written : Element) → IsWellFormed x →
-    IsAtNode x s thread graph_thread node → write_of node.action (seen_by s graph_thread) ≡ Some written → LiesInWritten no_names node.writes written
+WritesLie = (x : f.Flat) (s : FlowState) (thread : ℕ) (text : f.Thread) (graph_thread : GraphThread) (node : Node) (written : Element) → IsWellFormed x →
+    IsAtNode x s thread graph_thread node → slice_get x.threads thread ≡ Some text →
+    write_of node.action (seen_by s graph_thread) ≡ Some written → LiesInWritten (naming_of x text graph_thread.locals) node.writes written
 
 -- a visit of a solo path is made after as many steps of the thread as there are before it
 abbrev pub VisitsAreRuns : Type 0

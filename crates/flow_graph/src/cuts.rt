@@ -1,7 +1,7 @@
 //! Boundaries of a graph.
 
 /// Where the code of threads can be resumed: of each node whether a boundary stands before it, and whether one stands after
-/// it, which counts where the node takes a mutex.
+/// it, which counts where the node takes a lock.
 #[derive(Debug, Drop)]
 pub struct Cuts {
     pub before: Vec<bool>,

@@ -2,7 +2,7 @@
 ghost use Rattle.std.specs.Prelude.{◌≡◌};
 ghost use Rattle.flow_graph.specs.Nodes.{node_of, next_of, other_of};
 
-use c_tree::expr::{Lvalue, Placed};
+use c_tree::expr::{LockName, Lvalue, Placed};
 use ido_base::location::Location;
 use ido_base::place::Place;
 use ido_ints::Kind;
@@ -28,14 +28,14 @@ pub enum Action<'a> {
         holds: usize,
         fails: usize,
     },
-    /// Takes a mutex, by its number.
+    /// Takes the lock that has this name.
     Lock {
-        mutex: u32,
+        lock: &'a LockName,
         next: usize,
     },
-    /// Gives a mutex back, by its number.
+    /// Gives the lock that has this name back.
     Unlock {
-        mutex: u32,
+        lock: &'a LockName,
         next: usize,
     },
     /// The thread's last step.

@@ -1,12 +1,13 @@
 //! What expressions read.
 ghost use Rattle.std.specs.Prelude.{◌≡◌, ◌++◌, IfOk};
-ghost use Rattle.c_tree.specs.Exprs.{expr_of};
-ghost use Rattle.c_tree.specs.Ranges.{range_of};
+ghost use Rattle.c_tree.specs.Exprs.{expr_of, placed_ref_of};
 ghost use Rattle.c_tree.specs.LockDiscipline.{expr_locals};
 ghost use Rattle.flow_graph.specs.Lowering.{element_number, elements, expr_reads};
+ghost use Rattle.flow_lower.specs.links.Tables.{table_from};
 
+use crate::table::{Table, key};
 use c_ranges::range;
-use c_tree::expr::Expr;
+use c_tree::expr::{Expr, PlacedRef};
 use ido_base::location::Location;
 use ido_base::memory::OutOfMemory;
 
@@ -23,17 +24,22 @@ fn element_number(number: i128) -> u32
     }
 }
 
-/// The elements of an array that an index may name.
-pub(crate) fn elements(variable: u32, index: &Expr) -> Location
-    ensures { result ≡ elements variable (range_of (expr_of index.now)) }
+/// The elements of an array that an index may name, and the name whose lock guards the one that it names.
+pub(crate) fn elements(
+    table: &Table<'_>,
+    variable: u32,
+    index: PlacedRef<'_>,
+) -> Result<Location, OutOfMemory>
+    ensures { IfOk result (λ location. location ≡ elements (table_from table.now) variable (placed_ref_of index.entry)) }
 {
-    let range = range(index);
-    Location {
+    let range = range(index.expr);
+    let key = key(table, variable, index)?;
+    Ok(Location {
         variable,
         lo: element_number(range.lo),
         hi: element_number(range.hi),
-        key: None,
-    }
+        key,
+    })
 }
 
 /// Adds the locals that an expression reads, from left to right.
@@ -66,8 +72,12 @@ pub(crate) fn add_locals(locals: &mut Vec<u32>, expr: &Expr) -> Result<(), OutOf
 }
 
 /// Adds the elements of variables that an expression reads, from left to right.
-pub(crate) fn add_reads(reads: &mut Vec<Location>, expr: &Expr) -> Result<(), OutOfMemory>
-    ensures { IfOk result (λ _. reads.new.items ≡ reads.old.items ++ expr_reads (expr_of expr.now)) }
+pub(crate) fn add_reads(
+    reads: &mut Vec<Location>,
+    table: &Table<'_>,
+    expr: &Expr,
+) -> Result<(), OutOfMemory>
+    ensures { IfOk result (λ _. reads.new.items ≡ reads.old.items ++ expr_reads (table_from table.now) (expr_of expr.now)) }
 {
     match expr {
         Expr::Constant { .. } | Expr::Local { .. } => {}
@@ -79,18 +89,23 @@ pub(crate) fn add_reads(reads: &mut Vec<Location>, expr: &Expr) -> Result<(), Ou
         })?,
         Expr::Element {
             variable,
+            index_place,
             index,
             ..
         } => {
-            reads.push(elements(*variable, index))?;
-            add_reads(reads, index)?;
+            let at = PlacedRef {
+                place: *index_place,
+                expr: index,
+            };
+            reads.push(elements(table, *variable, at)?)?;
+            add_reads(reads, table, index)?;
         }
         Expr::Unary { operand, .. }
         | Expr::Cast { operand, .. }
-        | Expr::Converted { operand, .. } => add_reads(reads, operand)?,
+        | Expr::Converted { operand, .. } => add_reads(reads, table, operand)?,
         Expr::Binary { left, right, .. } => {
-            add_reads(reads, left)?;
-            add_reads(reads, right)?;
+            add_reads(reads, table, left)?;
+            add_reads(reads, table, right)?;
         }
         Expr::Conditional {
             condition,
@@ -98,9 +113,9 @@ pub(crate) fn add_reads(reads: &mut Vec<Location>, expr: &Expr) -> Result<(), Ou
             otherwise,
             ..
         } => {
-            add_reads(reads, condition)?;
-            add_reads(reads, then)?;
-            add_reads(reads, otherwise)?;
+            add_reads(reads, table, condition)?;
+            add_reads(reads, table, then)?;
+            add_reads(reads, table, otherwise)?;
         }
     }
     Ok(())

@@ -5,5 +5,6 @@ mod counts;
 mod expressions;
 mod lowering;
 mod nodes;
+mod table;
 
 pub use lowering::lower;

@@ -3,13 +3,17 @@ ghost use Rattle.std.specs.Prelude.{◌≡◌, ℕ, suc, ◌+◌, ◌++◌, leng
 ghost use Rattle.c_tree.specs.Exprs.{placed_of};
 ghost use Rattle.c_tree.specs.Flats.{While, Do, statement_of, statements_of, arms_list_of, thread_of, flat_of};
 ghost use Rattle.flow_graph.specs.Nodes.{graph_of};
-ghost use Rattle.flow_graph.specs.Lowering.{entry, statement_nodes, statements_nodes, arms_nodes, arms_count, statements_count, thread_nodes, part, lowered};
+ghost use Rattle.flow_graph.specs.Lowering.{table_of, entry, statement_nodes, statements_nodes, arms_nodes};
+ghost use Rattle.flow_graph.specs.Lowering.{arms_count, statements_count, thread_nodes, part, lowered};
 ghost use Rattle.flow_lower.specs.links.Growth.{Adds};
+ghost use Rattle.flow_lower.specs.links.Tables.{table_from};
 
 use crate::counts::{count, count_all, count_arms, sum};
-use crate::nodes::{add_assignment, plain, test};
+use crate::nodes::{add_assignment, locking, plain, test};
+use crate::table::Table;
 use c_tree::expr::Placed;
 use c_tree::flat::{Arm, Flat, Statement, Thread};
+use c_tree::lock_names::lock_names;
 use flow_graph::graph::{Action, Graph, Node, Part};
 use ido_base::memory::OutOfMemory;
 use ido_base::place::Place;
@@ -43,50 +47,44 @@ fn last_part(
 fn lower_statement<'a>(
     alloc: Global,
     nodes: &mut Vec<Node<'a>>,
+    table: &Table<'_>,
     statement: &'a Statement,
     next: usize,
 ) -> Result<(), OutOfMemory>
-    ensures { IfOk result (λ _. Adds nodes.old.items nodes.new.items (statement_nodes (statement_of statement.now) (length nodes.old.items) next)) }
+    ensures { IfOk result (λ _. Adds nodes.old.items nodes.new.items
+        (statement_nodes (table_from table.now) (statement_of statement.now) (length nodes.old.items) next)) }
 {
     match statement {
         Statement::Assign {
             place,
             target,
             value,
-        } => add_assignment(alloc, nodes, *place, target, value, next),
+        } => add_assignment(alloc, nodes, table, *place, target, value, next),
         Statement::If {
             place,
             arms,
             otherwise,
         } => {
             let last = last_part(nodes.len(), arms, otherwise, next)?;
-            lower_arms(alloc, nodes, *place, arms, last, next)?;
-            lower_all(alloc, nodes, otherwise, next)
+            lower_arms(alloc, nodes, table, *place, arms, last, next)?;
+            lower_all(alloc, nodes, table, otherwise, next)
         }
         Statement::While {
             place,
             condition,
             body,
-        } => lower_while(alloc, nodes, *place, condition, body, next),
+        } => lower_while(alloc, nodes, table, *place, condition, body, next),
         Statement::Do {
             place,
             body,
             condition,
-        } => lower_do(alloc, nodes, *place, condition, body, next),
+        } => lower_do(alloc, nodes, table, *place, condition, body, next),
         Statement::Lock { place, lock } => {
-            let action = Action::Lock {
-                mutex: lock.mutex,
-                next,
-            };
-            nodes.push(plain(alloc, *place, action))?;
+            nodes.push(locking(alloc, *place, Action::Lock { lock, next }, lock)?)?;
             Ok(())
         }
         Statement::Unlock { place, lock } => {
-            let action = Action::Unlock {
-                mutex: lock.mutex,
-                next,
-            };
-            nodes.push(plain(alloc, *place, action))?;
+            nodes.push(locking(alloc, *place, Action::Unlock { lock, next }, lock)?)?;
             Ok(())
         }
     }
@@ -97,21 +95,22 @@ fn lower_statement<'a>(
 fn lower_while<'a>(
     alloc: Global,
     nodes: &mut Vec<Node<'a>>,
+    table: &Table<'_>,
     place: Place,
     condition: &'a Placed,
     body: &'a [Statement],
     next: usize,
 ) -> Result<(), OutOfMemory>
     ensures { IfOk result (λ _. Adds nodes.old.items nodes.new.items
-        (statement_nodes (While place (placed_of condition.now) (statements_of body.now)) (length nodes.old.items) next)) }
+        (statement_nodes (table_from table.now) (While place (placed_of condition.now) (statements_of body.now)) (length nodes.old.items) next)) }
 {
     let first = nodes.len();
     let inside = sum(first, 1)?;
     let count = count_all(body)?;
     let end = sum(inside, count)?;
     let holds = entry(inside, end, first);
-    nodes.push(test(alloc, place, condition, holds, next)?)?;
-    lower_all(alloc, nodes, body, first)
+    nodes.push(test(alloc, table, place, condition, holds, next)?)?;
+    lower_all(alloc, nodes, table, body, first)
 }
 
 /// The nodes of a `do`: its body, and then its test.
@@ -119,19 +118,20 @@ fn lower_while<'a>(
 fn lower_do<'a>(
     alloc: Global,
     nodes: &mut Vec<Node<'a>>,
+    table: &Table<'_>,
     place: Place,
     condition: &'a Placed,
     body: &'a [Statement],
     next: usize,
 ) -> Result<(), OutOfMemory>
     ensures { IfOk result (λ _. Adds nodes.old.items nodes.new.items
-        (statement_nodes (Do place (statements_of body.now) (placed_of condition.now)) (length nodes.old.items) next)) }
+        (statement_nodes (table_from table.now) (Do place (statements_of body.now) (placed_of condition.now)) (length nodes.old.items) next)) }
 {
     let first = nodes.len();
     let count = count_all(body)?;
     let following = sum(first, count)?;
-    lower_all(alloc, nodes, body, following)?;
-    nodes.push(test(alloc, place, condition, first, next)?)?;
+    lower_all(alloc, nodes, table, body, following)?;
+    nodes.push(test(alloc, table, place, condition, first, next)?)?;
     Ok(())
 }
 
@@ -140,17 +140,19 @@ fn lower_do<'a>(
 fn lower_all<'a>(
     alloc: Global,
     nodes: &mut Vec<Node<'a>>,
+    table: &Table<'_>,
     statements: &'a [Statement],
     next: usize,
 ) -> Result<(), OutOfMemory>
-    ensures { IfOk result (λ _. Adds nodes.old.items nodes.new.items (statements_nodes (statements_of statements.now) (length nodes.old.items) next)) }
+    ensures { IfOk result (λ _. Adds nodes.old.items nodes.new.items
+        (statements_nodes (table_from table.now) (statements_of statements.now) (length nodes.old.items) next)) }
 {
     let all = count_all(statements)?;
     let end = sum(nodes.len(), all)?;
     for statement in statements {
         let own = count(statement)?;
         let following = sum(nodes.len(), own)?;
-        lower_statement(alloc, nodes, statement, entry(following, end, next))?;
+        lower_statement(alloc, nodes, table, statement, entry(following, end, next))?;
     }
     Ok(())
 }
@@ -160,12 +162,14 @@ fn lower_all<'a>(
 fn lower_arms<'a>(
     alloc: Global,
     nodes: &mut Vec<Node<'a>>,
+    table: &Table<'_>,
     place: Place,
     arms: &'a [Arm],
     last: usize,
     next: usize,
 ) -> Result<(), OutOfMemory>
-    ensures { IfOk result (λ _. Adds nodes.old.items nodes.new.items (arms_nodes (arms_list_of arms.now) place last (length nodes.old.items) next)) }
+    ensures { IfOk result (λ _. Adds nodes.old.items nodes.new.items
+        (arms_nodes (table_from table.now) (arms_list_of arms.now) place last (length nodes.old.items) next)) }
 {
     let all = count_arms(arms)?;
     let end = sum(nodes.len(), all)?;
@@ -175,8 +179,8 @@ fn lower_arms<'a>(
         let following = sum(inside, count)?;
         let holds = entry(inside, following, next);
         let fails = entry(following, end, last);
-        nodes.push(test(alloc, place, &arm.condition, holds, fails)?)?;
-        lower_all(alloc, nodes, &arm.body, next)?;
+        nodes.push(test(alloc, table, place, &arm.condition, holds, fails)?)?;
+        lower_all(alloc, nodes, table, &arm.body, next)?;
     }
     Ok(())
 }
@@ -185,15 +189,22 @@ fn lower_arms<'a>(
 fn lower_thread<'a>(
     alloc: Global,
     nodes: &mut Vec<Node<'a>>,
+    flat: &'a Flat,
     thread: &'a Thread,
 ) -> Result<Part, OutOfMemory>
-    ensures nodes { IfOk result (λ _. Adds nodes.old.items nodes.new.items (thread_nodes (thread_of thread.now) (length nodes.old.items))) }
+    ensures nodes { IfOk result (λ _. Adds nodes.old.items nodes.new.items
+        (thread_nodes (table_of (flat_of flat.now) (thread_of thread.now)) (thread_of thread.now) (length nodes.old.items))) }
     ensures part { IfOk result (λ p. p ≡ part (thread_of thread.now) (length nodes.old.items)) }
 {
+    let names = lock_names(alloc, &flat.mutexes, &thread.body)?;
+    let table = Table {
+        variables: &flat.variables,
+        names: &names,
+    };
     let first = nodes.len();
     let count = count_all(&thread.body)?;
     let last = sum(first, count)?;
-    lower_all(alloc, nodes, &thread.body, last)?;
+    lower_all(alloc, nodes, &table, &thread.body, last)?;
     nodes.push(plain(alloc, thread.closing, Action::End))?;
     Ok(Part {
         first,
@@ -209,7 +220,7 @@ pub fn lower<'a>(alloc: Global, flat: &'a Flat) -> Result<Graph<'a>, OutOfMemory
     let mut nodes = Vec::new(alloc);
     let mut threads = Vec::new(alloc);
     for thread in &flat.threads {
-        threads.push(lower_thread(alloc, &mut nodes, thread)?)?;
+        threads.push(lower_thread(alloc, &mut nodes, flat, thread)?)?;
     }
     Ok(Graph { nodes, threads })
 }

@@ -1,5 +1,5 @@
 -- The answers of the graph's run, in lockstep with the source's.
-use Rattle.std.proofs.Common.{◌≡◌, inl, inr, refl, ℕ, List, sym, ◌∙◌, ap, arith, true, false, Option, Some, None}
+use Rattle.std.proofs.Common.{◌≡◌, inl, inr, refl, ℕ, List, sym, ◌∙◌, ap, subst, arith, true, false, Option, Some, None}
 use Rattle.std.specs.Prelude.{slice_get, is_some, ℤ}
 use Rattle.std.proofs.lemmas.Option.{slice_get_within, slice_get_past}
 use Rattle.c_tree.specs.Flats as f
@@ -19,9 +19,9 @@ use Rattle.source_machine.specs.Runs.{stepped_of}
 use Rattle.flow_machine.specs.Answers.{taken_by, stopped, answer_at, answer_of, flow_stepped}
 use Rattle.flow_machine.specs.Lockstep.{KeepsStep}
 
-stopped_is : (o : Option ℕ) → stopped o ≡ (elim o [ Some mutex ↦ Waits mutex | None ↦ Ended ])
+stopped_is : (o : Option ℕ) → stopped o ≡ (elim o [ Some lock ↦ Waits lock | None ↦ Ended ])
 stopped_is None = refl
-stopped_is (Some mutex) = refl
+stopped_is (Some lock) = refl
 
 abbrev ahead_of : (locals : List ℤ) → Option Pending → List f.Statement → Option ℕ
 ahead_of ls p left = elim p [
@@ -35,10 +35,10 @@ not_owing left rest h = let b : true ≡ false = ap (λ (s : Standing). s.owes) 
 left_is : (ls : List ℤ) (left rest : List f.Statement) → free left ≡ free rest → first_lock ls left ≡ first_lock ls rest
 left_is ls left rest h = ap (λ (s : Standing). first_lock ls s.left) h
 
--- a node takes the mutex that the first statement locks
+-- a node takes the lock that the first statement takes
 ahead : (ls : List ℤ) (all : List Standing) (a : Action) (p : Option Pending) (left : List f.Statement) →
     ActionLeads all a (record { left = left; owes = is_some p }) →
-    taken_by a ≡ ahead_of ls p left
+    taken_by ls a ≡ ahead_of ls p left
 ahead ls all (Eval target value next) (Some p) left d = refl
 ahead ls all (Eval target value next) None left d = sym (left_is ls left _ d.is)
 ahead ls all (Store variable kind next) (Some p) left d = refl
@@ -48,20 +48,20 @@ ahead ls all (Test condition holds fails) None left d = elim d [
   | chooses place body arms otherwise rest is h k ↦ sym (left_is ls left _ is)
   | repeats place body rest is h k ↦ sym (left_is ls left _ is)
 ]
-ahead ls all (Lock mutex next) (Some p) left d = absurd (not_owing left _ d.is)
-ahead ls all (Lock mutex next) None left d = sym (left_is ls left _ d.is)
-ahead ls all (Unlock mutex next) (Some p) left d = refl
-ahead ls all (Unlock mutex next) None left d = sym (left_is ls left _ d.is)
+ahead ls all (Lock lock next) (Some p) left d = absurd (not_owing left _ d.is)
+ahead ls all (Lock lock next) None left d = sym (left_is ls left _ d.is)
+ahead ls all (Unlock lock next) (Some p) left d = refl
+ahead ls all (Unlock lock next) None left d = sym (left_is ls left _ d.is)
 ahead ls all End (Some p) left d = refl
 ahead ls all End None left d = sym (left_is ls left _ d)
 
-lockstep : (x : f.Flat) (o : Option FlowState) (p : Option m.State) (node : Node) (thread : m.Thread) → StepsMatch x o p →
-    taken_by node.action ≡ lock_ahead thread →
-    answer_at (Some node) o ≡ source.answer_of thread p
-lockstep x None None node thread h e = ap stopped e ∙ stopped_is (lock_ahead thread)
-lockstep x None (Some after) node thread h e = absurd h
-lockstep x (Some next) None node thread h e = absurd h
-lockstep x (Some next) (Some after) node thread h e = refl
+lockstep : (x : f.Flat) (ls : List ℤ) (o : Option FlowState) (p : Option m.State) (node : Node) (thread : m.Thread) → StepsMatch x o p →
+    taken_by ls node.action ≡ lock_ahead thread →
+    answer_at ls (Some node) o ≡ source.answer_of thread p
+lockstep x ls None None node thread h e = ap stopped e ∙ stopped_is (lock_ahead thread)
+lockstep x ls None (Some after) node thread h e = absurd h
+lockstep x ls (Some next) None node thread h e = absurd h
+lockstep x ls (Some next) (Some after) node thread h e = refl
 
 abbrev source_answer : Option m.Thread → Option m.State → Stepped
 source_answer o p = elim o [
@@ -82,9 +82,10 @@ answers_agree x flow s t w h = elim (get_cases flow.graph_threads t) [
       let node = node_at x graph_thread.at (record { left = there.0.left; owes = is_some there.0.pending }) w.threads match.stands in
       let here : slice_get (lowered x).nodes graph_thread.at ≡ Some node.0 = ap (λ (ns : List Node). slice_get ns graph_thread.at) (lowered_nodes x) ∙ node.1 in
       ap (λ o. answer_of (lowered x) o (graph_step (lowered x) flow t)) found.1
-      ∙ (ap (λ n. answer_at n (graph_step (lowered x) flow t)) here
-      ∙ (lockstep x (graph_step (lowered x) flow t) (m.source_step s t) node.0 there.0 (steps_lockstep x flow s t w h)
-      (ahead there.0.locals (threads_standings x.threads) node.0.action there.0.pending there.0.left node.2)
+      ∙ (ap (λ n. answer_at graph_thread.locals n (graph_step (lowered x) flow t)) here
+      ∙ (lockstep x graph_thread.locals (graph_step (lowered x) flow t) (m.source_step s t) node.0 there.0 (steps_lockstep x flow s t w h)
+      (subst (λ (ls : List ℤ). taken_by ls node.0.action ≡ lock_ahead there.0) (sym match.locals)
+      (ahead there.0.locals (threads_standings x.threads) node.0.action there.0.pending there.0.left node.2))
       ∙ sym (ap (λ o. source_answer o (m.source_step s t)) there.1)))
 ]
 

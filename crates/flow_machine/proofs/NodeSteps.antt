@@ -3,7 +3,8 @@ use Rattle.std.proofs.Common.{◌≡◌, refl, ℕ, zero, suc, List, [], ◌∷�
 use Rattle.std.specs.Prelude.{slice_get, if◌then◌else◌}
 use Rattle.std.proofs.lemmas.Option.{slice_get-get_or}
 use Rattle.flow_graph.specs.declared.graph.Node as code
-use Rattle.c_tree.specs.Exprs.{Placed, Lvalue, ToLocal, ToVariable, ToElement}
+use Rattle.c_tree.specs.Exprs.{Placed, LockName, Lvalue, ToLocal, ToVariable, ToElement}
+use Rattle.c_tree.specs.Values.{lock_number}
 use Rattle.c_tree.specs.Source as m
 use Rattle.flow_graph.specs.Nodes.{Action, Eval, Lock, Unlock, End, Node, Graph, node_of}
 use Rattle.flow_graph.specs.Actions.{GraphThread, FlowState, effect_of, effect_step, seen_by, node_step, with_graph_thread, with_holder}
@@ -23,15 +24,25 @@ pub node_read : (nodes shown : List code.Node) (k : ℕ) (n : code.Node) → sho
 node_read nodes shown k n same within is =
     found_in_map node_of nodes k n (ap (λ (ns : List code.Node). slice_get ns k) (sym same) ∙ (slice_get-get_or shown k n within ∙ ap Some (sym is)))
 
-taken_none : (s : FlowState) (t mutex next : ℕ) (graph_thread : GraphThread) (o : Option (Option ℕ)) → (o ≡ Some None → ⊥) →
+taken_none : (s : FlowState) (t lock next : ℕ) (graph_thread : GraphThread) (o : Option (Option ℕ)) → (o ≡ Some None → ⊥) →
     (let step : Option FlowState = elim o [
-      | Some None ↦ Some (with_graph_thread (with_holder s mutex (Some t)) t
+      | Some None ↦ Some (with_graph_thread (with_holder s lock (Some t)) t
           (record graph_thread { at = next }))
       | _ ↦ None
     ] in step ≡ None)
-taken_none s t mutex next graph_thread None h = refl
-taken_none s t mutex next graph_thread (Some None) h = absurd (h refl)
-taken_none s t mutex next graph_thread (Some (Some other)) h = refl
+taken_none s t lock next graph_thread None h = refl
+taken_none s t lock next graph_thread (Some None) h = absurd (h refl)
+taken_none s t lock next graph_thread (Some (Some other)) h = refl
+
+taken_some : (s : FlowState) (t lock next : ℕ) (graph_thread : GraphThread) (o : Option (Option ℕ)) → o ≡ Some None →
+    (let step : Option FlowState = elim o [
+      | Some None ↦ Some (with_graph_thread (with_holder s lock (Some t)) t
+          (record graph_thread { at = next }))
+      | _ ↦ None
+    ] in step ≡ Some (with_graph_thread (with_holder s lock (Some t)) t (record graph_thread { at = next })))
+taken_some s t lock next graph_thread None h = cc
+taken_some s t lock next graph_thread (Some None) h = refl
+taken_some s t lock next graph_thread (Some (Some other)) h = cc
 
 module _ (g : Graph) (number : ℕ) (before : Hand) (graph_threads : List GraphThread) (n : Node)
     (found : slice_get g.nodes before.graph_thread.at ≡ Some n) where
@@ -43,24 +54,36 @@ module _ (g : Graph) (number : ℕ) (before : Hand) (graph_threads : List GraphT
 
   made : (after : Hand) (answer : Stepped) (o : Option FlowState) → step_by n.action ≡ o →
       reached o (with_graph_thread now number before.graph_thread) ≡ state_in after (slice_set graph_threads number after.graph_thread) →
-      answer ≡ answer_at (Some n) o →
+      answer ≡ answer_at before.graph_thread.locals (Some n) o →
       IsMade g number before after answer graph_threads
   made after answer o e r a = record {
     state = ap (λ m. reached (node_step now number before.graph_thread m) (with_graph_thread now number before.graph_thread)) found
         ∙ (ap (λ p. reached p (with_graph_thread now number before.graph_thread)) e ∙ r);
-    answered = a ∙ sym ((λ i. answer_at (found i) (node_step now number before.graph_thread (found i))) ∙ ap (answer_at (Some n)) e);
+    answered = a ∙ sym ((λ i. answer_at before.graph_thread.locals (found i) (node_step now number before.graph_thread (found i)))
+        ∙ ap (answer_at before.graph_thread.locals (Some n)) e);
   }
 
-  pub lock_waits : (mutex next : ℕ) → n.action ≡ Lock mutex next → (slice_get before.holders mutex ≡ Some None → ⊥) →
-      IsMade g number before before (Waits mutex) graph_threads
-  lock_waits mutex next is held = made before (Waits mutex) None
-      (ap step_by is ∙ taken_none now number mutex next before.graph_thread (slice_get before.holders mutex) held) refl
-      (sym (ap (λ a. stopped (taken_by a)) is))
+  -- the lock of the name, where the thread's locals have their numbers
+  abbrev pub named : LockName → ℕ
+  named lock = lock_number before.graph_thread.locals lock
 
-  pub unlock_made : (mutex next : ℕ) → n.action ≡ Unlock mutex next →
-      IsMade g number before (record before { graph_thread = record before.graph_thread { at = next }; holders = slice_set before.holders mutex None })
+  pub lock_made : (lock : LockName) (next : ℕ) → n.action ≡ Lock lock next → slice_get before.holders (named lock) ≡ Some None →
+      IsMade g number before
+      (record before { graph_thread = record before.graph_thread { at = next }; holders = slice_set before.holders (named lock) (Some number) })
       Did graph_threads
-  unlock_made mutex next is = made _ Did _ (ap step_by is) refl refl
+  lock_made lock next is free = made _ Did _
+      (ap step_by is ∙ taken_some now number (named lock) next before.graph_thread (slice_get before.holders (named lock)) free) refl refl
+
+  pub lock_waits : (lock : LockName) (next : ℕ) → n.action ≡ Lock lock next → (slice_get before.holders (named lock) ≡ Some None → ⊥) →
+      IsMade g number before before (Waits (named lock)) graph_threads
+  lock_waits lock next is held = made before (Waits (named lock)) None
+      (ap step_by is ∙ taken_none now number (named lock) next before.graph_thread (slice_get before.holders (named lock)) held) refl
+      (sym (ap (λ a. stopped (taken_by before.graph_thread.locals a)) is))
+
+  pub unlock_made : (lock : LockName) (next : ℕ) → n.action ≡ Unlock lock next →
+      IsMade g number before (record before { graph_thread = record before.graph_thread { at = next }; holders = slice_set before.holders (named lock) None })
+      Did graph_threads
+  unlock_made lock next is = made _ Did _ (ap step_by is) refl refl
 
   abbrev end_by : Bool → Option FlowState
   end_by b = if b then None else Some (with_graph_thread now number (record before.graph_thread { ended = true }))

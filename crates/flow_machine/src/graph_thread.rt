@@ -1,5 +1,5 @@
 //! A thread on its way through a graph.
-ghost use Rattle.std.specs.Prelude.{◌≡◌, ℕ, ◌+◌, IfOk};
+ghost use Rattle.std.specs.Prelude.{◌≡◌, ℕ, ◌+◌, [], IfOk};
 ghost use Rattle.c_tree.specs.Exprs.{placed_of, lvalue_of};
 ghost use Rattle.source_machine.specs.Sections.{AreCounted};
 ghost use Rattle.source_machine.specs.links.SectionEnds.{ends};
@@ -12,7 +12,7 @@ use c_tree::expr::{Lvalue, Placed};
 use flow_graph::graph::{Action, Graph, Part};
 use ido_base::memory::OutOfMemory;
 use source_machine::assignment::{Pending, assign};
-use source_machine::evaluation::evaluate;
+use source_machine::evaluation::{evaluate, lock_number};
 use source_machine::variables::Variables;
 use source_machine::{Stepped, locks};
 use std::alloc::Global;
@@ -40,7 +40,7 @@ impl GraphThread {
         })
     }
 
-    /// Does its node, if that can be done now.
+    /// Does its node, if that can be done now. Keys of locks are evaluated over no variables.
     pub(crate) fn step(
         &mut self,
         graph: &Graph,
@@ -48,7 +48,9 @@ impl GraphThread {
         variables: &mut Variables,
         holders: &mut [Option<u32>],
         sections: &mut [u64],
+        none: &Variables,
     ) -> Stepped
+        requires { none.now ≡ [] }
         ensures made { StepIsMade graph.now number (hand_of self.old variables.old holders.old) (hand_of self.new variables.new holders.new) result }
         ensures sections { (ended : ℕ → ℕ) → AreCounted sections.old ended → AreCounted sections.new (λ k. ended k + ends holders.old holders.new k) }
     {
@@ -82,18 +84,18 @@ impl GraphThread {
                 self.at = if condition.is_zero() { fails } else { holds };
                 Stepped::Did
             }
-            Action::Lock { mutex, next } => {
-                if locks::take(holders, mutex as u128, number) {
+            Action::Lock { lock, next } => {
+                let lock = lock_number(lock, &self.locals, none);
+                if locks::take(holders, lock, number) {
                     self.at = next;
                     Stepped::Did
                 } else {
-                    Stepped::Waits {
-                        lock: mutex as u128,
-                    }
+                    Stepped::Waits { lock }
                 }
             }
-            Action::Unlock { mutex, next } => {
-                locks::release(holders, sections, mutex as u128);
+            Action::Unlock { lock, next } => {
+                let lock = lock_number(lock, &self.locals, none);
+                locks::release(holders, sections, lock);
                 self.at = next;
                 Stepped::Did
             }

@@ -1,5 +1,5 @@
 //! The state of a graph's run.
-ghost use Rattle.std.specs.Prelude.{◌≡◌, vec_len};
+ghost use Rattle.std.specs.Prelude.{◌≡◌, [], vec_len};
 
 use crate::graph_thread::GraphThread;
 use c_tree::flat::Flat;
@@ -9,7 +9,7 @@ use source_machine::variables::Variables;
 use source_machine::{Stepped, locks};
 use std::alloc::Global;
 
-/// The state of a run of a graph: the variables, who holds the mutexes, and where the threads are.
+/// The state of a run of a graph: the variables, who holds the locks, and where the threads are.
 #[derive(Drop)]
 pub struct FlowState<'a, 'b> {
     graph: &'a Graph<'b>,
@@ -19,6 +19,9 @@ pub struct FlowState<'a, 'b> {
     // of each thread how many of its sections have ended
     sections: Vec<u64>,
     ghost counted: { vec_len sections ≡ vec_len graph_threads },
+    // what keys of locks are evaluated over
+    none: Variables,
+    ghost empty: { none ≡ [] },
 }
 
 impl<'a, 'b> FlowState<'a, 'b> {
@@ -49,6 +52,7 @@ impl<'a, 'b> FlowState<'a, 'b> {
             holders,
             graph_threads,
             sections,
+            none: Variables::none(alloc),
         })
     }
 
@@ -72,6 +76,7 @@ impl<'a, 'b> FlowState<'a, 'b> {
             &mut self.variables,
             &mut self.holders,
             &mut self.sections,
+            &self.none,
         )
     }
 

@@ -200,7 +200,7 @@ module _ (x : f.Flat) (w : IsWellFormed x) (old : Config) (t : ℕ) (i : Invaria
   stored_there k l location h =
       let st = made_there x w old t i kept match k l in
       let th = there_at x w old t i kept match k l in
-      let stores = writing_stores (threads_nodes x.threads 0) st.node st.node.action location
+      let stores = writing_stores (threads_nodes x x.threads 0) st.node st.node.action location
       (node_shaped x st.graph_thread.at st.node (nodes_at x st.graph_thread.at st.node st.at)) h in
       let owed = owes_at (threads_standings x.threads) st.node.action th.thread.left th.thread.pending stores th.does in
       let seen = seen_by (flow_solo x kept t k) st.graph_thread in

@@ -173,16 +173,16 @@ module _ (x : f.Flat) (b : Boundaries) (w : IsWellFormed x) (cuts : AreCuts (low
     begins_after : locks (solo K t n) t ≡ Some mutex → BeginsRegion (lowered x) b node
     begins_after h =
         let action = locking_at x (solo K t n) t st.graph_thread st.node th mutex h in
-        past_lock st.graph_thread.at (cuts.past_locks st.graph_thread.at (cutting.locks st.node mutex action.0 st.at action.1))
-        (edge_to n step st node at (λ over. lock_goes_on st.node.action mutex action.0 (seen_by (flow_solo x kept t n) st.graph_thread) action.1
+        past_lock st.graph_thread.at (cuts.past_locks st.graph_thread.at (cutting.locks st.node action.0 action.1 st.at action.2))
+        (edge_to n step st node at (λ over. lock_goes_on st.node.action action.0 action.1 (seen_by (flow_solo x kept t n) st.graph_thread) action.2
         (st.does ∙ ap Some over)))
 
     stands_after : unlocks (solo K t n) t ≡ Some mutex → (from : ℕ) × IsUnlock (lowered x) from × IsEdge (lowered x) from node
     stands_after h =
         let action = unlocking_at x (solo K t n) t st.graph_thread st.node th mutex h in (
           st.graph_thread.at,
-          cutting.unlocks st.node mutex action.0 st.at action.1,
-          edge_to n step st node at (λ over. unlock_goes_on st.node.action mutex action.0 (seen_by (flow_solo x kept t n) st.graph_thread) action.1
+          cutting.unlocks st.node action.0 action.1 st.at action.2,
+          edge_to n step st node at (λ over. unlock_goes_on st.node.action action.0 action.1 (seen_by (flow_solo x kept t n) st.graph_thread) action.2
               (st.does ∙ ap Some over)),
         )
 

@@ -1,5 +1,6 @@
 -- What a thread's next step says of the node at which it stands.
 use Rattle.std.proofs.Common.{◌≡◌, refl, ℕ, zero, suc, List, [], ◌∷◌, ◌++◌, sym, ◌∙◌, ap, subst, arith, Option, Some, None, Bool, true, false, ⊎_elim}
+use Rattle.c_tree.specs.Values.{lock_number}
 use Rattle.std.specs.Prelude.{is_some, Contains, ℤ}
 use Rattle.std.specs.Option.{option_map}
 use Rattle.std.proofs.lemmas.List.Elements.{Contains-append_cases}
@@ -77,8 +78,8 @@ module _ (vs : List Variable) (names : List e.LockName) (h : Held) (seen : Seen)
       (λ d. expr_held value.expr (guarded_left vs names h (expr_uses value.expr) (target_uses target) g) d) c
   read_held (Store variable kind next) g c = absurd (contains_none one c)
   read_held (Test condition holds fails) g c = expr_held condition.expr g c
-  read_held (Lock mutex next) g c = absurd (contains_none one c)
-  read_held (Unlock mutex next) g c = absurd (contains_none one c)
+  read_held (Lock lock next) g c = absurd (contains_none one c)
+  read_held (Unlock lock next) g c = absurd (contains_none one c)
   read_held End g c = absurd (contains_none one c)
 
 -- ---- Stores
@@ -100,8 +101,8 @@ owing_by all (Test condition holds fails) left d = elim d [
   | chooses place body arms otherwise rest is a b ↦ absurd (not_owing left _ is)
   | repeats place body rest is a b ↦ absurd (not_owing left _ is)
 ]
-owing_by all (Lock mutex next) left d = absurd (not_owing left _ d.is)
-owing_by all (Unlock mutex next) left d = absurd (not_owing left _ d.is)
+owing_by all (Lock lock next) left d = absurd (not_owing left _ d.is)
+owing_by all (Unlock lock next) left d = absurd (not_owing left _ d.is)
 owing_by all End left d = absurd (not_owing left _ d)
 
 -- a store is pending at a node that stores
@@ -124,12 +125,12 @@ owes_at all a left p s d = owes_by all a left p s d
 
 -- a node that writes stores
 pub writing_stores : (ns : List Node) (node : Node) (a : Action) (l : Location) → ShapedAs ns node a → node.writes ≡ Some l → StoresHere a
-writing_stores ns node (Eval target value next) l shape h = let none = shape.writes in cc
+writing_stores ns node (Eval target value next) l shape h = let none = shape.1.writes in cc
 writing_stores ns node (Store variable kind next) l shape h = record { variable = variable; kind = kind; next = next; is = refl }
-writing_stores ns node (Test condition holds fails) l shape h = let none = shape.writes in cc
-writing_stores ns node (Lock mutex next) l shape h = cc
-writing_stores ns node (Unlock mutex next) l shape h = cc
-writing_stores ns node End l shape h = cc
+writing_stores ns node (Test condition holds fails) l shape h = let none = shape.1.writes in cc
+writing_stores ns node (Lock lock next) l shape h = let none = shape.1 in cc
+writing_stores ns node (Unlock lock next) l shape h = let none = shape.1 in cc
+writing_stores ns node End l shape h = let none = shape.1 in cc
 
 pub written_of : (a : Action) (seen : Seen) (store : Pending) → StoresHere a → seen.pending ≡ Some store → write_of a seen ≡ Some (stored_element store)
 written_of a seen store s h = ap (λ (z : Action). write_of z seen) s.is ∙ ap (option_map stored_element) h
@@ -165,65 +166,61 @@ none_left : (ls : List ℤ) (store : Pending) (mutex : ℕ) (p : Option Pending)
 none_left ls store mutex p left is h = let none = ap (λ (o : Option Pending). lock_by ls o left) is in cc
 
 locking_by : (ls : List ℤ) (all : List Standing) (a : Action) (left : List f.Statement) (mutex : ℕ) → ActionLeads all a (record { left = left; owes = false }) →
-    first_lock ls left ≡ Some mutex → (next : ℕ) × (a ≡ Lock mutex next)
+    first_lock ls left ≡ Some mutex → (lock : e.LockName) × (next : ℕ) × (a ≡ Lock lock next)
 locking_by ls all (Eval target value next) left mutex d h = absurd (no_lock ls left _ mutex (ap left_of d.is) refl h)
 locking_by ls all (Store variable kind next) left mutex d h = let b : false ≡ true = ap (λ (z : Standing). z.owes) d.is in cc
 locking_by ls all (Test condition holds fails) left mutex d h = elim d [
   | chooses place body arms otherwise rest is a b ↦ absurd (no_lock ls left _ mutex (ap left_of is) refl h)
   | repeats place body rest is a b ↦ absurd (no_lock ls left _ mutex (ap left_of is) refl h)
 ]
-locking_by ls all (Lock other next) left mutex d h =
-    let same : first_lock ls left ≡ Some other = ap (first_lock ls) (ap left_of d.is) in
-    let is : other ≡ mutex = cc in
-    (next, ap (λ (k : ℕ). Lock k next) is)
-locking_by ls all (Unlock other next) left mutex d h = absurd (no_lock ls left _ mutex (ap left_of d.is) refl h)
+locking_by ls all (Lock lock next) left mutex d h = (lock, next, refl)
+locking_by ls all (Unlock lock next) left mutex d h = absurd (no_lock ls left _ mutex (ap left_of d.is) refl h)
 locking_by ls all End left mutex d h = absurd (no_lock ls left [] mutex (ap left_of d) refl h)
 
 unlocking_by : (ls : List ℤ) (all : List Standing) (a : Action) (left : List f.Statement) (mutex : ℕ) →
     ActionLeads all a (record { left = left; owes = false }) →
-    first_unlock ls left ≡ Some mutex → (next : ℕ) × (a ≡ Unlock mutex next)
+    first_unlock ls left ≡ Some mutex → (lock : e.LockName) × (next : ℕ) × (a ≡ Unlock lock next)
 unlocking_by ls all (Eval target value next) left mutex d h = absurd (no_unlock ls left _ mutex (ap left_of d.is) refl h)
 unlocking_by ls all (Store variable kind next) left mutex d h = let b : false ≡ true = ap (λ (z : Standing). z.owes) d.is in cc
 unlocking_by ls all (Test condition holds fails) left mutex d h = elim d [
   | chooses place body arms otherwise rest is a b ↦ absurd (no_unlock ls left _ mutex (ap left_of is) refl h)
   | repeats place body rest is a b ↦ absurd (no_unlock ls left _ mutex (ap left_of is) refl h)
 ]
-unlocking_by ls all (Lock other next) left mutex d h = absurd (no_unlock ls left _ mutex (ap left_of d.is) refl h)
-unlocking_by ls all (Unlock other next) left mutex d h =
-    let same : first_unlock ls left ≡ Some other = ap (first_unlock ls) (ap left_of d.is) in
-    let is : other ≡ mutex = cc in
-    (next, ap (λ (k : ℕ). Unlock k next) is)
+unlocking_by ls all (Lock lock next) left mutex d h = absurd (no_unlock ls left _ mutex (ap left_of d.is) refl h)
+unlocking_by ls all (Unlock lock next) left mutex d h = (lock, next, refl)
 unlocking_by ls all End left mutex d h = absurd (no_unlock ls left [] mutex (ap left_of d) refl h)
 
 locking_if : (ls : List ℤ) (all : List Standing) (a : Action) (left : List f.Statement) (mutex : ℕ) (p : Option Pending) →
-    ActionLeads all a (record { left = left; owes = is_some p }) → lock_by ls p left ≡ Some mutex → (next : ℕ) × (a ≡ Lock mutex next)
+    ActionLeads all a (record { left = left; owes = is_some p }) → lock_by ls p left ≡ Some mutex →
+    (lock : e.LockName) × (next : ℕ) × (a ≡ Lock lock next)
 locking_if ls all a left mutex None d h = locking_by ls all a left mutex d h
 locking_if ls all a left mutex (Some store) d h = cc
 
 unlocking_if : (ls : List ℤ) (all : List Standing) (a : Action) (left : List f.Statement) (mutex : ℕ) (p : Option Pending) →
-    ActionLeads all a (record { left = left; owes = is_some p }) → unlock_by ls p left ≡ Some mutex → (next : ℕ) × (a ≡ Unlock mutex next)
+    ActionLeads all a (record { left = left; owes = is_some p }) → unlock_by ls p left ≡ Some mutex →
+    (lock : e.LockName) × (next : ℕ) × (a ≡ Unlock lock next)
 unlocking_if ls all a left mutex None d h = unlocking_by ls all a left mutex d h
 unlocking_if ls all a left mutex (Some store) d h = cc
 
-locks_if : (ls : List ℤ) (all : List Standing) (left : List f.Statement) (mutex next : ℕ) (p : Option Pending) →
-    ActionLeads all (Lock mutex next) (record { left = left; owes = is_some p }) → lock_by ls p left ≡ Some mutex
-locks_if ls all left mutex next None d = ap (first_lock ls) (ap left_of d.is)
-locks_if ls all left mutex next (Some store) d = let b : true ≡ false = ap (λ (z : Standing). z.owes) d.is in cc
+locks_if : (ls : List ℤ) (all : List Standing) (left : List f.Statement) (lock : e.LockName) (next : ℕ) (p : Option Pending) →
+    ActionLeads all (Lock lock next) (record { left = left; owes = is_some p }) → lock_by ls p left ≡ Some (lock_number ls lock)
+locks_if ls all left lock next None d = ap (first_lock ls) (ap left_of d.is)
+locks_if ls all left lock next (Some store) d = let b : true ≡ false = ap (λ (z : Standing). z.owes) d.is in cc
 
 module _ (x : f.Flat) (s : m.State) (t : ℕ) (graph_thread : GraphThread) (node : Node) (th : IsThere x s t graph_thread node) where
   -- a thread that locks next stands at a node that locks
-  pub locking_at : (mutex : ℕ) → locks s t ≡ Some mutex → (next : ℕ) × (node.action ≡ Lock mutex next)
+  pub locking_at : (mutex : ℕ) → locks s t ≡ Some mutex → (lock : e.LockName) × (next : ℕ) × (node.action ≡ Lock lock next)
   locking_at mutex h = locking_if th.thread.locals (threads_standings x.threads) node.action th.thread.left mutex th.thread.pending th.does
       (sym (locks_found s t th.thread th.there) ∙ h)
 
-  pub unlocking_at : (mutex : ℕ) → unlocks s t ≡ Some mutex → (next : ℕ) × (node.action ≡ Unlock mutex next)
+  pub unlocking_at : (mutex : ℕ) → unlocks s t ≡ Some mutex → (lock : e.LockName) × (next : ℕ) × (node.action ≡ Unlock lock next)
   unlocking_at mutex h = unlocking_if th.thread.locals (threads_standings x.threads) node.action th.thread.left mutex th.thread.pending th.does
       (sym (unlocks_found s t th.thread th.there) ∙ h)
 
   -- at a node that locks the thread locks next
-  pub locks_at : (mutex next : ℕ) → node.action ≡ Lock mutex next → locks s t ≡ Some mutex
-  locks_at mutex next is = locks_found s t th.thread th.there
-      ∙ locks_if th.thread.locals (threads_standings x.threads) th.thread.left mutex next th.thread.pending
+  pub locks_at : (lock : e.LockName) (next : ℕ) → node.action ≡ Lock lock next → locks s t ≡ Some (lock_number th.thread.locals lock)
+  locks_at lock next is = locks_found s t th.thread th.there
+      ∙ locks_if th.thread.locals (threads_standings x.threads) th.thread.left lock next th.thread.pending
       (subst (λ (a : Action). ActionLeads (threads_standings x.threads) a (record { left = th.thread.left; owes = is_some th.thread.pending })) is th.does)
 
 -- ---- The end
@@ -239,16 +236,18 @@ ends_only (Eval (e.ToVariable place variable kind) value next) seen later effect
 ends_only (Eval (e.ToElement place variable kind index) value next) seen later effect h k = cc
 ends_only (Store variable kind next) seen later effect h k = absurd (ends_by next seen.pending h)
 ends_only (Test condition holds fails) seen later effect h k = cc
-ends_only (Lock mutex next) seen later effect h k = cc
-ends_only (Unlock mutex next) seen later effect h k = cc
+ends_only (Lock lock next) seen later effect h k = cc
+ends_only (Unlock lock next) seen later effect h k = cc
 ends_only End seen later effect h k = cc
 
 -- a node that stores, locks or unlocks doesn't end
 pub store_goes_on : (a : Action) (seen : Seen) → StoresHere a → effect_of a seen ≡ Some Ends → ⊥
 store_goes_on a seen s h = ends_by s.next seen.pending (ap (λ (z : Action). effect_of z seen) (sym s.is) ∙ h)
 
-pub lock_goes_on : (a : Action) (mutex next : ℕ) (seen : Seen) → a ≡ Lock mutex next → effect_of a seen ≡ Some Ends → ⊥
-lock_goes_on a mutex next seen is h = let takes : Some (Takes mutex next) ≡ Some Ends = ap (λ (z : Action). effect_of z seen) (sym is) ∙ h in cc
+pub lock_goes_on : (a : Action) (lock : e.LockName) (next : ℕ) (seen : Seen) → a ≡ Lock lock next → effect_of a seen ≡ Some Ends → ⊥
+lock_goes_on a lock next seen is h =
+    let takes : Some (Takes (lock_number seen.locals lock) next) ≡ Some Ends = ap (λ (z : Action). effect_of z seen) (sym is) ∙ h in cc
 
-pub unlock_goes_on : (a : Action) (mutex next : ℕ) (seen : Seen) → a ≡ Unlock mutex next → effect_of a seen ≡ Some Ends → ⊥
-unlock_goes_on a mutex next seen is h = let gives : Some (Gives mutex next) ≡ Some Ends = ap (λ (z : Action). effect_of z seen) (sym is) ∙ h in cc
+pub unlock_goes_on : (a : Action) (lock : e.LockName) (next : ℕ) (seen : Seen) → a ≡ Unlock lock next → effect_of a seen ≡ Some Ends → ⊥
+unlock_goes_on a lock next seen is h =
+    let gives : Some (Gives (lock_number seen.locals lock) next) ≡ Some Ends = ap (λ (z : Action). effect_of z seen) (sym is) ∙ h in cc

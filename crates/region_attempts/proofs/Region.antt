@@ -1,5 +1,6 @@
 -- A longest attempt is a path within a region of the graph.
 use Rattle.std.proofs.Common.{◌≡◌, ◌≢◌, ◌⊎◌, inl, inr, refl, ℕ, zero, suc, ◌<◌, List, [], ◌∷◌, replicate}
+use Rattle.c_tree.specs.Exprs.{LockName}
 use Rattle.std.proofs.Common.{sym, ◌∙◌, ap, subst, arith, Option, Some, None, Bool, true, false, ⊎_elim}
 use Rattle.std.specs.Prelude.{slice_get, Contains, IsTrue}
 use Rattle.std.specs.Option.{option_map, unwrap_or}
@@ -14,7 +15,7 @@ use Rattle.flow_graph.specs.Actions.{GraphThread, FlowState, Ends, effect_of, se
 use Rattle.flow_graph.specs.Lockstep.{Matches}
 use Rattle.flow_graph.specs.IdempotentCuts.{Boundaries, IsEdge, IsLock, locks, IsUnlock, unlocks, HasBefore, IsBoundary, BeginsRegion}
 use Rattle.flow_graph.specs.IdempotentCuts.{at_boundary, IsInside, stays, goes_on, ReadsAt, WritesAt, IsWrittenBefore, AreCuts}
-use Rattle.flow_graph.proofs.Public.{ShapedAs, node_shaped, Stepped, stepped, moved, goes_by, after_is, not_again, Done, nodes_at}
+use Rattle.flow_graph.proofs.Public.{ShapedBy, node_shaped, Stepped, stepped, moved, goes_by, after_is, not_again, Done, nodes_at}
 use Rattle.recovery_semantics.specs.Attempts.{solo}
 use Rattle.recovery_semantics.specs.Configs.{Config, Invariant, attempt_of}
 use Rattle.recovery_semantics.proofs.Public.{none_some}
@@ -52,18 +53,18 @@ decide_true (Some false) = inr (λ h. cc)
 pub one_node : (g : Graph) (k : ℕ) (n o : Node) → NodeAt g k n → NodeAt g k o → n ≡ o
 one_node g k n o h i = cc
 
-lock_or_unlock : (mutex next other after : ℕ) → Lock mutex next ≡ Unlock other after → ⊥
-lock_or_unlock mutex next other after h = cc
+lock_or_unlock : (lock other : LockName) (next after : ℕ) → Lock lock next ≡ Unlock other after → ⊥
+lock_or_unlock lock other next after h = cc
 
 not_lock : (g : Graph) (k : ℕ) → IsLock g k → IsUnlock g k → ⊥
-not_lock g k (locks n mutex next at is) (unlocks o other after at' is') =
-    lock_or_unlock mutex next other after (sym is ∙ (ap (λ (z : Node). z.action) (one_node g k n o at at') ∙ is'))
+not_lock g k (locks n lock next at is) (unlocks o other after at' is') =
+    lock_or_unlock lock other next after (sym is ∙ (ap (λ (z : Node). z.action) (one_node g k n o at at') ∙ is'))
 
 unlock_writes_none : (x : f.Flat) (k : ℕ) (node : Node) → IsUnlock (lowered x) k → NodeAt (lowered x) k node → node.writes ≡ None
-unlock_writes_none x k node (unlocks n mutex next at is) here =
+unlock_writes_none x k node (unlocks n lock next at is) here =
     let same_node = one_node (lowered x) k n node at here in
     let shape = node_shaped x k n (nodes_at x k n at) in
-    let none : n.writes ≡ None = subst (λ (a : Action). ShapedAs (threads_nodes x.threads 0) n a) is shape in
+    let none : n.writes ≡ None = subst (λ (a : Action). ShapedBy shape.0 (threads_nodes x x.threads 0) n a) is shape.1 in
     ap (λ (z : Node). z.writes) (sym same_node) ∙ none
 
 module _ (x : f.Flat) (b : Boundaries) (cuts : AreCuts (lowered x) b) (first : ℕ) (rest : List ℕ) (inside : IsInside (lowered x) b (first ∷ rest))
@@ -175,12 +176,12 @@ module _ (x : f.Flat) (w : IsWellFormed x) (old : Config) (t : ℕ) (i : Invaria
 
   -- the attempt comes to no lock
   pub no_lock_there : (k : ℕ) → k < longest → IsLock (lowered x) (number k) → ⊥
-  no_lock_there k l (locks node mutex next at is) =
+  no_lock_there k l (locks node lock next at is) =
       let a = made_there k l in
       let here : NodeAt (lowered x) (number k) a.node = ap (slice_get (lowered x).nodes) (number_is k l) ∙ a.at in
-      let action : a.node.action ≡ Lock mutex next = ap (λ (z : Node). z.action) (one_node (lowered x) (number k) a.node node here at) ∙ is in
+      let action : a.node.action ≡ Lock lock next = ap (λ (z : Node). z.action) (one_node (lowered x) (number k) a.node node here at) ∙ is in
       let step = (i.tried t).inner k l in
-      none_some mutex (sym step.locks_none ∙ locks_at x (solo old.kept t k) t a.graph_thread a.node (there_at k l) mutex next action)
+      none_some _ (sym step.locks_none ∙ locks_at x (solo old.kept t k) t a.graph_thread a.node (there_at k l) lock next action)
 
   module _ (b : Boundaries) (stays_in : StaysInside x b kept old t) where
     pub free : (k : ℕ) → suc k < longest → ¬ (IsBoundary (lowered x) b (number k) (number (suc k)))

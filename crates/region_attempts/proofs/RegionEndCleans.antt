@@ -1,5 +1,6 @@
 -- The lines of an attempt's stores are cleaned when it has come to its region's end.
 use Rattle.std.proofs.Common.{◌≡◌, ◌≢◌, ◌⊎◌, inl, inr, refl, ℕ, zero, suc, ◌+◌, ◌-◌, ◌/◌, ◌<◌, ◌≤◌, List}
+use Rattle.c_tree.specs.Exprs.{LockName}
 use Rattle.std.proofs.Common.{replicate, sym, ◌∙◌, ap, subst, arith, Option, Some, None, Bool, true, ⊎_elim}
 use Rattle.std.specs.Prelude.{slice_get, is_some, Contains}
 use Rattle.std.specs.Option.{option_map}
@@ -19,7 +20,7 @@ use Rattle.flow_graph.specs.IdempotentCuts as cutting
 use Rattle.flow_graph.specs.IdempotentCuts.{Boundaries, IsEdge, HasBefore, IsBoundary, AreCuts}
 use Rattle.flow_graph.specs.OmittedCleans.{StoresInLine, ReachesUncleaned, at_boundary, goes_on}
 use Rattle.flow_graph.specs.Paths.{Element, Lies, no_names}
-use Rattle.flow_graph.proofs.Public.{ShapedAs, node_shaped, node_at, found_in, Good, Stepped, moved, goes_by, nodes_at, at_nodes}
+use Rattle.flow_graph.proofs.Public.{ShapedBy, node_shaped, node_at, found_in, Good, Stepped, moved, goes_by, nodes_at, at_nodes}
 use Rattle.recovery_semantics.specs.Attempts.{solo, WritesAt, PassesMutex}
 use Rattle.recovery_semantics.specs.Configs.{Config, Invariant, attempt_of}
 use Rattle.recovery_semantics.proofs.Public.{none_some}
@@ -68,10 +69,11 @@ line_there shapes l one single h =
     let e : l.lo ≡ one.element = omega (arith, single, h.from_lo, h.to_hi) in
     λ i. variable_at shapes (h.variable i) (e i) / line_bytes
 
-lock_writes_none : (x : f.Flat) (number mutex next : ℕ) (node : Node) → NodeAt (lowered x) number node → node.action ≡ Lock mutex next →
+lock_writes_none : (x : f.Flat) (number : ℕ) (lock : LockName) (next : ℕ) (node : Node) → NodeAt (lowered x) number node → node.action ≡ Lock lock next →
     node.writes ≡ None
-lock_writes_none x number mutex next node at is =
-    subst (λ (a : Action). ShapedAs (threads_nodes x.threads 0) node a) is (node_shaped x number node (nodes_at x number node at))
+lock_writes_none x number lock next node at is =
+    let shape = node_shaped x number node (nodes_at x number node at) in
+    subst (λ (a : Action). ShapedBy shape.0 (threads_nodes x x.threads 0) node a) is shape.1
 
 module _ (x : f.Flat) (b : Boundaries) (w : IsWellFormed x) (cuts : AreCuts (lowered x) b) (old : Config) (t : ℕ) (i : Invariant x old) (kept : FlowState)
     (match : Matches x kept old.kept) (good : Good x kept) (stays : StaysInside x b kept old t) (shapes : List Shape) where
@@ -151,13 +153,13 @@ module _ (x : f.Flat) (b : Boundaries) (w : IsWellFormed x) (cuts : AreCuts (low
         let here : NodeAt g ahead.at st.node = ap (λ (z : Effect). slice_get g.nodes (moved st.graph_thread z).at) over ∙ st.at in
         one_node g ahead.at st.node node_ahead.0 here node_ahead.1
 
-    ends_lock : (mutex next : ℕ) → node_ahead.0.action ≡ Lock mutex next → (line : ℕ) → ReachesUncleaned g b shapes line (at q)
-    ends_lock mutex next action line =
-        let never : st.effect ≡ Ends → ⊥ = λ over. lock_goes_on st.node.action mutex next (seen_by (flow_solo x kept t q) st.graph_thread)
+    ends_lock : (lock : LockName) (next : ℕ) → node_ahead.0.action ≡ Lock lock next → (line : ℕ) → ReachesUncleaned g b shapes line (at q)
+    ends_lock lock next action line =
+        let never : st.effect ≡ Ends → ⊥ = λ over. lock_goes_on st.node.action lock next (seen_by (flow_solo x kept t q) st.graph_thread)
         (ap (λ (z : Node). z.action) (same_node over) ∙ action) (st.does ∙ ap Some over) in
-        let after = cuts.past_locks ahead.at (cutting.locks node_ahead.0 mutex next node_ahead.1 action) in
+        let after = cuts.past_locks ahead.at (cutting.locks node_ahead.0 lock next node_ahead.1 action) in
         let goes : Contains (successors node_ahead.0.action) next = subst (λ (a : Action). Contains (successors a) next) (sym action) (0, omega arith, refl) in
-        let none = lock_writes_none x ahead.at mutex next node_ahead.0 node_ahead.1 action in
+        let none = lock_writes_none x ahead.at lock next node_ahead.0 node_ahead.1 action in
         ⊎_elim
         (λ before. ends_before never before line)
         (λ no. goes_on (at q) ahead.at (edge_last never) (λ p. ⊎_elim (λ h. no_lock_there x w old t i kept match q low h.locks) no p)
@@ -165,11 +167,11 @@ module _ (x : f.Flat) (b : Boundaries) (w : IsWellFormed x) (cuts : AreCuts (low
         (at_boundary ahead.at next (record { is = node_ahead.0; at = node_ahead.1; goes = goes }) (inl after)))
         (decide_true (slice_get b.before ahead.at))
 
-    ends_unlock : (mutex next : ℕ) → node_ahead.0.action ≡ Unlock mutex next → (line : ℕ) → ReachesUncleaned g b shapes line (at q)
-    ends_unlock mutex next action line = ends_before
-        (λ over. unlock_goes_on st.node.action mutex next (seen_by (flow_solo x kept t q) st.graph_thread)
+    ends_unlock : (lock : LockName) (next : ℕ) → node_ahead.0.action ≡ Unlock lock next → (line : ℕ) → ReachesUncleaned g b shapes line (at q)
+    ends_unlock lock next action line = ends_before
+        (λ over. unlock_goes_on st.node.action lock next (seen_by (flow_solo x kept t q) st.graph_thread)
         (ap (λ (z : Node). z.action) (same_node over) ∙ action) (st.does ∙ ap Some over))
-        (cuts.before_unlocks ahead.at (cutting.unlocks node_ahead.0 mutex next node_ahead.1 action)) line
+        (cuts.before_unlocks ahead.at (cutting.unlocks node_ahead.0 lock next node_ahead.1 action)) line
 
     -- from the last step of an attempt a boundary is reached
     ends_there : (k : ℕ) (l : k < n) (one : Element) → WritesAt old.kept t k one.variable one.element → (attempt_of old t).done ≡ n →
@@ -184,8 +186,8 @@ module _ (x : f.Flat) (b : Boundaries) (w : IsWellFormed x) (cuts : AreCuts (low
         (λ p.
         let pass : PassesMutex (solo old.kept t n) t p.0 = subst (λ (j : ℕ). PassesMutex (solo old.kept t j) t p.0) whole p.1 in
         ⊎_elim
-        (λ h. let a = locking_at x (solo old.kept t n) t ahead node_ahead.0 there_ahead p.0 h in ends_lock p.0 a.0 a.1 line)
-        (λ h. let a = unlocking_at x (solo old.kept t n) t ahead node_ahead.0 there_ahead p.0 h in ends_unlock p.0 a.0 a.1 line)
+        (λ h. let a = locking_at x (solo old.kept t n) t ahead node_ahead.0 there_ahead p.0 h in ends_lock a.0 a.1 a.2 line)
+        (λ h. let a = unlocking_at x (solo old.kept t n) t ahead node_ahead.0 there_ahead p.0 h in ends_unlock a.0 a.1 a.2 line)
         pass)
         stands
 

@@ -34,8 +34,8 @@ abbrev pub action_uses : Action → List Use
 action_uses (Eval target value next) = assign_uses target value
 action_uses (Store variable kind next) = []
 action_uses (Test condition holds fails) = expr_uses condition.expr
-action_uses (Lock mutex next) = []
-action_uses (Unlock mutex next) = []
+action_uses (Lock lock next) = []
+action_uses (Unlock lock next) = []
 action_uses End = []
 
 module _ (variables : List Variable) (names : List e.LockName) (h : Held) (ls : List ℤ) (p : Option Pending) (vs ws : List (List ℤ))
@@ -63,8 +63,8 @@ module _ (variables : List Variable) (names : List e.LockName) (h : Held) (ls : 
   effect_same (Store variable kind next) g = refl
   effect_same (Test condition holds fails) g =
       ap (λ (n : Typed). Some (Goes (if is_zero n.number then fails else holds))) (lockstep condition.expr g)
-  effect_same (Lock mutex next) g = refl
-  effect_same (Unlock mutex next) g = refl
+  effect_same (Lock lock next) g = refl
+  effect_same (Unlock lock next) g = refl
   effect_same End g = refl
 
 -- ---- A thread at its node
@@ -107,8 +107,8 @@ guarded_by x names all h after (Test condition holds fails) left owes d k = elim
       subst (λ (l : List f.Statement). KeepList x.variables names h l after) same k in
       (keeps_while x.variables names kept.1).0
 ]
-guarded_by x names all h after (Lock mutex next) left owes d k = refl
-guarded_by x names all h after (Unlock mutex next) left owes d k = refl
+guarded_by x names all h after (Lock lock next) left owes d k = refl
+guarded_by x names all h after (Unlock lock next) left owes d k = refl
 guarded_by x names all h after End left owes d k = refl
 
 -- the set of names that a thread with these locals holds guards these uses, and the element of each use that it guards is the thread's, whatever numbers

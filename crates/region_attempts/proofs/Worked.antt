@@ -75,12 +75,12 @@ unlocks_next = refl
 -- a region begins after the lock
 resumes : Resumes (lowered x) b 1
 unfolding lowered
-resumes = begins (past_lock 0 (record { locks = locks _ 0 1 refl refl; stands = refl }) (record { is = _; at = refl; goes = (0, omega arith, refl) }))
+resumes = begins (past_lock 0 (record { locks = locks _ _ 1 refl refl; stands = refl }) (record { is = _; at = refl; goes = (0, omega arith, refl) }))
 
 -- after the unlock the thread can be resumed
 resumes_again : Resumes (lowered x) b 4
 unfolding lowered
-resumes_again = past_unlock 3 (unlocks _ 0 4 refl refl) (record { is = _; at = refl; goes = (0, omega arith, refl) })
+resumes_again = past_unlock 3 (unlocks _ _ 4 refl refl) (record { is = _; at = refl; goes = (0, omega arith, refl) })
 
 -- ---- What it reads
 

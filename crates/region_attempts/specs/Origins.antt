@@ -8,7 +8,7 @@ use Rattle.flow_graph.specs.Nodes.{Node}
 use Rattle.flow_graph.specs.Lowering.{lowered}
 use Rattle.flow_graph.specs.Liveness.{NodeAt}
 use Rattle.flow_graph.specs.Actions.{GraphThread, FlowState}
-use Rattle.flow_graph.specs.Lockstep.{Matches}
+use Rattle.flow_graph.specs.Lockstep.{IsOwnNode, Matches}
 use Rattle.flow_graph.specs.Paths.{LiesInWritten, stored_element, no_names}
 
 -- the store is to an element of the location that the node writes
@@ -18,7 +18,7 @@ pub record IsPendingAt (x : f.Flat) (at : ℕ) (store : Pending) : Type 0 where
   pub lies : LiesInWritten no_names node.writes (stored_element store)
 
 -- a state of the graph and the source's that it matches, whether a run reaches them or not: in it each thread keeps the lock discipline, mutexes are held by
--- threads, every number is of its kind, and a thread whose store is pending stands at a node that makes such a store
+-- threads, every number is of its kind, each thread stands at a node of its own, and one whose store is pending at a node that makes such a store
 pub record Origin (x : f.Flat) : Type 0 where
   pub flow : FlowState
   pub source : State
@@ -26,5 +26,6 @@ pub record Origin (x : f.Flat) : Type 0 where
   pub keeps : StateKeeps x source
   pub formed : IsStateOf x source
   pub holders : (mutex thread : ℕ) → slice_get source.holders mutex ≡ Some (Some thread) → thread < length source.threads
+  pub own : (thread : ℕ) (graph_thread : GraphThread) → slice_get flow.graph_threads thread ≡ Some graph_thread → IsOwnNode x thread graph_thread.at
   pub pending : (thread : ℕ) (graph_thread : GraphThread) (store : Pending) → slice_get flow.graph_threads thread ≡ Some graph_thread →
       graph_thread.pending ≡ Some store → IsPendingAt x graph_thread.at store

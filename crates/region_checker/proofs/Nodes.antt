@@ -1,5 +1,6 @@
 -- Nodes of the code and of the graph.
 use Rattle.std.proofs.Common.{◌≡◌, ◌⊎◌, ◌↔◌, inl, inr, ℕ, zero, suc, ◌+◌, ◌<◌, ◌≤◌, Bool, true, false, not, MatchBool, List}
+use Rattle.c_tree.specs.Exprs.{LockName}
 use Rattle.std.proofs.Common.{[], ◌∷◌, ◌++◌, length, get_or, map, Option, Some, None, refl, ap, sym, subst, ◌∙◌, arith}
 use Rattle.std.specs.Prelude.{Contains, IsTrue, slice_get}
 use Rattle.std.specs.Option.{option_map}
@@ -82,60 +83,60 @@ stops_at g nodes n elements e lt =
 -- ---- Locks
 
 pub record Locking (a : Action) : Type 0 where
-  pub mutex : ℕ
+  pub lock : LockName
   pub next : ℕ
-  pub is : a ≡ Lock mutex next
+  pub is : a ≡ Lock lock next
 
 false_true : IsTrue false → ⊥
 false_true h = cc
 
 locking : (a : Action) → IsTrue (is_lock a) → Locking a
-locking (Lock mutex next) h = record { mutex = mutex; next = next; is = refl }
+locking (Lock lock next) h = record { lock = lock; next = next; is = refl }
 locking (Eval target value next) h = absurd (false_true h)
 locking (Store variable kind next) h = absurd (false_true h)
 locking (Test condition holds fails) h = absurd (false_true h)
-locking (Unlock mutex next) h = absurd (false_true h)
+locking (Unlock lock next) h = absurd (false_true h)
 locking End h = absurd (false_true h)
 
 pub record Unlocking (a : Action) : Type 0 where
-  pub mutex : ℕ
+  pub lock : LockName
   pub next : ℕ
-  pub is : a ≡ Unlock mutex next
+  pub is : a ≡ Unlock lock next
 
 unlocking : (a : Action) → IsTrue (is_unlock a) → Unlocking a
-unlocking (Unlock mutex next) h = record { mutex = mutex; next = next; is = refl }
+unlocking (Unlock lock next) h = record { lock = lock; next = next; is = refl }
 unlocking (Eval target value next) h = absurd (false_true h)
 unlocking (Store variable kind next) h = absurd (false_true h)
 unlocking (Test condition holds fails) h = absurd (false_true h)
-unlocking (Lock mutex next) h = absurd (false_true h)
+unlocking (Lock lock next) h = absurd (false_true h)
 unlocking End h = absurd (false_true h)
 
 pub lock_at : (g : Graph) (n : ℕ) (x : Node) → NodeAt g n x → IsTrue (is_lock x.action) → IsLock g n
-lock_at g n x at h = let l = locking x.action h in locks x l.mutex l.next at l.is
+lock_at g n x at h = let l = locking x.action h in locks x l.lock l.next at l.is
 
 pub unlock_at : (g : Graph) (n : ℕ) (x : Node) → NodeAt g n x → IsTrue (is_unlock x.action) → IsUnlock g n
-unlock_at g n x at h = let l = unlocking x.action h in unlocks x l.mutex l.next at l.is
+unlock_at g n x at h = let l = unlocking x.action h in unlocks x l.lock l.next at l.is
 
 pub is_lock_at : (g : Graph) (n : ℕ) (x : Node) → NodeAt g n x → IsLock g n → IsTrue (is_lock x.action)
-is_lock_at g n x at (locks y mutex next at' is) =
+is_lock_at g n x at (locks y lock next at' is) =
     let same : y ≡ x = one_node g.nodes n y x at' at in
     subst (λ (z : Node). IsTrue (is_lock z.action)) same (subst (λ (a : Action). IsTrue (is_lock a)) (sym is) refl)
 
 pub is_unlock_at : (g : Graph) (n : ℕ) (x : Node) → NodeAt g n x → IsUnlock g n → IsTrue (is_unlock x.action)
-is_unlock_at g n x at (unlocks y mutex next at' is) =
+is_unlock_at g n x at (unlocks y lock next at' is) =
     let same : y ≡ x = one_node g.nodes n y x at' at in
     subst (λ (z : Node). IsTrue (is_unlock z.action)) same (subst (λ (a : Action). IsTrue (is_unlock a)) (sym is) refl)
 
 -- a lock's only path leads to the next node
 lock_goes : (a : Action) (to : ℕ) → IsTrue (is_lock a) → Contains (successors a) to → next_of a ≡ Some to
-lock_goes (Lock mutex next) to h (i, lt, is) = elim (same_or_other i 0) [
+lock_goes (Lock lock next) to h (i, lt, is) = elim (same_or_other i 0) [
   | inl e ↦ ap (λ (n : ℕ). Some n) (ap (λ k. get_or (next ∷ []) k to) (sym e) ∙ is)
   | inr other ↦ absurd (omega (arith, lt))
 ]
 lock_goes (Eval target value next) to h k = absurd (false_true h)
 lock_goes (Store variable kind next) to h k = absurd (false_true h)
 lock_goes (Test condition holds fails) to h k = absurd (false_true h)
-lock_goes (Unlock mutex next) to h k = absurd (false_true h)
+lock_goes (Unlock lock next) to h k = absurd (false_true h)
 lock_goes End to h k = absurd (false_true h)
 
 -- ---- Paths from a node
@@ -170,8 +171,8 @@ pub to_paths : (a : Action) (to : ℕ) → Contains (successors a) to → (next_
 to_paths (Eval target value next) to k = inl (goes_one next to k)
 to_paths (Store variable kind next) to k = inl (goes_one next to k)
 to_paths (Test condition holds fails) to k = goes_two holds fails to k
-to_paths (Lock mutex next) to k = inl (goes_one next to k)
-to_paths (Unlock mutex next) to k = inl (goes_one next to k)
+to_paths (Lock lock next) to k = inl (goes_one next to k)
+to_paths (Unlock lock next) to k = inl (goes_one next to k)
 to_paths End to k = absurd (omega (arith, k.1))
 
 pub from_paths : (a : Action) (to : ℕ) → (next_of a ≡ Some to) ⊎ (other_of a ≡ Some to) → Contains (successors a) to
@@ -181,10 +182,10 @@ from_paths (Store variable kind next) to (inl e) = goes_first next to [] e
 from_paths (Store variable kind next) to (inr e) = absurd (no_path to e)
 from_paths (Test condition holds fails) to (inl e) = goes_first holds to (fails ∷ []) e
 from_paths (Test condition holds fails) to (inr e) = goes_second holds fails to e
-from_paths (Lock mutex next) to (inl e) = goes_first next to [] e
-from_paths (Lock mutex next) to (inr e) = absurd (no_path to e)
-from_paths (Unlock mutex next) to (inl e) = goes_first next to [] e
-from_paths (Unlock mutex next) to (inr e) = absurd (no_path to e)
+from_paths (Lock lock next) to (inl e) = goes_first next to [] e
+from_paths (Lock lock next) to (inr e) = absurd (no_path to e)
+from_paths (Unlock lock next) to (inl e) = goes_first next to [] e
+from_paths (Unlock lock next) to (inr e) = absurd (no_path to e)
 from_paths End to (inl e) = absurd (no_path to e)
 from_paths End to (inr e) = absurd (no_path to e)
 
@@ -256,7 +257,7 @@ lock_next g b n to x at h edge =
 -- ---- Nodes within the code's list
 
 pub lock_in : (g : declared.Graph) (n : ℕ) → IsLock (graph_of g) n → n < length g.nodes.items
-lock_in g n (locks x mutex next at is) = within_map g.nodes.items n x at
+lock_in g n (locks x lock next at is) = within_map g.nodes.items n x at
 
 pub node_in : (g : declared.Graph) (n : ℕ) (x : Node) → NodeAt (graph_of g) n x → n < length g.nodes.items
 node_in g n x at = within_map g.nodes.items n x at

@@ -17,16 +17,16 @@ pub locked : (g : Graph) (n : ℕ) (x : Node) (a : Action) → NodeAt g n x → 
 locked g n x (Eval target value next) at is e = absurd (cc)
 locked g n x (Store variable kind next) at is e = absurd (cc)
 locked g n x (Test condition holds fails) at is e = absurd (cc)
-locked g n x (Lock mutex next) at is e = locks x mutex next at is
-locked g n x (Unlock mutex next) at is e = absurd (cc)
+locked g n x (Lock lock next) at is e = locks x lock next at is
+locked g n x (Unlock lock next) at is e = absurd (cc)
 locked g n x End at is e = absurd (cc)
 
 pub unlocked : (g : Graph) (n : ℕ) (x : Node) (a : Action) → NodeAt g n x → x.action ≡ a → t.unlocks a ≡ true → IsUnlock g n
 unlocked g n x (Eval target value next) at is e = absurd (cc)
 unlocked g n x (Store variable kind next) at is e = absurd (cc)
 unlocked g n x (Test condition holds fails) at is e = absurd (cc)
-unlocked g n x (Lock mutex next) at is e = absurd (cc)
-unlocked g n x (Unlock mutex next) at is e = unlocks x mutex next at is
+unlocked g n x (Lock lock next) at is e = absurd (cc)
+unlocked g n x (Unlock lock next) at is e = unlocks x lock next at is
 unlocked g n x End at is e = absurd (cc)
 
 -- ---- No path comes to a node that has a boundary before it
@@ -67,7 +67,7 @@ places_everywhere g b e =
     let stands = λ (n : ℕ) (x : Node) (at : NodeAt g n x) (may : t.may_stand x ≡ true). subst (λ (bs : List Bool). slice_get bs n ≡ Some true)
     (sym e.before) (answered t.may_stand g.nodes n x at may) in
     let before : (n : ℕ) → IsUnlock g n → HasBefore b n = λ n unlock. elim unlock [
-      | unlocks x mutex next at is ↦ stands n x at (or_left (t.unlocks x.action) (is_some x.writes) (ap t.unlocks is))
+      | unlocks x lock next at is ↦ stands n x at (or_left (t.unlocks x.action) (is_some x.writes) (ap t.unlocks is))
     ] in
     record {
       long = ap length e.before ∙ simp length-map;
@@ -85,7 +85,7 @@ places_everywhere g b e =
 
 pub not_unlocked : (g : Graph) (n : ℕ) (x : Node) → NodeAt g n x → t.unlocks x.action ≡ false → ¬ (IsUnlock g n)
 not_unlocked g n x at e unlock = elim unlock [
-  | unlocks y mutex next at' is ↦ (
+  | unlocks y lock next at' is ↦ (
       let some : Some x ≡ Some y = sym at ∙ at' in
       let same : x ≡ y = cc in
       let yes : t.unlocks x.action ≡ true = ap (λ (z : Node). t.unlocks z.action) same ∙ ap t.unlocks is in

@@ -31,8 +31,8 @@ pub after_from : (a : Action) (to : ℕ) → Contains (successors a) to → (nex
 after_from (Eval target value next) to k = inl (some next to (one next to k))
 after_from (Store variable kind next) to k = inl (some next to (one next to k))
 after_from (Test condition holds fails) to k = elim (two holds fails to k) [ inl e ↦ inl (some holds to e) | inr e ↦ inr (some fails to e) ]
-after_from (Lock mutex next) to k = inl (some next to (one next to k))
-after_from (Unlock mutex next) to k = inl (some next to (one next to k))
+after_from (Lock lock next) to k = inl (some next to (one next to k))
+after_from (Unlock lock next) to k = inl (some next to (one next to k))
 after_from End to k = absurd (omega (arith, k.1))
 
 first : (l : ℕ) (rest : List ℕ) (to : ℕ) → Some l ≡ Some to → Contains (l ∷ rest) to
@@ -48,10 +48,10 @@ after_to (Store variable kind next) to (inl e) = first next [] to e
 after_to (Store variable kind next) to (inr e) = absurd (cc)
 after_to (Test condition holds fails) to (inl e) = first holds (fails ∷ []) to e
 after_to (Test condition holds fails) to (inr e) = second holds fails to e
-after_to (Lock mutex next) to (inl e) = first next [] to e
-after_to (Lock mutex next) to (inr e) = absurd (cc)
-after_to (Unlock mutex next) to (inl e) = first next [] to e
-after_to (Unlock mutex next) to (inr e) = absurd (cc)
+after_to (Lock lock next) to (inl e) = first next [] to e
+after_to (Lock lock next) to (inr e) = absurd (cc)
+after_to (Unlock lock next) to (inl e) = first next [] to e
+after_to (Unlock lock next) to (inr e) = absurd (cc)
 after_to End to (inl e) = absurd (cc)
 after_to End to (inr e) = absurd (cc)
 
@@ -68,7 +68,7 @@ edge_from g n to x at e = subst (λ (y : Node). (next_of y.action ≡ Some to) �
 -- ---- Boundaries after locks
 
 pub is_lock : (g : Graph) (n : ℕ) (x : Node) → NodeAt g n x → IsLock g n → t.locks x.action ≡ true
-is_lock g n x at (b.locks y mutex next at' is) = ap (λ (z : Node). t.locks z.action) (same_node g n x y at at') ∙ ap t.locks is
+is_lock g n x at (b.locks y lock next at' is) = ap (λ (z : Node). t.locks z.action) (same_node g n x y at at') ∙ ap t.locks is
 
 pub both : (a c : Bool) → (a && c) ≡ true → (a ≡ true) × (c ≡ true)
 both true c e = (refl, e)

@@ -300,8 +300,8 @@ few_kept g stretches b count le are f =
     let lt = d.1 in
     f.done d.0 (record { first = first; past = past }) (omega (arith, lt, le)) d.2) in
     let after : (n : ℕ) → IsLock g n → HasBoundaryAfter g b n = λ n lock. elim lock [
-      | locks x mutex next at is ↦ record {
-        locks = locks x mutex next at is;
+      | locks x lock next at is ↦ record {
+        locks = locks x lock next at is;
         stands = subst (λ (bs : List Bool). slice_get bs n ≡ Some true) (sym f.after) (answered t.takes g.nodes n x at (ap t.locks is));
       }
     ] in

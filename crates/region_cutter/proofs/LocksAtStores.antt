@@ -20,7 +20,8 @@ use Rattle.lock_discipline.proofs.Public.{boundary_after_is, thread_sets_are}
 use Rattle.flow_graph.specs.declared.graph.Part.{Part}
 use Rattle.flow_graph.specs.Nodes.{Node, Store, End}
 use Rattle.flow_graph.specs.Liveness.{NodeAt}
-use Rattle.flow_graph.specs.Lowering.{lowered, assign_nodes, count, statements_count, arms_count, thread_count, entry, statement_nodes, statements_nodes}
+use Rattle.flow_graph.specs.Lowering.{table_of, Table, lowered, assign_nodes, count, statements_count}
+use Rattle.flow_graph.specs.Lowering.{arms_count, thread_count, entry, statement_nodes, statements_nodes}
 use Rattle.flow_graph.specs.Lowering.{arms_nodes, thread_nodes, threads_nodes, part, parts, plain_node, test_node}
 use Rattle.flow_graph.proofs.Public.{found_in, lowered_nodes, lowered_threads}
 use Rattle.region_cutter.specs.LocksAtBoundaries.{IsHeldAt, ChosenAreLocked, NodesAreSteps}
@@ -98,10 +99,11 @@ module _ (vs : List Variable) (names : List e.LockName) where
   stored : (h : Held) (us rest : List Use) (u : Use) → AreGuarded vs names h (us ++ u ∷ rest) → is_guarded vs names h u ≡ true
   stored h us rest u g = yes (is_guarded vs names h u) (none_there (λ (w : Use). not (is_guarded vs names h w)) us rest u g)
 
-  guarded_assign : (place : Place) (target : e.Lvalue) (value : e.Placed) (h : Held) (first next : ℕ) → AreGuarded vs names h (assign_uses target value) →
-      AllGuarded vs names (sets_in names h (f.Assign place target value)) (assign_nodes place target value first next)
-  guarded_assign place (e.ToLocal name local kind) value h first next g = (quiet vs names h _ refl, tt)
-  guarded_assign place (e.ToVariable name variable kind) value h first next g = (
+  guarded_assign : (table : Table) (place : Place) (target : e.Lvalue) (value : e.Placed) (h : Held) (first next : ℕ) →
+      AreGuarded vs names h (assign_uses target value) →
+      AllGuarded vs names (sets_in names h (f.Assign place target value)) (assign_nodes table place target value first next)
+  guarded_assign table place (e.ToLocal name local kind) value h first next g = (quiet vs names h _ refl, tt)
+  guarded_assign table place (e.ToVariable name variable kind) value h first next g = (
     quiet vs names h _ refl,
     (
       (λ w is.
@@ -110,7 +112,7 @@ module _ (vs : List Variable) (names : List e.LockName) where
       tt,
     ),
   )
-  guarded_assign place (e.ToElement name variable kind index) value h first next g = (
+  guarded_assign table place (e.ToElement name variable kind index) value h first next g = (
     quiet vs names h _ refl,
     (
       (λ w is.
@@ -121,40 +123,41 @@ module _ (vs : List Variable) (names : List e.LockName) where
   )
 
   mutual
-    guarded : {h after : Held} {s : f.Statement} → Keeps vs names h s after → (first next : ℕ) →
-        AllGuarded vs names (sets_in names h s) (statement_nodes s first next)
-    guarded (assign {h = h} place target value g free) first next = guarded_assign place target value h first next g
-    guarded (choose {h = h} place arms otherwise p q) first next =
+    guarded : (table : Table) {h after : Held} {s : f.Statement} → Keeps vs names h s after → (first next : ℕ) →
+        AllGuarded vs names (sets_in names h s) (statement_nodes table s first next)
+    guarded table (assign {h = h} place target value g free) first next = guarded_assign table place target value h first next g
+    guarded table (choose {h = h} place arms otherwise p q) first next =
         let last = entry (statements_count otherwise) (first + arms_count arms) next in
-        joined vs names (sets_in_arms names h arms) (sets_in_all names h otherwise) (arms_nodes arms place last first next)
-        (statements_nodes otherwise (first + arms_count arms) next)
-        (guarded_arms p place last first next) (guarded_all q (first + arms_count arms) next)
-    guarded (repeat {h = h} place condition body g p) first next = (quiet vs names h _ refl, guarded_all p (suc first) first)
-    guarded (again {h = h} place body condition p g) first next =
-        joined vs names (sets_in_all names h body) (held_after_all names h body ∷ []) (statements_nodes body first (first + statements_count body))
-        (test_node place condition first next ∷ [])
-        (guarded_all p first (first + statements_count body)) (quiet vs names (held_after_all names h body) _ refl, tt)
-    guarded (lock {h = h} place name free) first next = (quiet vs names h _ refl, tt)
-    guarded (unlock {h = h} place name held) first next = (quiet vs names h _ refl, tt)
+        joined vs names (sets_in_arms names h arms) (sets_in_all names h otherwise) (arms_nodes table arms place last first next)
+        (statements_nodes table otherwise (first + arms_count arms) next)
+        (guarded_arms table p place last first next) (guarded_all table q (first + arms_count arms) next)
+    guarded table (repeat {h = h} place condition body g p) first next = (quiet vs names h _ refl, guarded_all table p (suc first) first)
+    guarded table (again {h = h} place body condition p g) first next =
+        joined vs names (sets_in_all names h body) (held_after_all names h body ∷ []) (statements_nodes table body first (first + statements_count body))
+        (test_node table place condition first next ∷ [])
+        (guarded_all table p first (first + statements_count body)) (quiet vs names (held_after_all names h body) _ refl, tt)
+    guarded table (lock {h = h} place name free) first next = (quiet vs names h _ refl, tt)
+    guarded table (unlock {h = h} place name held) first next = (quiet vs names h _ refl, tt)
 
-    guarded_all : {h after : Held} {ss : f.Statements} → KeepAll vs names h ss after → (first next : ℕ) →
-        AllGuarded vs names (sets_in_all names h ss) (statements_nodes ss first next)
-    guarded_all no_more first next = tt
-    guarded_all (then {h = h} x rest p q) first next =
+    guarded_all : (table : Table) {h after : Held} {ss : f.Statements} → KeepAll vs names h ss after → (first next : ℕ) →
+        AllGuarded vs names (sets_in_all names h ss) (statements_nodes table ss first next)
+    guarded_all table no_more first next = tt
+    guarded_all table (then {h = h} x rest p q) first next =
         let further = entry (statements_count rest) (first + count x) next in
-        let tail = statements_nodes rest (first + count x) next in
-        joined vs names (sets_in names h x) _ (statement_nodes x first further) tail (guarded p first further)
-        (subst (λ (k : Held). AllGuarded vs names (sets_in_all names k rest) tail) (sym (boundary_after_is vs names p)) (guarded_all q (first + count x) next))
+        let tail = statements_nodes table rest (first + count x) next in
+        joined vs names (sets_in names h x) _ (statement_nodes table x first further) tail (guarded table p first further)
+        (subst (λ (k : Held). AllGuarded vs names (sets_in_all names k rest) tail) (sym (boundary_after_is vs names p))
+        (guarded_all table q (first + count x) next))
 
-    guarded_arms : {h after : Held} {arms : f.Arms} → KeepArms vs names h arms after → (place : Place) (last first next : ℕ) →
-        AllGuarded vs names (sets_in_arms names h arms) (arms_nodes arms place last first next)
-    guarded_arms no_more_arms place last first next = tt
-    guarded_arms (arm {h = h} condition body rest g p q) place last first next =
+    guarded_arms : (table : Table) {h after : Held} {arms : f.Arms} → KeepArms vs names h arms after → (place : Place) (last first next : ℕ) →
+        AllGuarded vs names (sets_in_arms names h arms) (arms_nodes table arms place last first next)
+    guarded_arms table no_more_arms place last first next = tt
+    guarded_arms table (arm {h = h} condition body rest g p q) place last first next =
         let further = suc first + statements_count body in (
           quiet vs names h _ refl,
-          joined vs names (sets_in_all names h body) (sets_in_arms names h rest) (statements_nodes body (suc first) next)
-              (arms_nodes rest place last further next)
-              (guarded_all p (suc first) next) (guarded_arms q place last further next),
+          joined vs names (sets_in_all names h body) (sets_in_arms names h rest) (statements_nodes table body (suc first) next)
+              (arms_nodes table rest place last further next)
+              (guarded_all table p (suc first) next) (guarded_arms table q place last further next),
         )
 
 -- ---- There are as many steps as nodes
@@ -187,20 +190,20 @@ module _ (x : f.Flat) where
   abbrev own_sets : f.Thread → List Held
   own_sets t = thread_sets (lock_names x t) t
 
-  guarded_thread : (t : f.Thread) (first : ℕ) → IsDisciplined x t → AllGuarded x.variables (lock_names x t) (own_sets t) (thread_nodes t first)
+  guarded_thread : (t : f.Thread) (first : ℕ) → IsDisciplined x t → AllGuarded x.variables (lock_names x t) (own_sets t) (thread_nodes (table_of x t) t first)
   guarded_thread t first d =
       let start = none_held (length (lock_names x t)) in
       joined x.variables (lock_names x t) (sets_in_all (lock_names x t) start t.body) (held_after_all (lock_names x t) start t.body ∷ [])
-      (statements_nodes t.body first (first + statements_count t.body))
+      (statements_nodes (table_of x t) t.body first (first + statements_count t.body))
       (plain_node t.closing End ∷ [])
-      (guarded_all x.variables (lock_names x t) d first (first + statements_count t.body))
+      (guarded_all x.variables (lock_names x t) (table_of x t) d first (first + statements_count t.body))
       (quiet x.variables (lock_names x t) (held_after_all (lock_names x t) start t.body) _ refl, tt)
 
   sets_long : (t : f.Thread) (sets : List Held) → AreSetsOf x t sets → length sets ≡ thread_count t
   sets_long t sets are = omega (arith, are.each_step, steps_all t.body)
 
-  nodes_long : (t : f.Thread) (first : ℕ) → IsDisciplined x t → length (thread_nodes t first) ≡ thread_count t
-  nodes_long t first d = guarded_long x.variables (lock_names x t) (own_sets t) (thread_nodes t first) (guarded_thread t first d) ∙
+  nodes_long : (t : f.Thread) (first : ℕ) → IsDisciplined x t → length (thread_nodes (table_of x t) t first) ≡ thread_count t
+  nodes_long t first d = guarded_long x.variables (lock_names x t) (own_sets t) (thread_nodes (table_of x t) t first) (guarded_thread t first d) ∙
       sets_long t (own_sets t) (thread_sets_are x t d)
 
 -- ---- Parts of the graph
@@ -229,7 +232,8 @@ module _ (x : f.Flat) where
   -- the node of a thread's step is the thread's own
   own_node : (ts : List f.Thread) (first n m step : ℕ) (p : Part) (t : f.Thread) (y : Node) → Disciplined ts → slice_get (parts ts first) n ≡ Some p →
       slice_get ts n ≡ Some t →
-      first + m ≡ p.first + step → step < thread_count t → slice_get (threads_nodes ts first) m ≡ Some y → slice_get (thread_nodes t p.first) step ≡ Some y
+      first + m ≡ p.first + step → step < thread_count t → slice_get (threads_nodes x ts first) m ≡ Some y →
+      slice_get (thread_nodes (table_of x t) t p.first) step ≡ Some y
   own_node [] first n m step p t y d at is sum lt got = absurd (cc)
   own_node (t' ∷ ts) first zero m step p t y d at is sum lt got =
       let same : part t' first ≡ p = cc in
@@ -238,17 +242,17 @@ module _ (x : f.Flat) where
       let long = nodes_long x t' first (d 0 t' refl) in
       let count' = ap thread_count thread in
       let here : m ≡ step = omega (arith, begin, sum) in
-      let node : slice_get (thread_nodes t' first) m ≡ Some y =
-      sym (get_left (thread_nodes t' first) (threads_nodes ts (first + thread_count t')) m (omega (arith, long, count', here, lt))) ∙ got in
-      subst (λ (s : ℕ). slice_get (thread_nodes t p.first) s ≡ Some y) here
-      (subst (λ (k : ℕ). slice_get (thread_nodes t k) m ≡ Some y) (sym begin)
-      (subst (λ (z : f.Thread). slice_get (thread_nodes z first) m ≡ Some y) thread node))
+      let node : slice_get (thread_nodes (table_of x t') t' first) m ≡ Some y =
+      sym (get_left (thread_nodes (table_of x t') t' first) (threads_nodes x ts (first + thread_count t')) m (omega (arith, long, count', here, lt))) ∙ got in
+      subst (λ (s : ℕ). slice_get (thread_nodes (table_of x t) t p.first) s ≡ Some y) here
+      (subst (λ (k : ℕ). slice_get (thread_nodes (table_of x t) t k) m ≡ Some y) (sym begin)
+      (subst (λ (z : f.Thread). slice_get (thread_nodes (table_of x z) z first) m ≡ Some y) thread node))
   own_node (t' ∷ ts) first (suc n) m step p t y d at is sum lt got =
       let long = nodes_long x t' first (d 0 t' refl) in
       let from = part_from ts (first + thread_count t') n p at in
       let m' = m - thread_count t' in
       own_node ts (first + thread_count t') n m' step p t y (λ k z k'. d (suc k) z k') at is (omega (arith, from, sum)) lt
-      (sym (get_right (thread_nodes t' first) (threads_nodes ts (first + thread_count t')) m m' (omega (arith, long, from, sum))) ∙ got)
+      (sym (get_right (thread_nodes (table_of x t') t' first) (threads_nodes x ts (first + thread_count t')) m m' (omega (arith, long, from, sum))) ∙ got)
 
   -- a node is some thread's step
   record Found (ts : List f.Thread) (first m : ℕ) : Type 0 where
@@ -261,7 +265,7 @@ module _ (x : f.Flat) where
     pub sum : first + m ≡ p.first + step
     pub within : step < thread_count t
 
-  found : (ts : List f.Thread) (first m : ℕ) (y : Node) → Disciplined ts → slice_get (threads_nodes ts first) m ≡ Some y → Found ts first m
+  found : (ts : List f.Thread) (first m : ℕ) (y : Node) → Disciplined ts → slice_get (threads_nodes x ts first) m ≡ Some y → Found ts first m
   found [] first m y d got = absurd (cc)
   found (t ∷ ts) first m y d got = elim (cases_lt m (thread_count t)) [
     | inl less ↦ record { n = 0; p = part t first; t = t; step = m; own = refl; is = refl; sum = refl; within = less }
@@ -269,7 +273,7 @@ module _ (x : f.Flat) where
         let long = nodes_long x t first (d 0 t refl) in
         let m' = m - thread_count t in
         let f' = found ts (first + thread_count t) m' y (λ k z k'. d (suc k) z k')
-        (sym (get_right (thread_nodes t first) (threads_nodes ts (first + thread_count t)) m m' (omega (arith, long, most))) ∙ got) in
+        (sym (get_right (thread_nodes (table_of x t) t first) (threads_nodes x ts (first + thread_count t)) m m' (omega (arith, long, most))) ∙ got) in
         record {
           n = suc f'.n;
           p = f'.p;
@@ -303,10 +307,10 @@ module _ (x : f.Flat) where
       let within = slice_get_within h.sets step held h.before in
       let part' : slice_get (parts x.threads 0) thread ≡ Some h.part =
       subst (λ (ps : List Part). slice_get ps thread ≡ Some h.part) (lowered_threads x) h.own in
-      let node' : slice_get (threads_nodes x.threads 0) node ≡ Some y = subst (λ (ns : List Node). slice_get ns node ≡ Some y) (lowered_nodes x) at in (
+      let node' : slice_get (threads_nodes x x.threads 0) node ≡ Some y = subst (λ (ns : List Node). slice_get ns node ≡ Some y) (lowered_nodes x) at in (
         t.0,
         t.1,
-        guarded_at x.variables (lock_names x t.0) (own_sets x t.0) (thread_nodes t.0 h.part.first) step held y
+        guarded_at x.variables (lock_names x t.0) (own_sets x t.0) (thread_nodes (table_of x t.0) t.0 h.part.first) step held y
             (guarded_thread x t.0 h.part.first sets.disciplined) own
             (own_node x.threads 0 thread node step h.part t.0 y (disciplined table are) part' t.1 (omega (arith, h.is))
             (omega (arith, within, sets_long x t.0 h.sets sets)) node'),

@@ -31,8 +31,8 @@ plain_by : (g : Graph) (n : ℕ) (x : Node) (a : Action) → NodeAt g n x → x.
 plain_by g n x (Eval target value next) at is e = evaluates x target value next at is
 plain_by g n x (Store variable kind next) at is e = stores x variable kind next at is
 plain_by g n x (Test condition holds fails) at is e = absurd (cc)
-plain_by g n x (Lock mutex next) at is e = absurd (cc)
-plain_by g n x (Unlock mutex next) at is e = absurd (cc)
+plain_by g n x (Lock lock next) at is e = absurd (cc)
+plain_by g n x (Unlock lock next) at is e = absurd (cc)
 plain_by g n x End at is e = absurd (cc)
 
 plain_to : (g : Graph) (n : ℕ) (x : Node) → NodeAt g n x → IsPlain g n → plain x.action ≡ true
@@ -56,7 +56,7 @@ pub plain_none : (g : Graph) (n : ℕ) → slice_get g.nodes n ≡ None → IsTr
 plain_none g n none = (λ h. let wrong : false ≡ true = h in absurd (cc), λ p. let x = node_of_plain g n p in absurd (no_node g n x.0 none x.1))
 
 is_unlock : (g : Graph) (n : ℕ) (x : Node) → NodeAt g n x → IsUnlock g n → t.unlocks x.action ≡ true
-is_unlock g n x at (i.unlocks y mutex next at' is) = ap (λ (z : Node). t.unlocks z.action) (same_node g n x y at at') ∙ ap t.unlocks is
+is_unlock g n x at (i.unlocks y lock next at' is) = ap (λ (z : Node). t.unlocks z.action) (same_node g n x y at at') ∙ ap t.unlocks is
 
 sync_by : (g : Graph) (n : ℕ) (x : Node) → NodeAt g n x → IsSync x → Synchronises g n
 sync_by g n x at s = record {
@@ -233,8 +233,8 @@ leads_by g n to x a at is p e = elim (edge_from g n to x at e) [
     no_other (Eval target value next) y m o = absurd (cc)
     no_other (Store variable kind next) y m o = absurd (cc)
     no_other (Test condition holds fails) y m o = absurd (cc)
-    no_other (Lock mutex next) y m o = absurd (cc)
-    no_other (Unlock mutex next) y m o = absurd (cc)
+    no_other (Lock lock next) y m o = absurd (cc)
+    no_other (Unlock lock next) y m o = absurd (cc)
     no_other End y m o = absurd (cc)
 
 pub leads_to : (g : Graph) (n to : ℕ) (x : Node) → NodeAt g n x → IsPlain g n → IsEdge g n to → next_of x.action ≡ Some to

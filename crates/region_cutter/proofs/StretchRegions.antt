@@ -16,20 +16,20 @@ use Rattle.region_cutter.proofs.FewestRegions.{begins_before}
 -- ---- Nodes that take no mutex
 
 pub plain_no_lock : (g : Graph) (node : ℕ) → IsPlain g node → ¬ (IsLock g node)
-plain_no_lock g node (evaluates x target value next at is) (locks y mutex to at' is') =
-    let e : Eval target value next ≡ Lock mutex to = sym is ∙ ap (λ (z : Node). z.action) (same_node g node x y at at') ∙ is' in cc
-plain_no_lock g node (stores x variable kind next at is) (locks y mutex to at' is') =
-    let e : Store variable kind next ≡ Lock mutex to = sym is ∙ ap (λ (z : Node). z.action) (same_node g node x y at at') ∙ is' in cc
+plain_no_lock g node (evaluates x target value next at is) (locks y lock to at' is') =
+    let e : Eval target value next ≡ Lock lock to = sym is ∙ ap (λ (z : Node). z.action) (same_node g node x y at at') ∙ is' in cc
+plain_no_lock g node (stores x variable kind next at is) (locks y lock to at' is') =
+    let e : Store variable kind next ≡ Lock lock to = sym is ∙ ap (λ (z : Node). z.action) (same_node g node x y at at') ∙ is' in cc
 
 pub plain_no_unlock : (g : Graph) (node : ℕ) → IsPlain g node → ¬ (IsUnlock g node)
-plain_no_unlock g node (evaluates x target value next at is) (unlocks y mutex to at' is') =
-    let e : Eval target value next ≡ Unlock mutex to = sym is ∙ ap (λ (z : Node). z.action) (same_node g node x y at at') ∙ is' in cc
-plain_no_unlock g node (stores x variable kind next at is) (unlocks y mutex to at' is') =
-    let e : Store variable kind next ≡ Unlock mutex to = sym is ∙ ap (λ (z : Node). z.action) (same_node g node x y at at') ∙ is' in cc
+plain_no_unlock g node (evaluates x target value next at is) (unlocks y lock to at' is') =
+    let e : Eval target value next ≡ Unlock lock to = sym is ∙ ap (λ (z : Node). z.action) (same_node g node x y at at') ∙ is' in cc
+plain_no_unlock g node (stores x variable kind next at is) (unlocks y lock to at' is') =
+    let e : Store variable kind next ≡ Unlock lock to = sym is ∙ ap (λ (z : Node). z.action) (same_node g node x y at at') ∙ is' in cc
 
 unlock_no_lock : (g : Graph) (node : ℕ) → IsUnlock g node → ¬ (IsLock g node)
-unlock_no_lock g node (unlocks x mutex next at is) (locks y mutex' to at' is') =
-    let e : Unlock mutex next ≡ Lock mutex' to = sym is ∙ ap (λ (z : Node). z.action) (same_node g node x y at at') ∙ is' in cc
+unlock_no_lock g node (unlocks x lock next at is) (locks y other to at' is') =
+    let e : Unlock lock next ≡ Lock other to = sym is ∙ ap (λ (z : Node). z.action) (same_node g node x y at at') ∙ is' in cc
 
 -- ---- Paths of straight code
 

@@ -9,11 +9,14 @@ use Rattle.ido_ints.specs.declared.kinds.Kind.TheVariants as kind
 use Rattle.ido_ints.specs.TypedNumbers.{typed}
 use Rattle.c_tree.specs.Exprs as e
 use Rattle.flow_graph.specs.Nodes.{Node, Graph, Lock, Unlock, End}
-use Rattle.flow_graph.specs.Lowering.{plain_node, store_node, test_node}
+use Rattle.flow_graph.specs.Lowering.{Table, plain_node, store_node, test_node}
 use Rattle.flow_graph.specs.Liveness.{NodeAt}
 use Rattle.flow_graph.specs.IdempotentCuts.{Boundaries, IsEdge, IsBoundary, IsLock, locks}
 use Rattle.flow_graph.specs.OmittedCleans.{StoresInLine, ReachesUncleaned, at_boundary, goes_on, IsCleanedLater}
 use Rattle.region_cutter.proofs.Edges.{edge_from, edge_to, same_node}
+
+abbrev no_table : Table
+no_table = record { variables = []; names = [] }
 
 abbrev here : Place
 here = record { 0 = 0 }
@@ -24,11 +27,14 @@ elements lo hi = record { variable = 0; lo = lo; hi = hi; key = None }
 abbrev stores : Location → (next : ℕ) → Node
 stores written next = store_node here 0 kind.Long written next
 
+abbrev mutex : e.LockName
+mutex = record { mutex = 0; key = None }
+
 abbrev lock : Node
-lock = plain_node here (Lock 0 1)
+lock = plain_node here (Lock mutex 1)
 
 abbrev unlock : (next : ℕ) → Node
-unlock next = plain_node here (Unlock 0 next)
+unlock next = plain_node here (Unlock mutex next)
 
 abbrev end : Node
 end = plain_node here End
@@ -58,7 +64,7 @@ line_is g n next line written at s =
     ap (λ (l : Location). variable_at shapes l.variable l.lo / line_bytes) one ∙ s.in_line
 
 no_lock : (g : Graph) (n next : ℕ) (written : Location) → NodeAt g n (stores written next) → IsLock g n → ⊥
-no_lock g n next written at (locks x mutex after at' is) =
+no_lock g n next written at (locks x name after at' is) =
     let same : stores written next ≡ x = same_node g n (stores written next) x at at' in
     let action = ap (λ (y : Node). y.action) same ∙ is in
     cc
@@ -128,7 +134,7 @@ abbrev condition : e.Placed
 condition = record { place = here; expr = e.Constant (typed kind.Int (pos 1)) }
 
 abbrev choice : Graph
-choice = record { nodes = lock ∷ stores (elements 0 0) 2 ∷ test_node here condition 3 4 ∷ stores (elements 7 7) 4 ∷ unlock 5 ∷ end ∷ []; threads = [] }
+choice = record { nodes = lock ∷ stores (elements 0 0) 2 ∷ test_node no_table here condition 3 4 ∷ stores (elements 7 7) 4 ∷ unlock 5 ∷ end ∷ []; threads = [] }
 
 abbrev choosing : Boundaries
 choosing = between (false ∷ false ∷ false ∷ false ∷ true ∷ false ∷ [])
@@ -137,7 +143,8 @@ choosing = between (false ∷ false ∷ false ∷ false ∷ true ∷ false ∷ [
 first_of_a_choice : ¬ (IsCleanedLater choice choosing shapes 1)
 first_of_a_choice c =
     let no_store : ¬ (StoresInLine choice shapes c.line 2) = λ s.
-    (let same : test_node here condition 3 4 ≡ s.is = same_node choice 2 (test_node here condition 3 4) s.is refl s.at in let both : None ≡ Some s.written =
+    (let same : test_node no_table here condition 3 4 ≡ s.is = same_node choice 2 (test_node no_table here condition 3 4) s.is refl s.at in
+    let both : None ≡ Some s.written =
     ap (λ (x : Node). x.writes) same ∙ s.writes in cc) in
     c.later (goes_on 1 2 (edge_to choice 1 2 (stores (elements 0 0) 2) refl (inl refl)) (no_boundary choice choosing 1 2 2 (elements 0 0) refl refl) no_store
-    (at_boundary 2 4 (edge_to choice 2 4 (test_node here condition 3 4) refl (inr refl)) (inr refl)))
+    (at_boundary 2 4 (edge_to choice 2 4 (test_node no_table here condition 3 4) refl (inr refl)) (inr refl)))

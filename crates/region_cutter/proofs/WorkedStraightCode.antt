@@ -5,13 +5,16 @@ use Rattle.ido_ints.specs.declared.kinds.Kind.TheVariants as kind
 use Rattle.c_tree.specs.Exprs as e
 use Rattle.flow_graph.specs.Nodes.{Node, Graph, Lock, Unlock, End, next_of, other_of}
 use Rattle.flow_graph.specs.Liveness.{NodeAt}
-use Rattle.flow_graph.specs.Lowering.{plain_node, store_node, eval_node}
+use Rattle.flow_graph.specs.Lowering.{Table, plain_node, store_node, eval_node}
 use Rattle.flow_graph.specs.IdempotentCuts.{IsEdge, locks, unlocks}
 use Rattle.flow_graph.proofs.Public.{same_or_other}
 use Rattle.region_cutter.specs.FewestCuts.{IsPlain, evaluates, stores, IsStretch, Conflict, Divides, one_region, region_and, IsNoLater, none, earlier, equal}
 use Rattle.region_cutter.specs.FewestCuts.{AreFewest, AreLabels, at}
 use Rattle.region_cutter.proofs.Lists.{some_same}
 use Rattle.region_cutter.proofs.Edges.{edge_to, edge_from}
+
+abbrev no_table : Table
+no_table = record { variables = []; names = [] }
 
 abbrev here : Place
 here = record { 0 = 0 }
@@ -21,13 +24,16 @@ abbrev value : e.Placed
 value = record { place = here; expr = e.Variable here 0 kind.Long }
 
 abbrev evaluation : Node
-evaluation = eval_node here (e.ToVariable here 0 kind.Long) value 2
+evaluation = eval_node no_table here (e.ToVariable here 0 kind.Long) value 2
 
 abbrev store : Node
 store = store_node here 0 kind.Long (record { variable = 0; lo = 0; hi = 0; key = None }) 3
 
+abbrev mutex : e.LockName
+mutex = record { mutex = 0; key = None }
+
 abbrev section : Graph
-section = record { nodes = plain_node here (Lock 0 1) ∷ evaluation ∷ store ∷ plain_node here (Unlock 0 4) ∷ plain_node here End ∷ []; threads = [] }
+section = record { nodes = plain_node here (Lock mutex 1) ∷ evaluation ∷ store ∷ plain_node here (Unlock mutex 4) ∷ plain_node here End ∷ []; threads = [] }
 
 -- ---- It is straight code
 
@@ -38,10 +44,10 @@ leads_to n next to x at is no_other edge = elim (edge_from section n to x at edg
 ]
 
 next_number : (n to : ℕ) → IsEdge section n to → to ≡ suc n
-next_number zero to edge = sym (leads_to 0 1 to (plain_node here (Lock 0 1)) refl refl refl edge)
+next_number zero to edge = sym (leads_to 0 1 to (plain_node here (Lock mutex 1)) refl refl refl edge)
 next_number (suc zero) to edge = sym (leads_to 1 2 to evaluation refl refl refl edge)
 next_number (suc (suc zero)) to edge = sym (leads_to 2 3 to store refl refl refl edge)
-next_number (suc (suc (suc zero))) to edge = sym (leads_to 3 4 to (plain_node here (Unlock 0 4)) refl refl refl edge)
+next_number (suc (suc (suc zero))) to edge = sym (leads_to 3 4 to (plain_node here (Unlock mutex 4)) refl refl refl edge)
 next_number (suc (suc (suc (suc zero)))) to edge = (
     let none_next : None ≡ Some to ⊎ None ≡ Some to = edge_from section 4 to (plain_node here End) refl edge in
     elim none_next [ inl goes ↦ absurd (cc) | inr goes ↦ absurd (cc) ])
@@ -60,19 +66,19 @@ is_stretch = record {
   only_from = λ n from a b edge. (let k = next_number from (suc n) edge in omega (arith, k));
   before = 0;
   begins = record {
-    is = plain_node here (Lock 0 1);
+    is = plain_node here (Lock mutex 1);
     at = refl;
-    takes_or_gives = inl (locks (plain_node here (Lock 0 1)) 0 1 refl refl);
+    takes_or_gives = inl (locks (plain_node here (Lock mutex 1)) mutex 1 refl refl);
     no_reads = refl;
     no_write = refl;
   };
-  enters = edge_to section 0 1 (plain_node here (Lock 0 1)) refl (inl refl);
+  enters = edge_to section 0 1 (plain_node here (Lock mutex 1)) refl (inl refl);
   only_enters = λ from edge. (let k = next_number from 1 edge in omega (arith, k));
   after = 3;
   ends = record {
-    is = plain_node here (Unlock 0 4);
+    is = plain_node here (Unlock mutex 4);
     at = refl;
-    takes_or_gives = inr (unlocks (plain_node here (Unlock 0 4)) 0 4 refl refl);
+    takes_or_gives = inr (unlocks (plain_node here (Unlock mutex 4)) mutex 4 refl refl);
     no_reads = refl;
     no_write = refl;
   };

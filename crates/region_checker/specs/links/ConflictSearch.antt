@@ -18,19 +18,19 @@ use Rattle.region_checker.specs.links.MarkPropagation.{IsMarked, PathLeads, IsIn
 -- ---- Nodes
 
 abbrev pub is_lock : Action → Bool
-is_lock (Lock mutex next) = true
+is_lock (Lock lock next) = true
 is_lock (Eval target value next) = false
 is_lock (Store variable kind next) = false
 is_lock (Test condition holds fails) = false
-is_lock (Unlock mutex next) = false
+is_lock (Unlock lock next) = false
 is_lock End = false
 
 abbrev pub is_unlock : Action → Bool
-is_unlock (Unlock mutex next) = true
+is_unlock (Unlock lock next) = true
 is_unlock (Eval target value next) = false
 is_unlock (Store variable kind next) = false
 is_unlock (Test condition holds fails) = false
-is_unlock (Lock mutex next) = false
+is_unlock (Lock lock next) = false
 is_unlock End = false
 
 -- of the node's elements one may be among these

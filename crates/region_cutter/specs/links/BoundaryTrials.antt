@@ -9,16 +9,16 @@ abbrev pub locks : Action → Bool
 locks (Eval target value next) = false
 locks (Store variable kind next) = false
 locks (Test condition holds fails) = false
-locks (Lock mutex next) = true
-locks (Unlock mutex next) = false
+locks (Lock lock next) = true
+locks (Unlock lock next) = false
 locks End = false
 
 abbrev pub unlocks : Action → Bool
 unlocks (Eval target value next) = false
 unlocks (Store variable kind next) = false
 unlocks (Test condition holds fails) = false
-unlocks (Lock mutex next) = false
-unlocks (Unlock mutex next) = true
+unlocks (Lock lock next) = false
+unlocks (Unlock lock next) = true
 unlocks End = false
 
 -- a node that takes a mutex has a boundary after it

@@ -14,8 +14,8 @@ abbrev pub plain : Action → Bool
 plain (Eval target value next) = true
 plain (Store variable kind next) = true
 plain (Test condition holds fails) = false
-plain (Lock mutex next) = false
-plain (Unlock mutex next) = false
+plain (Lock lock next) = false
+plain (Unlock lock next) = false
 plain End = false
 
 pub record IsSync (x : Node) : Type 0 where

@@ -7,12 +7,13 @@ use Rattle.c_tree.specs.declared.flat.Arm.{Arm}
 use Rattle.c_tree.proofs.Public.{flat_rows_of_while as of_while, flat_rows_of_do as of_do, flat_rows_of_if as of_if}
 use Rattle.flow_graph.specs.Lowering.{entry, statement_nodes, statements_nodes, arms_nodes, arms_count, statements_count}
 use Rattle.flow_lower.specs.links.Growth.{Adds}
+use Rattle.flow_lower.specs.links.Tables.{table_from}
 use Rattle.flow_lower.proofs.AddedNodes as g
 use Rattle.flow_lower.proofs.lowering.+lowering.Goals as goal
 
 pub lower_all-loop-statement-preserved : goal.lower_all-loop-statement-preserved
 lower_all-loop-statement-preserved t c =
-    g.next_statement c.args.nodes.now.items c.loop-statement.nodes.items c.lower_statement.new.nodes.items c.args.statements.now
+    g.next_statement (table_from c.args.table.now) c.args.nodes.now.items c.loop-statement.nodes.items c.lower_statement.new.nodes.items c.args.statements.now
     c.loop-statement.statement-index c.statement-item.result c.args.next
     c.in_ok-end.end c.in_ok-following.following c.entry.result (omega arith) c.statement-item.is c.loop-statement.invariant
     (omega (arith, c.in_ok-following.ensures, c.len-in-loop-statement.ensures, c.loop-statement.nodes.ok.0, c.in_ok-own.ensures)) c.entry.ensures
@@ -20,14 +21,15 @@ lower_all-loop-statement-preserved t c =
 
 pub lower_all-returns : goal.lower_all-returns
 lower_all-returns t c =
-    g.no_statement_left c.args.nodes.now.items c.loop-statement.nodes.items c.args.statements.now c.loop-statement.statement-index c.args.next c.in_ok-end.end
+    g.no_statement_left (table_from c.args.table.now) c.args.nodes.now.items c.loop-statement.nodes.items c.args.statements.now c.loop-statement.statement-index
+    c.args.next c.in_ok-end.end
     (omega arith) c.loop-statement.invariant
 
 pub lower_arms-loop-arm-preserved : goal.lower_arms-loop-arm-preserved
 lower_arms-loop-arm-preserved t c =
     let x = c.arm-item.result in
     let same : c.deref.result.now ≡ x.body.items = c.deref.ensures.value in
-    g.next_arm c.args.nodes.now.items c.loop-arm.nodes.items c.push.new.self.items c.lower_all.new.nodes.items
+    g.next_arm (table_from c.args.table.now) c.args.nodes.now.items c.loop-arm.nodes.items c.push.new.self.items c.lower_all.new.nodes.items
     (record { place = c.args.place; last = c.args.last; next = c.args.next }) c.args.arms.now
     c.loop-arm.arm-index x c.deref-in-loop-arm.result.now c.in_ok-end.end (omega arith) c.arm-item.is c.deref-in-loop-arm.ensures.value c.loop-arm.invariant
     (record {
@@ -49,7 +51,8 @@ lower_arms-loop-arm-preserved t c =
 
 pub lower_arms-returns : goal.lower_arms-returns
 lower_arms-returns t c =
-    g.no_arm_left c.args.nodes.now.items c.loop-arm.nodes.items (record { place = c.args.place; last = c.args.last; next = c.args.next }) c.args.arms.now
+    g.no_arm_left (table_from c.args.table.now) c.args.nodes.now.items c.loop-arm.nodes.items
+    (record { place = c.args.place; last = c.args.last; next = c.args.next }) c.args.arms.now
     c.loop-arm.arm-index c.in_ok-end.end (omega arith) c.loop-arm.invariant
 
 pub lower_statement-returns-in_ok-lower_arms-in-If : goal.lower_statement-returns-in_ok-lower_arms-in-If
@@ -68,11 +71,13 @@ lower_statement-returns-in_ok-lower_arms-in-If t c =
     entry (statements_count (f.statements_of os)) (c.len.result + arms_count (f.arms_list_of arms)) c.args.next) c.deref-in-If.ensures.value
     c.deref.ensures.value
     ∙ ap (λ (n : ℕ). entry (statements_count (f.statements_of w.otherwise.items)) (n + arms_count (f.arms_list_of w.arms.items)) c.args.next) long in
-    let P : List Arm → Type 0 = λ arms. Adds old mid (arms_nodes (f.arms_list_of arms) w.place c.in_ok-last-in-If.last (length old) c.args.next) in
+    let P : List Arm → Type 0 = λ arms.
+    Adds old mid (arms_nodes (table_from c.args.table.now) (f.arms_list_of arms) w.place c.in_ok-last-in-If.last (length old) c.args.next) in
     let h : P w.arms.items = subst P c.deref-in-If-2.ensures.value c.in_ok-lower_arms-in-If.ensures in
-    let Q : List Statement → Type 0 = λ os. Adds mid new (statements_nodes (f.statements_of os) (length mid) c.args.next) in
+    let Q : List Statement → Type 0 = λ os. Adds mid new (statements_nodes (table_from c.args.table.now) (f.statements_of os) (length mid) c.args.next) in
     rw view (IfOk-weaker c.lower_all.result (λ _. Q c.deref-in-If-3.result.now) _ (λ _ k.
-    g.adds_if old mid new w.place (f.arms_list_of w.arms.items) (f.statements_of w.otherwise.items) c.in_ok-last-in-If.last c.args.next e h
+    g.adds_if (table_from c.args.table.now) old mid new w.place (f.arms_list_of w.arms.items) (f.statements_of w.otherwise.items)
+    c.in_ok-last-in-If.last c.args.next e h
     (subst Q c.deref-in-If-3.ensures.value k)) c.lower_all.ensures)
 
 pub lower_statement-returns-in-While : goal.lower_statement-returns-in-While
@@ -83,7 +88,7 @@ lower_statement-returns-in-While t c =
     let view : f.statement_of c.args.statement.now ≡ f.While w.place (placed_of w.condition) (f.statements_of w.body.items) =
     ap f.statement_of w.is ∙ of_while w.place w.condition w.body in
     let Q : List Statement → Type 0 = λ ys.
-    Adds old new (statement_nodes (f.While w.place (placed_of w.condition) (f.statements_of ys)) (length old) c.args.next) in
+    Adds old new (statement_nodes (table_from c.args.table.now) (f.While w.place (placed_of w.condition) (f.statements_of ys)) (length old) c.args.next) in
     rw view (IfOk-weaker c.lower_while.result (λ _. Q c.deref-in-While.result.now) _ (λ _ k. subst Q c.deref-in-While.ensures.value k) c.lower_while.ensures)
 
 pub lower_statement-returns-in-Do : goal.lower_statement-returns-in-Do
@@ -94,5 +99,5 @@ lower_statement-returns-in-Do t c =
     let view : f.statement_of c.args.statement.now ≡ f.Do w.place (f.statements_of w.body.items) (placed_of w.condition) =
     ap f.statement_of w.is ∙ of_do w.place w.body w.condition in
     let Q : List Statement → Type 0 = λ ys.
-    Adds old new (statement_nodes (f.Do w.place (f.statements_of ys) (placed_of w.condition)) (length old) c.args.next) in
+    Adds old new (statement_nodes (table_from c.args.table.now) (f.Do w.place (f.statements_of ys) (placed_of w.condition)) (length old) c.args.next) in
     rw view (IfOk-weaker c.lower_do.result (λ _. Q c.deref-in-Do.result.now) _ (λ _ k. subst Q c.deref-in-Do.ensures.value k) c.lower_do.ensures)
