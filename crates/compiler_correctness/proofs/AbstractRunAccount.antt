@@ -1,6 +1,5 @@
 -- The abstract run's config, in the words of the machine's account: what is kept, what is now, and where all harts are settled.
-use Rattle.std.proofs.Common.{◌≡◌, inl, inr, ℕ, zero, suc, ◌<◌, List, [], ◌∷◌, ◌++◌, length, ap, ap₂, arith, sym, ◌∙◌, subst, true, ◌≢◌}
-use Rattle.std.specs.Prelude.{◌&&◌, ◌==◌}
+use Rattle.std.proofs.Common.{◌≡◌, inl, inr, ℕ, zero, suc, ◌<◌, List, [], ◌∷◌, ◌++◌, length, ap, ap₂, arith, sym, ◌∙◌, subst, true, ◌≢◌, ◌&&◌, ◌==◌}
 use Rattle.std.proofs.lemmas.Bool.{and_parts, eqb-true, cases_lt, true≢false}
 use Rattle.ido_base.specs.Layout.{point_at}
 use Rattle.ido_base.specs.Locks.{holds_none}

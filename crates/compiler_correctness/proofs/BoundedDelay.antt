@@ -1,7 +1,6 @@
 -- Each hart of a compiled program soon begins the next step of its thread: what the simulation says is ahead of it falls with each of its active steps.
 use Rattle.std.proofs.Common.{◌≡◌, ◌≢◌, ◌⊎◌, inl, inr, refl, ℕ, ◌<◌, ◌≤◌, List, [], ◌++◌, length, ap, arith, sym, ◌∙◌, subst, Option, Some, None, Bool, true}
-use Rattle.std.proofs.Common.{false}
-use Rattle.std.specs.Prelude.{slice_get, ◌==◌, ◌&&◌, ◌-◌, not}
+use Rattle.std.proofs.Common.{false, slice_get, ◌==◌, ◌&&◌, ◌-◌, not}
 use Rattle.std.proofs.lemmas.Bool.{cases_eq, cases_Bool, cases_lt, ne_eqb}
 use Rattle.std.proofs.lemmas.Option.{none-some, slice_get_within}
 use Rattle.ido_base.specs.declared.event.Event.{Event}
@@ -115,8 +114,7 @@ module _ (fragments_step : FragmentsStep) (cores_step : CoresStep) (law : Fragme
         below : h < thread_count y
         below =
             let inside = slice_get_within w.harts h i.hart i.here in
-            let count = near.stands.machine.count in
-            omega (arith, inside, count)
+            omega (arith, inside, near.stands.machine.count)
 
         by : Nears y w h (passes_mark y.runs.marks y.runs.program w h) (ahead w near.stands)
             (ahead (after_event y.runs.program w (Step h)) (then_near (Step h)).next)

@@ -1,7 +1,8 @@
 -- Compiled code has its form.
 use Rattle.std.proofs.Common.{◌≡◌, ◌≢◌, ◌↔◌, refl, ℕ, ℤ, suc, ◌+◌, ◌-◌, ◌*◌, ◌^◌, ◌<◌, ◌≤◌, List, [], ◌∷◌, length, map, sym, ◌∙◌, ap, subst, arith, zero, pos}
-use Rattle.std.proofs.Common.{◌++◌, true, false, Option, Some, None}
-use Rattle.std.specs.Prelude.{slice_get, slice_index, slice_index_or, Contains}
+use Rattle.c_tree.specs.Values.{lock_number}
+use Rattle.c_tree.specs.Exprs.{LockName}
+use Rattle.std.proofs.Common.{◌++◌, true, false, Option, Some, None, slice_get, slice_index, slice_index_or, Contains}
 use Rattle.std.specs.List.Sorted.{IsStrictlyIncreasing}
 use Rattle.std.proofs.lemmas.Option.{slice_get_within, get_or_from_slice_get}
 use Rattle.thread_code.specs.Plans.{locks_held, home_of_colour, Plan, Thread, IsThread, IsNodeOf, IsKept, locks_held_from}
@@ -20,7 +21,7 @@ use Rattle.flow_graph.specs.declared.graph.Part.{Part}
 use Rattle.flow_graph.specs.Actions.{Seen, Gives, effect_of}
 use Rattle.flow_graph.specs.Nodes.{Action, Store, Lock, Unlock, Node, Graph, successors}
 use Rattle.flow_graph.specs.Liveness.{NodeAt, IsLive, AreRegisters, HasNoClash}
-use Rattle.flow_graph.specs.Lowering.{lowered, thread_count, thread_nodes, parts}
+use Rattle.flow_graph.specs.Lowering.{table_of, lowered, thread_count, thread_nodes, parts}
 use Rattle.flow_graph.specs.IdempotentCuts.{IsLock, locks, IsUnlock, unlocks, IsStoreNode, IsChosen, AreCuts, AreAtWrites}
 use Rattle.flow_graph.proofs.Public.{length-thread_nodes, found_in}
 use Rattle.region_cutter.specs.LocksAtBoundaries.{ChosenAreLocked}
@@ -82,9 +83,7 @@ paid (n ∷ ns) first entry words each =
     let here = each 0 first n (omega arith) refl in
     let rest = paid ns (first + 1) entry words (λ i node m at there. each (suc i) node m (omega (arith, at)) there) in
     let e : entry (first + length (n ∷ ns)) ≡ entry (first + 1 + length ns) = ap entry (omega arith) in
-    let one = here.0 in
-    let price = here.1 in
-    omega (arith, e, rest, one, price, sum_by-cons price_of n ns)
+    omega (arith, e, rest, here.0, here.1, sum_by-cons price_of n ns)
 
 -- ---- The thread's own program
 
@@ -123,7 +122,7 @@ module _ (locked : ChosenAreLocked) (y : System) (s : IsSystem y) (t : Thread) (
 
   mark_on : (a : Action) (node : ℕ) → c.IsWithin code.places a node →
       IsOn (code.places.entry node) (mark_of code.places a node) × IsOn (mark_of code.places a node + 4) (code.places.entry (node + 1))
-  mark_on (Lock mutex next) node w = (through _ _ _ w.core w.call.0, through _ _ _ w.call.1 w.call.2)
+  mark_on (Lock lock next) node w = (through _ _ _ w.core w.call.0, through _ _ _ w.call.1 w.call.2)
   mark_on a node w = (w.core, w.after_core)
 
   -- ---- Marks
@@ -132,8 +131,7 @@ module _ (locked : ChosenAreLocked) (y : System) (s : IsSystem y) (t : Thread) (
       slice_get (marks_of (translation_of y) t.number) (node - t.part.first) ≡ Some (sites.mark node)
   marked node x own at =
       let i : ℕ = node - t.part.first in
-      let from = own.from_first in
-      let same : t.part.first + i ≡ node = omega (arith, from) in
+      let same : t.part.first + i ≡ node = omega (arith, own.from_first) in
       code.marks i x (subst (IsNodeOf t) (sym same) own) (subst (λ (k : ℕ). NodeAt p.graph k x) (sym same) at)
       ∙ ap (λ (k : ℕ). Some (mark_of code.places x.action k)) same
       ∙ ap (λ (k : ℕ). Some k) (sym (mark_is node x at))
@@ -150,9 +148,9 @@ module _ (locked : ChosenAreLocked) (y : System) (s : IsSystem y) (t : Thread) (
     abbrev call : (address : ℕ) → Type 0
     call address = CallsAt (translation_of y) t.number t.part sites node address
 
-    taken : (x : Node) (mutex next : ℕ) (at : NodeAt p.graph node x) → x.action ≡ Lock mutex next →
+    taken : (x : Node) (lock : LockName) (next : ℕ) (at : NodeAt p.graph node x) → x.action ≡ Lock lock next →
         call (sites.mark node) × (IsOn (sites.mark node + 4) (code.places.after node) × IsOn (code.places.after node) (code.places.entry (node + 1)))
-    taken x mutex next at is =
+    taken x lock next at is =
         let it = code.code node x own at in
         let w = subst (λ (a : Action). IsCallWithin code.places a node) is it.within.call in
         let calls = subst (λ (a : Action). IsCalling p t code.places a node) is it.calls in
@@ -166,9 +164,9 @@ module _ (locked : ChosenAreLocked) (y : System) (s : IsSystem y) (t : Thread) (
           (w.1, w.2),
         )
 
-    given : (x : Node) (mutex next : ℕ) (at : NodeAt p.graph node x) → x.action ≡ Unlock mutex next →
+    given : (x : Node) (lock : LockName) (next : ℕ) (at : NodeAt p.graph node x) → x.action ≡ Unlock lock next →
         (address : ℕ) × call address × (code.places.after node ≡ address + 4)
-    given x mutex next at is =
+    given x lock next at is =
         let it = code.code node x own at in
         let w = subst (λ (a : Action). IsCallWithin code.places a node) is it.within.call in
         let calls = subst (λ (a : Action). IsCalling p t code.places a node) is it.calls in
@@ -184,10 +182,10 @@ module _ (locked : ChosenAreLocked) (y : System) (s : IsSystem y) (t : Thread) (
 
     takes : IsLock (lowered p.flat) node →
         call (sites.mark node) × (IsOn (sites.mark node + 4) (code.places.after node) × IsOn (code.places.after node) (code.places.entry (node + 1)))
-    takes (locks x mutex next at is) = taken x mutex next (node_at node x at) is
+    takes (locks x lock next at is) = taken x lock next (node_at node x at) is
 
     gives : IsUnlock (lowered p.flat) node → (address : ℕ) × call address × (code.places.after node ≡ address + 4)
-    gives (unlocks x mutex next at is) = given x mutex next (node_at node x at) is
+    gives (unlocks x lock next at is) = given x lock next (node_at node x at) is
 
     has_form : HasNodeForm (translation_of y) t.number t.part sites node
     has_form =
@@ -227,22 +225,22 @@ module _ (locked : ChosenAreLocked) (y : System) (s : IsSystem y) (t : Thread) (
   in_form address (c.at_chosen node own chosen) =
       subst Resume (chosen_mark node own chosen)
       (at_chosen node (among_of node own) (subst (λ (g : Graph). IsChosen g p.boundaries node) graph_is chosen))
-  in_form address (c.past_lock node mutex next x own at is) =
-      past_lock node (among_of node own) (locks x mutex next (subst (λ (g : Graph). NodeAt g node x) graph_is at) is)
-  in_form address (c.past_unlock node mutex next x own at is some) =
-      past_unlock node mutex next x (among_of node own) (subst (λ (g : Graph). NodeAt g node x) graph_is at) is
+  in_form address (c.past_lock node lock next x own at is) =
+      past_lock node (among_of node own) (locks x lock next (subst (λ (g : Graph). NodeAt g node x) graph_is at) is)
+  in_form address (c.past_unlock node lock next x own at is some) =
+      past_unlock node lock next x (among_of node own) (subst (λ (g : Graph). NodeAt g node x) graph_is at) is
       (some_held 0 (slice_index_or held (next - t.part.first) []) some)
 
   lock_in_code : (node : ℕ) → IsNodeOf t node → IsLock (lowered p.flat) node → c.IsResumeAddress p t code.places (code.places.after node)
-  lock_in_code node own (locks x mutex next at is) = c.past_lock node mutex next x own (node_at node x at) is
+  lock_in_code node own (locks x lock next at is) = c.past_lock node lock next x own (node_at node x at) is
 
   in_code : (address : ℕ) → Resume address → c.IsResumeAddress p t code.places address
   in_code address (at_chosen node among chosen) =
       let there = subst (λ (g : Graph). IsChosen g p.boundaries node) (sym graph_is) chosen in
       subst (c.IsResumeAddress p t code.places) (sym (chosen_mark node (own_of node among) there)) (c.at_chosen node (own_of node among) there)
   in_code address (past_lock node among lock) = lock_in_code node (own_of node among) lock
-  in_code address (past_unlock node mutex next x among at is some) =
-      c.past_unlock node mutex next x (own_of node among) (node_at node x at) is (has_locks 0 (slice_index_or held (next - t.part.first) []) some)
+  in_code address (past_unlock node lock next x among at is some) =
+      c.past_unlock node lock next x (own_of node among) (node_at node x at) is (has_locks 0 (slice_index_or held (next - t.part.first) []) some)
 
   -- ---- Boundaries
 
@@ -262,8 +260,7 @@ module _ (locked : ChosenAreLocked) (y : System) (s : IsSystem y) (t : Thread) (
   live_kept node register (plans.of_value stores) = of_value (subst (λ (g : Graph). IsStoreNode g node) graph_is stores)
 
   kept_live : (node register : ℕ) → Live node register → IsKept p t node register
-  kept_live node register (of_local local k own there live at) =
-      plans.of_local local k own (sym (kind_is local) ∙ there) (live_there local node live) at
+  kept_live node register (of_local local k own there live at) = plans.of_local local k own (sym (kind_is local) ∙ there) (live_there local node live) at
   kept_live node register (of_address stores) = plans.of_address (subst (λ (g : Graph). IsStoreNode g node) (sym graph_is) stores)
   kept_live node register (of_value stores) = plans.of_value (subst (λ (g : Graph). IsStoreNode g node) (sym graph_is) stores)
 
@@ -328,9 +325,9 @@ module _ (locked : ChosenAreLocked) (y : System) (s : IsSystem y) (t : Thread) (
             );
       }
 
-  lock_stands : (node : ℕ) → IsNodeOf t node → (is : Node) (mutex next : ℕ) → NodeAt p.graph node is → is.action ≡ Lock mutex next →
+  lock_stands : (node : ℕ) → IsNodeOf t node → (is : Node) (lock : LockName) (next : ℕ) → NodeAt p.graph node is → is.action ≡ Lock lock next →
       Stands next next (code.places.call node + 4) (code.places.after node) (code.places.after node) []
-  lock_stands node own is mutex next at does =
+  lock_stands node own is lock next at does =
       let calls = subst (λ (a : Action). IsCalling p t code.places a node) does (code.code node is own at).calls in
       let own_it = own_next node is next own at (subst (λ (a : Action). Contains (successors a) next) (sym does) (contains_first next [])) in
       record {
@@ -345,9 +342,9 @@ module _ (locked : ChosenAreLocked) (y : System) (s : IsSystem y) (t : Thread) (
             );
       }
 
-  unlock_stands : (node : ℕ) → IsNodeOf t node → (is : Node) (mutex next : ℕ) → NodeAt p.graph node is → is.action ≡ Unlock mutex next →
+  unlock_stands : (node : ℕ) → IsNodeOf t node → (is : Node) (lock : LockName) (next : ℕ) → NodeAt p.graph node is → is.action ≡ Unlock lock next →
       Stands node next (code.places.core node) (code.places.call node) (code.places.after node) (Mark ∷ [])
-  unlock_stands node own is mutex next at does =
+  unlock_stands node own is lock next at does =
       let it = code.code node is own at in
       let own_it = own_next node is next own at (subst (λ (a : Action). Contains (successors a) next) (sym does) (contains_first next [])) in
       record {
@@ -355,7 +352,8 @@ module _ (locked : ChosenAreLocked) (y : System) (s : IsSystem y) (t : Thread) (
         are_live = are_live next own_it;
         leads = λ z meets side locals x has.
             let m = entrance z node side locals x in
-            let goes = it.performs m (Gives mutex next) refl (record { meets = met z meets; own = own; enters = enters node side locals x has })
+            let goes = it.performs m (Gives (lock_number m.seen.locals lock) next) refl
+            (record { meets = met z meets; own = own; enters = enters node side locals x has })
             (subst (λ (a : Action). IsAnswered (source_of p t m.seen) z.around.loads a) (sym does) tt) (ap (λ (a : Action). effect_of a m.seen) does) in (
               goes.steps,
               goes.registers,
@@ -366,8 +364,7 @@ module _ (locked : ChosenAreLocked) (y : System) (s : IsSystem y) (t : Thread) (
 
   mark_at_core : (a : Action) (node : ℕ) (x : Node) → NodeAt p.graph node x → x.action ≡ a → ¬ (IsLock (lowered p.flat) node) →
       mark_of code.places a node ≡ code.places.core node
-  mark_at_core (Lock mutex next) node x at is other =
-      absurd (other (locks x mutex next (subst (λ (g : Graph). NodeAt g node x) graph_is at) is))
+  mark_at_core (Lock lock next) node x at is other = absurd (other (locks x lock next (subst (λ (g : Graph). NodeAt g node x) graph_is at) is))
   mark_at_core a node x at is other = refl
 
   boundaries_at : (node : ℕ) → IsNodeOf t node → HasBoundaries (translation_of y) t.number of.text t.part held t.locals sites node
@@ -381,19 +378,19 @@ module _ (locked : ChosenAreLocked) (y : System) (s : IsSystem y) (t : Thread) (
         plain = λ none other.
             it.plain (λ chosen. none (subst (λ (g : Graph). IsChosen g p.boundaries node) graph_is chosen))
             ∙ sym (mark_is node there.0 there.1 ∙ mark_at_core there.0.action node there.0 there.1 refl other);
-        past_lock = λ is mutex next at does.
+        past_lock = λ is lock next at does.
             let own_at = node_at node is at in
             let mark : sites.mark node ≡ code.places.call node = mark_is node is own_at ∙ ap (λ (a : Action). mark_of code.places a node) does in
             subst (λ (m : ℕ). Stands next next (m + 4) (code.places.after node) (code.places.after node) []) (sym mark)
-            (lock_stands node own is mutex next own_at does);
-        before_unlock = λ is mutex next call at does after.
+            (lock_stands node own is lock next own_at does);
+        before_unlock = λ is lock next call at does after.
             let own_at = node_at node is at in
             let mark : sites.mark node ≡ code.places.core node = mark_is node is own_at ∙ ap (λ (a : Action). mark_of code.places a node) does in
             let calls = subst (λ (a : Action). IsCalling p t code.places a node) does (code.code node is own own_at).calls in
             let same : code.places.call node ≡ call = omega (arith, after, calls.2) in
             subst (λ (m : ℕ). Stands node next m call (code.places.after node) (Mark ∷ [])) (sym mark)
             (subst (λ (k : ℕ). Stands node next (code.places.core node) k (code.places.after node) (Mark ∷ [])) same
-            (unlock_stands node own is mutex next own_at does));
+            (unlock_stands node own is lock next own_at does));
       }
 
   -- ---- The thread
@@ -403,17 +400,14 @@ module _ (locked : ChosenAreLocked) (y : System) (s : IsSystem y) (t : Thread) (
 
   marks_ascend : IsStrictlyIncreasing (marks_of (translation_of y) t.number)
   marks_ascend k within =
-      let count = code.marks_count in
       let node : ℕ = t.part.first + k in
-      let own : IsNodeOf t node = record { from_first = omega arith; below_end = omega (arith, within, count) } in
-      let next : IsNodeOf t (node + 1) = record { from_first = omega arith; below_end = omega (arith, within, count) } in
+      let own : IsNodeOf t node = record { from_first = omega arith; below_end = omega (arith, within, code.marks_count) } in
+      let next : IsNodeOf t (node + 1) = record { from_first = omega arith; below_end = omega (arith, within, code.marks_count) } in
       let one = has_form node own in
       let two = has_form (node + 1) next in
       let here = at_number node k (omega arith) one.marked in
       let there = at_number (node + 1) (k + 1) (omega arith) two.marked in
-      let after = one.to_end.is in
-      let before = two.from_start.is in
-      omega (arith, here, there, after, before)
+      omega (arith, here, there, one.to_end.is, two.from_start.is)
     where
       at_number : (node i : ℕ) → node ≡ t.part.first + i →
           slice_get (marks_of (translation_of y) t.number) (node - t.part.first) ≡ Some (sites.mark node) →
@@ -425,9 +419,9 @@ module _ (locked : ChosenAreLocked) (y : System) (s : IsSystem y) (t : Thread) (
 
   price : length (code_of y.runs.program t.number) ≤ thread_price of.text
   price =
-      let ns = thread_nodes of.text t.part.first in
+      let ns = thread_nodes (table_of p.flat of.text) of.text t.part.first in
       let total = paid ns t.part.first code.places.entry code.places.words (λ i node n is there.
-      let count = length-thread_nodes of.text t.part.first in
+      let count = length-thread_nodes (table_of p.flat of.text) of.text t.part.first in
       let within = slice_get_within ns i n there in
       let own : IsNodeOf t node = record { from_first = omega (arith, is); below_end = omega (arith, is, within, count, ended) } in
       let x = node_exists p s.plan t of node own in
@@ -437,10 +431,8 @@ module _ (locked : ChosenAreLocked) (y : System) (s : IsSystem y) (t : Thread) (
       let same : x.0 ≡ n = cc in
       (code.follows node own, subst (λ (z : Node). code.places.words node ≤ price_of z) same (code.code node x.0 own x.1).price)) in
       let from : code.places.entry (t.part.first + length ns) ≡ code.places.entry t.part.end =
-      ap code.places.entry (let count = length-thread_nodes of.text t.part.first in omega (arith, count, ended)) in
-      let begin = code.begins in
-      let end = code.ends in
-      omega (arith, total, from, begin, end, price_thread of.text t.part.first)
+      ap code.places.entry (let count = length-thread_nodes (table_of p.flat of.text) of.text t.part.first in omega (arith, count, ended)) in
+      omega (arith, total, from, code.begins, code.ends, price_thread (table_of p.flat of.text) of.text t.part.first)
 
   sets_there : (sets : List Held) × (slice_get p.held t.number ≡ Some sets)
   sets_there = found_in p.held t.number (held_there p s.plan t of)
@@ -452,14 +444,13 @@ module _ (locked : ChosenAreLocked) (y : System) (s : IsSystem y) (t : Thread) (
   holds_there node own chosen =
       let step : ℕ = node - t.part.first in
       let before = found_in held step (held_sets p s.plan t of node own) in
-      let from = own.from_first in
       let here = locked p.flat p.held p.boundaries t.number step node before.0 s.plan.held
       (subst (λ (g : Graph). AreAtWrites g p.boundaries) graph_is s.plan.at_writes)
       (subst (λ (g : Graph). IsChosen g p.boundaries node) graph_is chosen) (
       record {
         part = t.part;
         own = subst (λ (g : Graph). slice_get g.threads t.number ≡ Some t.part) graph_is of.nodes;
-        is = omega (arith, from);
+        is = omega (arith, own.from_first);
         sets = sets_there.0;
         row = sets_there.1;
         before = subst (λ (hs : List Held). slice_get hs step ≡ Some before.0) held_is before.1;

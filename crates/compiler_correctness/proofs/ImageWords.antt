@@ -1,6 +1,6 @@
 -- The words of variables and logs are all of an image: no hart of a compiled program stores between them.
 use Rattle.std.proofs.Common.{◌≡◌, refl, ℕ, List, [], ◌∷◌, sym, subst, true, ◌≢◌, inl, inr, zero, suc, ◌*◌, ◌/◌, ◌<◌, ◌≤◌, length, map, drop, get_or, replicate}
-use Rattle.std.proofs.Common.{ap, ap₂, arith, ◌∙◌, Some, ◌+◌, ◌-◌, ◌++◌, take}
+use Rattle.std.proofs.Common.{ap, ap₂, arith, ◌∙◌, Some, ◌+◌, ◌-◌, ◌++◌, take, slice_get}
 use Rattle.std.proofs.lemmas.Bool.{true≢false, cases_lt}
 use Rattle.ido_base.specs.declared.event.Event.{Event}
 use Rattle.rv64_isa.specs.declared.phase.Phase.{Phase}
@@ -16,7 +16,6 @@ use Rattle.crash_simulation.specs.SimulationRelation.{Simulates}
 use Rattle.crash_simulation.specs.Laws.{EventsStand}
 use Rattle.crash_simulation.specs.InstructionSteps.{MayStore, FragmentsStep, CoresStep, nothing, in_log, element}
 use Rattle.crash_simulation.proofs.Public.{own_by, runs_ready, start_simulates, next_store, not_there}
-use Rattle.std.specs.Prelude.{slice_get}
 use Rattle.std.proofs.lemmas.List.{get_or-map, get_or_past, length-map, length-drop, get_or_append_left, take-append-drop, drop-drop, get_or-drop}
 use Rattle.std.proofs.lemmas.List.{length-take-le, length-append, append_assoc}
 use Rattle.ido_base.specs.declared.log.Log.{Log}
@@ -55,8 +54,7 @@ is_run phase e = absurd (true≢false (sym e))
 
 module _ (fragments_step : FragmentsStep) (cores_step : CoresStep) (y : System) (s : IsSystem y) (w : World) (g : ℕ) where
   -- a hart stores what its thread may
-  pub stores_own : (stands : Simulates y s w) (hart : Hart) (effect : Effect) → IsNext y.runs.program w g hart effect →
-      MayStore y stands.abstract g effect
+  pub stores_own : (stands : Simulates y s w) (hart : Hart) (effect : Effect) → IsNext y.runs.program w g hart effect → MayStore y stands.abstract g effect
   stores_own stands hart effect is =
       let i : IsInPhase w g Run = record { hart = hart; here = is.here; phase_is = is_run hart.phase is.runs } in
       let r = runs_ready y s w g stands i in
@@ -141,9 +139,7 @@ module _ (y : System) (s : IsSystem y) where
           let ends = within_end 0 (flat_of y).variables variable is there in
           let next = next_element (bytes_of is.kind) number (elements_in is.length) within in
           let some = some_bytes is.kind in
-          let whole = whole_words in
-          let holds = holds_variables in
-          omega (arith, meets, place, ends, next, some, whole, holds, from))
+          omega (arith, meets, place, ends, next, some, whole_words, holds_variables, from))
 
       abbrev IsZero : World → Type 0
       IsZero w = word_at w.words j ≡ word_of 0
@@ -249,9 +245,8 @@ module _ (stand : EventsStand) (stay : WordsBetweenStay) (y : System) (s : IsSys
 
   between : (i : ℕ) → n ≤ i → i < VARIABLE_WORDS → get_or image.words i 0 ≡ 0
   between i from below =
-      let all = size in
       let mapped = length-map words durable_value in
-      get_or-map durable_value words i (word_of 0) 0 (omega (arith, all, mapped, below)) ∙ ap durable_value (stay y s events i from below)
+      get_or-map durable_value words i (word_of 0) 0 (omega (arith, size, mapped, below)) ∙ ap durable_value (stay y s events i from below)
 
   one_life : all_lives image.kept ≡ image.kept.schedule ∷ []
   one_life = ap (λ (earlier : List (List ℕ)). earlier ++ image.kept.schedule ∷ []) (no_earlier (translation_of y) events)
@@ -259,8 +254,7 @@ module _ (stand : EventsStand) (stay : WordsBetweenStay) (y : System) (s : IsSys
   in_file : IsInFile (translation_of y) image
   in_file =
       let all = size in
-      let inside = few in
-      let prefix = length-take-le n image.words (omega (arith, all, inside)) in
+      let prefix = length-take-le n image.words (omega (arith, all, few)) in
       let logs = length-drop VARIABLE_WORDS image.words in
       let both = length-append (take n image.words) (drop VARIABLE_WORDS image.words) in
       record {

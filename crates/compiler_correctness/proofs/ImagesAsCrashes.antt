@@ -1,6 +1,5 @@
 -- A run that is begun from an image is the one in which power is lost.
-use Rattle.std.proofs.Common.{◌≡◌, refl, ℕ, zero, suc, List, [], ◌∷◌, ◌++◌, length, map, sym, ◌∙◌, ap, ap₂, subst, Bool, true, false}
-use Rattle.std.specs.Prelude.{replicate}
+use Rattle.std.proofs.Common.{◌≡◌, refl, ℕ, zero, suc, List, [], ◌∷◌, ◌++◌, length, map, sym, ◌∙◌, ap, ap₂, subst, Bool, true, false, replicate}
 use Rattle.std.proofs.lemmas.List.{append-nil, append_assoc, length-set, length-replicate}
 use Rattle.rv64_isa.proofs.Public.{log_stays, queues_stand, starts_simulate}
 use Rattle.ido_base.specs.declared.log.Log.{Log}
@@ -110,8 +109,7 @@ module _ (marks : List (List ℕ)) (program : List (List Slot)) where
 
   along_many : (events : List Event) (w : World) (s : Steps) → length (steps_along marks program w events s).harts ≡ length s.harts
   along_many [] w s = refl
-  along_many (event ∷ events) w s =
-      along_many events (after_event program w event) (steps_after marks program w event s) ∙ event_many w event s
+  along_many (event ∷ events) w s = along_many events (after_event program w event) (steps_after marks program w event s) ∙ event_many w event s
 
 -- ---- The crash
 
@@ -166,8 +164,7 @@ images_are_resumed grow kept y s before events =
     let all = kept y s (before ++ Crash ∷ events) in
     record {
       runs = subst (λ (lives : LifeSchedules). IsRunnable c (all_lives lives)) (sym same.kept_is) all.runs;
-      grows =
-          subst (λ (lives : LifeSchedules). BeginLives (all_lives lives) (schedules (steps c before))) (sym same.kept_is) (grow c before (Crash ∷ events));
+      grows = subst (λ (lives : LifeSchedules). BeginLives (all_lives lives) (schedules (steps c before))) (sym same.kept_is) (grow c before (Crash ∷ events));
       between = λ settled thread.
           ap (λ (lives : LifeSchedules). is_between (source c (all_lives lives)) thread) same.kept_is
           ∙ all.between (ap is_settled (sym same.world_is) ∙ settled) thread;

@@ -1,6 +1,5 @@
 -- At a call that takes a lock, the thread stands at that lock.
-use Rattle.std.proofs.Common.{◌≡◌, ◌⊎◌, inl, inr, ℕ, List, ap, arith, sym, ◌∙◌, subst, Some}
-use Rattle.std.specs.Prelude.{slice_get}
+use Rattle.std.proofs.Common.{◌≡◌, ◌⊎◌, inl, inr, ℕ, List, ap, arith, sym, ◌∙◌, subst, Some, slice_get}
 use Rattle.std.proofs.lemmas.Option.{none-some, same_Some}
 use Rattle.source_machine.specs.Mutexes.{locks}
 use Rattle.rv64_isa.specs.declared.instr.Instr.{Instr}
@@ -20,8 +19,7 @@ use Rattle.crash_simulation.specs.Systems.{System, IsSystem}
 use Rattle.crash_simulation.specs.AbstractRuns.{AbstractRun, now_of}
 use Rattle.crash_simulation.specs.SimulationRelation.{AreHeld, IsGiving, Simulates}
 use Rattle.crash_simulation.specs.InstructionSteps as moving
-use Rattle.crash_simulation.specs.InstructionSteps.{OnFragmentNow}
-use Rattle.crash_simulation.specs.InstructionSteps.{Site}
+use Rattle.crash_simulation.specs.InstructionSteps.{OnFragmentNow, Site}
 use Rattle.crash_simulation.proofs.Public.{view, same_number, fragment, lock, locks_it, runs_held, runs_ready, RunsOn, IsWhere, on_run, at_call, is_where}
 
 -- no instruction on a run is a call

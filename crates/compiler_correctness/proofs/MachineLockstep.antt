@@ -1,8 +1,7 @@
 -- As long as power stays on, all steps that have begun lead the source to where the machine is.
 use Rattle.std.proofs.Common.{◌≡◌, refl, ℕ, suc, List, [], ◌∷◌, ◌++◌, length, map, ap, arith, sym, ◌∙◌, subst, Bool, true, false, ℤ, ◌≢◌, inl, inr, Some}
+use Rattle.std.proofs.Common.{slice_index_or, pos, append-nil}
 use Rattle.std.proofs.lemmas.Option.{none-some}
-use Rattle.std.proofs.lemmas.List.{append-nil}
-use Rattle.std.specs.Prelude.{slice_index_or, pos}
 use Rattle.ido_base.specs.declared.event.Event.{Event}
 use Rattle.ido_base.specs.declared.event.Event.TheVariants.{Step, Evict, Crash}
 use Rattle.ido_base.specs.Words.{last_position}
@@ -122,8 +121,7 @@ module _ (fragments_step : FragmentsStep) (cores_step : CoresStep) (law : Fragme
         (last_now (beginning y) steps.begun h mutex (ap (λ (x : m.State). unlocks x h) going.leads ∙ unlocks_it))
 
     then_unlocked : (event : Event) {waiting : ℕ → Type 0} (new : SimulatesBut y s (after_event y.runs.program w event) waiting) →
-        Continues y s w event old new → event ≢ Crash →
-        AreLastUnlocked y new.ghosts (steps.begun ++ begun_in y w event)
+        Continues y s w event old new → event ≢ Crash → AreLastUnlocked y new.ghosts (steps.begun ++ begun_in y w event)
     then_unlocked (Step h) new on no_crash n mutex gives = elim (same_or_other n h) [
       | inl same ↦
           subst (λ (k : ℕ). LastUnlocks (beginning y) (steps.begun ++ begun_in y w (Step k)) n mutex) same
@@ -160,8 +158,7 @@ module _ (fragments_step : FragmentsStep) (cores_step : CoresStep) (law : Fragme
   all_going : (events : List Event) → HaveNoCrash events → (w : World) (steps : Steps) (releases : ℕ → ℕ) → Going y s w steps releases →
       StaysInStep (after_events y.runs.program w events) (steps_along y.runs.marks y.runs.program w events steps)
   all_going [] none w steps releases going = (releases, going)
-  all_going (Step h ∷ events) none w steps releases going =
-      all_going events none _ _ _ (event_going w steps releases going (Step h) (λ e. cc))
+  all_going (Step h ∷ events) none w steps releases going = all_going events none _ _ _ (event_going w steps releases going (Step h) (λ e. cc))
   all_going (Evict line mask ∷ events) none w steps releases going =
       all_going events none _ _ _ (event_going w steps releases going (Evict line mask) (λ e. cc))
   all_going (Crash ∷ events) none w steps releases going = absurd none

@@ -1,7 +1,6 @@
 -- A hart that nears its next mark passes it, or stops.
 use Rattle.std.proofs.Common.{◌≡◌, ◌≢◌, ◌⊎◌, inl, inr, refl, ℕ, zero, suc, ◌+◌, ◌<◌, ◌≤◌, List, [], ◌∷◌, length, sym, ◌∙◌, ap, arith, subst, Bool, true, false}
-use Rattle.std.proofs.Common.{Option}
-use Rattle.std.specs.Prelude.{◌==◌, filter}
+use Rattle.std.proofs.Common.{Option, ◌==◌, filter}
 use Rattle.std.proofs.lemmas.Bool.{cases_eq, true≢false}
 use Rattle.std.proofs.lemmas.List.Elements.{filter-append}
 use Rattle.std.proofs.Math.ListN.{length-append}
@@ -140,8 +139,7 @@ module _ (marks : List (List ℕ)) (program : List (List Slot)) (h : ℕ) where
   module _ (Near : World → ℕ → Type 0)
       (falls : (w : World) (event : Event) (left : ℕ) → event ≢ Crash → Near w left → GetsNearer Near w event left) where
     pub gets_on : (more : List Event) (w : World) (s : Steps) (left : ℕ) → length program ≡ length w.harts → IsWellFormedWorld w →
-        HaveNoCrash more → Near w left →
-        left < active_steps program w more h → GetsOn marks program h w s more
+        HaveNoCrash more → Near w left → left < active_steps program w more h → GetsOn marks program h w s more
     gets_on [] w s left count sound none near many = absurd (let z : ⊥ = omega (arith, many) in z)
     gets_on (event ∷ events) w s left count sound none near many =
         let both = no_crash event events none in

@@ -1,9 +1,8 @@
 -- Points and records of threads: points are those of records that describe them, records the locks that threads hold, and between sections there is no point.
 use Rattle.std.proofs.Common.{◌≡◌, ◌≢◌, ◌⊎◌, inl, inr, ℕ, ◌<◌, List, [], ap, sym, ◌∙◌, subst, Bool, false, ◌↔◌, ◌∷◌, ◌++◌, ap₂, arith, true, Option, Some, refl}
-use Rattle.std.proofs.Common.{length}
-use Rattle.std.specs.Prelude.{slice_index_or, if◌then◌else◌, slice_get}
+use Rattle.std.proofs.Common.{length, slice_index_or, if◌then◌else◌, slice_get}
 use Rattle.std.specs.List.{Contains}
-use Rattle.std.proofs.lemmas.Bool.{cases_Bool, true≢false}
+use Rattle.std.proofs.lemmas.Bool.{cases_Bool, false_from_ne_true, true≢false}
 use Rattle.ido_base.specs.Layout.{point_at}
 use Rattle.code_runs.specs.CodeTraces.{Program}
 use Rattle.rv64_isa.specs.Machine.{World, durable_point, live_at, resume_of, Hart, record_of}
@@ -63,8 +62,7 @@ module _ (y : System) (s : IsSystem y) (w : World) (stands : Simulates y s w) (n
   caught_up : is_committed w.log n (config_of w (log_of y s w stands n below).hart thread_ghost.rest) ≡ thread_ghost.committed
   caught_up =
       subst (λ (k : ℕ). is_committed w.log k (record { words = w.words; queue = []; rest = thread_ghost.rest }) ≡ thread_ghost.committed)
-      (s.codes.number n below)
-      (stands.caught_up n below (λ e. e))
+      (s.codes.number n below) (stands.caught_up n below (λ e. e))
 
   -- the new record describes the kept state where it is the one that is kept, and else the state now
   new_describes : Describes y.plan thread_code kept thread_ghost.new ⊎ Describes y.plan thread_code present thread_ghost.new
@@ -124,9 +122,7 @@ module _ (y : System) (s : IsSystem y) (w : World) (stands : Simulates y s w) wh
   -- ---- Records
 
   pub recorded_is : (n : ℕ) → n < thread_count y → record_of w.log w.words n ≡ locks_of (left y s w stands n)
-  recorded_is n below =
-      let c = stands.ghosts n in
-      logs_have_locks n c.old c.new w c.rest (log_of y s w stands n below)
+  recorded_is n below = let c = stands.ghosts n in logs_have_locks n c.old c.new w c.rest (log_of y s w stands n below)
 
   record_held : (n : ℕ) → n < thread_count y → (lock : ℕ) →
       (has_lock (record_of w.log w.words n) lock ≡ true) ↔ (slice_get (kept_of y b).holders lock ≡ Some (Some n))
@@ -138,13 +134,10 @@ module _ (y : System) (s : IsSystem y) (w : World) (stands : Simulates y s w) wh
 
   records_apart : (g h lock : ℕ) → g < thread_count y → h < thread_count y → g ≢ h → has_lock (record_of w.log w.words h) lock ≡ true →
       has_lock (record_of w.log w.words g) lock ≡ false
-  records_apart g h lock gb hb other mine = elim (cases_Bool (has_lock (record_of w.log w.words g) lock)) [
-    | inl also ↦
-        absurd (other (records_are_apart y.plan s.codes (kept_of y b) (left y s w stands) s.plan (orderly y s b) (left_describes y s w stands) g h lock gb hb
-        (ap (λ (locks : List ℕ). has_lock locks lock) (sym (recorded_is g gb)) ∙ also)
-        (ap (λ (locks : List ℕ). has_lock locks lock) (sym (recorded_is h hb)) ∙ mine)))
-    | inr isnt ↦ isnt
-  ]
+  records_apart g h lock gb hb other mine = false_from_ne_true (has_lock (record_of w.log w.words g) lock) (λ also.
+      other (records_are_apart y.plan s.codes (kept_of y b) (left y s w stands) s.plan (orderly y s b) (left_describes y s w stands) g h lock gb hb
+      (ap (λ (locks : List ℕ). has_lock locks lock) (sym (recorded_is g gb)) ∙ also)
+      (ap (λ (locks : List ℕ). has_lock locks lock) (sym (recorded_is h hb)) ∙ mine)))
 
   -- ---- Locks of a hart that executes instructions
 
@@ -175,8 +168,7 @@ module _ (y : System) (s : IsSystem y) (w : World) (account : Steps) {r : ℕ �
     IsLastUnlocked = (mutex : ℕ) → (stands.ghosts h).giving ≡ Some mutex → LastUnlocks (m.start (flat_of y)) schedule h mutex
 
     held_or_unlocked : IsLastUnlocked → (lock : ℕ) →
-        (slice_get (now_of y stands.abstract).holders lock ≡ Some (Some h))
-        ⊎ IsGiving stands.ghosts (now_of y stands.abstract) lock h →
+        (slice_get (now_of y stands.abstract).holders lock ≡ Some (Some h)) ⊎ IsGiving stands.ghosts (now_of y stands.abstract) lock h →
         ThreadHolds (source (translation_of y) (schedule ∷ [])) h lock ⊎ HasJustUnlocked (translation_of y) (only_life schedule) h lock
     held_or_unlocked last lock (inl has) = inl (ap (λ (hs : List (Option ℕ)). slice_get hs lock) (sym holders) ∙ has)
     held_or_unlocked last lock (inr gives) = inr (record {
@@ -195,8 +187,7 @@ module _ (y : System) (s : IsSystem y) (w : World) (account : Steps) {r : ℕ �
         }
 
   -- by the account's schedule
-  last_unlocked : (mutex : ℕ) → (stands.ghosts h).giving ≡ Some mutex →
-      LastUnlocks (m.start (flat_of y)) (account.kept ++ account.pending) h mutex
+  last_unlocked : (mutex : ℕ) → (stands.ghosts h).giving ≡ Some mutex → LastUnlocks (m.start (flat_of y)) (account.kept ++ account.pending) h mutex
   last_unlocked mutex gives =
       let b = stands.abstract in
       let code = s.codes.each h below in

@@ -1,6 +1,5 @@
 -- The kept steps hold each section that a hart has left, and at most one more; and one is kept where its hart's durable point becomes 0.
-use Rattle.std.proofs.Common.{◌≡◌, ℕ, ◌+◌, ◌<◌, ◌≤◌, List, [], ◌∷◌, ◌++◌, ap, sym, ◌∙◌, subst}
-use Rattle.std.specs.Prelude.{if◌then◌else◌}
+use Rattle.std.proofs.Common.{◌≡◌, ℕ, ◌+◌, ◌<◌, ◌≤◌, List, [], ◌∷◌, ◌++◌, ap, sym, ◌∙◌, subst, if◌then◌else◌}
 use Rattle.ido_base.specs.declared.event.Event.{Event}
 use Rattle.c_tree.specs.Source.{start, ended_from}
 use Rattle.crash_simulation.specs.PointSections.{SectionsEndAtPoints}

@@ -1,5 +1,6 @@
 -- The form of compiled code: the code of each thread is that of its nodes, one after another, and boundaries stand where the graph is cut.
 use Rattle.std.specs.Prelude.{◌≡◌, ◌↔◌, ℕ, ℤ, pos, ◌+◌, ◌-◌, ◌*◌, ◌<◌, ◌≤◌, List, [], ◌∷◌, ◌++◌, length, slice_get, slice_index_or, Contains}
+use Rattle.c_tree.specs.Exprs.{LockName}
 use Rattle.std.specs.Prelude.{Some, Bool, true, map}
 use Rattle.std.specs.List.{AllByRecursion, list_any}
 use Rattle.std.specs.List.Sorted.{IsStrictlyIncreasing}
@@ -108,10 +109,11 @@ module _ (c : Translation) (thread : ℕ) (text : f.Thread) (part : Part) (held 
     -- where none is chosen the code begins with the mark, but for what asks for a mutex
     pub plain : ¬ (IsChosen (lowered c.flat) c.boundaries node) → ¬ (IsLock (lowered c.flat) node) → s.start node ≡ s.mark node
     -- that of a lock stands after its call, which is its mark
-    pub past_lock : (is : Node) (mutex next : ℕ) → NodeAt (lowered c.flat) node is → is.action ≡ Lock mutex next →
+    pub past_lock : (is : Node) (lock : LockName) (next : ℕ) → NodeAt (lowered c.flat) node is → is.action ≡ Lock lock next →
         StandsBoundary next next (s.mark node + 4) (s.after node) (s.after node) []
     -- that of an unlock stands from its mark to its call
-    pub before_unlock : (is : Node) (mutex next call : ℕ) → NodeAt (lowered c.flat) node is → is.action ≡ Unlock mutex next → s.after node ≡ call + 4 →
+    pub before_unlock : (is : Node) (lock : LockName) (next call : ℕ) → NodeAt (lowered c.flat) node is → is.action ≡ Unlock lock next →
+        s.after node ≡ call + 4 →
         StandsBoundary node next (s.mark node) call (s.after node) (Mark ∷ [])
 
 -- ---- Where threads may be resumed
@@ -124,7 +126,7 @@ holds_some held = list_any (λ h. h) held
 pub data IsResume (c : Translation) (part : Part) (held : List Held) (s : Sites) : (address : ℕ) → Type 0 where
   at_chosen : (node : ℕ) → IsAmong part node → IsChosen (lowered c.flat) c.boundaries node → IsResume c part held s (s.mark node)
   past_lock : (node : ℕ) → IsAmong part node → IsLock (lowered c.flat) node → IsResume c part held s (s.after node)
-  past_unlock : (node mutex next : ℕ) (is : Node) → IsAmong part node → NodeAt (lowered c.flat) node is → is.action ≡ Unlock mutex next →
+  past_unlock : (node : ℕ) (lock : LockName) (next : ℕ) (is : Node) → IsAmong part node → NodeAt (lowered c.flat) node is → is.action ≡ Unlock lock next →
       holds_some (slice_index_or held (next - part.first) []) ≡ true → IsResume c part held s (s.after node)
 
 -- ---- Threads

@@ -1,42 +1,17 @@
 -- What a step of a hart adds to the machine's account, and what is kept of it where steps are bound to a point.
-use Rattle.std.proofs.lemmas.Bool.Decides.{nat_tests}
-use Rattle.std.proofs.Common.{◌≡◌, ◌≢◌, ℕ, List, ◌∷◌, sym, ◌∙◌, ap, arith, subst, true, false, Option, Some, None, refl, suc, ◌+◌, ◌<◌, [], ◌++◌, length, Bool}
-use Rattle.std.proofs.Common.{◌⊎◌, inl, inr, zero, ◌==◌, replicate, slice_set, slice_get, ◌&&◌, if◌then◌else◌, not, nat_lt, nat_le, filter}
-use Rattle.std.proofs.lemmas.Bool.{and_from, eq-eqb, true≢false}
-use Rattle.log_states.proofs.Public.{some_words, word_beside}
-use Rattle.rv64_isa.proofs.Public.{log_stays, evictions_touch}
-use Rattle.ido_base.specs.declared.log.Log.{Log}
-use Rattle.ido_base.specs.declared.event.Event.TheVariants.{Step, Evict}
-use Rattle.ido_base.specs.declared.event.Reply.{Reply}
-use Rattle.ido_base.specs.declared.event.Reply.TheVariants.{Moved}
-use Rattle.ido_base.specs.Words.{Word, Entry, last_position}
-use Rattle.ido_base.specs.Layout.{byte_number, word_number, point_at}
-use Rattle.ido_base.specs.Growth.{AreEntries}
-use Rattle.ido_base.proofs.Public.{same_last, write_backs_raise}
-use Rattle.rv64_isa.specs.declared.object.Slot.{Slot}
-use Rattle.rv64_isa.specs.declared.phase.Phase.{Phase}
-use Rattle.rv64_isa.specs.Machine.{Hart, World, happens, after_event, reply_to}
-use Rattle.rv64_isa.specs.Frames.{IsWellFormedWorld}
-use Rattle.rv64_isa.specs.Schedule.{Steps, has_moved, is_running, completing, is_mark, passes_mark, stores_point, with_step, HartSteps, no_steps, hart_steps}
-use Rattle.rv64_isa.specs.Schedule.{with_begun, with_bound, Bound, durable_steps, with_kept}
-use Rattle.recovery_semantics.proofs.Public.{equal_self}
-use Rattle.variable_words.specs.MemoryEffects.{MayMakeStore, IsWork, Rests, Queues, WritesBack, Makes}
-use Rattle.variable_words.proofs.Public.{steps_work}
-use Rattle.log_states.specs.Logs.{point_in}
-use Rattle.log_states.specs.Machines.{IsElsewhere}
-use Rattle.crash_simulation.proofs.DisjointStores.{next_store}
-use Rattle.std.proofs.lemmas.List.{get_or-set_same, get_or-set_other, length-set, append-nil, set-get_or}
-use Rattle.rv64_isa.specs.declared.phase.Phase.TheVariants.{Done}
-use Rattle.hart_runs.specs.Calls.{IsInPhase}
-use Rattle.recovery_semantics.specs.Events.{steps_begun}
-use Rattle.crash_simulation.specs.Systems.{System}
-use Rattle.crash_simulation.specs.AbstractRuns.{AbstractRun}
-use Rattle.crash_simulation.specs.ThreadGhosts.{ThreadGhost}
-use Rattle.crash_simulation.specs.InstructionSteps.{is_bound, is_leaving, SaysSame}
-use Rattle.crash_simulation.specs.AccountRelation.{IsCountedOf, IsAccountedOf, AreCounted, Beginning, counted_steps, last_stored}
-use Rattle.crash_simulation.specs.ReleasedSections.{sections_kept}
+use Rattle.crash_simulation.proofs.Common.{◌≡◌, ◌≢◌, ℕ, List, ◌∷◌, sym, ◌∙◌, ap, arith, subst, true, false, Option, Some, None, refl, suc, ◌+◌, ◌<◌, [], ◌++◌}
+use Rattle.crash_simulation.proofs.Common.{length, Bool, ◌⊎◌, inl, inr, zero, ◌==◌, replicate, slice_set, slice_get, ◌&&◌, if◌then◌else◌, not, nat_lt, nat_le}
+use Rattle.crash_simulation.proofs.Common.{filter, eq-eqb, true≢false, length-set, append-nil, and_from, nat_tests, get_or-set_same, get_or-set_other}
+use Rattle.crash_simulation.proofs.Common.{set-get_or, AreEntries, byte_number, word_number, point_at, Word, Entry, last_position, Step, Evict, Reply, Moved}
+use Rattle.crash_simulation.proofs.Common.{Log, same_last, write_backs_raise, without_first, without, IsWellFormedWorld, Hart, World, happens, after_event}
+use Rattle.crash_simulation.proofs.Common.{reply_to, Steps, has_moved, is_running, completing, is_mark, passes_mark, stores_point, with_step, HartSteps}
+use Rattle.crash_simulation.proofs.Common.{no_steps, hart_steps, with_begun, with_bound, Bound, durable_steps, with_kept, Slot, Phase, Done, log_stays}
+use Rattle.crash_simulation.proofs.Common.{evictions_touch, MayMakeStore, IsWork, Queues, WritesBack, Makes, steps_work, steps_begun, equal_self, point_in}
+use Rattle.crash_simulation.proofs.Common.{IsElsewhere, some_words, word_beside, IsInPhase, AbstractRun, IsCountedOf, IsAccountedOf, AreCounted, Beginning}
+use Rattle.crash_simulation.proofs.Common.{counted_steps, last_stored, is_bound, is_leaving, SaysSame, sections_kept, System, ThreadGhost}
+use Rattle.variable_words.specs.MemoryEffects.{Rests}
 use Rattle.rv64_isa.specs.Schedule as machine
-use Rattle.source_machine.specs.StepExchanges.{without_first, without}
+use Rattle.crash_simulation.proofs.DisjointStores.{next_store}
 
 -- the hart, where it runs and its step completes an instruction
 abbrev completing_by : Reply → Option Hart → Option Hart

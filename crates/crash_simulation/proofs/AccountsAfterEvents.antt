@@ -1,36 +1,19 @@
 -- The machine simulates an abstract run after all events, and its account is that run's.
-use Rattle.std.proofs.Common.{◌≡◌, ◌≢◌, inl, inr, refl, ℕ, ◌+◌, ◌<◌, ◌≤◌, Bool, arith, List, [], ◌∷◌, ◌++◌, length, sym, ◌∙◌, ap, ap₂, subst, true, false}
-use Rattle.std.proofs.Common.{Option, Some, None, slice_get, not, ◌&&◌, ◌==◌, true≢false}
-use Rattle.rv64_isa.proofs.Public.{log_stays}
-use Rattle.ido_base.specs.declared.event.Event.{Event}
-use Rattle.ido_base.specs.declared.event.Event.TheVariants.{Step, Evict, Crash}
-use Rattle.ido_base.specs.Words.{last_position}
-use Rattle.rv64_isa.specs.declared.phase.Phase.{Phase}
-use Rattle.rv64_isa.specs.declared.phase.Phase.TheVariants.{Take, Wait, Resume, Run, Done, Ended}
-use Rattle.rv64_isa.specs.Machine.{Hart, World, stepped, happens, after_event, after_events, durable_point, after_crash_of}
-use Rattle.rv64_isa.specs.Schedule.{Steps, is_running, completing, passes_mark, with_step, with_all_kept, steps_after, steps_along, releases_last}
-use Rattle.rv64_isa.specs.Schedule.{released_count}
-use Rattle.recovery_semantics.specs.Configs.{now}
-use Rattle.log_states.specs.Logs.{point_in}
-use Rattle.code_runs.specs.CodeTraces.{Program}
-use Rattle.hart_runs.specs.Calls.{IsInPhase}
-use Rattle.thread_runs.specs.Laws.{AreMarksOf, FragmentsGoOn}
-use Rattle.crash_simulation.specs.Systems.{System, IsSystem, thread_count, flat_of}
-use Rattle.crash_simulation.specs.AbstractRuns.{AbstractRun, kept_of}
-use Rattle.crash_simulation.specs.ThreadGhosts.{ThreadGhost}
-use Rattle.crash_simulation.specs.SimulationRelation.{SimulatesBut, Simulates, anybody}
-use Rattle.crash_simulation.specs.InstructionSteps.{is_bound, begins, IsUnlocked, was_unlocked, Site}
-use Rattle.crash_simulation.specs.InstructionSteps.{IsReadyToStep, on_fragment, calls, at_core, OwnStep, FragmentsStep, CoresStep, Nears}
-use Rattle.crash_simulation.specs.AccountRelation.{AreCounted, SimulatesCounted, MachinesResume, Beginning, first_beginning}
-use Rattle.crash_simulation.specs.RecoveredWords.{RecoveredAreCounted}
-use Rattle.crash_simulation.specs.ReleasedSections.{one_if, sections_kept, IsReleasedOf, ended_in_machine, SectionsAreKept}
-use Rattle.crash_simulation.proofs.AccountsBeforeCommit.{released_by, none_released, stays_done, phase_releases, kept_crashed, none_bound}
-use Rattle.crash_simulation.proofs.AccountsBeforeCommit.{recovered_counted, start_counted, crash_counted, evicted_counted, own_step_counted, GoesOnBy, led_now}
+use Rattle.crash_simulation.proofs.Common.{◌≡◌, ◌≢◌, ℕ, List, ◌∷◌, sym, ◌∙◌, ap, arith, subst, true, false, Option, Some, None, refl, ◌+◌, ◌<◌, [], ◌++◌}
+use Rattle.crash_simulation.proofs.Common.{length, Bool, inl, inr, ◌==◌, slice_get, ◌&&◌, not, true≢false, ◌≤◌, ap₂, none-some, same_Some, holds_none}
+use Rattle.crash_simulation.proofs.Common.{last_position, Event, Step, Evict, Crash, State, after_from, runs_from, ended_from, start, first_world, Hart, World}
+use Rattle.crash_simulation.proofs.Common.{happens, after_event, stepped, after_events, durable_point, after_crash_of, Steps, is_running, completing}
+use Rattle.crash_simulation.proofs.Common.{passes_mark, with_step, with_all_kept, steps_after, steps_along, releases_last, released_count, Slot, Phase, Done}
+use Rattle.crash_simulation.proofs.Common.{Take, Wait, Resume, Run, Ended, log_stays, below_or_past, now, Program, point_in, IsInPhase, AreMarksOf}
+use Rattle.crash_simulation.proofs.Common.{FragmentsGoOn, AbstractRun, kept_of, AreCounted, Beginning, SimulatesCounted, MachinesResume, first_beginning}
+use Rattle.crash_simulation.proofs.Common.{is_bound, begins, IsUnlocked, was_unlocked, Site, IsReadyToStep, calls, OwnStep, FragmentsStep, CoresStep, Nears}
+use Rattle.crash_simulation.proofs.Common.{EventsStand, RunsSimulate, SectionsEndAtPoints, loses_point, RecoveredAreCounted, sections_kept, one_if}
+use Rattle.crash_simulation.proofs.Common.{IsReleasedOf, ended_in_machine, SectionsAreKept, SimulatesBut, Simulates, anybody, System, IsSystem, thread_count}
+use Rattle.crash_simulation.proofs.Common.{flat_of, ThreadGhost}
+use Rattle.crash_simulation.specs.InstructionSteps.{on_fragment, at_core}
+use Rattle.crash_simulation.proofs.AccountsBeforeCommit.{released_by, none_released, stays_done, phase_releases, kept_crashed, none_bound, recovered_counted}
+use Rattle.crash_simulation.proofs.AccountsBeforeCommit.{start_counted, crash_counted, evicted_counted, own_step_counted, GoesOnBy, led_now}
 use Rattle.crash_simulation.proofs.LastReleases.{holders_stay_none, describes_test, at_most_one}
-use Rattle.flow_graph.proofs.Public.{below_or_past}
-use Rattle.c_tree.specs.Source.{State, after_from, runs_from, ended_from}
-use Rattle.rv64_isa.specs.declared.object.Slot.{Slot}
-use Rattle.crash_simulation.specs.Laws.{EventsStand, RunsSimulate}
 use Rattle.crash_simulation.proofs.LoadFreeEnvironment.{none_ahead}
 use Rattle.crash_simulation.proofs.ReadyHarts.{right_empty, runs_ready}
 use Rattle.crash_simulation.proofs.CallSteps.{calls_step}
@@ -43,13 +26,8 @@ use Rattle.crash_simulation.proofs.Sections.{AreSameSections, EndAsLeft, led_sec
 use Rattle.crash_simulation.proofs.AccountUpdates.{begun_by, account_stays, no_mark, nothing_counted, AgreeOnSteps}
 use Rattle.crash_simulation.proofs.LocksAfterStep.{own_ghost, other_ghost}
 use Rattle.crash_simulation.proofs.OwnHartSteps.{view, same_number}
-use Rattle.crash_simulation.proofs.AccountUpdates as positions
-use Rattle.std.proofs.lemmas.Option.{none-some, same_Some}
-use Rattle.ido_base.specs.Locks.{holds_none}
-use Rattle.c_tree.specs.Source as m
-use Rattle.rv64_isa.specs.Executables.{first_world}
-use Rattle.crash_simulation.specs.PointSections.{SectionsEndAtPoints, loses_point}
 use Rattle.crash_simulation.proofs.StatesMatchSource.{kept_matches}
+use Rattle.crash_simulation.proofs.AccountUpdates as positions
 use Rattle.crash_simulation.proofs.SimulationAtStart as starting
 
 -- ---- Where steps are bound, no step is begun
@@ -281,8 +259,7 @@ module _ (fragments_step : FragmentsStep) (cores_step : CoresStep) where
       step_moves : (o : Option Hart) → slice_get w.harts h ≡ o → StepMoves
       step_moves None none =
           still_moves (subst (λ (v : World). SimulatesStill y s w v old) (not_there y w h none)
-          (record { words = refl; each = old.each; locks = old.locks }))
-          (positions.not_there y.runs.program w h none)
+          (record { words = refl; each = old.each; locks = old.locks })) (positions.not_there y.runs.program w h none)
           (holders_stay_none y.runs.program w h (ap (λ (v : World). v.holders) (sym (not_there y w h none))))
           (λ i. none-some i.hart (sym none ∙ i.here))
       step_moves (Some hart) here = in_phase_moves hart.phase (record { hart = hart; here = here; phase_is = refl })
@@ -397,12 +374,12 @@ module _ (fragments_step : FragmentsStep) (cores_step : CoresStep) (law : Fragme
       (was : SimulatesCounted y s (first_beginning y) w steps r) where
     -- the sections that are kept, by the account's steps
     kept_is : (v : World) (later : Steps) {releases : ℕ → ℕ} (is : SimulatesCounted y s (first_beginning y) v later releases) (n : ℕ) →
-        sections_kept y is.stands.abstract n ≡ m.ended_from (m.start (flat_of y)) later.kept n
-    kept_is v later is n = ap₂ (λ (from : m.State) (us : List ℕ). m.ended_from from us n) is.counted.begins (sym is.counted.kept)
+        sections_kept y is.stands.abstract n ≡ ended_from (start (flat_of y)) later.kept n
+    kept_is v later is n = ap₂ (λ (from : State) (us : List ℕ). ended_from from us n) is.counted.begins (sym is.counted.kept)
 
     ends_at_point : (event : Event) (n : ℕ) → n < thread_count y →
-        m.ended_from (m.start (flat_of y)) (steps_after y.runs.marks y.runs.program w event steps).kept n
-        ≡ m.ended_from (m.start (flat_of y)) steps.kept n + one_if (loses_point w (after_event y.runs.program w event) n)
+        ended_from (start (flat_of y)) (steps_after y.runs.marks y.runs.program w event steps).kept n
+        ≡ ended_from (start (flat_of y)) steps.kept n + one_if (loses_point w (after_event y.runs.program w event) n)
     ends_at_point event n below =
         let e = event_goes_on fragments_step cores_step law y s w event was.stands in
         let later = steps_after y.runs.marks y.runs.program w event steps in
@@ -419,5 +396,5 @@ module _ (fragments_step : FragmentsStep) (cores_step : CoresStep) (law : Fragme
   pub sections_end_at_points : SectionsEndAtPoints
   sections_end_at_points y s events event h below =
       let z = machines_resume fragments_step cores_step law y s events in
-      ap (λ (later : Steps). m.ended_from (m.start (flat_of y)) later.kept h)
+      ap (λ (later : Steps). ended_from (start (flat_of y)) later.kept h)
       (steps_join y.runs.marks y.runs.program events (event ∷ []) (first_world y.runs) _) ∙ ends_at_point y s _ _ _ z event h below

@@ -1,48 +1,21 @@
 -- The machine's account and its releases after an event, where commits are still to be taken.
-use Rattle.std.proofs.Common.{◌≡◌, ◌≢◌, inl, inr, refl, ℕ, suc, ◌+◌, ◌<◌, List, ap, sym, ◌∙◌, subst, arith, Some, None, Bool, true, false, [], ◌∷◌, ◌++◌}
-use Rattle.std.proofs.Common.{length, ap₂, slice_get, is_some, ◌&&◌, ◌==◌, if◌then◌else◌, not}
-use Rattle.std.proofs.lemmas.Bool.{true≢false, cases_Bool, and_parts, eqb-true}
-use Rattle.std.proofs.lemmas.List.{append-nil, length-replicate}
-use Rattle.ido_base.specs.declared.event.Event.{Event}
-use Rattle.ido_base.specs.declared.event.Event.TheVariants.{Step, Evict, Crash}
-use Rattle.c_tree.specs.Source.{ended_from}
-use Rattle.rv64_isa.specs.declared.object.Slot.{Slot}
-use Rattle.rv64_isa.specs.declared.phase.Phase.{Phase}
-use Rattle.rv64_isa.specs.declared.phase.Phase.TheVariants.{Take, Wait, Resume, Run, Done, Ended}
-use Rattle.rv64_isa.specs.Machine.{World, Outcome, happens, after_event, after_crash_of}
-use Rattle.rv64_isa.specs.Schedule.{is_running, releases_last, HartSteps, LifeSchedules, Steps, only_life, no_steps, hart_steps, first_steps, passes_mark}
-use Rattle.rv64_isa.specs.Schedule.{stores_point, with_step, steps_after}
-use Rattle.rv64_isa.specs.Frames.{IsWellFormedWorld}
-use Rattle.rv64_isa.proofs.Public.{steps_touch, evictions_touch, get-set_same, log_stays, step_earlier}
-use Rattle.hart_runs.specs.Calls.{IsInPhase, has_all, takes_one, is_kept_from, all_have, one_takes}
-use Rattle.hart_runs.proofs.Public.{takes_step, waits_step, resumes_step, stopped_stay}
-use Rattle.recovered_threads.specs.RecoveryStates.{Gathers}
-use Rattle.recovered_threads.proofs.Public.{same_there, same_or_other, holds_none_is}
-use Rattle.crash_simulation.specs.Systems.{System, IsSystem, thread_count, flat_of}
-use Rattle.crash_simulation.specs.SimulationRelation.{Simulates}
-use Rattle.crash_simulation.specs.InstructionSteps.{is_leaving, Releases, nothing_released, last_released, OwnStep, StepsOrStutters, begins, is_bound}
-use Rattle.crash_simulation.specs.InstructionSteps.{with_ghost}
-use Rattle.crash_simulation.specs.ReleasedSections.{one_if, sections_kept, IsReleasedOf, in_step, cut_off}
+use Rattle.crash_simulation.proofs.Common.{◌≡◌, ◌≢◌, ℕ, List, ◌∷◌, sym, ◌∙◌, ap, arith, subst, true, false, Some, None, refl, suc, ◌+◌, ◌<◌, [], ◌++◌, length}
+use Rattle.crash_simulation.proofs.Common.{Bool, inl, inr, ◌==◌, slice_get, ◌&&◌, if◌then◌else◌, not, true≢false, append-nil, ap₂, is_some, list_any}
+use Rattle.crash_simulation.proofs.Common.{cases_Bool, and_parts, eqb-true, length-replicate, last_position, Event, Step, Evict, Crash, ended_from, goes_on}
+use Rattle.crash_simulation.proofs.Common.{first_world, IsWellFormedWorld, World, happens, after_event, after_crash_of, Outcome, Steps, is_running, passes_mark}
+use Rattle.crash_simulation.proofs.Common.{stores_point, with_step, HartSteps, no_steps, hart_steps, steps_after, releases_last, LifeSchedules, only_life}
+use Rattle.crash_simulation.proofs.Common.{first_steps, Slot, Phase, Done, Take, Wait, Resume, Run, Ended, log_stays, evictions_touch, steps_touch}
+use Rattle.crash_simulation.proofs.Common.{get-set_same, step_earlier, now, Config, steps_begun, counted_own, counted_other, Origin, point_in, Record, is_store}
+use Rattle.crash_simulation.proofs.Common.{IsInPhase, has_all, takes_one, is_kept_from, all_have, one_takes, takes_step, waits_step, resumes_step, stopped_stay}
+use Rattle.crash_simulation.proofs.Common.{Gathers, same_there, same_or_other, holds_none_is, AbstractRun, IsCountedOf, IsAccountedOf, AreCounted, Beginning}
+use Rattle.crash_simulation.proofs.Common.{counted_steps, last_stored, SimulatesCounted, first_beginning, is_bound, is_leaving, begins, OwnStep, Releases}
+use Rattle.crash_simulation.proofs.Common.{nothing_released, last_released, StepsOrStutters, with_ghost, IsRecoveredFrom, sections_kept, one_if, IsReleasedOf}
+use Rattle.crash_simulation.proofs.Common.{in_step, cut_off, Simulates, System, IsSystem, thread_count, flat_of, ThreadGhost}
+use Rattle.c_tree.specs.Source as m
 use Rattle.crash_simulation.proofs.LastReleases.{no_release, holders_stay_none, other_release, none_leaving}
-use Rattle.log_states.specs.Logs.{Record, point_in}
 use Rattle.crash_simulation.proofs.RecordsAfterCrash.{left, left_kept}
 use Rattle.crash_simulation.proofs.ThreadsOfMachines.{phase_of, each_placed}
 use Rattle.crash_simulation.proofs.Sections.{led_sections}
-use Rattle.std.specs.List.{list_any}
-use Rattle.ido_base.specs.Words.{last_position}
-use Rattle.rv64_isa.specs.Executables.{first_world}
-use Rattle.c_tree.specs.Source as m
-use Rattle.source_machine.proofs.Public.{goes_on}
-use Rattle.recovery_semantics.specs.Configs.{Config, now}
-use Rattle.recovery_semantics.specs.Events.{steps_begun}
-use Rattle.recovery_semantics.proofs.Public.{counted_own, counted_other}
-use Rattle.log_states.specs.Stages.{is_store}
-use Rattle.crash_simulation.specs.AbstractRuns.{AbstractRun}
-use Rattle.crash_simulation.specs.ThreadGhosts.{ThreadGhost}
-use Rattle.region_attempts.specs.Origins.{Origin}
-use Rattle.crash_simulation.specs.RecoveredWords.{IsRecoveredFrom}
-use Rattle.crash_simulation.specs.AccountRelation.{IsCountedOf, IsAccountedOf, AreCounted, SimulatesCounted, Beginning, first_beginning, counted_steps}
-use Rattle.crash_simulation.specs.AccountRelation.{last_stored}
 use Rattle.crash_simulation.proofs.DisjointStores.{elsewhere}
 use Rattle.crash_simulation.proofs.StepSimulation.{evicted_simulates}
 use Rattle.crash_simulation.proofs.StatesMatchSource.{resumed, repeated_or}

@@ -1,50 +1,18 @@
 -- Boundaries that a thread's code begins: they can be recovered from, and their records describe the state.
-use Rattle.std.proofs.Common.{◌≡◌, ◌≢◌, refl, ℕ, zero, suc, ◌+◌, ◌-◌, ◌*◌, ◌%◌, ◌^◌, ◌<◌, ◌≤◌, List, [], length, map, sym, ◌∙◌, ap, subst, arith, Some}
-use Rattle.std.proofs.Common.{true, slice_get, sum_by, take, false, nat_le, slice_index_or, pos}
-use Rattle.std.proofs.lemmas.Bool.{and_parts, leb-true, eqb-true, cond_both}
-use Rattle.std.proofs.lemmas.Bool.Decides.{nat_tests}
-use Rattle.std.proofs.lemmas.Option.{none-some, slice_get_within}
-use Rattle.ido_base.specs.declared.log.Log.TheVariants.{V1}
-use Rattle.ido_base.specs.Layout.{in_range, variable_at}
-use Rattle.ido_ints.specs.declared.kinds.Kind.{Kind}
-use Rattle.ido_ints.specs.Kinds.{bytes_of}
-use Rattle.ido_ints.specs.TypedNumbers.{Typed, typed}
-use Rattle.ido_ints.proofs.Public.{register_below}
+use Rattle.crash_simulation.proofs.Common.{◌≡◌, ◌≢◌, ℕ, List, sym, ◌∙◌, ap, arith, subst, false, Some, refl, suc, ◌+◌, ◌<◌, [], length, zero, slice_get}
+use Rattle.crash_simulation.proofs.Common.{nat_le, ◌≤◌, ◌*◌, ◌%◌, ◌^◌, map, ℤ, sum_by, take, slice_index_or, pos, and_parts, eqb-true, leb-true, cond_both}
+use Rattle.crash_simulation.proofs.Common.{none-some, slice_get_within, variable_at, Typed, typed, Kind, register_below, Pending, shape_of, IsThreadOf}
+use Rattle.crash_simulation.proofs.Common.{IsStoreInRange, zip_found, World, read, Instr, Seen, GraphThread, FlowState, seen_by, NodeAt, lowered, Action, Store}
+use Rattle.crash_simulation.proofs.Common.{Node, Graph, Good, found_in, get_cases, IsInstructionAt, well_formed_placed, Carries, is_there, owes_at, Program}
+use Rattle.crash_simulation.proofs.Common.{MarkedEnvironment, Meets, Trace, LocalConfig, config, recorded_by, IsRecoverable, HomeCarries, Home, Agrees}
+use Rattle.crash_simulation.proofs.Common.{instr_at, Places, keeping, Plan, IsNodeOf, IsKept, of_local, of_address, of_value, IsPlan, locks_before, IsCalling}
+use Rattle.crash_simulation.proofs.Common.{IsPendingIn, HasPending, Enters, IsLockOf, IsUnlockOf, AtBoundary, Code, IsOrderly, ResumesAt, Describes}
+use Rattle.crash_simulation.proofs.Common.{boundaries_recover, commits_describe, System, IsSystem, thread_count}
+use Rattle.flow_graph.specs.IdempotentCuts.{stores}
 use Rattle.c_tree.specs.Flats as f
 use Rattle.c_tree.specs.Source as m
-use Rattle.c_tree.specs.Source.{Pending}
-use Rattle.c_tree.specs.WellFormed.{shape_of}
-use Rattle.c_ranges.specs.RunInvariants.{IsThreadOf, IsStoreInRange}
-use Rattle.c_ranges.proofs.Public.{zip_found}
-use Rattle.rv64_isa.specs.declared.instr.Instr.{Instr}
-use Rattle.rv64_isa.specs.Rows.{read}
-use Rattle.rv64_isa.specs.Machine.{World}
-use Rattle.rv64_link.specs.LinkedCode.{IsInstructionAt}
-use Rattle.operator_code.specs.ComputingCode.{Carries}
-use Rattle.code_runs.specs.ComputingRuns.{LocalConfig, config}
-use Rattle.code_runs.specs.CodeTraces.{Program, MarkedEnvironment, Meets, Trace}
-use Rattle.hart_runs.specs.HartsOnRuns.{Agrees, instr_at}
-use Rattle.flow_graph.specs.Nodes.{Action, Store, Node, Graph}
-use Rattle.flow_graph.specs.Lowering.{lowered}
-use Rattle.flow_graph.specs.IdempotentCuts.{stores}
-use Rattle.flow_graph.specs.Liveness.{NodeAt}
-use Rattle.flow_graph.specs.Actions.{Seen, GraphThread, FlowState, seen_by}
-use Rattle.flow_graph.proofs.Public.{Good, found_in, get_cases}
-use Rattle.region_attempts.proofs.Public.{is_there, owes_at}
-use Rattle.variable_words.proofs.Public.{well_formed_placed, addresses_reach}
-use Rattle.log_states.specs.Laws.{recorded_by, IsRecoverable}
-use Rattle.thread_code.specs.Plans.{Plan, IsNodeOf, IsKept, of_local, of_address, of_value, IsPlan, locks_before}
-use Rattle.thread_code.specs.RegistersAtNodes.{IsPendingIn, HasPending, Enters}
-use Rattle.thread_code.specs.NodeCodeEffects.{Places, keeping}
-use Rattle.thread_code.specs.Programs.{IsCalling}
-use Rattle.thread_runs.specs.CodeFragments.{IsLockOf, IsUnlockOf}
-use Rattle.recovered_threads.specs.RecordDescriptions.{Code, IsOrderly, ResumesAt, Describes}
-use Rattle.recovered_threads.specs.Laws.{AtBoundary}
-use Rattle.recovered_threads.proofs.Public.{boundaries_recover, commits_describe}
-use Rattle.crash_simulation.specs.Systems.{System, IsSystem, thread_count}
+use Rattle.crash_simulation.proofs.Elements.{element_below}
 use Rattle.crash_simulation.proofs.StepsAfterMarks.{room}
-use Rattle.expr_code.specs.declared.home.Home.{Home}
-use Rattle.expr_code.specs.EvaluationCode.{HomeCarries}
 
 -- ---- Addresses in a thread's code
 
@@ -69,8 +37,8 @@ module _ (y : System) (s : IsSystem y) (n : ℕ) (below : n < thread_count y) wh
   stands_in address instr st = subst (λ (a : ℕ). IsAddress a) (sym st.1) (in_code st.0 (omega (arith, slice_get_within c.program.code st.0 _ st.2)))
 
   -- where a thread is resumed after an unlock
-  pub after_unlock_in : (from mutex next : ℕ) → IsUnlockOf y.plan code.thread from mutex next → IsAddress (c.after from)
-  after_unlock_in from mutex next u =
+  pub after_unlock_in : (from : ℕ) (locals : List ℤ) (mutex next : ℕ) → IsUnlockOf y.plan code.thread from locals mutex next → IsAddress (c.after from)
+  after_unlock_in from locals mutex next u =
       let calls = subst (λ (a : Action). IsCalling y.plan code.thread c a from) u.unlocks (code.is.code from u.is u.own u.at).calls in
       let st = calls.0 in
       subst (λ (a : ℕ). IsAddress a) (let e : c.program.start + 4 * suc st.0 ≡ c.after from = omega (arith, calls.2) in e)
@@ -92,7 +60,7 @@ module _ (y : System) (s : IsSystem y) (n : ℕ) (below : n < thread_count y) wh
 
   -- where a thread is resumed after a lock: the code leads from there to the entry of the next node
   pub after_lock_in : (w : World) (environment : MarkedEnvironment) (side : ℕ) (seen : Seen) (x : List ℕ) (from mutex next : ℕ) → Meets c.program environment →
-      Agrees y.runs.program w code.thread.number environment → IsLockOf y.plan code.thread from mutex next → IsNodeOf code.thread next →
+      Agrees y.runs.program w code.thread.number environment → IsLockOf y.plan code.thread from seen.locals mutex next → IsNodeOf code.thread next →
       Enters y.plan code.thread next seen side x → IsAddress (c.after from)
   after_lock_in w environment side seen x from mutex next meets agrees l own enters =
       let calls = subst (λ (a : Action). IsCalling y.plan code.thread c a from) l.locks (code.is.code from l.is l.own l.at).calls in
@@ -122,11 +90,8 @@ module _ (p : Plan) (code : Code p) (plan : IsPlan p) (s : FlowState) (good : Go
   pub address_small : (store : Pending) → graph_thread.pending ≡ Some store → variable_at (map shape_of p.flat.variables) store.variable store.element < 2 ^ 64
   address_small store owes =
       let is = store_is store owes in
-      let reach = addresses_reach V1 p.flat.variables 0 store.variable store.element is.it (well_formed_placed p.flat plan.formed).room is.found is.element in
-      small (variable_at (map shape_of p.flat.variables) store.variable store.element) (bytes_of is.it.kind) reach.inside
-    where
-      small : (address bytes : ℕ) → in_range V1 0 address bytes ≡ true → address < 2 ^ 64
-      small address bytes is_in = grind (arith, nat_tests)
+      let below = element_below p.flat.variables (well_formed_placed p.flat plan.formed).room store.variable store.element is.it is.found is.element in
+      omega (arith, below)
 
   -- before a store one is pending
   pub store_ahead : (is : Node) (variable : ℕ) (kind : Kind) (next : ℕ) → NodeAt p.graph graph_thread.at is → is.action ≡ Store variable kind next →

@@ -1,56 +1,28 @@
 -- A step of a hart at its call: it takes a mutex or waits, gives one back, or ends.
-use Rattle.std.proofs.lemmas.Bool.Decides.{nat_tests}
-use Rattle.std.proofs.Common.{◌≡◌, ◌≢◌, ◌⊎◌, inl, inr, ⊎_elim, refl, ℕ, List, [], ◌++◌, ap, sym, ◌∙◌, subst, arith, Option, Some, None, Bool, true, false}
-use Rattle.std.proofs.Common.{slice_set, suc, length, ◌+◌}
-use Rattle.std.proofs.lemmas.Bool.{true≢false, cond-true, cond-false, cases_Bool, and_parts}
-use Rattle.std.proofs.lemmas.Option.{none-some, same_Some}
-use Rattle.std.specs.Prelude.{slice_get, is_none, is_some, ◌&&◌, ◌==◌, if◌then◌else◌, ◌-◌}
-use Rattle.rv64_isa.proofs.Public.{get-set_same, get-set_other, steps_touch}
-use Rattle.ido_base.specs.declared.event.Event.TheVariants.{Step}
-use Rattle.ido_base.specs.Words.{Entry}
-use Rattle.ido_base.specs.Locks.{holds_none}
-use Rattle.rv64_isa.specs.declared.phase.Phase.TheVariants.{Run, Done, Ended}
-use Rattle.rv64_isa.specs.Machine.{Hart, World, with_holder, moved, gone_on, happens}
-use Rattle.rv64_isa.specs.Rows.{Effect}
-use Rattle.rv64_isa.specs.Schedule.{passes_mark}
+use Rattle.crash_simulation.proofs.Common.{◌≡◌, ◌≢◌, ℕ, List, sym, ◌∙◌, ap, arith, subst, true, false, Option, Some, None, refl, suc, ◌+◌, [], ◌++◌, length}
+use Rattle.crash_simulation.proofs.Common.{Bool, ◌⊎◌, inl, inr, ◌==◌, slice_set, slice_get, ◌&&◌, if◌then◌else◌, true≢false, is_some, ◌-◌, ⊎_elim, is_none}
+use Rattle.crash_simulation.proofs.Common.{cases_Bool, and_parts, cond-true, cond-false, nat_tests, none-some, same_Some, holds_none, Entry, Step, Hart, World}
+use Rattle.crash_simulation.proofs.Common.{happens, with_holder, moved, gone_on, Effect, passes_mark, Phase, Done, Run, Ended, steps_touch, get-set_same}
+use Rattle.crash_simulation.proofs.Common.{get-set_other, Action, now, attempt_of, steps_begun, HasUnlocked, held_now, seen_effects, IsAtCall, phase_after}
+use Rattle.crash_simulation.proofs.Common.{cleans_in, steps_left, calls_count, IsCalling, IsUnlockOf, ExitPoint, Arrives, Gives, Ends, IsOnFragment, IsEndOf}
+use Rattle.crash_simulation.proofs.Common.{on_machine, AreMarksOf, GivesMutex, unlocks_go_on, call_there, unlocks_give, ends_end, same_there, same_or_other}
+use Rattle.crash_simulation.proofs.Common.{holds_none_is, kept_of, now_of, is_bound, is_leaving, was_unlocked, Releases, nothing_released, last_released, stays}
+use Rattle.crash_simulation.proofs.Common.{CallsStep, halts, is_nearer, IsGiving, entry_ahead, most_ahead, IsSoon, System, IsSystem, flat_of, Rests}
+use Rattle.crash_simulation.proofs.Common.{ThreadGhost, on_fragment, InPhase, ThreadInv, IsRunningThread, GoesClean, IsBounded}
 use Rattle.node_code.specs.Pieces.{gives, ends}
-use Rattle.flow_graph.specs.Nodes.{Action}
-use Rattle.hart_runs.specs.Calls.{IsAtCall, phase_after}
-use Rattle.hart_runs.specs.RunSteps.{cleans_in, steps_left}
-use Rattle.hart_runs.proofs.Public.{calls_count}
-use Rattle.recovery_semantics.specs.Configs.{attempt_of, now}
-use Rattle.recovery_semantics.specs.Events.{steps_begun}
-use Rattle.recovery_semantics.specs.Laws.{HasUnlocked}
-use Rattle.recovery_semantics.proofs.Public.{held_now}
-use Rattle.thread_code.specs.Programs.{IsCalling}
-use Rattle.thread_runs.specs.CodeFragments.{ExitPoint, Arrives, Gives, Ends, IsOnFragment, IsUnlockOf, IsEndOf, on_machine}
-use Rattle.thread_runs.specs.Laws.{GivesMutex}
-use Rattle.thread_runs.specs.Laws as runs
-use Rattle.thread_runs.proofs.Public.{unlocks_go_on, call_there, unlocks_give, ends_end}
-use Rattle.recovered_threads.proofs.Public.{same_there, same_or_other, holds_none_is}
-use Rattle.crash_simulation.specs.ThreadGhosts.{ThreadGhost, InPhase, ThreadInv, IsRunningThread}
-use Rattle.crash_simulation.specs.InstructionSteps.{stays, is_bound, is_leaving, was_unlocked, Releases, nothing_released, last_released, CallsStep, halts}
-use Rattle.crash_simulation.specs.InstructionSteps.{is_nearer}
-use Rattle.crash_simulation.specs.StepsToMark.{entry_ahead, most_ahead, IsSoon}
-use Rattle.crash_simulation.specs.Systems.{System, IsSystem, flat_of}
-use Rattle.crash_simulation.specs.AbstractRuns.{kept_of, now_of}
-use Rattle.crash_simulation.specs.SimulationRelation.{IsGiving}
-use Rattle.crash_simulation.specs.ThreadGhosts as courses
 use Rattle.crash_simulation.specs.InstructionSteps as moving
 use Rattle.crash_simulation.proofs.LastReleases.{holds_some, no_release, holders_stay_none, is_release, none_leaving, describes_test}
 use Rattle.crash_simulation.proofs.LocksAfterStep.{GoneOn, runs_held, held_given}
 use Rattle.crash_simulation.proofs.OwnHartSteps.{view, StepOf, own_step, own_giving, locks_to, held_still}
 use Rattle.crash_simulation.proofs.LockCallSteps.{none_from, point_none, AtEnd, MovesHart, FragmentTo, z, invariant, placed_here, exists_now, now_holders}
-use Rattle.crash_simulation.proofs.LockCallSteps.{kept_held, fragment_over, none_left, rest_over, hart_is, committed_over, call_stores, points_none}
-use Rattle.crash_simulation.proofs.LockCallSteps.{alone, holders_after, memory_after, describes_new, asks_step}
+use Rattle.crash_simulation.proofs.LockCallSteps.{kept_held, fragment_over, none_left, rest_over, hart_is, committed_over, call_stores, points_none, alone}
+use Rattle.crash_simulation.proofs.LockCallSteps.{holders_after, memory_after, describes_new, asks_step}
 use Rattle.crash_simulation.proofs.StatesMatchSource.{kept_matches}
 use Rattle.crash_simulation.proofs.KeptThreads.{phase_moves}
 use Rattle.crash_simulation.proofs.LoadFreeEnvironment.{bare_answers, placed}
 use Rattle.crash_simulation.proofs.LocksAtCalls.{not_held, ends_free}
 use Rattle.crash_simulation.proofs.StepsAfterMarks.{less_soon}
 use Rattle.crash_simulation.proofs.FragmentSteps.{not_twice}
-use Rattle.code_runs.specs.CodeTraces.{seen_effects}
-use Rattle.rv64_isa.specs.declared.phase.Phase.{Phase}
 
 -- ---- An unlock
 
@@ -60,10 +32,10 @@ module _ {y : System} {s : IsSystem y} {w : World} {h from mutex : ℕ} (at : At
   abbrev pub giving : FragmentTo at (z at) (Gives from mutex) 0 []
   giving = fragment_over at
 
-  bounded : courses.IsBounded y b.config n c graph_thread (Some mutex) (HasUnlocked b.config n mutex)
+  bounded : IsBounded y b.config n c graph_thread (Some mutex) (HasUnlocked b.config n mutex)
   bounded = at.o.fits
 
-  unlock : IsUnlockOf y.plan code.thread from mutex graph_thread.at
+  unlock : IsUnlockOf y.plan code.thread from graph_thread.locals mutex graph_thread.at
   unlock = giving.of_graph
 
   at_unlock : IsAtCall y.runs.program w n gives
@@ -76,9 +48,7 @@ module _ {y : System} {s : IsSystem y} {w : World} {h from mutex : ℕ} (at : At
   none_begun = bounded.after (committed_over at)
 
   none_done : (attempt_of b.config n).done ≡ 0
-  none_done =
-      let none = none_begun in
-      ⊎_elim (λ e. omega (arith, none, e)) (λ q. let more = q.0 in absurd (omega (arith, none, more))) ((invariant at).tried n).begun
+  none_done = ⊎_elim (λ e. omega (arith, none_begun, e)) (λ q. absurd (omega (arith, none_begun, q.0))) ((invariant at).tried n).begun
 
   gives_it : (ghosts n).giving ≡ Some mutex
   gives_it = sym (own_giving at.site) ∙ bounded.gives
@@ -115,13 +85,12 @@ module _ {y : System} {s : IsSystem y} {w : World} {h from mutex : ℕ} (at : At
   -- where the hart is left with no lock, the thread has none in what is kept
   kept_none : holds_none left_holders n ≡ true → holds_none (kept_of y b).holders n ≡ true
   kept_none none =
-      kept_held at (λ m u. let begun = u.begun in let zero_begun = none_begun in omega (arith, begun, zero_begun))
-      (λ lock has. elim (same_or_other lock mutex) [
+      kept_held at (λ m u. omega (arith, u.begun, none_begun)) (λ lock has. elim (same_or_other lock mutex) [
         | inl is ↦ not_now (ap (slice_get (now_of y b).holders) (sym is) ∙ has)
         | inr other ↦ holds_none_is n left_holders lock none (get-set_other w.holders mutex lock None other ∙ at.held.holds lock n has)
       ])
 
-  is_settled : is_over ≡ true → courses.Rests y b.config n given_ghost
+  is_settled : is_over ≡ true → Rests y b.config n given_ghost
   is_settled over = record {
     begun = none_begun;
     done = none_done;
@@ -134,17 +103,17 @@ module _ {y : System} {s : IsSystem y} {w : World} {h from mutex : ℕ} (at : At
 
   -- one step less is ahead
   nearer : (c.before_mark ≡ suc (c.before_mark - 1)) × IsSoon y n (c.before_mark - 1)
-      (length t.log.hart.queue + (places.words from + entry_ahead y.plan places graph_thread.at))
+      (length t.log.hart.queue + (places.words from - 3 + entry_ahead y.plan places graph_thread.at))
   nearer = grind (arith, nat_tests)
 
   goes_on_running : is_over ≡ false → phase_after w n left_holders ≡ Run → IsRunningThread y v b code given_ghost given_hart graph_thread
   goes_on_running more run =
-      let on = unlocks_go_on y.plan code.thread from mutex graph_thread.at unlock y.runs.program code.program code.is v n (z at)
+      let on = unlocks_go_on y.plan code.thread from graph_thread.locals mutex graph_thread.at unlock y.runs.program code.program code.is v n (z at)
       seen at.o.side giving.registers
       (placed y s v h at.site.below (at.site.stands.machine.log ∙ sym (alone at given_move).log)
       ((steps_touch y.runs.program w n at.site.stands.machine.sound).count ∙ at.site.stands.machine.count))
       giving.meets given.agrees (given.at run) given.enters in
-      courses.on_fragment Arrives on.steps (record {
+      on_fragment Arrives on.steps (record {
         environment = z at;
         answers = bare_answers y s w h at.site.below (now b.config);
         side = at.o.side;
@@ -194,7 +163,7 @@ module _ {y : System} {s : IsSystem y} {w : World} {h from mutex : ℕ} (at : At
       not_kept lock other (inl has) =
           ⊎_elim
           (λ kept. holds_none_is n (kept_of y b).holders lock none (ap (λ (hs : List (Option ℕ)). slice_get hs lock) (kept_matches y s b).holders ∙ kept))
-          (λ l. let begun = l.begun in let zero_begun = none_begun in omega (arith, begun, zero_begun))
+          (λ l. omega (arith, l.begun, none_begun))
           (held_now (flat_of y) b.config n lock (invariant at) (ap (λ (hs : List (Option ℕ)). slice_get hs lock) (sym (now_holders at)) ∙ has))
 
   leaving_is : is_leaving c ≡ holds_none (kept_of y b).holders n
@@ -251,7 +220,7 @@ module _ {y : System} {s : IsSystem y} {w : World} {h : ℕ} (at : AtEnd y s w h
   abbrev pub ending : FragmentTo at (z at) Ends 0 []
   ending = fragment_over at
 
-  ends_clean : courses.GoesClean y b.config n c true graph_thread
+  ends_clean : GoesClean y b.config n c true graph_thread
   ends_clean = at.o.fits
 
   last : IsEndOf y.plan code.thread graph_thread.at
@@ -273,7 +242,7 @@ module _ {y : System} {s : IsSystem y} {w : World} {h : ℕ} (at : AtEnd y s w h
       (at.held.held lock n there)
 
   ended : (happens y.runs.program w (Step n) ≡ moved w n (record (gone_on ending.on.hart) { phase = Ended })) ×
-      ((marks : List (List ℕ)) → runs.AreMarksOf marks n (z at) → passes_mark marks y.runs.program w n ≡ false)
+      ((marks : List (List ℕ)) → AreMarksOf marks n (z at) → passes_mark marks y.runs.program w n ≡ false)
   ended = ends_end calls_count y.plan code.thread y.runs.program code.program code.is w n (z at) graph_thread.at
       seen at.o.side [] ending (none_from n 0 w.holders none_here)
 
@@ -290,7 +259,7 @@ module _ {y : System} {s : IsSystem y} {w : World} {h : ℕ} (at : AtEnd y s w h
   ended_thread : ThreadInv y v b code c
   ended_thread =
       let point = point_none y code (kept_of y b) c.new (describes_new at)
-      (kept_held at (λ m u. let begun = u.begun in let going = ends_clean.goes.going in omega (arith, begun, going)) none_now) in
+      (kept_held at (λ m u. omega (arith, u.begun, ends_clean.goes.going)) none_now) in
       phase_moves v c.giving c.before_mark (λ lock gives. gives) t ended_move.new (alone at ended_move) (ends_clean, point)
 
   ends_step : StepOf at.site n

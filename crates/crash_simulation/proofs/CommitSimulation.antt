@@ -1,39 +1,14 @@
 -- Where boundaries have been committed, the steps before them are kept.
-use Rattle.std.proofs.Common.{◌≡◌, ◌≢◌, ◌⊎◌, inl, inr, refl, ℕ, zero, suc, ◌<◌, ◌≤◌, ◌==◌, List, [], ◌++◌, replicate, not, ◌&&◌, sym, ◌∙◌, ap, append_assoc}
-use Rattle.std.proofs.Common.{subst, arith, Bool, true, false, slice_set}
-use Rattle.std.specs.Prelude.{◌+◌, nat_le, is_some, if◌then◌else◌}
-use Rattle.std.proofs.lemmas.Bool.{true≢false, cond-true, cond-false}
-use Rattle.ido_base.specs.Words.{last_position}
-use Rattle.rv64_isa.specs.Schedule.{Steps, hart_steps, with_kept, with_all_kept}
-use Rattle.rv64_isa.specs.Machine.{World}
-use Rattle.flow_graph.specs.Actions.{FlowState}
-use Rattle.source_machine.specs.StepExchanges.{steps_of, without}
-use Rattle.recovery_semantics.specs.ElementHistories.{IsStable, history_at, number_at}
-use Rattle.recovery_semantics.specs.Attempts.{Writes, no_attempt}
-use Rattle.recovery_semantics.specs.Configs.{now, attempt_of}
-use Rattle.recovery_semantics.specs.Events.{IsSettled, steps_begun}
-use Rattle.recovery_semantics.specs.Laws.{HasUnlocked, LastUnlocks}
-use Rattle.recovery_semantics.proofs.Public.{equal_self, unequal_of, since_settles}
-use Rattle.region_attempts.specs.Origins.{Origin}
-use Rattle.region_attempts.specs.AttemptsInRegion.{HasCome, IsBeforeBoundary}
-use Rattle.region_attempts.proofs.Public.{attempts_are_whole}
-use Rattle.std.specs.List.{list_any}
-use Rattle.std.proofs.lemmas.List.{append-nil}
-use Rattle.log_states.specs.Stages.{LogConfig, is_committed, is_store}
-use Rattle.log_states.specs.Machines.{config_of}
-use Rattle.log_states.specs.Logs.{point_in}
-use Rattle.log_states.proofs.Public.{log_facts, committed_where_durable}
-use Rattle.thread_runs.specs.CodeFragments.{ExitPoint, Keeps}
-use Rattle.recovered_threads.specs.RecordDescriptions.{Code}
-use Rattle.recovered_threads.proofs.Public.{same_or_other}
-use Rattle.crash_simulation.specs.Systems.{System, IsSystem, flat_of, thread_count}
-use Rattle.crash_simulation.specs.AbstractRuns.{AbstractRun, kept_of, now_of}
-use Rattle.crash_simulation.specs.ThreadGhosts.{ThreadGhost, ExitInv, ThreadInv, HasCommittedLog, committed}
-use Rattle.crash_simulation.specs.SimulationRelation.{AreHeld, AreLocked, gathering, gathered, SimulatesBut, Simulates, anybody, nobody}
-use Rattle.crash_simulation.specs.InstructionSteps.{is_bound}
-use Rattle.crash_simulation.specs.AccountRelation.{IsCountedOf, IsAccountedOf, AreCounted, Beginning, counted_steps}
-use Rattle.crash_simulation.specs.ReleasedSections.{one_if, sections_kept, IsReleasedOf}
-use Rattle.crash_simulation.specs.Laws.{CommitStutters}
+use Rattle.crash_simulation.proofs.Common.{◌≡◌, ◌≢◌, ℕ, List, sym, ◌∙◌, ap, arith, subst, true, false, refl, suc, ◌+◌, ◌<◌, [], ◌++◌, Bool, ◌⊎◌, inl, inr, zero}
+use Rattle.crash_simulation.proofs.Common.{◌==◌, replicate, slice_set, ◌&&◌, if◌then◌else◌, not, nat_le, true≢false, append-nil, ◌≤◌, is_some, append_assoc}
+use Rattle.crash_simulation.proofs.Common.{list_any, cond-true, cond-false, last_position, without, steps_of, World, Steps, hart_steps, with_kept}
+use Rattle.crash_simulation.proofs.Common.{with_all_kept, FlowState, Writes, no_attempt, now, attempt_of, IsStable, history_at, number_at, steps_begun}
+use Rattle.crash_simulation.proofs.Common.{IsSettled, HasUnlocked, LastUnlocks, equal_self, unequal_of, since_settles, HasCome, IsBeforeBoundary, Origin}
+use Rattle.crash_simulation.proofs.Common.{attempts_are_whole, point_in, config_of, is_store, LogConfig, is_committed, log_facts, committed_where_durable}
+use Rattle.crash_simulation.proofs.Common.{ExitPoint, Keeps, Code, same_or_other, AbstractRun, kept_of, now_of, IsCountedOf, IsAccountedOf, AreCounted}
+use Rattle.crash_simulation.proofs.Common.{Beginning, counted_steps, is_bound, CommitStutters, sections_kept, one_if, IsReleasedOf, SimulatesBut, Simulates}
+use Rattle.crash_simulation.proofs.Common.{anybody, AreHeld, AreLocked, gathering, gathered, nobody, System, IsSystem, thread_count, flat_of, ThreadGhost}
+use Rattle.crash_simulation.proofs.Common.{ThreadInv, ExitInv, HasCommittedLog, committed}
 use Rattle.crash_simulation.proofs.AccountUpdates.{not_kept, kept_is, kept_pending_is, kept_count_same, kept_own_is, kept_other_is, still_accounted}
 use Rattle.crash_simulation.proofs.StatesMatchSource.{resumed, as_source}
 use Rattle.crash_simulation.proofs.PendingReleases.{IsAtBoundary, at_keeps, at_took, at_gives, under_way}
@@ -79,8 +54,7 @@ module _ (y : System) (s : IsSystem y) (w : World) (b : AbstractRun y) (code : C
   keeps_settle h0 done h2 = grind (arith, come, settled_before)
 
   -- past a mutex
-  past_settles : IsBeforeBoundary x y.plan.boundaries (kept_of y b) b.config u → steps_begun b.config u ≡ suc (attempt_of b.config u).done →
-      HasToSettle y b u
+  past_settles : IsBeforeBoundary x y.plan.boundaries (kept_of y b) b.config u → steps_begun b.config u ≡ suc (attempt_of b.config u).done → HasToSettle y b u
   past_settles before begun = attempt (record { settled = settled_before before; there = λ going. absurd (omega (arith, begun, going)) })
 
   settles_by : (exit : ExitPoint) → IsAtBoundary exit → ExitInv y b.config u c t.graph_thread exit → HasToSettle y b u
@@ -148,7 +122,7 @@ module _ (y : System) (s : IsSystem y) (w : World) (k : ℕ) (below : k < thread
             begun = begun;
             done = subst (λ (n : ℕ). (attempt_of b.config n).done ≡ 0) (sym number) done;
             describes = none_describes y s b code c.new begun;
-            unlocks = λ mutex u. absurd (let one = u.begun in omega (arith, one, begun));
+            unlocks = λ mutex u. absurd (omega (arith, u.begun, begun));
           }) (stands.each k below) not_yet sooner_at;
       others = λ n inside apart. stands.each n inside;
     }

@@ -1,17 +1,10 @@
 -- A step of a thread is begun: the config after it.
-use Rattle.std.proofs.Common.{◌≡◌, ◌≢◌, ◌⊎◌, inl, inr, refl, ℕ, zero, suc, List, [], ◌∷◌, ap, sym, ◌∙◌, subst, arith, Option, Some, None}
-use Rattle.std.specs.Prelude.{slice_get, slice_set, replicate, ◌++◌}
-use Rattle.std.proofs.lemmas.List.{get_or-set_same, get_or-set_other, length-append, length-replicate}
-use Rattle.c_tree.specs.Flats as f
+use Rattle.crash_simulation.proofs.Common.{◌≡◌, ◌≢◌, ℕ, List, ◌∷◌, sym, ◌∙◌, ap, arith, subst, Option, Some, None, refl, suc, [], ◌++◌, ◌⊎◌, inl, inr, zero}
+use Rattle.crash_simulation.proofs.Common.{replicate, slice_set, slice_get, get_or-set_same, get_or-set_other, length-replicate, length-append, Flat, Pending}
+use Rattle.crash_simulation.proofs.Common.{unlocks, unlock_ahead, below_or_past, Writes, no_attempt, Attempt, IsAttempted, attempt_at, store_ahead, solo}
+use Rattle.crash_simulation.proofs.Common.{WritesAt, now, Config, attempt_of, Invariant, Memory, IsGoing, begun, counted_own, goes_alone}
+use Rattle.recovery_semantics.specs.Events.{stepped}
 use Rattle.c_tree.specs.Source as m
-use Rattle.c_tree.specs.Source.{Pending}
-use Rattle.source_machine.specs.Mutexes.{unlocks, unlock_ahead}
-use Rattle.recovery_semantics.specs.Attempts.{Attempt, IsAttempted, attempt_at, no_attempt, store_ahead, solo, WritesAt, Writes}
-use Rattle.recovery_semantics.specs.Configs.{Config, Invariant, now, attempt_of}
-use Rattle.recovery_semantics.specs.Events.{IsGoing, begun, stepped}
-use Rattle.recovery_semantics.specs.ElementHistories.{Memory}
-use Rattle.recovery_semantics.proofs.Public.{counted_own, goes_alone}
-use Rattle.flow_graph.proofs.Public.{below_or_past}
 use Rattle.crash_simulation.proofs.StatesMatchSource.{repeated_or}
 
 -- ---- Attempts
@@ -55,7 +48,7 @@ wrote s t done v e writes = elim (below_or_past writes.before done) [
 ]
 
 -- the thread alone is what it is now
-module _ (x : f.Flat) (old : Config) (invariant : Invariant x old) (t : ℕ) (going : IsGoing old t) where
+module _ (x : Flat) (old : Config) (invariant : Invariant x old) (t : ℕ) (going : IsGoing old t) where
   alone_threads : slice_get (solo old.kept t (attempt_of old t).done).threads t ≡ slice_get (now old).threads t
   alone_threads = sym (goes_alone x old t invariant going).own
 

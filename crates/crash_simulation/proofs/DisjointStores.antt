@@ -1,36 +1,13 @@
 -- What a hart may store is in no other thread's log, and beside all that other threads read.
-use Rattle.std.proofs.Common.{◌≡◌, ◌≢◌, inl, inr, refl, ℕ, ◌+◌, ◌/◌, ◌<◌, ◌≤◌, List, ◌∷◌, length, ap, arith, sym, ◌∙◌, subst, Some, true, ⊎_elim, slice_get}
-use Rattle.std.proofs.lemmas.Bool.{true≢false, and_from}
-use Rattle.std.proofs.lemmas.Option.{same_Some}
-use Rattle.ido_base.specs.Layout.{log_words, variable_at, byte_number}
-use Rattle.ido_base.specs.declared.log.Log.{Log}
-use Rattle.ido_base.specs.declared.event.Event.TheVariants.{Step}
-use Rattle.ido_base.specs.Words.{Word, Entry}
-use Rattle.ido_base.specs.Growth.{ArePersisted, AreEntries}
-use Rattle.rv64_isa.proofs.Public.{log_stays}
-use Rattle.ido_base.proofs.Public.{are_persisted_refl, write_backs_raise}
-use Rattle.ido_ints.specs.Kinds.{bytes_of}
-use Rattle.source_machine.specs.Discipline.{Guards}
-use Rattle.variable_words.proofs.Public.{by_size, steps_work}
-use Rattle.variable_words.specs.MemoryEffects.{MayMakeStore, IsWork, Rests, Queues, WritesBack, Makes}
-use Rattle.rv64_isa.specs.declared.object.Slot.{Slot}
-use Rattle.rv64_isa.specs.Rows.{Effect, Stores}
-use Rattle.rv64_isa.specs.Machine.{Hart, World, after_event}
-use Rattle.rv64_isa.specs.Frames.{IsWellFormedWorld}
-use Rattle.recovery_semantics.specs.Configs.{now}
-use Rattle.log_states.specs.Logs.{log_word}
-use Rattle.log_states.specs.Stages.{is_store}
-use Rattle.log_states.specs.Machines.{IsNext, IsElsewhere}
-use Rattle.log_states.proofs.Public.{address_of, variables_are_apart, logs_are_apart}
-use Rattle.code_runs.specs.CodeTraces.{MarkedEnvironment}
-use Rattle.hart_runs.specs.HartsOnRuns.{is_width, Agrees}
-use Rattle.hart_runs.specs.Laws.{IsApart}
-use Rattle.hart_runs.proofs.Public.{persisted_agrees, beside_agrees, others_leave}
-use Rattle.recovered_threads.specs.RecordDescriptions.{Code}
-use Rattle.crash_simulation.specs.Systems.{System, IsSystem, flat_of, shapes_of}
-use Rattle.crash_simulation.specs.InstructionSteps.{MayStore, nothing, in_log, element}
-use Rattle.crash_simulation.specs.AbstractRuns.{AbstractRun}
-use Rattle.crash_simulation.specs.ThreadGhosts.{AnswersGuarded, IsGuarded}
+use Rattle.crash_simulation.proofs.Common.{◌≡◌, ◌≢◌, ℕ, List, ◌∷◌, sym, ◌∙◌, ap, arith, subst, true, Some, refl, ◌+◌, ◌<◌, length, inl, inr, slice_get}
+use Rattle.crash_simulation.proofs.Common.{true≢false, ◌≤◌, ⊎_elim, ◌/◌, and_from, same_Some, AreEntries, byte_number, variable_at, log_words, Word, Entry}
+use Rattle.crash_simulation.proofs.Common.{Step, Log, write_backs_raise, are_persisted_refl, bytes_of, Guards, IsWellFormedWorld, Hart, World, after_event}
+use Rattle.crash_simulation.proofs.Common.{Effect, Stores, Slot, log_stays, MayMakeStore, IsWork, Queues, WritesBack, Makes, steps_work, by_size, now}
+use Rattle.crash_simulation.proofs.Common.{MarkedEnvironment, log_word, IsElsewhere, IsNext, is_store, address_of, variables_are_apart, logs_are_apart, Agrees}
+use Rattle.crash_simulation.proofs.Common.{is_width, IsApart, persisted_agrees, beside_agrees, others_leave, Code, AbstractRun, MayStore, nothing, in_log}
+use Rattle.crash_simulation.proofs.Common.{element, System, IsSystem, flat_of, shapes_of, AnswersGuarded, IsGuarded}
+use Rattle.ido_base.specs.Growth.{ArePersisted}
+use Rattle.variable_words.specs.MemoryEffects.{Rests}
 use Rattle.crash_simulation.proofs.Elements.{room, variables_end, element_ends, element_below, elements_apart, log_after}
 
 -- how many bytes an effect stores
@@ -103,9 +80,7 @@ module _ (y : System) (s : IsSystem y) (w : World) (h : ℕ) (b : AbstractRun y)
             width = subst (λ (x : ℕ). is_width x ≡ true) size (by_size (λ x. is_width x ≡ true) refl refl refl refl is.kind);
             apart = λ at count found e.
                 let g = answers at count found e in
-                ⊎_elim
-                (λ l. inl (omega (arith, l, place)))
-                (λ l. inr (omega (arith, l, place, size)))
+                ⊎_elim (λ l. inl (omega (arith, l, place))) (λ l. inr (omega (arith, l, place, size)))
                 (elements_apart (flat_of y).variables (room y s) {v = g.variable} {e = g.element} {i = variable} {j = number}
                 (record { is = g.is; there = g.there; within = g.within }) (record { is = is; there = there; within = within })
                 (not_both g guards));

@@ -1,25 +1,11 @@
 -- Elements of variables in the words of a machine.
-use Rattle.std.proofs.Common.{◌≡◌, ◌⊎◌, inl, inr, ℕ, ◌+◌, ◌-◌, ◌/◌, ◌<◌, ◌≤◌, List, map, sym, arith, Some, ⊎_elim, refl, ◌*◌, length, ◌∙◌, ap, subst, Option}
-use Rattle.std.proofs.Common.{None, slice_get, nat_lt, slice_index_or, pos}
-use Rattle.std.proofs.lemmas.Bool.{cond_both, ltb-false, cases_lt}
-use Rattle.ido_base.specs.declared.log.Log.TheVariants.{V1}
-use Rattle.ido_base.specs.declared.log.Log.{Log}
-use Rattle.ido_base.specs.declared.limits.TheConstants.{MOST_VARIABLE_BYTES, VARIABLE_WORDS}
-use Rattle.ido_base.specs.Layout.{variables_base, variable_at, byte_number}
-use Rattle.ido_ints.specs.Kinds.{bytes_of}
-use Rattle.c_tree.specs.Programs.{Variable}
-use Rattle.c_tree.specs.WellFormed.{shape_of, elements_in}
-use Rattle.memory_layout.specs.Variables.{HaveRoom}
-use Rattle.variable_words.proofs.Public.{address_is, some_bytes, number_is, element_whole, variables_apart, addresses_reach, positions_meet, well_formed_placed}
-use Rattle.variable_words.proofs.Public.{place}
-use Rattle.log_states.specs.Logs.{log_word}
-use Rattle.log_states.proofs.Public.{word_of_point}
-use Rattle.ido_base.specs.Words.{Word, word_at, last_position}
-use Rattle.ido_ints.specs.declared.kinds.Kind.{Kind}
-use Rattle.recovery_semantics.specs.ElementHistories.{History, history_of, history_at}
-use Rattle.recovery_semantics.specs.VariableSpots.{Spot, memory_in, IsAtSpot}
-use Rattle.recovery_semantics.proofs.Public.{elements_past, variable_found, variable_past}
-use Rattle.crash_simulation.specs.Systems.{System, IsSystem, flat_of, shapes_of, places_of}
+use Rattle.crash_simulation.proofs.Common.{◌≡◌, ℕ, List, sym, ◌∙◌, ap, arith, subst, Option, Some, None, refl, ◌+◌, ◌<◌, length, ◌⊎◌, inl, inr, slice_get}
+use Rattle.crash_simulation.proofs.Common.{nat_lt, ◌≤◌, ◌*◌, map, slice_index_or, pos, ⊎_elim, ◌/◌, cond_both, ltb-false, cases_lt, byte_number}
+use Rattle.crash_simulation.proofs.Common.{variable_at, variables_base, Word, last_position, word_at, MOST_VARIABLE_BYTES, VARIABLE_WORDS, Log, bytes_of, Kind}
+use Rattle.crash_simulation.proofs.Common.{Variable, shape_of, elements_in, HaveRoom, well_formed_placed, address_is, some_bytes, number_is, element_stands}
+use Rattle.crash_simulation.proofs.Common.{element_whole, variables_apart, positions_meet, place, history_at, History, history_of, Spot, memory_in, IsAtSpot}
+use Rattle.crash_simulation.proofs.Common.{elements_past, variable_found, variable_past, log_word, word_of_point, System, IsSystem, flat_of, shapes_of}
+use Rattle.crash_simulation.proofs.Common.{places_of}
 
 -- where variables end
 abbrev pub variables_end : ℕ
@@ -42,16 +28,14 @@ module _ (vs : List Variable) (room : HaveRoom (map shape_of vs)) where
       (variable_at (map shape_of vs) v e + bytes_of x.is.kind ≤ variable_at (map shape_of vs) i j) ⊎
       (variable_at (map shape_of vs) i j + bytes_of z.is.kind ≤ variable_at (map shape_of vs) v e)
   elements_apart {v} {e} {i} {j} x z differs =
-      let one = addresses_reach V1 vs 0 v e x.is room x.there x.within in
-      let two = addresses_reach V1 vs 0 i j z.is room z.there z.within in
-      let first = number_is vs v e x.is room x.there (let w = x.within in omega (arith, w)) in
-      let second = number_is vs i j z.is room z.there (let w = z.within in omega (arith, w)) in
+      let one = element_stands vs v e x.is room x.there x.within in
+      let two = element_stands vs i j z.is room z.there z.within in
+      let first = number_is vs v e x.is room x.there (omega (arith, x.within)) in
+      let second = number_is vs i j z.is room z.there (omega (arith, z.within)) in
       let from = address_is vs v e x.is x.there in
       let to = address_is vs i j z.is z.there in
-      ⊎_elim
-      (λ l. inr (omega (arith, l, first, second, from, to)))
-      (λ l. inl (omega (arith, l, first, second, from, to)))
-      ((variables_apart vs VARIABLE_WORDS room (omega arith)).apart v e i j x.is.kind z.is.kind _ _ one.at two.at
+      ⊎_elim (λ l. inr (omega (arith, l, first, second, from, to))) (λ l. inl (omega (arith, l, first, second, from, to)))
+      ((variables_apart vs VARIABLE_WORDS room (omega arith)).apart v e i j x.is.kind z.is.kind _ _ one two
       (λ same equal. differs (sym same) (sym equal)))
 
 -- a byte of a log stands after the variables

@@ -1,39 +1,23 @@
 -- A step of a hart in a fragment: it makes the next of the effects ahead, or none, or writes an entry back.
-use Rattle.std.proofs.lemmas.Bool.Decides.{nat_tests}
-use Rattle.std.proofs.Common.{◌≡◌, ◌⊎◌, inl, inr, ⊎_elim, refl, ℕ, suc, ◌+◌, ◌*◌, ◌/◌, ◌%◌, ◌<◌, ◌≤◌, List, [], ◌∷◌, ◌++◌, length, ap, sym, ◌∙◌, subst, arith}
-use Rattle.std.proofs.Common.{Some, Bool, true, false}
-use Rattle.std.proofs.lemmas.Bool.{true≢false}
-use Rattle.std.specs.Prelude.{slice_get, Contains, if◌then◌else◌, not, ◌&&◌, ◌-◌}
-use Rattle.std.specs.List.{list_any}
-use Rattle.std.specs.Option.{option_map}
-use Rattle.log_states.specs.Machines.{config_of, MovesTo, IsNext, IsLogEffect, StoresWord, CleansLine, PassesFence, is_boundary_effect}
-use Rattle.log_states.specs.Stages.{fences_ahead, is_store}
-use Rattle.log_states.specs.Logs.{log_word}
-use Rattle.ido_base.specs.Words.{Word, Entry, word_at, last_position}
-use Rattle.ido_base.specs.Layout.{byte_number, variable_at, log_of, log_words}
-use Rattle.ido_base.specs.declared.log.Log.{Log}
-use Rattle.ido_base.specs.declared.event.Event.TheVariants.{Step}
-use Rattle.ido_base.specs.declared.event.Reply.{Reply}
-use Rattle.ido_base.specs.Growth.{PersistsThrough, AreEntries}
+use Rattle.crash_simulation.proofs.Common.{◌≡◌, ℕ, List, ◌∷◌, sym, ◌∙◌, ap, arith, subst, true, false, Some, refl, suc, ◌+◌, ◌<◌, [], ◌++◌, length, Bool, ◌⊎◌}
+use Rattle.crash_simulation.proofs.Common.{inl, inr, slice_get, ◌&&◌, if◌then◌else◌, not, true≢false, ◌≤◌, ◌-◌, ◌*◌, ◌%◌, ⊎_elim, ◌/◌, Contains, list_any}
+use Rattle.crash_simulation.proofs.Common.{option_map, nat_tests, AreEntries, PersistsThrough, byte_number, variable_at, log_words, log_of, Word, Entry}
+use Rattle.crash_simulation.proofs.Common.{last_position, word_at, Step, Reply, Log, write_backs_raise, Hart, World, Effect, Stores, Continues, Loads, Cleans}
+use Rattle.crash_simulation.proofs.Common.{Fences, Calls, has_moved, is_running, stores_point, effect_at, is_point_store, Phase, GraphThread, variables_apart}
+use Rattle.crash_simulation.proofs.Common.{attempt_of, history_at, Memory, ArePersisted, persists, memory_in, memory_persisted, memory_stays}
+use Rattle.crash_simulation.proofs.Common.{since_is_persisted, IsBeforeBoundary, flow_solo, graph_stands, Program, seen_effects, log_word, config_of, IsNext}
+use Rattle.crash_simulation.proofs.Common.{MovesTo, IsLogEffect, StoresWord, CleansLine, PassesFence, is_boundary_effect, is_store, fences_ahead, address_of}
+use Rattle.crash_simulation.proofs.Common.{stores_nothing, one_effect, point_store_is_last, boundaries_stay_in, not_done, contains_cases, contains_first}
+use Rattle.crash_simulation.proofs.Common.{contains_later, own_steps_move, steps_move, word_of_log, beyond_variables, OnRun, steps_left, Contents, Changes}
+use Rattle.crash_simulation.proofs.Common.{is_clean, forward_reaches, drains_reach, cleans_reach_now, fences_settle, ExitPoint, Arrives, Gives, Ends}
+use Rattle.crash_simulation.proofs.Common.{IsOnFragment, on_machine, Keeps, Asks, Took, Stage, effects_of, FragmentsGoOn, run_of, IsHeldUp, same_there}
+use Rattle.crash_simulation.proofs.Common.{AbstractRun, kept_of, is_bound, was_unlocked, Site, FragmentsStep, nothing_released, is_nearer, MayStore, nothing}
+use Rattle.crash_simulation.proofs.Common.{in_log, goes, OnFragmentNow, IsSoon, beyond, System, IsSystem, flat_of, shapes_of, places_of, ThreadGhost}
+use Rattle.crash_simulation.proofs.Common.{on_fragment, InPhase, ThreadInv, ExitInv, InFragment, is_reached, is_ahead, IsFlushed}
 use Rattle.ido_base.specs.Growth as growth
-use Rattle.ido_base.proofs.Public.{write_backs_raise}
-use Rattle.rv64_isa.specs.Rows.{Effect, Continues, Loads, Stores, Cleans, Fences, Calls}
-use Rattle.rv64_isa.specs.Schedule.{has_moved, is_running, effect_at, is_point_store, stores_point}
-use Rattle.rv64_isa.specs.declared.phase.Phase.{Phase}
-use Rattle.rv64_isa.specs.Machine.{Hart, World}
-use Rattle.flow_graph.specs.Actions.{GraphThread}
-use Rattle.code_runs.specs.CodeTraces.{Program, seen_effects}
 use Rattle.hart_runs.specs.RunSteps as steps
-use Rattle.hart_runs.specs.RunSteps.{Contents, Changes, is_clean, steps_left}
-use Rattle.hart_runs.specs.HartsOnRuns.{OnRun}
-use Rattle.crash_simulation.specs.Systems.{System, IsSystem, flat_of, shapes_of, places_of}
-use Rattle.crash_simulation.specs.ThreadGhosts.{ThreadGhost, ExitInv, InFragment, on_fragment, InPhase, is_reached, is_ahead, IsFlushed, ThreadInv}
-use Rattle.crash_simulation.specs.InstructionSteps.{goes, MayStore, nothing, in_log, is_bound, is_nearer, was_unlocked, nothing_released, OnFragmentNow}
-use Rattle.crash_simulation.specs.InstructionSteps.{FragmentsStep}
-use Rattle.crash_simulation.specs.StepsToMark.{beyond, IsSoon}
-use Rattle.crash_simulation.specs.AbstractRuns.{AbstractRun, kept_of}
+use Rattle.thread_runs.specs.Laws as runs
 use Rattle.crash_simulation.proofs.OwnHartSteps.{step_to, view, StepOf, own_step, held_still}
-use Rattle.crash_simulation.specs.InstructionSteps.{Site}
 use Rattle.crash_simulation.proofs.PendingFlushes.{Passage, StillComes, run_after, stored_same, fence_settles}
 use Rattle.crash_simulation.proofs.ThreadViews.{IsStill, committed_on, exit_on, log_moved, moves_at}
 use Rattle.crash_simulation.proofs.Elements.{room, word_of_element, position_within}
@@ -41,22 +25,6 @@ use Rattle.crash_simulation.proofs.LastReleases.{holders_stay_none, and_none}
 use Rattle.crash_simulation.proofs.UncommittedSteps.{leads_on}
 use Rattle.crash_simulation.proofs.StatesMatchSource.{resumed}
 use Rattle.crash_simulation.proofs.LocksAfterStep.{GoneOn}
-use Rattle.hart_runs.proofs.Public.{forward_reaches, drains_reach, cleans_reach_now, fences_settle}
-use Rattle.thread_runs.specs.CodeFragments.{ExitPoint, Arrives, Keeps, Asks, Took, Gives, Ends, Stage, IsOnFragment, effects_of, on_machine}
-use Rattle.thread_runs.specs.Laws.{run_of, IsHeldUp, FragmentsGoOn}
-use Rattle.thread_runs.specs.Laws as runs
-use Rattle.recovery_semantics.specs.ElementHistories.{Memory, ArePersisted, history_at}
-use Rattle.recovery_semantics.specs.Configs.{attempt_of}
-use Rattle.recovery_semantics.specs.Events.{persists}
-use Rattle.recovery_semantics.specs.VariableSpots.{memory_in}
-use Rattle.recovery_semantics.proofs.Public.{memory_persisted, memory_stays, since_is_persisted}
-use Rattle.region_attempts.specs.GraphStates.{flow_solo}
-use Rattle.region_attempts.specs.AttemptsInRegion.{IsBeforeBoundary}
-use Rattle.region_attempts.proofs.Public.{graph_stands}
-use Rattle.variable_words.proofs.Public.{variables_apart}
-use Rattle.log_states.proofs.Public.{stores_nothing, one_effect, point_store_is_last, boundaries_stay_in, not_done, address_of}
-use Rattle.log_states.proofs.Public.{contains_cases, contains_first, contains_later, own_steps_move, steps_move, word_of_log, beyond_variables}
-use Rattle.recovered_threads.proofs.Public.{same_there}
 
 -- ---- Which of the effects ahead a step makes
 
@@ -109,8 +77,7 @@ not_twice b = grind (arith, nat_tests)
 
 -- ---- Effects of the log
 
-pub log_may : (y : System) (b : AbstractRun y) (w : World) (n : ℕ) → y.plan.log ≡ w.log → (effect : Effect) → IsLogEffect w.log n effect →
-    MayStore y b n effect
+pub log_may : (y : System) (b : AbstractRun y) (w : World) (n : ℕ) → y.plan.log ≡ w.log → (effect : Effect) → IsLogEffect w.log n effect → MayStore y b n effect
 log_may y b w n logs effect (StoresWord i value below same) = subst (MayStore y b n) (sym same) (in_log (log_of w.log n + 8 * i) value i
     (subst (λ (l : Log). i < log_words l) (sym logs) below)
     (subst (λ (l : Log). byte_number (log_of w.log n + 8 * i) / 8 ≡ log_word l n i) (sym logs) (word_of_log w.log n i)))
@@ -126,8 +93,7 @@ log_memory y s w n effect queue new changes (StoresWord i value below same) =
     let stores : Changes (record { words = w.words; queue = queue }) (Stores place 8 value) new =
     subst (λ (e : Effect). Changes (record { words = w.words; queue = queue }) e new) same changes in
     let apart = variables_apart (flat_of y).variables 8192 (room y s) (omega arith) in
-    ap (λ (x : Contents). memory_in (places_of y) x.words) stores
-    ∙ memory_stays (places_of y) w.words (byte_number place) 8 value
+    ap (λ (x : Contents). memory_in (places_of y) x.words) stores ∙ memory_stays (places_of y) w.words (byte_number place) 8 value
     (λ u e kind at there meets. let low = (apart.whole u e kind at there).1 in let far = beyond_variables w.log n i in
     omega (arith, low, far, meets))
 log_memory y s w n effect queue new changes (CleansLine i below same) =
@@ -305,21 +271,19 @@ module _ {y : System} {s : IsSystem y} {w : World} {h : ℕ} (site : Site y s w 
   still_moves d none = grind (arith, steps_move, stores_nothing, fragment)
 
   abbrev all_ahead : (d : Does) → d.later ≡ c.cleans ++ c.rest → Ahead d
-  all_ahead d is =
-      record {
-        rest = c.rest;
-        cleans = c.cleans;
-        later_is = is;
-        all = t.stored.cleans;
-        no_rest = λ e. e;
-        no_cleans = λ e. e;
-        still = λ address found. inl found;
-      }
+  all_ahead d is = record {
+    rest = c.rest;
+    cleans = c.cleans;
+    later_is = is;
+    all = t.stored.cleans;
+    no_rest = λ e. e;
+    no_cleans = λ e. e;
+    still = λ address found. inl found;
+  }
 
   -- ---- A step that is held up
 
-  held_up : IsHeldUp y.plan code.thread places (on_machine y.runs.program w n o.environment) stage left (c.cleans ++ c.rest) fragment →
-      StepOf site n
+  held_up : IsHeldUp y.plan code.thread places (on_machine y.runs.program w n o.environment) stage left (c.cleans ++ c.rest) fragment → StepOf site n
   held_up u =
       let d = u.drains in
       let none = held_up_stores_none d.effect fragment.on.hart.queue d.held_up in
@@ -434,7 +398,7 @@ module _ {y : System} {s : IsSystem y} {w : World} {h : ℕ} (site : Site y s w 
       -- what the attempt has stored is durable after the fence
       fence_settled : effect ≡ Fences → Settles g.later
       fence_settled is_fence u e un few f =
-          fence_settles here s memory_is no_cleans (before_by exit o.fits un (let within = f.within in omega (arith, within)))
+          fence_settles here s memory_is no_cleans (before_by exit o.fits un (omega (arith, f.within)))
           (λ j position r. fences_settle y.runs.program w n run g.forward is_fence j position
           (subst (λ (x : Hart). PersistsThrough w.words x.queue j position) hart_is r)) u e f
 
@@ -511,9 +475,7 @@ module _ {y : System} {s : IsSystem y} {w : World} {h : ℕ} (site : Site y s w 
 
     made : Made c.cleans c.rest g.later effect → StepOf site n
     made (no_effect none later) = makes_none (all_ahead does later) refl none
-    made (cleans_first address others is_that cleans later) =
-        let ahead = clean_ahead address others is_that cleans later in
-        makes_none ahead refl (ap is_store is_that)
+    made (cleans_first address others is_that cleans later) = makes_none (clean_ahead address others is_that cleans later) refl (ap is_store is_that)
     made (bounds_first none rest) = makes_log none rest (inside none rest).0
 
     goes_forward : StepOf site n

@@ -1,23 +1,12 @@
 -- A step of a thread that is begun, in the graph.
-use Rattle.std.proofs.Common.{◌≡◌, ℕ, List, [], ◌++◌, length, ap, ◌∙◌, subst, arith, Some, None, Bool, true, false, append-nil, length-set}
-use Rattle.std.proofs.lemmas.Option.{same_Some}
-use Rattle.std.specs.Prelude.{slice_get, slice_set}
-use Rattle.flow_graph.specs.Actions.{GraphThread, FlowState, Effect, seen_by, effect_of}
-use Rattle.flow_graph.specs.Nodes.{Node}
-use Rattle.flow_graph.specs.Lowering.{lowered}
-use Rattle.flow_graph.specs.Liveness.{NodeAt}
-use Rattle.flow_graph.specs.Lockstep.{Matches}
-use Rattle.flow_graph.specs.IdempotentCuts.{IsChosen}
+use Rattle.crash_simulation.proofs.Common.{◌≡◌, ℕ, List, ◌∙◌, ap, arith, subst, true, false, Some, None, [], ◌++◌, length, Bool, slice_set, slice_get}
+use Rattle.crash_simulation.proofs.Common.{length-set, append-nil, same_Some, GraphThread, FlowState, seen_by, effect_of, IsChosen, NodeAt, Matches, lowered}
+use Rattle.crash_simulation.proofs.Common.{Node, set_same, now, Config, attempt_of, steps_begun, IsGoing, ConfigStep, kept_steps, HasCome, flow_solo}
+use Rattle.crash_simulation.proofs.Common.{FollowsEvent, flow_kept, flow_now, node_after, graph_follows, one_node, AbstractRun, kept_of, now_of, System}
+use Rattle.crash_simulation.proofs.Common.{IsSystem, flat_of}
+use Rattle.flow_graph.specs.Actions.{Effect}
+use Rattle.flow_graph.proofs.Public.{moved}
 use Rattle.flow_graph.specs.Actions as a
-use Rattle.flow_graph.proofs.Public.{moved, set_same}
-use Rattle.recovery_semantics.specs.Configs.{Config, now, attempt_of}
-use Rattle.recovery_semantics.specs.Events.{ConfigStep, IsGoing, steps_begun}
-use Rattle.recovery_semantics.specs.Executions.{kept_steps}
-use Rattle.region_attempts.specs.GraphStates.{FollowsEvent, flow_kept, flow_now, flow_solo, node_after}
-use Rattle.region_attempts.specs.AttemptsInRegion.{HasCome}
-use Rattle.region_attempts.proofs.Public.{graph_follows, one_node}
-use Rattle.crash_simulation.specs.Systems.{System, IsSystem, flat_of}
-use Rattle.crash_simulation.specs.AbstractRuns.{AbstractRun, kept_of, now_of}
 use Rattle.crash_simulation.proofs.StatesMatchSource.{resumed, as_source}
 
 -- ---- Effects

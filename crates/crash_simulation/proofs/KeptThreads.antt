@@ -1,61 +1,23 @@
 -- A thread whose hart makes no step: after what others do, and where nobody does anything, its invariant still holds.
-use Rattle.std.proofs.Common.{◌≡◌, ◌≢◌, refl, ℕ, suc, ◌≤◌, List, [], ◌++◌, sym, ◌∙◌, ap, subst, arith, Some, ℤ, ◌/◌, Option, true, false}
-use Rattle.std.proofs.Common.{length}
-use Rattle.std.specs.Prelude.{slice_get, List, ◌++◌, ◌<◌, ◌≤◌}
-use Rattle.std.proofs.Math.Nat.{le-max_right}
+use Rattle.crash_simulation.proofs.Common.{◌≡◌, ◌≢◌, ℕ, List, sym, ◌∙◌, ap, arith, subst, true, false, Option, Some, refl, suc, ◌<◌, [], ◌++◌, length}
+use Rattle.crash_simulation.proofs.Common.{slice_get, append-nil, ◌≤◌, ℤ, ◌/◌, le-max_right, PersistsThrough, AreChanged, byte_number, variable_at, Word, Entry}
+use Rattle.crash_simulation.proofs.Common.{Event, Step, are_persisted_refl, changed_refl, IsWellFormed, Guards, held_by, run_keeps, leaves_held}
+use Rattle.crash_simulation.proofs.Common.{IsWellFormedWorld, Hart, World, after_event, Effect, Phase, Done, Run, Ended, log_stays, Seen, GraphThread}
+use Rattle.crash_simulation.proofs.Common.{FlowState, graph_step, lowered, graph_threads_after, set_other, Writes, Attempt, solo, WritesAt, now, Config}
+use Rattle.crash_simulation.proofs.Common.{attempt_of, Invariant, history_at, Memory, IsSince, IsStored, steps_begun, stores, begun, persists, ConfigStep}
+use Rattle.crash_simulation.proofs.Common.{steps_locally, synchronises, commits, crashes, Execution, LastUnlocks, IsKeptBy, counted_other, goes_alone}
+use Rattle.crash_simulation.proofs.Common.{since_is_persisted, store_same, store_inner, writes_more, after_more, more_empty, events_keep, writers_apart}
+use Rattle.crash_simulation.proofs.Common.{since_stays, held_same, RespectsAll, flow_kept, flow_now, node_after, Origin, line_of, CleansSince, graph_stands}
+use Rattle.crash_simulation.proofs.Common.{graph_follows, MarkedEnvironment, log_word, IsUnstored, config_of, MovesTo, Moves, Elsewhere, Agrees, IsOfOthers}
+use Rattle.crash_simulation.proofs.Common.{others_leave, others_reach, IsOnFragment, on_machine, Stage, IsAtCore, fragments_see_all, cores_see_all}
+use Rattle.crash_simulation.proofs.Common.{others_keep_fragments, others_keep_cores, Code, Describes, same_there, same_or_other, others_describe, AbstractRun}
+use Rattle.crash_simulation.proofs.Common.{kept_of, now_of, attempts_of, StepsOrStutters, stays, goes, IsDoneBy, abstract_next, System, IsSystem, flat_of}
+use Rattle.crash_simulation.proofs.Common.{shapes_of, ThreadGhost, on_fragment, at_core, InPhase, ThreadInv, IsRunningThread, AnswersGuarded, is_reached}
+use Rattle.crash_simulation.proofs.Common.{is_ahead, IsComing, HasStored, record_kept}
+use Rattle.recovery_semantics.specs.Events.{Stores}
 use Rattle.c_tree.specs.Flats as f
 use Rattle.c_tree.specs.Source as m
-use Rattle.c_tree.specs.WellFormed.{IsWellFormed}
-use Rattle.source_machine.specs.Mutexes.{held_by}
-use Rattle.source_machine.proofs.Public.{run_keeps, leaves_held}
-use Rattle.flow_graph.specs.Lowering.{lowered}
-use Rattle.flow_graph.specs.Actions.{GraphThread, FlowState, graph_step, Seen}
 use Rattle.flow_graph.proofs.Public as keeping
-use Rattle.flow_graph.proofs.Public.{graph_threads_after, set_other}
-use Rattle.recovery_semantics.specs.ElementHistories.{Memory, IsSince, IsStored, history_at}
-use Rattle.recovery_semantics.specs.Attempts.{Attempt, solo, Writes, WritesAt}
-use Rattle.recovery_semantics.specs.Configs.{Config, Invariant, now, attempt_of}
-use Rattle.recovery_semantics.specs.Events as events
-use Rattle.recovery_semantics.specs.Events.{begun, Stores, ConfigStep, steps_locally, stores, synchronises, persists, commits, crashes, steps_begun}
-use Rattle.recovery_semantics.specs.Laws.{IsKeptBy, LastUnlocks}
-use Rattle.recovery_semantics.proofs.Public.{store_same, store_inner, writes_more, counted_other, after_more, more_empty, events_keep, writers_apart}
-use Rattle.recovery_semantics.proofs.Public.{goes_alone, since_stays, since_is_persisted, held_same}
-use Rattle.region_attempts.specs.Origins.{Origin}
-use Rattle.region_attempts.specs.GraphStates.{flow_kept, flow_now, node_after}
-use Rattle.region_attempts.proofs.Public.{graph_stands, graph_follows}
-use Rattle.recovered_threads.proofs.Public.{same_or_other, others_describe, same_there}
-use Rattle.crash_simulation.specs.InstructionSteps.{IsDoneBy, StepsOrStutters, stays, goes, abstract_next}
-use Rattle.ido_base.specs.Layout.{byte_number, variable_at}
-use Rattle.source_machine.specs.Discipline.{Guards}
-use Rattle.rv64_isa.specs.declared.phase.Phase.{Phase}
-use Rattle.rv64_isa.specs.declared.phase.Phase.TheVariants.{Run, Done, Ended}
-use Rattle.rv64_isa.specs.Machine.{Hart, World, after_event}
-use Rattle.ido_base.specs.Words.{Entry, Word}
-use Rattle.region_attempts.specs.PendingCleans.{line_of, CleansSince}
-use Rattle.log_states.specs.Stages.{Moves, Elsewhere}
-use Rattle.log_states.specs.Machines.{config_of, MovesTo}
-use Rattle.code_runs.specs.CodeTraces.{MarkedEnvironment}
-use Rattle.thread_runs.specs.CodeFragments.{Stage, IsOnFragment, IsAtCore, on_machine}
-use Rattle.thread_runs.proofs.Public.{fragments_see_all, cores_see_all, others_keep_fragments, others_keep_cores}
-use Rattle.ido_base.specs.Growth.{PersistsThrough, AreChanged}
-use Rattle.ido_base.proofs.Public.{are_persisted_refl, changed_refl}
-use Rattle.log_states.specs.Logs.{log_word, IsUnstored}
-use Rattle.rv64_isa.specs.Rows.{Effect}
-use Rattle.std.proofs.lemmas.List.{append-nil}
-use Rattle.recovered_threads.specs.RecordDescriptions.{Code, Describes}
-use Rattle.crash_simulation.specs.Systems.{System, flat_of, shapes_of, IsSystem}
-use Rattle.crash_simulation.specs.AbstractRuns.{AbstractRun, kept_of, now_of, attempts_of}
-use Rattle.crash_simulation.specs.ThreadGhosts.{ThreadGhost, AnswersGuarded, IsRunningThread, on_fragment, at_core, InPhase, IsComing, is_reached, is_ahead}
-use Rattle.crash_simulation.specs.ThreadGhosts.{HasStored, ThreadInv, record_kept}
-use Rattle.rv64_isa.proofs.Public.{log_stays}
-use Rattle.ido_base.specs.declared.event.Event.{Event}
-use Rattle.ido_base.specs.declared.event.Event.TheVariants.{Step}
-use Rattle.rv64_isa.specs.Frames.{IsWellFormedWorld}
-use Rattle.recovery_semantics.specs.Executions.{Execution}
-use Rattle.region_attempts.specs.AttemptsInRegion.{RespectsAll}
-use Rattle.hart_runs.specs.HartsOnRuns.{Agrees}
-use Rattle.hart_runs.specs.Laws.{IsOfOthers}
-use Rattle.hart_runs.proofs.Public.{others_leave, others_reach}
 use Rattle.crash_simulation.proofs.StatesMatchSource.{resumed}
 use Rattle.crash_simulation.proofs.ThreadViews.{IsQuiet, IsStill, clean_on, committed_on, exit_on, log_moved, rests_on}
 
@@ -64,7 +26,7 @@ use Rattle.crash_simulation.proofs.ThreadViews.{IsQuiet, IsStill, clean_on, comm
 -- a thread is where it was, in the source and in its graph, and what it has stored is as it was
 pub record IsUnmoved (x : f.Flat) (o : Origin x) (schedule : List ℕ) (old next : Config) (thread : ℕ) : Type 0 where
   pub kept : next.kept ≡ old.kept
-  pub begun : events.steps_begun next thread ≡ events.steps_begun old thread
+  pub begun : steps_begun next thread ≡ steps_begun old thread
   pub attempt : attempt_of next thread ≡ attempt_of old thread
   pub graph_thread : slice_get (flow_now x (flow_kept x o schedule) next).graph_threads thread
       ≡ slice_get (flow_now x (flow_kept x o schedule) old).graph_threads thread
@@ -133,9 +95,8 @@ module _ (x : f.Flat) (w : IsWellFormed x) (o : Origin x) (schedule : List ℕ) 
 
       mine : (v e : ℕ) → Writes old.kept n (attempt_of old n).done v e → Writes old.kept n (attempt_of then_config n).longest v e
       mine v e written =
-          let within = (i.tried n).within in
           subst (λ (a : Attempt). Writes old.kept n a.longest v e) (sym (h.attempt.others n other))
-          (writes_more old.kept n (attempt_of old n).done (attempt_of old n).longest v e within written)
+          (writes_more old.kept n (attempt_of old n).done (attempt_of old n).longest v e (i.tried n).within written)
 
       its : Writes old.kept u (attempt_of then_config u).longest h.store.variable h.store.element
       its = grind (arith, goes_alone, le-max_right, store_same)
@@ -255,7 +216,7 @@ module _ (y : System) (b next : AbstractRun y) (code : Code y.plan) (c : ThreadG
             let f = stored.flushed u e earlier in
             record {
               before = f.before;
-              within = let within = f.within in let same = still.on.done in omega (arith, within, same);
+              within = omega (arith, f.within, still.on.done);
               writes = still.writes_on f.before u e f.within f.writes;
               position = f.position;
               since = still.since u e f.position earlier f.since;
@@ -284,8 +245,7 @@ module _ (y : System) (b next : AbstractRun y) (code : Code y.plan) (c : ThreadG
       }
 
     module _ (w v : World) (left : IsLeftAlone y w v b code c) where
-      runs_on : (hart : Hart) (graph_thread : GraphThread) → IsRunningThread y w b code c hart graph_thread →
-          IsRunningThread y v next code c hart graph_thread
+      runs_on : (hart : Hart) (graph_thread : GraphThread) → IsRunningThread y w b code c hart graph_thread → IsRunningThread y v next code c hart graph_thread
       runs_on hart graph_thread (on_fragment exit steps o) = on_fragment exit steps (record {
         environment = o.environment;
         answers = answers_kept y (now b.config) (now next.config) n still.guards o.environment o.answers;

@@ -1,21 +1,8 @@
 -- Releases of a hart's last mutex, and threads that leave a section.
-use Rattle.std.proofs.Common.{◌≡◌, ◌≢◌, refl, ℕ, List, ap, sym, ◌∙◌, Option, Some, None, Bool, true, false, eq-eqb, ◌≤◌, arith}
-use Rattle.std.proofs.lemmas.Bool.{and_left, and_right, false_from_ne_true, ne_eqb}
-use Rattle.std.proofs.lemmas.Bool.Decides.{nat_tests}
-use Rattle.std.specs.Prelude.{slice_get, is_some, not, ◌&&◌, ◌==◌}
-use Rattle.ido_base.specs.declared.event.Event.TheVariants.{Step}
-use Rattle.ido_base.specs.Locks.{holds_none}
-use Rattle.rv64_isa.specs.declared.object.Slot.{Slot}
-use Rattle.rv64_isa.specs.Machine.{World, after_event}
-use Rattle.rv64_isa.specs.Schedule.{releases_last}
-use Rattle.flow_graph.specs.Actions.{FlowState}
-use Rattle.log_states.specs.Logs.{Record}
-use Rattle.recovered_threads.specs.RecordDescriptions.{Code, Describes}
-use Rattle.recovered_threads.proofs.Public.{holds_none_is}
-use Rattle.crash_simulation.specs.Systems.{System}
-use Rattle.crash_simulation.specs.ThreadGhosts.{ThreadGhost}
-use Rattle.crash_simulation.specs.InstructionSteps.{is_leaving}
-use Rattle.crash_simulation.specs.ReleasedSections.{one_if}
+use Rattle.crash_simulation.proofs.Common.{◌≡◌, ◌≢◌, ℕ, List, sym, ◌∙◌, ap, arith, true, false, Option, Some, None, refl, Bool, ◌==◌, slice_get, ◌&&◌, not}
+use Rattle.crash_simulation.proofs.Common.{eq-eqb, ◌≤◌, is_some, and_left, and_right, false_from_ne_true, ne_eqb, nat_tests, holds_none, Step, World}
+use Rattle.crash_simulation.proofs.Common.{after_event, releases_last, Slot, FlowState, Record, Code, Describes, holds_none_is, is_leaving, one_if, System}
+use Rattle.crash_simulation.proofs.Common.{ThreadGhost}
 
 -- ---- Holders
 

@@ -1,4 +1,5 @@
 pub mod Public
+mod Common
 mod StatesMatchSource
 mod StepsAfterMarks
 mod RecordsAfterCrash

@@ -1,18 +1,8 @@
 -- An environment that answers no loads: a thread's code is met in it in any world, and a fragment that has come to its end is one in it.
-use Rattle.std.proofs.lemmas.Bool.Decides.{nat_tests}
-use Rattle.std.proofs.Common.{◌≡◌, refl, ℕ, ◌+◌, ◌-◌, ◌*◌, ◌^◌, ◌<◌, List, [], ◌∷◌, length, sym, subst, arith, false, slice_index_or, Bool}
-use Rattle.std.proofs.lemmas.Bool.{cond-true}
-use Rattle.std.proofs.lemmas.Option.{none-some}
-use Rattle.rv64_isa.specs.Rows.{Effect}
-use Rattle.rv64_isa.specs.Machine.{World}
-use Rattle.code_runs.specs.CodeTraces.{Program, MarkedEnvironment, Meets, seen_effects}
-use Rattle.hart_runs.specs.HartsOnRuns.{Agrees, environment_of}
-use Rattle.thread_runs.specs.CodeFragments.{Stage, ReadsVariables, IsOnFragment, IsPlaced, on_machine}
-use Rattle.thread_runs.proofs.Public.{plans_are_placed}
-use Rattle.recovered_threads.specs.RecordDescriptions.{Code}
-use Rattle.crash_simulation.specs.Systems.{IsOwnCode, System, IsSystem, thread_count}
-use Rattle.crash_simulation.specs.ThreadGhosts.{AnswersGuarded}
-use Rattle.c_tree.specs.Source.{State}
+use Rattle.crash_simulation.proofs.Common.{◌≡◌, ℕ, List, ◌∷◌, sym, arith, subst, false, refl, ◌+◌, ◌<◌, [], length, Bool, ◌*◌, ◌^◌, slice_index_or}
+use Rattle.crash_simulation.proofs.Common.{cond-true, nat_tests, none-some, State, World, Effect, Program, MarkedEnvironment, Meets, seen_effects, Agrees}
+use Rattle.crash_simulation.proofs.Common.{environment_of, IsOnFragment, on_machine, Stage, ReadsVariables, IsPlaced, plans_are_placed, Code, System, IsSystem}
+use Rattle.crash_simulation.proofs.Common.{thread_count, IsOwnCode, AnswersGuarded}
 
 -- ---- A thread's code is met where it stands
 

@@ -1,30 +1,15 @@
 -- Loads of the elements that a node reads are answered.
-use Rattle.std.proofs.Common.{◌≡◌, ⊎_elim, refl, ℕ, zero, suc, ◌<◌, List, [], ◌∷◌, ◌++◌, map, sym, subst, arith, Option, Some, None, Bool, true, false}
-use Rattle.std.proofs.lemmas.Bool.{and_parts, or_cases, or_right}
-use Rattle.std.proofs.lemmas.Bool.Decides.{nat_tests}
-use Rattle.std.proofs.lemmas.List.Elements.{Contains-append_left, Contains-append_right}
-use Rattle.std.specs.Prelude.{slice_get, is_some, ℤ, Contains, nat_lt, ◌==◌, ◌&&◌, ◌||◌}
-use Rattle.std.specs.List.{AllZip}
-use Rattle.ido_base.specs.Layout.{variable_at}
-use Rattle.ido_ints.specs.declared.kinds.Kind.{Kind}
-use Rattle.ido_ints.specs.Kinds.{bytes_of, Holds}
+use Rattle.crash_simulation.proofs.Common.{◌≡◌, ℕ, List, ◌∷◌, sym, arith, subst, true, false, Option, Some, None, refl, suc, ◌<◌, [], ◌++◌, Bool, zero, ◌==◌}
+use Rattle.crash_simulation.proofs.Common.{slice_get, ◌&&◌, nat_lt, is_some, map, ℤ, ⊎_elim, Contains, AllZip, ◌||◌, and_parts, or_cases, or_right, nat_tests}
+use Rattle.crash_simulation.proofs.Common.{Contains-append_left, Contains-append_right, variable_at, bytes_of, Holds, Kind, Variable, elements_of, value}
+use Rattle.crash_simulation.proofs.Common.{element_at, shape_of, elements_in, IsDeclared, IsExpr, Fits, IsTarget, TargetFits, IsFlatStatement, IsFlatPlaced}
+use Rattle.crash_simulation.proofs.Common.{IsThreadOf, AreNumbersOf, zip_found, fits_element, Pair, all_held, elements_is, Seen, FlowState, seen_by, Standing}
+use Rattle.crash_simulation.proofs.Common.{free, threads_standings, Action, Eval, Test, Element, expr_elements, target_elements, reads_of, Good, ActionLeads}
+use Rattle.crash_simulation.proofs.Common.{chooses, repeats, IsThere, Source, IsLoaded, AreLoaded, IsAnsweredIn, IsAnswered}
+use Rattle.flow_graph.specs.Paths.{element}
 use Rattle.c_tree.specs.Exprs as e
 use Rattle.c_tree.specs.Flats as f
 use Rattle.c_tree.specs.Source as m
-use Rattle.c_tree.specs.Ranges.{elements_of}
-use Rattle.c_tree.specs.WellFormed.{elements_in, shape_of, IsDeclared, IsExpr, Fits, IsTarget, TargetFits, IsFlatStatement, IsFlatPlaced}
-use Rattle.c_tree.specs.Programs.{Variable}
-use Rattle.c_tree.specs.Values.{value, element_at}
-use Rattle.c_ranges.specs.RunInvariants.{AreNumbersOf, IsThreadOf}
-use Rattle.c_ranges.proofs.Public.{fits_element, Pair, all_held, elements_is, zip_found}
-use Rattle.expr_code.specs.EvaluationCode.{Source, IsLoaded, AreLoaded}
-use Rattle.flow_graph.specs.Paths.{Element, element, expr_elements, target_elements, reads_of}
-use Rattle.flow_graph.specs.Nodes.{Action, Eval, Test}
-use Rattle.flow_graph.specs.Lockstep.{Standing, free, threads_standings}
-use Rattle.flow_graph.specs.Actions.{Seen, FlowState, seen_by}
-use Rattle.flow_graph.proofs.Public.{ActionLeads, chooses, repeats, Good}
-use Rattle.thread_code.specs.RegistersAtNodes.{IsAnsweredIn, IsAnswered}
-use Rattle.region_attempts.proofs.Public.{IsThere}
 use Rattle.crash_simulation.proofs.NodeEffects.{IsAtNode}
 use Rattle.crash_simulation.proofs.NodeEffects as nodes
 
@@ -107,11 +92,10 @@ module _ (vs : List Variable) (ks kinds : List Kind) (ls : List ℤ) (p : Option
       loaded_declared variable 0 kind false w (scalar_one w.it.length w.array) (all (element variable 0) (0, omega arith, refl))
   loaded_expr (e.Element place variable kind index_place index) w fit all =
       let named = fits_element (elements_of vs variable) index fit.0 ls ns
-      (all_held vs ks ls ns locals variables index w.1) in
-      let below = named.below in (
-        loaded_declared variable (element_at (value ls ns index)) kind true w.0 (omega (arith, below, elements_is vs variable w.0.it w.0.found w.0.array))
+      (all_held vs ks ls ns locals variables index w.1) in (
+        loaded_declared variable (element_at (value ls ns index)) kind true w.0 (omega (arith, named.below, elements_is vs variable w.0.it w.0.found w.0.array))
             (all (element variable (element_at (value ls ns index))) (0, omega arith, refl)),
-        loaded_expr index w.1 fit.1 (λ one c. all one (suc c.0, let l = c.1 in omega (arith, l), c.2)),
+        loaded_expr index w.1 fit.1 (λ one c. all one (suc c.0, omega (arith, c.1), c.2)),
       )
   loaded_expr (e.Unary operator operand) w fit all = loaded_expr operand w fit all
   loaded_expr (e.Cast kind operand) w fit all = loaded_expr operand w fit all

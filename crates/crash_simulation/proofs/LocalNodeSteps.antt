@@ -1,36 +1,16 @@
 -- A hart at its node's code, where the node neither stores nor passes a mutex.
-use Rattle.std.proofs.lemmas.Bool.Decides.{nat_tests}
-use Rattle.std.proofs.Common.{arith}
-use Rattle.std.proofs.Common.{◌≡◌, refl, ℕ, List, [], ap, sym, ◌∙◌, Option, Some, None, true}
-use Rattle.std.proofs.lemmas.Bool.{true≢false}
-use Rattle.std.proofs.lemmas.Option.{none-some}
-use Rattle.std.specs.Prelude.{slice_get, length, Contains}
-use Rattle.source_machine.specs.ElementLocks.{element_lock}
-use Rattle.source_machine.specs.Discipline.{Guards}
-use Rattle.rv64_isa.specs.Machine.{World}
-use Rattle.flow_graph.specs.Actions.{FlowState, Seen, effect_of}
-use Rattle.flow_graph.specs.Nodes.{Node}
-use Rattle.flow_graph.specs.Lowering.{lowered}
-use Rattle.flow_graph.specs.Liveness.{NodeAt}
-use Rattle.flow_graph.specs.Paths.{Element, reads_of}
-use Rattle.flow_graph.specs.Actions as a
-use Rattle.recovery_semantics.specs.Attempts.{IsInnerStep, WritesAt, store_ahead}
-use Rattle.recovery_semantics.specs.Configs.{now, attempt_of}
-use Rattle.recovery_semantics.specs.Events.{ConfigStep, steps_locally, begun}
-use Rattle.recovery_semantics.specs.VariableSpots.{memory_in}
-use Rattle.region_attempts.specs.AttemptsInRegion.{HasCome}
-use Rattle.log_states.proofs.Public.{stores_nothing}
-use Rattle.thread_runs.specs.Laws.{MarksPass}
-use Rattle.crash_simulation.specs.Systems.{System, IsSystem, flat_of, places_of}
-use Rattle.crash_simulation.specs.AbstractRuns.{AbstractRun, kept_of, now_of}
-use Rattle.crash_simulation.specs.InstructionSteps.{nothing}
+use Rattle.crash_simulation.proofs.Common.{◌≡◌, ℕ, List, sym, ◌∙◌, ap, arith, true, Option, Some, None, refl, [], length, slice_get, true≢false, Contains}
+use Rattle.crash_simulation.proofs.Common.{nat_tests, none-some, Guards, element_lock, World, Seen, FlowState, effect_of, NodeAt, lowered, Node, Element}
+use Rattle.crash_simulation.proofs.Common.{reads_of, store_ahead, WritesAt, IsInnerStep, now, attempt_of, begun, ConfigStep, steps_locally, memory_in, HasCome}
+use Rattle.crash_simulation.proofs.Common.{stores_nothing, MarksPass, AbstractRun, kept_of, now_of, nothing, System, IsSystem, flat_of, places_of}
+use Rattle.flow_graph.specs.Actions.{Effect}
 use Rattle.crash_simulation.proofs.NodeEffects.{is_quiet, source_steps, locks_none, unlocks_none, ahead_none}
 use Rattle.crash_simulation.proofs.ConfigAfterBegin.{one_longer, attempted, alone_ahead}
 use Rattle.crash_simulation.proofs.GraphAfterBegin.{matches_now, follows_on, not_come}
 use Rattle.crash_simulation.proofs.NodeEnvironments.{reads_variables, answers_guarded, guards_here, answered_here}
 use Rattle.crash_simulation.proofs.OwnHartSteps.{view, StepOf, AtNode}
-use Rattle.crash_simulation.proofs.MarksAtNodes.{IsUnseen, unseen, quiet_may, quiet_seen, quiet_free, Doing, MarkIn, AtMark, Passes}
-use Rattle.crash_simulation.proofs.MarksAtNodes.{environment, in_graph, graph_step_is, at_some_mark}
+use Rattle.crash_simulation.proofs.MarksAtNodes.{IsUnseen, unseen, quiet_may, quiet_seen, quiet_free, Doing, MarkIn, AtMark, Passes, environment, in_graph}
+use Rattle.crash_simulation.proofs.MarksAtNodes.{graph_step_is, at_some_mark}
 use Rattle.crash_simulation.proofs.MarkSteps.{is_plain, plain_holders, flushed_passed, passed_step, is_next}
 use Rattle.crash_simulation.proofs.StatesMatchSource.{resumed}
 use Rattle.crash_simulation.proofs.Loads.{reads_all}
@@ -38,12 +18,12 @@ use Rattle.crash_simulation.proofs.ThreadViews.{none_clean}
 use Rattle.crash_simulation.proofs.WriteBackSteps.{mark_step}
 use Rattle.crash_simulation.proofs.MarkSteps as passing
 
-quiet_plain : (e : a.Effect) → is_quiet e ≡ true → is_plain e ≡ true
+quiet_plain : (e : Effect) → is_quiet e ≡ true → is_plain e ≡ true
 quiet_plain e quiet = grind (arith, nat_tests)
 
 -- what a node does that neither stores nor passes a mutex
 pub record DoesQuietly (node : Node) (seen : Seen) : Type 0 where
-  pub e : a.Effect
+  pub e : Effect
   pub does : effect_of node.action seen ≡ Some e
   pub quiet : is_quiet e ≡ true
 
@@ -139,8 +119,7 @@ module _ {y : System} {s : IsSystem y} {w : World} {h : ℕ} (site : AtNode y s 
         let old = guards_here site node at one of in
         let holders : (now next.config).holders ≡ (now b.config).holders =
         sym (matches_now y s next).holders ∙ ap (λ (z : FlowState). z.holders) (passing.state site passed)
-        ∙ plain_holders (now_of y b) n graph_thread e (quiet_plain e quiet)
-        ∙ (matches_now y s b).holders in
+        ∙ plain_holders (now_of y b) n graph_thread e (quiet_plain e quiet) ∙ (matches_now y s b).holders in
         ap (λ (hs : List (Option ℕ)). slice_get hs (element_lock (flat_of y).variables one.variable one.element)) holders ∙ old
 
     quiet_passes : StepOf site.hart n

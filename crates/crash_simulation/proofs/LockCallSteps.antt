@@ -1,56 +1,18 @@
 -- A hart at its call, and at one that asks for a mutex: it takes it, or waits.
-use Rattle.std.proofs.lemmas.Bool.Decides.{nat_tests}
-use Rattle.std.proofs.Common.{◌≡◌, ◌≢◌, inl, inr, ⊎_elim, refl, ℕ, suc, ◌+◌, ◌<◌, List, [], ◌∷◌, ◌++◌, length, ap, sym, ◌∙◌, subst, arith, Option, Some, None}
-use Rattle.std.proofs.Common.{Bool, true, false, ℤ, ◌≤◌}
-use Rattle.std.proofs.lemmas.Option.{none-some, same_Some, slice_get_within}
-use Rattle.std.proofs.lemmas.Bool.{true≢false, cond-false}
-use Rattle.std.proofs.lemmas.List.{length-set}
-use Rattle.std.specs.Prelude.{slice_get, Contains, not, is_none, ◌&&◌, ◌==◌}
-use Rattle.boundary_code.specs.Boundaries.{Boundary, boundary_effects, side_after}
-use Rattle.ido_base.specs.declared.event.Event.TheVariants.{Step}
-use Rattle.ido_base.specs.Locks.{held_from, holds_none}
-use Rattle.rv64_isa.specs.declared.instr.Instr.TheVariants.{Ecall}
-use Rattle.rv64_isa.specs.declared.phase.Phase.{Phase}
-use Rattle.rv64_isa.specs.Rows.{Effect, Calls, row}
-use Rattle.rv64_isa.specs.Machine.{Hart, World, Outcome, with_holder, moved, gone_on, happens}
-use Rattle.rv64_isa.specs.Schedule.{is_running, stores_point}
-use Rattle.rv64_isa.proofs.Public.{get-set_same}
-use Rattle.node_code.specs.Pieces.{takes}
-use Rattle.flow_graph.specs.Nodes.{Action, Lock, End, successors}
-use Rattle.flow_graph.specs.Actions.{GraphThread, FlowState}
-use Rattle.flow_graph.proofs.Public.{set_same, get_cases, no_more}
-use Rattle.source_machine.specs.Mutexes.{locks}
-use Rattle.source_machine.proofs.Public.{locks_same}
-use Rattle.hart_runs.specs.Calls.{IsAtCall}
-use Rattle.hart_runs.proofs.Public.{calls_count, effect_is, queues_stay_short}
-use Rattle.recovery_semantics.specs.Attempts.{solo}
-use Rattle.recovery_semantics.specs.Configs.{Invariant, now, attempt_of}
-use Rattle.recovery_semantics.specs.Events.{ConfigStep, synchronises, Synchronises, begun}
-use Rattle.recovery_semantics.specs.Laws.{HasLocked, HasUnlocked}
-use Rattle.recovery_semantics.specs.VariableSpots.{memory_in}
-use Rattle.recovery_semantics.proofs.Public.{goes_alone, counted_own, unequal_of, left_is_free, held_before}
-use Rattle.log_states.specs.Logs.{Record}
-use Rattle.log_states.specs.Machines.{IsNext, IsElsewhere}
-use Rattle.log_states.specs.Laws.{recorded_by}
-use Rattle.log_states.specs.LogInvariant.{LogInv}
-use Rattle.log_states.proofs.Public.{stores_nothing, one_effect, side_follows, boundaries_fence, steps_keep, boundary_stores}
-use Rattle.thread_code.specs.RegistersAtNodes.{Enters}
-use Rattle.thread_code.specs.NodeCodeEffects.{keeping}
-use Rattle.thread_code.specs.Programs.{IsCalling}
-use Rattle.thread_runs.specs.CodeFragments.{ExitPoint, Asks, Took, IsOnFragment, IsPlaced, IsLockOf, on_machine}
-use Rattle.thread_runs.specs.Laws.{TakesMutex}
-use Rattle.thread_runs.proofs.Public.{call_there, fragments_see_all, locks_take, locks_wait, few_cleans}
-use Rattle.recovered_threads.specs.RecordDescriptions.{Code, past_lock, Describes}
-use Rattle.recovered_threads.proofs.Public.{same_there, holds_none_is}
-use Rattle.crash_simulation.specs.ThreadGhosts.{ThreadGhost, InFragment, on_fragment, InPhase, ThreadInv}
-use Rattle.crash_simulation.specs.InstructionSteps.{stays, goes, abstract_next, MayStore, nothing, is_bound, was_unlocked, nothing_released, OnFragmentNow}
-use Rattle.crash_simulation.specs.InstructionSteps.{thread_of, begins_step}
-use Rattle.crash_simulation.specs.Systems.{System, IsSystem, flat_of, places_of, thread_count}
-use Rattle.crash_simulation.specs.AbstractRuns.{AbstractRun, kept_of, now_of}
-use Rattle.crash_simulation.specs.SimulationRelation.{AreHeld}
-use Rattle.crash_simulation.specs.StepsToMark.{most_ahead}
-use Rattle.crash_simulation.specs.ThreadGhosts as courses
-use Rattle.code_runs.specs.CodeTraces.{MarkedEnvironment}
+use Rattle.crash_simulation.proofs.Common.{◌≡◌, ◌≢◌, ℕ, List, ◌∷◌, sym, ◌∙◌, ap, arith, subst, true, false, Option, Some, None, refl, suc, ◌+◌, ◌<◌, [], ◌++◌}
+use Rattle.crash_simulation.proofs.Common.{length, Bool, inl, inr, ◌==◌, slice_get, ◌&&◌, not, true≢false, length-set, ◌≤◌, ℤ, ⊎_elim, Contains, is_none}
+use Rattle.crash_simulation.proofs.Common.{cond-false, nat_tests, none-some, same_Some, slice_get_within, holds_none, held_from, Step, LockName, locks}
+use Rattle.crash_simulation.proofs.Common.{locks_same, Hart, World, happens, Outcome, with_holder, moved, gone_on, Effect, Calls, row, is_running, stores_point}
+use Rattle.crash_simulation.proofs.Common.{Ecall, Phase, get-set_same, GraphThread, FlowState, Action, Lock, End, successors, get_cases, set_same, no_more}
+use Rattle.crash_simulation.proofs.Common.{Boundary, boundary_effects, side_after, solo, now, attempt_of, Invariant, begun, ConfigStep, synchronises}
+use Rattle.crash_simulation.proofs.Common.{Synchronises, HasUnlocked, HasLocked, memory_in, counted_own, unequal_of, goes_alone, left_is_free, held_before}
+use Rattle.crash_simulation.proofs.Common.{MarkedEnvironment, recorded_by, LogInv, Record, IsElsewhere, IsNext, stores_nothing, one_effect, side_follows}
+use Rattle.crash_simulation.proofs.Common.{boundaries_fence, steps_keep, boundary_stores, takes, IsAtCall, calls_count, effect_is, queues_stay_short, keeping}
+use Rattle.crash_simulation.proofs.Common.{IsCalling, Enters, IsLockOf, ExitPoint, IsOnFragment, on_machine, Asks, Took, IsPlaced, TakesMutex, call_there}
+use Rattle.crash_simulation.proofs.Common.{fragments_see_all, cleans_on, locks_take, locks_wait, few_cleans, Code, Describes, past_lock, same_there}
+use Rattle.crash_simulation.proofs.Common.{holds_none_is, AbstractRun, kept_of, now_of, is_bound, was_unlocked, Site, nothing_released, stays, MayStore}
+use Rattle.crash_simulation.proofs.Common.{nothing, goes, OnFragmentNow, abstract_next, thread_of, begins_step, AreHeld, most_ahead, System, IsSystem}
+use Rattle.crash_simulation.proofs.Common.{thread_count, flat_of, places_of, ThreadGhost, on_fragment, InPhase, ThreadInv, GoesClean, InFragment}
 use Rattle.crash_simulation.specs.InstructionSteps as moving
 use Rattle.crash_simulation.proofs.LastReleases.{no_release, holders_stay_none, none_leaving, and_none}
 use Rattle.crash_simulation.proofs.StatesMatchSource.{resumed, kept_matches, orderly, now_orderly, now_good}
@@ -59,7 +21,6 @@ use Rattle.crash_simulation.proofs.LoadFreeEnvironment.{bare, bare_answers, bare
 use Rattle.crash_simulation.proofs.LocksAtCalls.{locks_it, mutex_there, taken, takes_it, source_takes}
 use Rattle.crash_simulation.proofs.PendingFlushes.{Passage, stored_same, still_reached, reaches_same}
 use Rattle.crash_simulation.proofs.OwnHartSteps.{log_begins, step_to, view, StepOf, held_still, own_giving, locks_to}
-use Rattle.crash_simulation.specs.InstructionSteps.{Site}
 use Rattle.crash_simulation.proofs.ThreadViews.{IsQuiet, begins_with, describes_over, log_at, moves_alone, none_clean, records_begin}
 use Rattle.crash_simulation.proofs.UncommittedSteps.{leads_on}
 use Rattle.crash_simulation.proofs.RecordsAfterCrash.{caught_is_over}
@@ -79,13 +40,12 @@ none_from n at (Some u ∷ holders) free =
     cond-false (n == u) (Some at) (held_from (at + 1) holders n) (unequal_of n u (λ e. free 0 (ap (λ (k : ℕ). Some (Some k)) (sym e))))
     ∙ none_from n (at + 1) holders (λ lock. free (suc lock))
 
-lock_or_end : (mutex next : ℕ) → Lock mutex next ≡ End → ⊥
-lock_or_end mutex next e = cc
+lock_or_end : (lock : LockName) (next : ℕ) → Lock lock next ≡ End → ⊥
+lock_or_end lock next e = cc
 
 -- what a record says of a thread that holds nothing
 pub point_none : (y : System) (code : Code y.plan) (kept : FlowState) (r : Record) → Describes y.plan code kept r →
-    holds_none kept.holders code.thread.number ≡ true →
-    r.point ≡ 0
+    holds_none kept.holders code.thread.number ≡ true → r.point ≡ 0
 point_none y code kept r describes free = grind (arith, nat_tests)
 
 -- ---- A hart at the end of its fragment
@@ -125,9 +85,7 @@ module _ {y : System} {s : IsSystem y} {w : World} {h : ℕ} {exit : ExitPoint} 
       ap is_none (none_from n 0 (kept_of y b).holders (λ lock there.
       let kept : slice_get b.config.kept.holders lock ≡ Some (Some n) =
       ap (λ (hs : List (Option ℕ)). slice_get hs lock) (sym (kept_matches y s b).holders) ∙ there in
-      ⊎_elim
-      (λ has. free lock (ap (λ (hs : List (Option ℕ)). slice_get hs lock) now_holders ∙ has))
-      (λ u. never lock u)
+      ⊎_elim (λ has. free lock (ap (λ (hs : List (Option ℕ)). slice_get hs lock) now_holders ∙ has)) (never lock)
       (held_before (flat_of y) b.config n lock invariant kept)))
 
   -- nothing is ahead, and no answer counts
@@ -157,8 +115,7 @@ module _ {y : System} {s : IsSystem y} {w : World} {h : ℕ} {exit : ExitPoint} 
     calls_next = record { here = a.here; runs = ap is_running a.runs; is = effect_is y.runs.program w n a.hart a.here a.runs Ecall a.calls }
 
     pub call_stores : (hart : Hart) (effect : Effect) → IsNext y.runs.program w n hart effect → MayStore y b n effect
-    call_stores hart effect is =
-        subst (MayStore y b n) (one_effect y.runs.program w n a.hart hart Calls effect calls_next is) (nothing Calls refl)
+    call_stores hart effect is = subst (MayStore y b n) (one_effect y.runs.program w n a.hart hart Calls effect calls_next is) (nothing Calls refl)
 
     pub call_elsewhere : IsElsewhere y.runs.program w n n
     call_elsewhere = stores_nothing y.runs.program w n n a.hart Calls calls_next refl
@@ -194,10 +151,10 @@ module _ {y : System} {s : IsSystem y} {w : World} {h mutex next : ℕ} (at : At
   abbrev pub asks : FragmentTo at (z at) (Asks mutex next) 0 []
   asks = fragment_over at
 
-  goes_clean : courses.GoesClean y b.config n c false graph_thread
+  goes_clean : GoesClean y b.config n c false graph_thread
   goes_clean = at.o.fits
 
-  pub lock_here : IsLockOf y.plan code.thread graph_thread.at mutex next
+  pub lock_here : IsLockOf y.plan code.thread graph_thread.at graph_thread.locals mutex next
   lock_here = asks.of_graph
 
   at_lock : IsAtCall y.runs.program w n takes
@@ -315,7 +272,7 @@ module _ {y : System} {s : IsSystem y} {w : World} {h mutex next : ℕ} (at : At
       there = walks;
       goes_on = goes_clean.execution;
       own = it.on.on.own;
-      resumes = λ some. past_lock graph_thread.at mutex lock_here.is lock_here.own lock_here.at lock_here.locks;
+      resumes = λ some. past_lock graph_thread.at lock_here.lock lock_here.is lock_here.own lock_here.at lock_here.locks;
       enters = subst (λ (vs : List (List ℤ)). Enters y.plan code.thread next
           (record { locals = graph_thread.locals; pending = graph_thread.pending; variables = vs }) at.o.side asks.registers)
           (sym (ap (λ (x : FlowState). x.variables) now_is)) asks.has.enters;
@@ -384,8 +341,9 @@ module _ {y : System} {s : IsSystem y} {w : World} {h mutex next : ℕ} (at : At
           queues_stay_short y.runs.program w (Step n) at.site.stands.machine.short n new it.on.on.on.here in
           let fit = fits_by y s h at.site.below graph_thread.at lock_here.is lock_here.own lock_here.at next it.on.on.own
           (subst (λ (x : Action). Contains (successors x) next) (sym lock_here.locks) (0, omega arith, refl))
-          (λ ends. lock_or_end mutex next (sym lock_here.locks ∙ ends)) in
-          (omega (arith, it.on.short, few_cleans b_next at.o.side resume asks.registers, queue, fit, most_is y s h at.site.below), omega arith);
+          (λ ends. lock_or_end lock_here.lock next (sym lock_here.locks ∙ ends)) in
+          let cleans = cleans_on (z at) it.on.steps _ _ _ it.on.on.on.walks in
+          (omega (arith, it.on.short, few_cleans b_next at.o.side resume asks.registers, cleans, queue, fit, most_is y s h at.site.below), omega arith);
     }
 
     abbrev passage : Passage y code
@@ -456,5 +414,5 @@ module _ {y : System} {s : IsSystem y} {w : World} {h : ℕ} (site : Site y s w 
   fragment o = fragment_over (at_end o)
 
   pub lock : {mutex next : ℕ} → OnFragmentNow site (Asks mutex next) 0 →
-      IsLockOf y.plan (s.codes.each h site.below).thread (thread_of site).graph_thread.at mutex next
+      IsLockOf y.plan (s.codes.each h site.below).thread (thread_of site).graph_thread.at (thread_of site).graph_thread.locals mutex next
   lock o = lock_here (at_end o)

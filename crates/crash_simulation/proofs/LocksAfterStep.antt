@@ -1,26 +1,9 @@
 -- Locks after a step of a hart that executes instructions.
-use Rattle.std.proofs.lemmas.Bool.Decides.{nat_tests}
-use Rattle.std.proofs.Common.{arith, ◌≡◌, ◌≢◌, ℕ, ◌<◌, ◌==◌, length, sym, ◌∙◌, subst, Some, None, slice_get, slice_set}
-use Rattle.std.proofs.lemmas.Bool.{cond-true, cond-false}
-use Rattle.ido_base.specs.declared.event.Event.TheVariants.{Step}
-use Rattle.rv64_isa.specs.declared.phase.Phase.TheVariants.{Take, Wait, Resume, Run}
-use Rattle.rv64_isa.specs.declared.phase.Phase.{Phase}
-use Rattle.rv64_isa.specs.Rows.{Effect}
-use Rattle.rv64_isa.specs.Machine.{Hart, World, after_event}
-use Rattle.rv64_isa.specs.Frames.{IsWellFormedWorld}
-use Rattle.rv64_isa.proofs.Public.{steps_touch, get-set_same, get-set_other}
-use Rattle.flow_graph.specs.Actions.{FlowState}
-use Rattle.recovery_semantics.proofs.Public.{equal_self, unequal_of}
-use Rattle.log_states.specs.Logs.{Record}
-use Rattle.log_states.specs.Machines.{IsNext, IsElsewhere}
-use Rattle.hart_runs.specs.Calls.{IsInPhase}
-use Rattle.recovered_threads.specs.RecoveryStates.{HasGathered, AreGathered}
-use Rattle.recovered_threads.proofs.Public.{same_there, gathered_on, ready_stays}
-use Rattle.crash_simulation.specs.SimulationRelation.{AreHeld, AreLocked, gathered, records_of}
-use Rattle.crash_simulation.specs.Systems.{System, IsSystem}
-use Rattle.crash_simulation.specs.AbstractRuns.{AbstractRun, now_of}
-use Rattle.crash_simulation.specs.ThreadGhosts.{ThreadGhost}
-use Rattle.crash_simulation.specs.InstructionSteps.{MayStore, with_ghost}
+use Rattle.crash_simulation.proofs.Common.{◌≡◌, ◌≢◌, ℕ, sym, ◌∙◌, arith, subst, Some, None, ◌<◌, length, ◌==◌, slice_set, slice_get, cond-true, cond-false}
+use Rattle.crash_simulation.proofs.Common.{nat_tests, Step, IsWellFormedWorld, Hart, World, after_event, Effect, Phase, Take, Wait, Resume, Run, steps_touch}
+use Rattle.crash_simulation.proofs.Common.{get-set_same, get-set_other, FlowState, equal_self, unequal_of, Record, IsElsewhere, IsNext, IsInPhase, HasGathered}
+use Rattle.crash_simulation.proofs.Common.{AreGathered, same_there, gathered_on, ready_stays, AbstractRun, now_of, with_ghost, MayStore, AreHeld, AreLocked}
+use Rattle.crash_simulation.proofs.Common.{gathered, records_of, System, IsSystem, ThreadGhost}
 use Rattle.crash_simulation.proofs.DisjointStores.{elsewhere}
 
 -- where the same harts hold mutexes, and the same is being given back
@@ -53,8 +36,7 @@ gone_gathered : (v : World) (h : ℕ) (r : Record) (phase : Phase) → GoneOn ph
 gone_gathered v h r phase g = grind (arith, nat_tests)
 
 module _ (y : System) (s : IsSystem y) (w : World) (b : AbstractRun y) (ghosts : ℕ → ThreadGhost) (h : ℕ) (logs : y.plan.log ≡ w.log)
-    (sound : IsWellFormedWorld w)
-    (i : IsInPhase w h Run) where
+    (sound : IsWellFormedWorld w) (i : IsInPhase w h Run) where
   abbrev later : World
   later = after_event y.runs.program w (Step h)
 

@@ -1,46 +1,22 @@
 -- What a thread holds, locks and unlocks where its graph thread is at a call.
-use Rattle.std.proofs.Common.{◌≡◌, ◌≢◌, refl, ℕ, zero, suc, ◌<◌, arith, List, [], ◌∷◌, sym, ◌∙◌, ap, subst, Option, Some, None, true, false}
-use Rattle.std.proofs.Common.{length, ◌-◌, slice_get, slice_set, is_some, ℤ, true≢false, eq-eqb}
-use Rattle.std.proofs.lemmas.List.{length-replicate}
-use Rattle.std.specs.List.{AllByRecursion}
-use Rattle.ido_base.specs.declared.place.Place.{Place}
+use Rattle.crash_simulation.proofs.Common.{◌≡◌, ◌≢◌, ℕ, List, ◌∷◌, sym, ◌∙◌, ap, arith, subst, true, false, Option, Some, None, refl, suc, ◌<◌, [], length}
+use Rattle.crash_simulation.proofs.Common.{zero, slice_set, slice_get, eq-eqb, true≢false, is_some, ◌-◌, ℤ, AllByRecursion, nat_tests, length-replicate}
+use Rattle.crash_simulation.proofs.Common.{none-some, same_Some, slice_get_within, Place, IsDisciplined, Held, holds, none_held, lock_names, number_in}
+use Rattle.crash_simulation.proofs.Common.{plain_names, Pending, source_step, lock_number, IsSingle, length-plain_names, names_are_plain, plain_known}
+use Rattle.crash_simulation.proofs.Common.{plain_lock, KeepList, StateKeeps, held_by, locks, first_lock, run_keeps, keeps_unlock, keep_list_length}
+use Rattle.crash_simulation.proofs.Common.{holds_within, plain_is_given, locks_found, IsThreadOf, IsStatementLeft, zip_found, thread_lefts, set_left}
+use Rattle.crash_simulation.proofs.Common.{GraphThread, FlowState, seen_by, effect_of, graph_step, NodeAt, Standing, free, threads_standings, thread_standings}
+use Rattle.crash_simulation.proofs.Common.{GraphThreadMatches, lowered, parts, threads_nodes, Action, Node, Graph, Part, found_in, ActionLeads, Agree, Locks}
+use Rattle.crash_simulation.proofs.Common.{Unlocks, agrees, lowered_nodes, lowered_threads, now, is_there, IsThere, IsLockOf, IsUnlockOf, IsEndOf, Code}
+use Rattle.crash_simulation.proofs.Common.{left_at, standing_at, AbstractRun, now_of, System, IsSystem, flat_of}
 use Rattle.c_tree.specs.Exprs as e
 use Rattle.c_tree.specs.Flats as f
 use Rattle.c_tree.specs.Source as m
-use Rattle.c_tree.specs.LockNames.{Held, holds, none_held, lock_names, number_in, plain_names}
-use Rattle.c_tree.specs.LockDiscipline.{IsDisciplined}
-use Rattle.c_tree.specs.Values.{lock_number}
-use Rattle.c_tree.specs.WellFormed.{IsSingle}
-use Rattle.c_tree.proofs.Public.{length-plain_names, names_are_plain, plain_known, plain_lock}
-use Rattle.source_machine.specs.Mutexes.{held_by, locks, first_lock}
-use Rattle.source_machine.specs.Discipline.{KeepList, StateKeeps}
-use Rattle.source_machine.proofs.Public.{keeps_unlock, keep_list_length, holds_within, plain_is_given, locks_found, run_keeps}
-use Rattle.lock_discipline.specs.StepContinuations.{thread_lefts}
-use Rattle.lock_discipline.proofs.Public.{set_left}
-use Rattle.std.proofs.lemmas.Bool.Decides.{nat_tests}
-use Rattle.std.proofs.lemmas.Option.{none-some, same_Some, slice_get_within}
-use Rattle.c_tree.specs.Source.{Pending, source_step}
-use Rattle.c_ranges.specs.RunInvariants.{IsStatementLeft, IsThreadOf}
-use Rattle.c_ranges.proofs.Public.{zip_found}
-use Rattle.flow_graph.specs.Actions.{GraphThread, FlowState, effect_of, seen_by, graph_step}
-use Rattle.flow_graph.specs.Lockstep.{Standing, free, threads_standings, thread_standings, GraphThreadMatches}
-use Rattle.flow_graph.specs.declared.graph.Part.{Part}
-use Rattle.flow_graph.specs.Nodes.{Action, Node, Graph}
-use Rattle.flow_graph.specs.Lowering.{lowered, parts, threads_nodes}
-use Rattle.flow_graph.specs.Liveness.{NodeAt}
 use Rattle.flow_graph.specs.Actions as g
-use Rattle.flow_graph.proofs.Public.{ActionLeads, Agree, Locks, Unlocks, agrees, found_in, lowered_nodes, lowered_threads}
-use Rattle.recovery_semantics.specs.Configs.{now}
-use Rattle.region_attempts.proofs.Public.{IsThere, is_there}
-use Rattle.thread_runs.specs.CodeFragments.{IsLockOf, IsUnlockOf, IsEndOf}
-use Rattle.recovered_threads.specs.RecordDescriptions.{Code}
-use Rattle.recovered_threads.proofs.Public.{left_at, standing_at}
-use Rattle.crash_simulation.specs.Systems.{System, IsSystem, flat_of}
-use Rattle.crash_simulation.specs.AbstractRuns.{AbstractRun, now_of}
 use Rattle.crash_simulation.proofs.NodeEffects.{IsAtNode, step_is, source_steps}
-use Rattle.crash_simulation.proofs.NodeEffects as nodes
 use Rattle.crash_simulation.proofs.StatesMatchSource.{resumed, now_good}
 use Rattle.crash_simulation.proofs.GraphAfterBegin.{matches_now}
+use Rattle.crash_simulation.proofs.NodeEffects as nodes
 
 pub holds_it : (t : ℕ) (hs : List (Option ℕ)) (k : ℕ) → slice_get hs k ≡ Some (Some t) → holds (held_by t hs) k ≡ true
 holds_it t [] k h = cc
@@ -120,8 +96,8 @@ module _ (y : System) (s : IsSystem y) (b : AbstractRun y) (code : Code y.plan) 
 
   -- ---- At a lock
 
-  module _ (mutex next : ℕ) (lock : IsLockOf y.plan code.thread graph_thread.at mutex next) where
-    locks_there : {z : m.State} (th : IsThere (flat_of y) z number graph_thread lock.is) → Locks all mutex next (standing_now th)
+  module _ (mutex next : ℕ) (lock : IsLockOf y.plan code.thread graph_thread.at graph_thread.locals mutex next) where
+    locks_there : {z : m.State} (th : IsThere (flat_of y) z number graph_thread lock.is) → Locks all lock.lock next (standing_now th)
     locks_there th = subst (λ (a : Action). ActionLeads all a (standing_now th)) lock.locks th.does
 
     pub locks_it : locks (now b.config) number ≡ Some mutex
@@ -130,7 +106,8 @@ module _ (y : System) (s : IsSystem y) (b : AbstractRun y) (code : Code y.plan) 
         let l = locks_there th in
         locks_found (now b.config) number th.thread th.there
         ∙ (ahead_by th.thread.pending th.thread.locals th.thread.left (ap (λ (z : Standing). z.owes) l.is)
-        ∙ ap (first_lock th.thread.locals) (ap (λ (z : Standing). z.left) l.is))
+        ∙ ap (first_lock th.thread.locals) (ap (λ (z : Standing). z.left) l.is)
+        ∙ ap Some (ap (λ (ls : List ℤ). lock_number ls lock.lock) (sym th.match.locals) ∙ lock.number))
 
     -- the mutex is there
     pub mutex_there : mutex < length (flat_of y).mutexes
@@ -141,10 +118,11 @@ module _ (y : System) (s : IsSystem y) (b : AbstractRun y) (code : Code y.plan) 
         let l = locks_there th in
         let own = zip_found (λ (t : f.Thread) (k : m.Thread). IsThreadOf (flat_of y) t.locals k) (flat_of y).threads good.source.threads number th.thread
         good.formed.threads th.there in
-        let left : AllByRecursion (IsStatementLeft (flat_of y) own.it.locals) (f.Lock l.place (record { mutex = mutex; key = None }) ∷ l.rest) =
+        let left : AllByRecursion (IsStatementLeft (flat_of y) own.it.locals) (f.Lock l.place lock.lock ∷ l.rest) =
         subst (λ (ss : List f.Statement). AllByRecursion (IsStatementLeft (flat_of y) own.it.locals) ss) (ap (λ (z : Standing). z.left) l.is)
         own.related.left in
-        left.0.1.0
+        let is : mutex ≡ lock.lock.mutex = sym lock.number ∙ plain_lock graph_thread.locals lock.lock l.keyless in
+        subst (λ (k : ℕ). k < length (flat_of y).mutexes) (sym is) left.0.1.0
 
     -- the thread takes it where it is free
     abbrev pub taken : FlowState
@@ -152,7 +130,8 @@ module _ (y : System) (s : IsSystem y) (b : AbstractRun y) (code : Code y.plan) 
 
     pub takes_it : slice_get (now_of y b).holders mutex ≡ Some None → graph_step (lowered (flat_of y)) (now_of y b) number ≡ Some taken
     takes_it is_free =
-        step_is (at_node lock.is lock.at) (g.Takes mutex next) (ap (λ (a : Action). effect_of a (seen_by (now_of y b) graph_thread)) lock.locks)
+        step_is (at_node lock.is lock.at) (g.Takes mutex next) (ap (λ (a : Action). effect_of a (seen_by (now_of y b) graph_thread)) lock.locks
+        ∙ ap (λ (k : ℕ). Some (g.Takes k next)) lock.number)
         ∙ ap (λ (o : Option (Option ℕ)). let r : Option FlowState = elim o [ Some None ↦ Some taken | _ ↦ None ] in r) is_free
 
     pub source_takes : slice_get (now_of y b).holders mutex ≡ Some None → (after : m.State) × (source_step (now b.config) number ≡ Some after)
@@ -160,13 +139,13 @@ module _ (y : System) (s : IsSystem y) (b : AbstractRun y) (code : Code y.plan) 
 
   -- ---- After an unlock
 
-  module _ (from mutex : ℕ) (unlock : IsUnlockOf y.plan code.thread from mutex graph_thread.at) where
+  module _ (from mutex : ℕ) (unlock : IsUnlockOf y.plan code.thread from graph_thread.locals mutex graph_thread.at) where
     pub not_held : slice_get (now_of y b).holders mutex ≢ Some (Some number)
     not_held held =
-        let nodes : slice_get (threads_nodes (flat_of y).threads 0) from ≡ Some unlock.is =
+        let nodes : slice_get (threads_nodes (flat_of y) (flat_of y).threads 0) from ≡ Some unlock.is =
         ap (λ (ns : List Node). slice_get ns from) (sym (lowered_nodes (flat_of y))) ∙ in_lowered from unlock.is unlock.at in
-        let stands = standing_of all (threads_nodes (flat_of y).threads 0) all from unlock.is (agrees (flat_of y) s.plan.formed.threads) nodes in
-        let unlocks : Unlocks all mutex graph_thread.at stands.0 = subst (λ (a : Action). ActionLeads all a stands.0) unlock.unlocks stands.2 in
+        let stands = standing_of all (threads_nodes (flat_of y) (flat_of y).threads 0) all from unlock.is (agrees (flat_of y) s.plan.formed.threads) nodes in
+        let unlocks : Unlocks all unlock.lock graph_thread.at stands.0 = subst (λ (a : Action). ActionLeads all a stands.0) unlock.unlocks stands.2 in
         let source = found_in (now b.config).threads number
         (omega (arith, slice_get_within (now_of y b).graph_threads number graph_thread there, (matches_now y s b).count)) in
         let match : GraphThreadMatches (flat_of y) graph_thread source.0 = (matches_now y s b).each number graph_thread source.0 there source.1 in
@@ -181,7 +160,9 @@ module _ (y : System) (s : IsSystem y) (b : AbstractRun y) (code : Code y.plan) 
         let sets = found_in y.plan.held number
         (omega (arith, slice_get_within (flat_of y).threads number code.of.text code.of.of_text, s.plan.held.each_thread)) in
         not_held_after code.of.text step s.plan.formed.single (s.plan.held.sets number code.of.text sets.0 code.of.of_text sets.1).disciplined
-        lefts number keeps code.of.of_text source.1 left (ap (λ (hs : List (Option ℕ)). slice_get hs mutex) (sym (matches_now y s b).holders) ∙ held)
+        lefts number keeps code.of.of_text source.1 left
+        (ap (λ (hs : List (Option ℕ)). slice_get hs (lock_number source.0.locals unlock.lock)) (sym (matches_now y s b).holders)
+        ∙ (ap (slice_get (now_of y b).holders) (ap (λ (ls : List ℤ). lock_number ls unlock.lock) (sym match.locals) ∙ unlock.number) ∙ held))
 
   -- ---- At the end
 

@@ -1,15 +1,9 @@
 -- What happens by a thread leaves what is kept, and each attempt as far as any before, where power stays on.
-use Rattle.std.proofs.lemmas.Bool.Decides.{nat_tests}
-use Rattle.std.proofs.Common.{◌≡◌, refl, ℕ, List, [], ◌∷◌, ◌++◌, ap, arith, Bool, true}
-use Rattle.recovery_semantics.specs.Attempts.{Attempt, IsAttempted, attempt_at}
-use Rattle.recovery_semantics.specs.Configs.{Config, attempt_of}
-use Rattle.recovery_semantics.specs.Events.{ConfigStep, steps_locally, stores, synchronises, persists, commits, crashes, stepped, IsSettled, settled_by, begun}
-use Rattle.recovered_threads.proofs.Public.{same_or_other}
-use Rattle.crash_simulation.specs.Systems.{System}
-use Rattle.crash_simulation.specs.AbstractRuns.{AbstractRun}
-use Rattle.crash_simulation.specs.InstructionSteps.{IsDoneBy, StepsOrStutters, stays, goes, is_begun, begins}
+use Rattle.crash_simulation.proofs.Common.{◌≡◌, ℕ, List, ◌∷◌, ap, arith, true, refl, [], ◌++◌, Bool, nat_tests, Attempt, IsAttempted, attempt_at, Config}
+use Rattle.crash_simulation.proofs.Common.{attempt_of, Memory, stores, IsSettled, begun, persists, ConfigStep, steps_locally, synchronises, commits, crashes}
+use Rattle.crash_simulation.proofs.Common.{settled_by, same_or_other, AbstractRun, begins, StepsOrStutters, stays, goes, IsDoneBy, is_begun, System}
+use Rattle.recovery_semantics.specs.Events.{stepped}
 use Rattle.crash_simulation.proofs.AccountUpdates.{begun_by}
-use Rattle.recovery_semantics.specs.ElementHistories.{Memory}
 
 abbrev pub HasComeFurthest : Attempt → Type 0
 HasComeFurthest a = a.done ≡ a.longest

@@ -1,38 +1,15 @@
 -- A hart passes the mark of a node that begins no boundary: what is the same of all of them.
-use Rattle.std.proofs.lemmas.Bool.Decides.{nat_tests}
-use Rattle.std.proofs.Common.{◌≡◌, inl, inr, refl, ℕ, ◌+◌, ◌≤◌, List, [], ◌∷◌, ◌++◌, length, ap, sym, ◌∙◌, subst, Some, Bool, true, false, arith}
-use Rattle.std.proofs.lemmas.List.{append-nil}
-use Rattle.std.proofs.lemmas.Bool.{true≢false}
-use Rattle.std.proofs.lemmas.Option.{none-some, same_Some}
-use Rattle.std.specs.Prelude.{slice_get, Contains, not, ℤ}
-use Rattle.rv64_isa.specs.Rows.{Effect}
-use Rattle.rv64_isa.specs.Machine.{Hart, World}
-use Rattle.rv64_isa.specs.Schedule.{is_running, is_point_store}
-use Rattle.code_runs.specs.CodeTraces.{seen_effects}
-use Rattle.flow_graph.specs.Actions as a
-use Rattle.flow_graph.specs.Actions.{GraphThread, FlowState, seen_by, graph_step}
-use Rattle.flow_graph.specs.Lowering.{lowered}
+use Rattle.crash_simulation.proofs.Common.{◌≡◌, ℕ, List, ◌∷◌, sym, ◌∙◌, ap, arith, subst, true, false, Some, refl, ◌+◌, [], ◌++◌, length, Bool, inl, inr}
+use Rattle.crash_simulation.proofs.Common.{slice_get, not, true≢false, append-nil, ◌≤◌, ℤ, Contains, nat_tests, none-some, same_Some, PersistsThrough, Hart}
+use Rattle.crash_simulation.proofs.Common.{World, Effect, is_running, is_point_store, Phase, GraphThread, FlowState, seen_by, graph_step, lowered, Writes}
+use Rattle.crash_simulation.proofs.Common.{WritesAt, now, attempt_of, history_at, Memory, IsSince, begun, ConfigStep, kept_steps, memory_in, RespectsBoundaries}
+use Rattle.crash_simulation.proofs.Common.{flow_now, seen_effects, IsElsewhere, IsNext, one_effect, steps_left, is_clean, forward_reaches, ExitPoint, Arrives}
+use Rattle.crash_simulation.proofs.Common.{Ends, IsOnFragment, on_machine, Stage, stage_after, stage_sees, run_at, fragments_see_all, AbstractRun, kept_of}
+use Rattle.crash_simulation.proofs.Common.{now_of, is_bound, nothing_released, MayStore, goes, IsDoneBy, begins_step, is_begun, most_ahead, beyond, System}
+use Rattle.crash_simulation.proofs.Common.{IsSystem, flat_of, places_of, ThreadGhost, on_fragment, InPhase, ThreadInv, ExitInv, AnswersGuarded, IsFlushed}
+use Rattle.crash_simulation.proofs.Common.{IsInAttempt}
 use Rattle.flow_graph.proofs.Public.{moved}
-use Rattle.hart_runs.specs.RunSteps.{is_clean, steps_left}
-use Rattle.recovery_semantics.specs.Events.{ConfigStep, begun}
-use Rattle.recovery_semantics.specs.ElementHistories.{Memory, IsSince, history_at}
-use Rattle.recovery_semantics.specs.Attempts.{WritesAt, Writes}
-use Rattle.recovery_semantics.specs.Configs.{now, attempt_of}
-use Rattle.recovery_semantics.specs.Executions.{kept_steps}
-use Rattle.recovery_semantics.specs.VariableSpots.{memory_in}
-use Rattle.region_attempts.specs.AttemptsInRegion.{RespectsBoundaries}
-use Rattle.region_attempts.specs.GraphStates.{flow_now}
-use Rattle.log_states.specs.Machines.{IsNext, IsElsewhere}
-use Rattle.log_states.proofs.Public.{one_effect}
-use Rattle.thread_runs.specs.CodeFragments.{ExitPoint, Arrives, Ends, Stage, stage_after, IsOnFragment, on_machine}
-use Rattle.thread_runs.specs.Laws.{stage_sees, run_at}
-use Rattle.thread_runs.proofs.Public.{fragments_see_all}
-use Rattle.crash_simulation.specs.Systems.{System, IsSystem, flat_of, places_of}
-use Rattle.rv64_isa.specs.declared.phase.Phase.{Phase}
-use Rattle.crash_simulation.specs.ThreadGhosts.{ThreadGhost, AnswersGuarded, on_fragment, IsInAttempt, InPhase, IsFlushed, ExitInv, ThreadInv}
-use Rattle.crash_simulation.specs.InstructionSteps.{begins_step, goes, IsDoneBy, is_begun, MayStore, is_bound, nothing_released}
-use Rattle.crash_simulation.specs.AbstractRuns.{AbstractRun, kept_of, now_of}
-use Rattle.crash_simulation.specs.StepsToMark.{beyond, most_ahead}
+use Rattle.flow_graph.specs.Actions as a
 use Rattle.crash_simulation.proofs.OwnHartSteps.{step_to, going, view, StepOf, held_still, log_going, records_going, AtNode}
 use Rattle.crash_simulation.proofs.MarksAtNodes.{AtMark, environment, stage_then, graph_step_is, Passes, old_hart, passed_soon}
 use Rattle.crash_simulation.proofs.LocksAfterStep.{GoneOn}
@@ -42,8 +19,6 @@ use Rattle.crash_simulation.proofs.GraphAfterBegin.{after_effect, graph_thread_i
 use Rattle.crash_simulation.proofs.UncommittedSteps.{leads_on}
 use Rattle.crash_simulation.proofs.WriteBackSteps.{not_bound}
 use Rattle.crash_simulation.proofs.PendingFlushes.{Passage, run_after, ComesNow, flushed_still, still_reached}
-use Rattle.hart_runs.proofs.Public.{forward_reaches}
-use Rattle.ido_base.specs.Growth.{PersistsThrough}
 
 -- ---- Effects that leave the mutexes
 

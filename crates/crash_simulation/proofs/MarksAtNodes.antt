@@ -1,35 +1,17 @@
 -- A hart at its node's code is at the node's mark.
-use Rattle.std.proofs.lemmas.Bool.Decides.{nat_tests}
-use Rattle.std.proofs.Common.{◌≡◌, ◌≢◌, refl, ℕ, ◌+◌, ◌*◌, ◌≤◌, List, [], ◌++◌, sym, ◌∙◌, subst, arith, Some, Bool, true, false, length, slice_get}
-use Rattle.ido_base.specs.declared.log.Log.{Log}
-use Rattle.rv64_isa.specs.Rows.{Effect}
-use Rattle.rv64_isa.specs.Machine.{World}
-use Rattle.rv64_isa.specs.Schedule.{is_point_store}
-use Rattle.code_runs.specs.CodeTraces.{MarkedEnvironment, seen_effects}
-use Rattle.flow_graph.specs.Nodes.{End, Node, Graph}
-use Rattle.flow_graph.specs.Lowering.{lowered}
-use Rattle.flow_graph.specs.Liveness.{NodeAt}
-use Rattle.flow_graph.specs.Actions.{effect_of, graph_step}
+use Rattle.crash_simulation.proofs.Common.{◌≡◌, ◌≢◌, ℕ, List, sym, ◌∙◌, arith, subst, true, false, Some, refl, ◌+◌, [], ◌++◌, length, Bool, slice_get, ◌≤◌, ◌*◌}
+use Rattle.crash_simulation.proofs.Common.{nat_tests, Log, World, Effect, is_point_store, effect_of, graph_step, NodeAt, lowered, Node, Graph, End, now}
+use Rattle.crash_simulation.proofs.Common.{MarkedEnvironment, seen_effects, is_store, cleans_in, Contents, Changes, Places, keeping, Plan, IsNodeOf, Thread}
+use Rattle.crash_simulation.proofs.Common.{IsAnswered, source_of, on_machine, Stage, effects_of, ReadsVariables, stage_after, MayDo, AreSeen, IsAtSomeMark}
+use Rattle.crash_simulation.proofs.Common.{Performing, PassesMark, Stays, left_of, few_cleans, nodes_begin, next_by, next_follows, marks_are_bounded}
+use Rattle.crash_simulation.proofs.Common.{same_there, now_of, entry_ahead, most_ahead, beyond, System, IsSystem, flat_of}
 use Rattle.flow_graph.specs.Actions as a
-use Rattle.hart_runs.specs.RunSteps.{Contents, Changes, cleans_in}
-use Rattle.log_states.specs.Stages.{is_store}
-use Rattle.thread_code.specs.Plans.{Plan, Thread, IsNodeOf}
-use Rattle.thread_code.specs.NodeCodeEffects.{Places, keeping}
-use Rattle.thread_code.specs.RegistersAtNodes.{IsAnswered, source_of}
-use Rattle.thread_runs.specs.CodeFragments.{ReadsVariables, MayDo, AreSeen, Stage, stage_after, effects_of, on_machine}
-use Rattle.thread_runs.specs.Laws.{IsAtSomeMark, Performing, PassesMark, Stays, left_of}
-use Rattle.thread_runs.proofs.Public.{nodes_begin, next_by, next_follows, marks_are_bounded, few_cleans}
-use Rattle.crash_simulation.specs.StepsToMark.{entry_ahead, beyond, most_ahead}
-use Rattle.crash_simulation.specs.Systems.{System, IsSystem, flat_of}
-use Rattle.crash_simulation.specs.AbstractRuns.{now_of}
 use Rattle.crash_simulation.proofs.GraphAfterBegin.{takes_none, after_effect, done_is, matches_now}
 use Rattle.crash_simulation.proofs.LoadFreeEnvironment.{placed, meets_with}
 use Rattle.crash_simulation.proofs.NodeEnvironments.{environment_with, agrees_here}
 use Rattle.crash_simulation.proofs.NodeEffects.{is_quiet, IsAtNode, step_is}
 use Rattle.crash_simulation.proofs.StepsAfterMarks.{fits_by, most_is, alone_fits}
 use Rattle.crash_simulation.proofs.OwnHartSteps.{view, AtNode}
-use Rattle.recovered_threads.proofs.Public.{same_there}
-use Rattle.recovery_semantics.specs.Configs.{now}
 
 -- ---- Quiet effects
 
@@ -145,7 +127,7 @@ module _ {y : System} {s : IsSystem y} {w : World} {h : ℕ} (site : AtNode y s 
           short m.mark.at in
           omega (arith, p.less, m.mark.short, bounded)
 
-      cleaned : cleans_in (seen_effects m.mark.effects) ≤ 5 → left ≤ words + 20
+      cleaned : cleans_in (seen_effects m.mark.effects) ≤ 7 → left ≤ words + 22
       cleaned cleans = grind (arith, nat_tests)
 
       -- what is left of the fragment and what is ahead after it fit into the code
@@ -162,7 +144,8 @@ module _ {y : System} {s : IsSystem y} {w : World} {h : ℕ} (site : AtNode y s 
       soon_by (a.Gives mutex next) whole own fit are = omega (
         arith,
         fit next own refl,
-        cleaned (subst (λ (es : List Effect). cleans_in (seen_effects es) ≤ 5)
+        few,
+        cleaned (subst (λ (es : List Effect). cleans_in (seen_effects es) ≤ 7)
             (sym are) (few_cleans (keeping y.plan code.thread places next) side (places.after graph_thread.at) registers)),
       )
       soon_by a.Ends whole own fit are = omega (arith, few, whole)

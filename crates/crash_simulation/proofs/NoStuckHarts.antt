@@ -1,35 +1,20 @@
 -- No hart is stuck, and none waits for a lock of its record.
-use Rattle.std.proofs.Common.{◌≡◌, ◌≢◌, inl, inr, refl, ℕ, [], ap, sym, ◌∙◌, subst, arith, Option, Some, None, slice_get}
-use Rattle.ido_base.specs.declared.event.Event.TheVariants.{Step}
-use Rattle.ido_base.specs.declared.event.Reply.TheVariants.{Still, Stuck}
-use Rattle.ido_base.specs.declared.event.Cause.{Cause}
-use Rattle.rv64_isa.specs.declared.phase.Phase.{Phase}
-use Rattle.rv64_isa.specs.declared.phase.Phase.TheVariants.{Run}
-use Rattle.rv64_isa.specs.Machine.{Hart, World, stepped, happens, reply_to}
-use Rattle.flow_graph.proofs.Public.{get_cases, no_more}
-use Rattle.hart_runs.specs.Calls.{IsInPhase}
+use Rattle.crash_simulation.proofs.Common.{◌≡◌, ◌≢◌, ℕ, sym, ◌∙◌, ap, arith, subst, Option, Some, None, refl, [], inl, inr, slice_get, Cause, Step, Still}
+use Rattle.crash_simulation.proofs.Common.{Stuck, Hart, World, happens, reply_to, stepped, Phase, Run, get_cases, no_more, IsInPhase, ExitPoint, MarksPass}
+use Rattle.crash_simulation.proofs.Common.{locks_are_well, unlocks_are_well, ends_are_well, HasGathered, takes_never_wait, now_of, Site, gives, ends}
+use Rattle.crash_simulation.proofs.Common.{OnFragmentNow, asks, NoneIsStuck, TakesMove, Simulates, AreHeld, gathering, gathered, records_of, System, IsSystem}
+use Rattle.crash_simulation.specs.InstructionSteps.{IsCalling}
 use Rattle.hart_runs.specs.Calls as harts
 use Rattle.hart_runs.proofs.Public as harts_well
-use Rattle.thread_runs.specs.CodeFragments.{ExitPoint}
-use Rattle.thread_runs.specs.Laws.{MarksPass}
-use Rattle.thread_runs.proofs.Public.{locks_are_well, unlocks_are_well, ends_are_well}
-use Rattle.recovered_threads.specs.RecoveryStates.{HasGathered}
-use Rattle.recovered_threads.proofs.Public.{takes_never_wait}
-use Rattle.crash_simulation.specs.Systems.{System, IsSystem}
-use Rattle.crash_simulation.specs.AbstractRuns.{now_of}
-use Rattle.crash_simulation.specs.SimulationRelation.{AreHeld, gathering, gathered, records_of, Simulates}
-use Rattle.crash_simulation.specs.InstructionSteps as moving
-use Rattle.crash_simulation.specs.InstructionSteps.{OnFragmentNow, Site}
-use Rattle.crash_simulation.specs.Laws.{NoneIsStuck, TakesMove}
 use Rattle.crash_simulation.proofs.LoadFreeEnvironment.{bare}
 use Rattle.crash_simulation.proofs.LocksAfterStep.{runs_held}
 use Rattle.crash_simulation.proofs.LocksAtCalls.{mutex_there}
-use Rattle.crash_simulation.proofs.LockCallSteps as at_calls
-use Rattle.crash_simulation.proofs.CallSteps as calls
 use Rattle.crash_simulation.proofs.ReadyHarts.{runs_ready}
-use Rattle.crash_simulation.proofs.SimulationInRecovery as recovering
 use Rattle.crash_simulation.proofs.RunOrCall.{IsWhere, on_run, at_call, is_where}
 use Rattle.crash_simulation.proofs.OwnHartSteps.{view, same_number}
+use Rattle.crash_simulation.proofs.LockCallSteps as at_calls
+use Rattle.crash_simulation.proofs.CallSteps as calls
+use Rattle.crash_simulation.proofs.SimulationInRecovery as recovering
 
 -- hart h is not stuck
 abbrev IsFree : System → World → (h : ℕ) → Type 0
@@ -43,8 +28,8 @@ module _ {y : System} {s : IsSystem y} {w : World} {h : ℕ} (site : Site y s w 
 
   -- at its end, where the thread makes a call
   module _ (held : AreHeld w stands.ghosts (now_of y b)) where
-    by_call : (exit : ExitPoint) → moving.IsCalling exit → OnFragmentNow site exit 0 → IsFree y w n
-    by_call _ (moving.asks mutex next) o =
+    by_call : (exit : ExitPoint) → IsCalling exit → OnFragmentNow site exit 0 → IsFree y w n
+    by_call _ (asks mutex next) o =
         let fragment = at_calls.asks (at_calls.at_end site held o) in
         let within = mutex_there y s b code graph_thread t.walks mutex next fragment.of_graph in
         elim (get_cases w.holders mutex) [
@@ -53,11 +38,11 @@ module _ {y : System} {s : IsSystem y} {w : World} {h : ℕ} (site : Site y s w 
               locks_are_well harts_well.none_is_stuck y.plan code.thread y.runs.program code.program code.is w n (bare y s w h below) graph_thread.at mutex
               next seen o.side [] there.0 fragment there.1
         ]
-    by_call _ (moving.gives from mutex) o =
+    by_call _ (gives from mutex) o =
         let at = at_calls.at_end site held o in
         unlocks_are_well harts_well.none_is_stuck y.plan code.thread y.runs.program code.program code.is w n (bare y s w h below) from mutex
         graph_thread.at seen o.side [] (calls.giving at) (calls.owns at)
-    by_call _ moving.ends o =
+    by_call _ ends o =
         let at = at_calls.at_end site held o in
         ends_are_well harts_well.none_is_stuck y.plan code.thread y.runs.program code.program code.is w n (bare y s w h below) graph_thread.at seen o.side []
         (calls.ending at) (at_calls.none_from n 0 w.holders (calls.none_here at))

@@ -1,18 +1,8 @@
 -- A hart at its node's code makes its step.
-use Rattle.std.proofs.Common.{◌≡◌, ◌≢◌, refl, ℕ, ap, sym, ◌∙◌, subst, Some, true}
+use Rattle.crash_simulation.proofs.Common.{◌≡◌, ◌≢◌, ℕ, sym, ◌∙◌, ap, subst, true, Some, refl, Kind, LockName, World, effect_of, NodeAt, lowered, Action, Store}
+use Rattle.crash_simulation.proofs.Common.{Node, Graph, Eval, Test, Lock, End, Unlock, now, MarksPass, now_of, CoresStep, System, IsSystem, flat_of}
+use Rattle.flow_graph.specs.Actions.{Effect}
 use Rattle.c_tree.specs.Exprs as e
-use Rattle.ido_ints.specs.declared.kinds.Kind.{Kind}
-use Rattle.rv64_isa.specs.Machine.{World}
-use Rattle.flow_graph.specs.Nodes.{Action, Eval, Store, Test, Lock, Unlock, End, Node, Graph}
-use Rattle.flow_graph.specs.Lowering.{lowered}
-use Rattle.flow_graph.specs.Liveness.{NodeAt}
-use Rattle.flow_graph.specs.Actions.{effect_of}
-use Rattle.flow_graph.specs.Actions as a
-use Rattle.recovery_semantics.specs.Configs.{now}
-use Rattle.thread_runs.specs.Laws.{MarksPass}
-use Rattle.crash_simulation.specs.Systems.{System, IsSystem, flat_of}
-use Rattle.crash_simulation.specs.AbstractRuns.{now_of}
-use Rattle.crash_simulation.specs.InstructionSteps.{CoresStep}
 use Rattle.crash_simulation.proofs.OwnHartSteps.{view, StepOf, own_step, AtNode}
 use Rattle.crash_simulation.proofs.NodeEffects.{is_quiet, some_node, owes_here}
 use Rattle.crash_simulation.proofs.GraphAfterBegin.{matches_now}
@@ -34,10 +24,10 @@ module _ {y : System} {s : IsSystem y} {w : World} {h : ℕ} (site : AtNode y s 
       record { variable = variable; kind = kind; next = next; action = is; store = owed.0; pending = owed.1 }
 
   -- what holds of each node that takes no mutex: of one without a store, of one with, and of an unlock's
-  module _ (P : Type 0) (free : (is : Node) (mutex next : ℕ) → NodeAt y.plan.graph graph_thread.at is → is.action ≢ Lock mutex next)
-      (quiet : (e : a.Effect) → effect_of found.0.action seen ≡ Some e → is_quiet e ≡ true → P) (store : MakesStore found.0 graph_thread → P)
-      (unlock : (mutex next : ℕ) → found.0.action ≡ Unlock mutex next → P) where
-    quietly : (z : Action) → found.0.action ≡ z → (effect : a.Effect) → effect_of z seen ≡ Some effect → is_quiet effect ≡ true → P
+  module _ (P : Type 0) (free : (is : Node) (lock : LockName) (next : ℕ) → NodeAt y.plan.graph graph_thread.at is → is.action ≢ Lock lock next)
+      (quiet : (e : Effect) → effect_of found.0.action seen ≡ Some e → is_quiet e ≡ true → P) (store : MakesStore found.0 graph_thread → P)
+      (unlock : (lock : LockName) (next : ℕ) → found.0.action ≡ Unlock lock next → P) where
+    quietly : (z : Action) → found.0.action ≡ z → (effect : Effect) → effect_of z seen ≡ Some effect → is_quiet effect ≡ true → P
     quietly z is effect does = quiet effect (ap (λ (x : Action). effect_of x seen) is ∙ does)
 
     by_action : (z : Action) → found.0.action ≡ z → P
@@ -46,8 +36,8 @@ module _ {y : System} {s : IsSystem y} {w : World} {h : ℕ} (site : AtNode y s 
     by_action (Eval (e.ToElement place variable kind index) value next) is = quietly _ is _ refl refl
     by_action (Store variable kind next) is = store (makes_store variable kind next is)
     by_action (Test condition holds fails) is = quietly _ is _ refl refl
-    by_action (Lock mutex next) is = absurd (free found.0 mutex next (subst (λ (g : Graph). NodeAt g graph_thread.at found.0) (sym s.plan.lowered) found.1) is)
-    by_action (Unlock mutex next) is = unlock mutex next is
+    by_action (Lock lock next) is = absurd (free found.0 lock next (subst (λ (g : Graph). NodeAt g graph_thread.at found.0) (sym s.plan.lowered) found.1) is)
+    by_action (Unlock lock next) is = unlock lock next is
     by_action End is = quietly _ is _ refl refl
 
     pub by_node : P
@@ -59,4 +49,4 @@ cores_step marks y s w h hart i core free =
     own_step site.hart i (by_node site (StepOf site.hart (view site.hart).n) free
     (λ e does quiet. quiet_step site (found site).0 (found site).1 (record { e = e; does = does; quiet = quiet }) marks)
     (λ makes. store_step site (found site).0 (found site).1 makes marks)
-    (λ mutex next is. unlock_step site (found site).0 (found site).1 (record { mutex = mutex; next_node = next; action = is }) marks))
+    (λ lock next is. unlock_step site (found site).0 (found site).1 (record { lock = lock; next_node = next; action = is }) marks))

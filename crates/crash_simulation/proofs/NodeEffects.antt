@@ -1,23 +1,12 @@
 -- What a thread does at the node of its graph thread, in the source and in the graph.
-use Rattle.std.proofs.lemmas.Bool.Decides.{nat_tests}
-use Rattle.std.proofs.lemmas.Bool.{false≢true}
-use Rattle.std.proofs.Common.{◌≡◌, refl, ℕ, List, ap, sym, ◌∙◌, arith, Option, Some, None, Bool, true, false, slice_get, is_some, ℤ}
-use Rattle.std.proofs.lemmas.Option.{same_Some, slice_get_within}
-use Rattle.c_tree.specs.Flats as f
-use Rattle.c_tree.specs.Source as m
-use Rattle.c_tree.specs.Source.{Pending}
-use Rattle.c_tree.specs.WellFormed.{IsWellFormed}
-use Rattle.source_machine.specs.Mutexes.{locks, unlocks, first_unlock}
-use Rattle.source_machine.proofs.Public.{unlocks_found}
-use Rattle.recovery_semantics.specs.Attempts.{store_ahead}
-use Rattle.flow_graph.specs.Actions.{Seen, GraphThread, FlowState, Effect, effect_of, effect_step, seen_by, graph_step}
-use Rattle.flow_graph.specs.Nodes.{Action, Unlock, Node}
-use Rattle.flow_graph.specs.Lowering.{lowered}
-use Rattle.flow_graph.specs.Liveness.{NodeAt}
-use Rattle.flow_graph.specs.Lockstep.{Standing, threads_standings, Matches}
+use Rattle.crash_simulation.proofs.Common.{◌≡◌, ℕ, List, sym, ◌∙◌, ap, arith, subst, true, false, Option, Some, None, refl, Bool, slice_get, is_some, ℤ}
+use Rattle.crash_simulation.proofs.Common.{false≢true, nat_tests, same_Some, slice_get_within, LockName, Flat, Statement, State, Pending, source_step}
+use Rattle.crash_simulation.proofs.Common.{lock_number, IsWellFormed, unlocks, locks, first_unlock, unlocks_found, Seen, GraphThread, FlowState, seen_by}
+use Rattle.crash_simulation.proofs.Common.{effect_of, graph_step, effect_step, NodeAt, Matches, Standing, threads_standings, lowered, Action, Node, Unlock}
+use Rattle.crash_simulation.proofs.Common.{found_in, ActionLeads, node_at, graph_is, steps_lockstep, at_nodes, matched, store_ahead, is_there, owes_at, IsThere}
+use Rattle.crash_simulation.proofs.Common.{StoresHere, owing_at, locking_at, unlocking_at}
+use Rattle.flow_graph.specs.Actions.{Effect}
 use Rattle.flow_graph.specs.Actions as a
-use Rattle.flow_graph.proofs.Public.{ActionLeads, node_at, found_in, graph_is, steps_lockstep, at_nodes, matched}
-use Rattle.region_attempts.proofs.Public.{IsThere, is_there, StoresHere, owing_at, owes_at, locking_at, unlocking_at}
 
 -- ---- Effects
 
@@ -31,15 +20,16 @@ is_quiet e = true
 none_if : {A : Type 0} (o : Option A) → ((x : A) → o ≡ Some x → ⊥) → o ≡ None
 none_if o h = grind (arith, nat_tests)
 
-unlocks_if : (ls : List ℤ) (all : List Standing) (left : List f.Statement) (mutex next : ℕ) (p : Option Pending) →
-    ActionLeads all (Unlock mutex next) (record { left = left; owes = is_some p }) →
-    (let ahead : Option ℕ = elim p [ Some store ↦ None | None ↦ first_unlock ls left ] in ahead ≡ Some mutex)
-unlocks_if ls all left mutex next p d = grind (arith, nat_tests)
+unlocks_if : (ls : List ℤ) (all : List Standing) (left : List Statement) (lock : LockName) (next : ℕ) (p : Option Pending) →
+    ActionLeads all (Unlock lock next) (record { left = left; owes = is_some p }) →
+    (let ahead : Option ℕ = elim p [ Some store ↦ None | None ↦ first_unlock ls left ] in ahead ≡ Some (lock_number ls lock))
+unlocks_if ls all left lock next None d = ap (first_unlock ls) (ap (λ (z : Standing). z.left) d.is)
+unlocks_if ls all left lock next (Some store) d = let b : true ≡ false = ap (λ (z : Standing). z.owes) d.is in cc
 
 -- ---- At a node
 
 -- the graph thread's node is there
-pub some_node : (x : f.Flat) → IsWellFormed x → (s : FlowState) (source : m.State) (t : ℕ) → Matches x s source → (graph_thread : GraphThread) →
+pub some_node : (x : Flat) → IsWellFormed x → (s : FlowState) (source : State) (t : ℕ) → Matches x s source → (graph_thread : GraphThread) →
     slice_get s.graph_threads t ≡ Some graph_thread → (node : Node) × NodeAt (lowered x) graph_thread.at node
 some_node x w s source t matches graph_thread found =
     let there = found_in source.threads t (omega (arith, slice_get_within s.graph_threads t graph_thread found, matches.count)) in
@@ -48,7 +38,7 @@ some_node x w s source t matches graph_thread found =
     (n.0, at_nodes x graph_thread.at n.0 n.1)
 
 -- a graph thread at its node, where the states of the graph and of the source match
-pub record IsAtNode (x : f.Flat) (s : FlowState) (source : m.State) (t : ℕ) : Type 0 where
+pub record IsAtNode (x : Flat) (s : FlowState) (source : State) (t : ℕ) : Type 0 where
   pub formed : IsWellFormed x
   pub matches : Matches x s source
   pub graph_thread : GraphThread
@@ -56,7 +46,7 @@ pub record IsAtNode (x : f.Flat) (s : FlowState) (source : m.State) (t : ℕ) : 
   pub node : Node
   pub at : NodeAt (lowered x) graph_thread.at node
 
-module _ {x : f.Flat} {s : FlowState} {source : m.State} {t : ℕ} (i : IsAtNode x s source t) where
+module _ {x : Flat} {s : FlowState} {source : State} {t : ℕ} (i : IsAtNode x s source t) where
   open i use {matches, graph_thread, found, node, at}
 
   pub there : IsThere x source t graph_thread node
@@ -70,8 +60,7 @@ module _ {x : f.Flat} {s : FlowState} {source : m.State} {t : ℕ} (i : IsAtNode
   step_is effect does = graph_is (lowered x) s t (Some graph_thread) found ∙ ap (a.node_step s t graph_thread) at ∙ ap (effect_step s t graph_thread) does
 
   -- where the graph makes one, so does the source
-  pub source_steps : (next : FlowState) → graph_step (lowered x) s t ≡ Some next →
-      (after : m.State) × (m.source_step source t ≡ Some after) × Matches x next after
+  pub source_steps : (next : FlowState) → graph_step (lowered x) s t ≡ Some next → (after : State) × (source_step source t ≡ Some after) × Matches x next after
   source_steps next step = grind (arith, matched, steps_lockstep)
 
   -- ---- What is pending
@@ -109,15 +98,21 @@ module _ {x : f.Flat} {s : FlowState} {source : m.State} {t : ℕ} (i : IsAtNode
 
   -- ---- Unlocks
 
-  module _ (mutex next : ℕ) (is : node.action ≡ Unlock mutex next) where
-    pub unlocks_it : unlocks source t ≡ Some mutex
-    unlocks_it = grind (arith, unlocks_found, there, unlocks_if)
+  module _ (lock : LockName) (next : ℕ) (is : node.action ≡ Unlock lock next) where
+    pub unlocks_it : unlocks source t ≡ Some (lock_number graph_thread.locals lock)
+    unlocks_it =
+        let th = there in
+        let all = threads_standings x.threads in
+        unlocks_found source t th.thread th.there
+        ∙ (unlocks_if th.thread.locals all th.thread.left lock next th.thread.pending
+        (subst (λ (z : Action). ActionLeads all z (record { left = th.thread.left; owes = is_some th.thread.pending })) is th.does)
+        ∙ ap (λ (ls : List ℤ). Some (lock_number ls lock)) (sym th.match.locals))
 
     pub unlock_locks_none : locks source t ≡ None
     unlock_locks_none = grind (arith, locking_at, none_if, there)
 
 -- for crates above, of the states and the node by themselves
-pub owes_here : (x : f.Flat) → IsWellFormed x → (s : FlowState) (source : m.State) (t : ℕ) → Matches x s source → (graph_thread : GraphThread) →
+pub owes_here : (x : Flat) → IsWellFormed x → (s : FlowState) (source : State) (t : ℕ) → Matches x s source → (graph_thread : GraphThread) →
     slice_get s.graph_threads t ≡ Some graph_thread → (node : Node) → NodeAt (lowered x) graph_thread.at node → StoresHere node.action →
     (store : Pending) × (graph_thread.pending ≡ Some store)
 owes_here x w s source t matches graph_thread found node at =

@@ -1,48 +1,17 @@
 -- The environment in which a thread's hart makes a step at its node: loads of what the node reads are answered, and no others.
-use Rattle.std.proofs.lemmas.Bool.Decides.{nat_tests}
-use Rattle.std.proofs.Common.{◌≡◌, ℕ, ◌*◌, ◌^◌, ◌<◌, List, [], length, map, ap, sym, ◌∙◌, subst, arith, mod-lt, pow_pos, Some, None, Bool, true}
-use Rattle.std.proofs.lemmas.Bool.{cond-true, and_parts, and_from}
-use Rattle.std.proofs.lemmas.Option.{cond_some}
-use Rattle.std.specs.Prelude.{slice_get, slice_index_or, ℤ, pos, Contains, ◌&&◌}
-use Rattle.ido_base.specs.declared.log.Log.{Log}
-use Rattle.ido_base.specs.Words.{loaded}
-use Rattle.ido_base.specs.Layout.{variable_at, byte_number}
-use Rattle.ido_base.specs.Words as words
-use Rattle.ido_ints.specs.Kinds.{bytes_of, bits_of, modulus_of, Holds}
-use Rattle.ido_ints.specs.declared.kinds.Kind.{Kind}
-use Rattle.ido_ints.specs.Reduction.{reduced, residue}
-use Rattle.ido_ints.proofs.Public.{Same_sym, Holds-reduced, Same-reduced, residue-is}
-use Rattle.c_tree.specs.Programs.{Variable}
-use Rattle.c_tree.specs.Values.{element_number}
-use Rattle.c_tree.specs.WellFormed.{elements_in, shape_of}
-use Rattle.source_machine.specs.Discipline.{Guards}
-use Rattle.rv64_isa.specs.Machine.{World}
-use Rattle.code_runs.specs.CodeTraces.{MarkedEnvironment}
-use Rattle.memory_layout.specs.Variables.{HaveRoom}
-use Rattle.variable_words.specs.VariablesInWords.{spots_of}
-use Rattle.variable_words.proofs.Public.{addresses_reach}
-use Rattle.flow_graph.specs.Nodes.{Node}
-use Rattle.flow_graph.specs.Lowering.{lowered}
-use Rattle.flow_graph.specs.Liveness.{NodeAt}
-use Rattle.flow_graph.specs.Paths.{Element, reads_of}
-use Rattle.hart_runs.specs.HartsOnRuns.{is_width, is_access, environment_of, Agrees}
-use Rattle.recovery_semantics.specs.ElementHistories.{history_at, live_number, number_at, Memory}
-use Rattle.recovery_semantics.specs.VariableSpots.{IsAtSpot}
-use Rattle.recovery_semantics.specs.Configs.{now}
-use Rattle.recovery_semantics.proofs.Public.{memory_loaded}
-use Rattle.region_attempts.specs.Laws.{ReadsHere}
-use Rattle.region_attempts.proofs.Public.{rerun_reads_nothing_overwritten, readers_guard}
-use Rattle.thread_code.specs.RegistersAtNodes.{IsAnswered, source_of}
-use Rattle.thread_runs.specs.CodeFragments.{ReadsVariables}
-use Rattle.crash_simulation.specs.Systems.{System, IsSystem, flat_of}
-use Rattle.crash_simulation.specs.AbstractRuns.{kept_of}
-use Rattle.crash_simulation.specs.ThreadGhosts.{AnswersGuarded}
+use Rattle.crash_simulation.proofs.Common.{◌≡◌, ℕ, List, sym, ◌∙◌, ap, arith, subst, true, Some, None, ◌<◌, [], length, Bool, slice_get, ◌&&◌, ◌*◌, ◌^◌, map, ℤ}
+use Rattle.crash_simulation.proofs.Common.{slice_index_or, pos, Contains, mod-lt, pow_pos, and_from, and_parts, cond-true, nat_tests, cond_some, byte_number}
+use Rattle.crash_simulation.proofs.Common.{variable_at, Word, loaded, Log, bytes_of, Holds, bits_of, modulus_of, reduced, residue, Kind, Same_sym}
+use Rattle.crash_simulation.proofs.Common.{Holds-reduced, Same-reduced, residue-is, Variable, State, element_number, shape_of, elements_in, Guards, World}
+use Rattle.crash_simulation.proofs.Common.{NodeAt, lowered, Node, Element, reads_of, HaveRoom, spots_of, addresses_reach, now, history_at, number_at, Memory}
+use Rattle.crash_simulation.proofs.Common.{live_number, IsAtSpot, memory_loaded, ReadsHere, rerun_reads_nothing_overwritten, readers_guard, MarkedEnvironment}
+use Rattle.crash_simulation.proofs.Common.{Agrees, is_width, environment_of, is_access, IsAnswered, source_of, ReadsVariables, kept_of, System, IsSystem}
+use Rattle.crash_simulation.proofs.Common.{flat_of, AnswersGuarded}
 use Rattle.crash_simulation.proofs.OwnHartSteps.{view, AtNode}
 use Rattle.crash_simulation.proofs.StatesMatchSource.{cuts, resumed, now_good}
 use Rattle.crash_simulation.proofs.Loads.{reads_all, is_read, reads_there, Loaded, answered}
 use Rattle.crash_simulation.proofs.GraphAfterBegin.{matches_now}
 use Rattle.crash_simulation.proofs.Elements.{room, element_ends}
-use Rattle.c_tree.specs.Source.{State}
 
 -- ---- Accesses
 
@@ -62,7 +31,7 @@ number_loaded k n z below is =
     let same = Same_sym (modulus_of k) (reduced k (pos n)) (pos n) (Same-reduced k (pos n)) in
     subst (λ (z : ℤ). (n ≡ residue (bits_of k) z) × Holds k z) is (sym (residue-is (bits_of k) (reduced k (pos n)) n below same), Holds-reduced k (pos n))
 
-loaded_below : (ws : List words.Word) (number count : ℕ) → loaded ws number count < 2 ^ (8 * count)
+loaded_below : (ws : List Word) (number count : ℕ) → loaded ws number count < 2 ^ (8 * count)
 loaded_below ws number count = mod-lt _ (pow_pos (8 * count))
 
 -- ---- The environment
@@ -124,8 +93,7 @@ module _ {y : System} {s : IsSystem y} {w : World} {h : ℕ} (site : AtNode y s 
         ap (λ (ns : List (List ℤ)). element_number ns one.variable one.element) (sym (matches_now y s b).variables) in
         let value : reduced it.kind (pos (loaded w.words (byte_number address) bytes)) ≡ element_number seen.variables one.variable one.element =
         memory_loaded (spots_of vs) w.words one.variable one.element it.kind (byte_number address) is_at
-        ∙ ap (λ (m : Memory). live_number (history_at m one.variable one.element)) site.hart.stands.memory
-        ∙ right ∙ same in
+        ∙ ap (λ (m : Memory). live_number (history_at m one.variable one.element)) site.hart.stands.memory ∙ right ∙ same in
         let number = number_loaded it.kind (loaded w.words (byte_number address) bytes) _ (loaded_below w.words (byte_number address) bytes) value in
         record {
           answer = cond-true _ (Some (loaded w.words (byte_number address) bytes)) None may ∙ ap Some number.0;

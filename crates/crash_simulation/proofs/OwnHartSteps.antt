@@ -1,39 +1,17 @@
 -- A step of a thread's own hart: what the machine is to know of it.
-use Rattle.std.proofs.lemmas.Bool.Decides.{nat_tests}
-use Rattle.std.proofs.Common.{arith}
-use Rattle.std.proofs.Common.{◌≡◌, refl, ℕ, List, [], length, ap, sym, ◌∙◌, subst, Some, None, true}
-use Rattle.std.specs.Prelude.{slice_get}
-use Rattle.boundary_code.specs.Boundaries.{IsOnSide, boundary_effects}
-use Rattle.ido_base.specs.declared.event.Event.TheVariants.{Step}
-use Rattle.ido_base.specs.declared.log.Log.{Log}
-use Rattle.rv64_isa.specs.declared.phase.Phase.TheVariants.{Run}
-use Rattle.rv64_isa.specs.Rows.{Effect}
-use Rattle.rv64_isa.specs.Machine.{Hart, World, after_event}
-use Rattle.hart_runs.specs.Calls.{IsInPhase}
-use Rattle.thread_code.specs.NodeCodeEffects.{Places, keeping}
-use Rattle.flow_graph.specs.Actions.{GraphThread, FlowState, Seen, seen_by}
-use Rattle.recovery_semantics.specs.Attempts.{Attempt}
-use Rattle.recovery_semantics.specs.VariableSpots.{memory_in}
-use Rattle.recovery_semantics.specs.ElementHistories.{Memory}
-use Rattle.log_states.specs.Machines.{IsNext, IsElsewhere, config_of}
-use Rattle.log_states.specs.LogInvariant.{LogInv}
-use Rattle.log_states.specs.Logs.{IsSideOf}
-use Rattle.log_states.specs.Laws.{recorded_by, IsRecoverable}
-use Rattle.log_states.proofs.Public.{steps_keep, ends_committed, begins_standing}
-use Rattle.recovered_threads.specs.RecordDescriptions.{Code, Describes}
-use Rattle.crash_simulation.specs.ThreadGhosts.{ThreadGhost, HasRecords, ThreadInv, committed}
-use Rattle.crash_simulation.specs.InstructionSteps.{StepsOrStutters, MayStore, with_ghost, begins, IsCounted, Releases, OwnStep, AtCoreNow, thread_of, Site}
-use Rattle.crash_simulation.specs.Systems.{System, IsSystem, places_of}
-use Rattle.crash_simulation.specs.AbstractRuns.{AbstractRun, kept_of, now_of}
-use Rattle.crash_simulation.specs.SimulationRelation.{AreHeld}
+use Rattle.crash_simulation.proofs.Common.{◌≡◌, ℕ, List, sym, ◌∙◌, ap, arith, subst, true, Some, None, refl, [], length, slice_get, nat_tests, Step, Log, Hart}
+use Rattle.crash_simulation.proofs.Common.{World, after_event, Effect, Run, Seen, GraphThread, FlowState, seen_by, boundary_effects, IsOnSide, Attempt, Memory}
+use Rattle.crash_simulation.proofs.Common.{memory_in, recorded_by, IsRecoverable, LogInv, IsSideOf, IsElsewhere, config_of, IsNext, steps_keep, ends_committed}
+use Rattle.crash_simulation.proofs.Common.{begins_standing, IsInPhase, Places, keeping, Code, Describes, AbstractRun, kept_of, now_of, begins, Site, OwnStep}
+use Rattle.crash_simulation.proofs.Common.{Releases, StepsOrStutters, with_ghost, MayStore, thread_of, IsCounted, AtCoreNow, AreHeld, System, IsSystem}
+use Rattle.crash_simulation.proofs.Common.{places_of, ThreadGhost, ThreadInv, committed, HasRecords}
 use Rattle.crash_simulation.proofs.PendingFlushes.{Leads, Passage}
 use Rattle.crash_simulation.proofs.LocksAfterStep.{GoneOn, LockStep, locked_after}
 use Rattle.crash_simulation.proofs.ThreadViews.{describes_over, log_at, records_over}
 
 -- the ghost state of a thread on its way between boundaries, with these cleans and steps ahead
 abbrev pub going : ThreadGhost → (cleans : List Effect) → (before_mark : ℕ) → ThreadGhost
-going c cleans before_mark =
-    record { old = c.old; new = c.new; rest = []; committed = true; cleans = cleans; giving = None; before_mark = before_mark }
+going c cleans before_mark = record { old = c.old; new = c.new; rest = []; committed = true; cleans = cleans; giving = None; before_mark = before_mark }
 
 -- ---- The step
 

@@ -1,28 +1,12 @@
 -- What a thread has stored is still on its way to be durable, after a step of its own.
-use Rattle.std.proofs.lemmas.Bool.Decides.{nat_tests}
-use Rattle.std.proofs.Common.{◌≡◌, ◌⊎◌, inl, inr, refl, ℕ, suc, ◌<◌, ◌≤◌, List, [], length, subst, sym, arith, true, false, Contains}
-use Rattle.ido_base.specs.Growth.{PersistsThrough}
-use Rattle.ido_base.specs.Words.{word_at}
-use Rattle.rv64_isa.specs.Machine.{Hart, World}
-use Rattle.rv64_isa.specs.Rows.{Effect}
-use Rattle.hart_runs.specs.RunSteps.{is_clean}
-use Rattle.flow_graph.proofs.Public.{contains_none, below_or_past}
-use Rattle.recovery_semantics.specs.ElementHistories.{Memory, IsSince, history_at}
-use Rattle.recovery_semantics.specs.Attempts.{Attempt, attempt_at, Writes}
-use Rattle.recovery_semantics.specs.Configs.{Config, attempt_of}
-use Rattle.recovery_semantics.specs.Executions.{Execution}
-use Rattle.recovery_semantics.specs.VariableSpots.{memory_in}
-use Rattle.region_attempts.specs.AttemptsInRegion.{RespectsAll, IsBeforeBoundary}
-use Rattle.region_attempts.proofs.Public.{stores_are_cleaned}
-use Rattle.region_attempts.specs.PendingCleans.{line_of, Cleans, CleansSince}
-use Rattle.log_states.specs.Stages.{fences_ahead}
-use Rattle.recovered_threads.specs.RecordDescriptions.{Code}
-use Rattle.crash_simulation.specs.Systems.{System, IsSystem, flat_of, shapes_of, places_of}
-use Rattle.crash_simulation.specs.ThreadGhosts.{ThreadGhost, IsComing, is_reached, is_ahead, IsFlushed, HasStored}
-use Rattle.crash_simulation.specs.AbstractRuns.{AbstractRun, kept_of, attempts_of}
+use Rattle.crash_simulation.proofs.Common.{◌≡◌, ℕ, List, sym, arith, subst, true, false, refl, suc, ◌<◌, [], length, ◌⊎◌, inl, inr, ◌≤◌, Contains, nat_tests}
+use Rattle.crash_simulation.proofs.Common.{PersistsThrough, word_at, Hart, World, Effect, below_or_past, contains_none, Writes, Attempt, attempt_at, Config}
+use Rattle.crash_simulation.proofs.Common.{attempt_of, history_at, Memory, IsSince, Execution, memory_in, IsBeforeBoundary, RespectsAll, line_of, CleansSince}
+use Rattle.crash_simulation.proofs.Common.{stores_are_cleaned, fences_ahead, is_clean, Code, AbstractRun, kept_of, attempts_of, abstract_next, System, IsSystem}
+use Rattle.crash_simulation.proofs.Common.{flat_of, shapes_of, places_of, ThreadGhost, is_reached, is_ahead, IsFlushed, IsComing, HasStored}
+use Rattle.region_attempts.specs.PendingCleans.{Cleans}
 use Rattle.crash_simulation.proofs.StatesMatchSource.{cuts, resumed}
 use Rattle.crash_simulation.proofs.Elements.{word_of_element, position_durable}
-use Rattle.crash_simulation.specs.InstructionSteps.{abstract_next}
 
 -- the config with the same kept state, with other steps begun, in other memory
 abbrev pub config_with : Config → (pending : List ℕ) → Memory → List Attempt → Config

@@ -1,17 +1,7 @@
 -- Where a thread is, by what it has begun: at a boundary that isn't committed, or giving back a mutex that it has unlocked.
-use Rattle.std.proofs.lemmas.Bool.Decides.{nat_tests}
-use Rattle.std.proofs.Common.{◌≡◌, ◌⊎◌, inl, inr, refl, ⊎_elim, ℕ, sym, ◌∙◌, arith, Some, false}
-use Rattle.std.proofs.lemmas.Bool.{true≢false}
-use Rattle.rv64_isa.specs.declared.phase.Phase.{Phase}
-use Rattle.rv64_isa.specs.declared.phase.Phase.TheVariants.{Run, Done, Ended}
-use Rattle.rv64_isa.specs.Machine.{World}
-use Rattle.thread_runs.specs.CodeFragments.{ExitPoint, Arrives, Keeps, Asks, Took, Gives, Ends}
-use Rattle.recovery_semantics.specs.Laws.{HasUnlocked}
-use Rattle.recovered_threads.specs.RecordDescriptions.{Code}
-use Rattle.crash_simulation.specs.Systems.{System}
-use Rattle.crash_simulation.specs.AbstractRuns.{AbstractRun}
-use Rattle.crash_simulation.specs.ThreadGhosts.{ThreadGhost, IsInAttempt, IsBounded, ExitInv, Rests, InFragment, InPhase, IsRunningThread, on_fragment}
-use Rattle.crash_simulation.specs.ThreadGhosts.{at_core, ThreadInv}
+use Rattle.crash_simulation.proofs.Common.{◌≡◌, ℕ, sym, ◌∙◌, arith, false, Some, refl, ◌⊎◌, inl, inr, true≢false, ⊎_elim, nat_tests, World, Phase, Done, Run}
+use Rattle.crash_simulation.proofs.Common.{Ended, HasUnlocked, ExitPoint, Arrives, Gives, Ends, Keeps, Asks, Took, Code, AbstractRun, System, Rests}
+use Rattle.crash_simulation.proofs.Common.{ThreadGhost, on_fragment, at_core, InPhase, ThreadInv, IsRunningThread, IsBounded, ExitInv, InFragment, IsInAttempt}
 
 -- ---- Where a thread is whose boundary isn't taken as committed
 

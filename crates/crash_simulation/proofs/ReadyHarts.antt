@@ -1,70 +1,34 @@
 -- A hart that executes instructions is in a fragment, at a call, or at the code of a node that takes no mutex.
-use Rattle.std.proofs.Common.{◌≡◌, refl, ℕ, ◌<◌, ap, sym, ◌∙◌, subst, Some, ◌⊎◌, inl, inr, ⊎_elim, zero, suc, ◌+◌, ◌*◌, ◌≤◌, List, [], ◌∷◌, ◌++◌, length, ap₂}
-use Rattle.std.proofs.Common.{arith, Option, None, Bool, true, false}
-use Rattle.std.specs.Prelude.{slice_get, not, ◌&&◌}
-use Rattle.rv64_isa.specs.declared.phase.Phase.{Phase}
-use Rattle.rv64_isa.specs.declared.phase.Phase.TheVariants.{Run}
-use Rattle.rv64_isa.specs.Machine.{Hart, World}
-use Rattle.hart_runs.specs.Calls.{IsInPhase}
-use Rattle.recovered_threads.specs.RecordDescriptions.{Code, at_chosen}
-use Rattle.recovered_threads.specs.RecoveryStates.{Gathers, AreGathered}
-use Rattle.recovered_threads.proofs.Public.{same_there}
-use Rattle.crash_simulation.specs.Systems.{System, IsSystem, thread_count, flat_of}
-use Rattle.crash_simulation.specs.AbstractRuns.{AbstractRun, now_of}
-use Rattle.crash_simulation.specs.ThreadGhosts.{ThreadGhost, ThreadInv, HasCommittedLog, InFragment, IsRunningThread, InPhase}
-use Rattle.crash_simulation.specs.SimulationRelation.{AreLocked, gathering, gathered, records_of, Simulates}
-use Rattle.crash_simulation.proofs.LocksAfterStep.{held_alike, each_ghost}
-use Rattle.crash_simulation.specs.InstructionSteps.{with_ghost, SaysSame, OnFragmentNow, AtCoreNow, IsCalling, asks, gives, ends, is_bound}
-use Rattle.crash_simulation.specs.InstructionSteps.{IsReadyToStep, SimulatesReady, RunsReady}
-use Rattle.crash_simulation.proofs.ThreadsOfMachines.{each_placed}
-use Rattle.std.proofs.lemmas.Bool.{true≢false}
-use Rattle.std.proofs.lemmas.Option.{none-some, same_Some, slice_get_within, slice_get-map}
-use Rattle.std.specs.List.{list_any}
-use Rattle.std.specs.Option.{option_map}
-use Rattle.boundary_code.specs.Boundaries.{Boundary, boundary_effects, side_after}
-use Rattle.log_states.specs.Stages.{is_committed, is_store}
-use Rattle.log_states.specs.Laws.{recorded_by}
-use Rattle.log_states.specs.LogInvariant.{LogInv}
-use Rattle.ido_base.specs.declared.log.Log.{Log}
-use Rattle.c_tree.specs.Programs as v
-use Rattle.c_tree.specs.Source.{Pending}
-use Rattle.rv64_isa.specs.Rows.{Effect}
-use Rattle.code_runs.specs.CodeTraces.{MarkedEnvironment, seen_effects}
-use Rattle.hart_runs.specs.RunSteps.{cleans_in, steps_left}
-use Rattle.flow_graph.specs.Nodes.{Action, Lock, Unlock, Node, Graph}
-use Rattle.flow_graph.specs.Lowering.{lowered, threads_nodes}
-use Rattle.flow_graph.specs.Actions.{effect_of, GraphThread}
-use Rattle.flow_graph.specs.IdempotentCuts.{IsChosen, IsUnlock, unlocks}
-use Rattle.flow_graph.specs.Liveness.{NodeAt}
+use Rattle.crash_simulation.proofs.Common.{◌≡◌, ℕ, List, ◌∷◌, sym, ◌∙◌, ap, arith, subst, true, false, Option, Some, None, refl, suc, ◌+◌, ◌<◌, [], ◌++◌}
+use Rattle.crash_simulation.proofs.Common.{length, Bool, ◌⊎◌, inl, inr, zero, slice_get, ◌&&◌, not, true≢false, ◌≤◌, ap₂, ◌*◌, ⊎_elim, list_any, option_map}
+use Rattle.crash_simulation.proofs.Common.{none-some, same_Some, slice_get_within, slice_get-map, Log, Variable, Pending, lock_number, Hart, World, Effect}
+use Rattle.crash_simulation.proofs.Common.{Phase, Run, GraphThread, effect_of, IsChosen, IsUnlock, NodeAt, lowered, threads_nodes, Action, Node, Graph, Lock}
+use Rattle.crash_simulation.proofs.Common.{Unlock, nodes_at, node_shaped, Boundary, boundary_effects, side_after, now, IsGoing, StoresHere, writing_stores}
+use Rattle.crash_simulation.proofs.Common.{MarkedEnvironment, seen_effects, recorded_by, LogInv, is_store, is_committed, side_follows, boundaries_fence}
+use Rattle.crash_simulation.proofs.Common.{boundary_stores, begins_uncommitted, IsInPhase, cleans_in, steps_left, keeping, Entrance, kind_at, IsNodeCode}
+use Rattle.crash_simulation.proofs.Common.{IsAnswered, source_of, ExitPoint, Arrives, Gives, Ends, IsOnFragment, on_machine, Keeps, Asks, Took, IsPlaced}
+use Rattle.crash_simulation.proofs.Common.{IsOnSomeFragment, cleans_on, nodes_begin, arrivals_end, took_end, at_end, Code, at_chosen, Gathers, AreGathered}
+use Rattle.crash_simulation.proofs.Common.{same_there, AbstractRun, now_of, is_bound, SaysSame, Site, IsReadyToStep, with_ghost, gives, ends, OnFragmentNow}
+use Rattle.crash_simulation.proofs.Common.{asks, AtCoreNow, SimulatesReady, RunsReady, Simulates, AreLocked, gathering, gathered, records_of, entry_ahead}
+use Rattle.crash_simulation.proofs.Common.{IsSoon, weight, call_weight, core_ahead, System, IsSystem, thread_count, flat_of, ThreadGhost, on_fragment, at_core}
+use Rattle.crash_simulation.proofs.Common.{InPhase, ThreadInv, IsRunningThread, HasCommittedLog, InFragment}
+use Rattle.flow_graph.specs.IdempotentCuts.{unlocks}
+use Rattle.crash_simulation.specs.InstructionSteps.{IsCalling}
 use Rattle.flow_graph.specs.Actions as a
-use Rattle.flow_graph.proofs.Public.{nodes_at, node_shaped}
-use Rattle.region_attempts.proofs.Public.{StoresHere, writing_stores}
-use Rattle.recovery_semantics.specs.Events.{IsGoing}
-use Rattle.recovery_semantics.specs.Configs.{now}
-use Rattle.log_states.proofs.Public.{side_follows, begins_uncommitted, boundaries_fence, boundary_stores}
-use Rattle.thread_code.specs.NodeCodeEffects.{Entrance, keeping, kind_at}
-use Rattle.thread_code.specs.RegistersAtNodes.{IsAnswered, source_of}
-use Rattle.thread_code.specs.Programs.{IsNodeCode}
-use Rattle.thread_runs.specs.CodeFragments as ways
-use Rattle.thread_runs.specs.CodeFragments.{ExitPoint, Arrives, Keeps, Asks, Took, IsOnFragment, IsPlaced, on_machine}
-use Rattle.thread_runs.specs.Laws.{IsOnSomeFragment}
-use Rattle.thread_runs.proofs.Public.{arrivals_end, took_end, at_end, nodes_begin, cleans_on}
-use Rattle.crash_simulation.specs.StepsToMark.{weight, call_weight, entry_ahead, core_ahead, IsSoon}
+use Rattle.crash_simulation.specs.InstructionSteps as moving
+use Rattle.crash_simulation.proofs.LocksAfterStep.{held_alike, each_ghost}
+use Rattle.crash_simulation.proofs.ThreadsOfMachines.{each_placed}
 use Rattle.crash_simulation.proofs.LoadFreeEnvironment.{bare, bare_agrees, bare_meets, bare_answers, bare_reads, placed, none_ahead, resettled}
 use Rattle.crash_simulation.proofs.Boundaries.{IsAddress, stands_in, store_is, store_ahead, BoundaryIsRecoverable, boundaries_begin}
 use Rattle.crash_simulation.proofs.PendingFlushes.{Passage, stored_same, still_reached, reaches_same}
 use Rattle.crash_simulation.proofs.StatesMatchSource.{resumed, now_orderly, now_good}
-use Rattle.crash_simulation.proofs.StepsAfterMarks.{weight_is}
-use Rattle.crash_simulation.proofs.StepsAfterMarks.{core_less, less_soon}
+use Rattle.crash_simulation.proofs.StepsAfterMarks.{weight_is, core_less, less_soon}
 use Rattle.crash_simulation.proofs.LastReleases.{none_leaving}
 use Rattle.crash_simulation.proofs.NodeEffects.{some_node}
 use Rattle.crash_simulation.proofs.GraphAfterBegin.{matches_now}
 use Rattle.crash_simulation.proofs.OwnHartSteps.{view, log_begins, step_to}
-use Rattle.crash_simulation.specs.InstructionSteps.{Site}
 use Rattle.crash_simulation.proofs.ThreadViews.{begins_with, describes_over, none_clean, records_begin}
 use Rattle.crash_simulation.proofs.RecordsAfterCrash.{caught_is_over}
-use Rattle.crash_simulation.specs.ThreadGhosts as courses
-use Rattle.crash_simulation.specs.InstructionSteps as moving
 
 -- ---- Lists
 
@@ -89,16 +53,16 @@ chosen_or_not : (y : System) (node : ℕ) (is : Node) → NodeAt y.plan.graph no
 chosen_or_not y node is at = by (slice_get y.plan.boundaries.before node) refl
   where
     is_unlock : Action → Bool
-    is_unlock (Unlock mutex next) = true
+    is_unlock (Unlock lock next) = true
     is_unlock action = false
 
     free : is_unlock is.action ≡ false → ¬ (IsUnlock y.plan.graph node)
-    free none (unlocks x mutex next there action) =
+    free none (unlocks x lock next there action) =
         true≢false (sym (ap is_unlock action) ∙ (ap (λ (z : Node). is_unlock z.action) (same_Some x is (sym there ∙ at)) ∙ none))
 
     stands_by : slice_get y.plan.boundaries.before node ≡ Some true → (action : Action) → is.action ≡ action →
         (IsChosen y.plan.graph y.plan.boundaries node) ⊎ ¬ (IsChosen y.plan.graph y.plan.boundaries node)
-    stands_by there (Unlock mutex next) e = inr (λ chosen. chosen.free (unlocks is mutex next at e))
+    stands_by there (Unlock lock next) e = inr (λ chosen. chosen.free (unlocks is lock next at e))
     stands_by there action e = inl (record { stands = there; free = free (ap is_unlock e) })
 
     by : (o : Option Bool) → slice_get y.plan.boundaries.before node ≡ o →
@@ -115,7 +79,8 @@ chosen_stores y s node is at chosen = elim (s.plan.at_writes.before node chosen.
   | inr writes ↦
       let same : writes.is ≡ is = same_Some writes.is is (sym writes.at ∙ at) in
       let found : NodeAt (lowered (flat_of y)) node is = subst (λ (g : Graph). NodeAt g node is) s.plan.lowered at in
-      writing_stores (threads_nodes (flat_of y).threads 0) is is.action writes.written (node_shaped (flat_of y) node is (nodes_at (flat_of y) node is found))
+      writing_stores (threads_nodes (flat_of y) (flat_of y).threads 0) is is.action writes.written
+      (node_shaped (flat_of y) node is (nodes_at (flat_of y) node is found))
       (ap (λ (z : Node). z.writes) (sym same) ∙ writes.writes)
 ]
 
@@ -159,20 +124,20 @@ module _ {y : System} {s : IsSystem y} {w : World} {h : ℕ} (site : Site y s w 
   -- ---- At a node's code
 
   core_by : (core : AtCoreNow site) (action : Action) → there.is.action ≡ action → Ready
-  core_by core (Lock mutex next) e =
+  core_by core (Lock lock next) e =
       let some : IsOnSomeFragment y.plan code.thread places (on_machine y.runs.program w n bare_here)
-      (record { exit = Asks mutex next; node = graph_thread.at; seen = seen; side = core.side }) (places.words graph_thread.at) [] =
+      (record { exit = Asks (lock_number seen.locals lock) next; node = graph_thread.at; seen = seen; side = core.side }) (places.words graph_thread.at) [] =
       nodes_begin y.plan code.thread y.runs.program code.program code.is w n bare_here graph_thread.at seen core.side core.registers there.is
-      (a.Takes mutex next) placed_here (bare_meets y s w h site.below) (bare_agrees y s w h site.below) (bare_reads y s w h site.below)
+      (a.Takes (lock_number seen.locals lock) next) placed_here (bare_meets y s w h site.below) (bare_agrees y s w h site.below) (bare_reads y s w h site.below)
       there.at (ap (λ (z : Action). effect_of z seen) e)
       (subst (λ (z : Action). IsAnswered (source_of y.plan code.thread seen) bare_here.around.loads z) (sym e) tt) tt core.core in
       let none : c.cleans ++ c.rest ≡ [] = ap₂ ◌++◌ core.goes.cleans core.goes.goes.rest in
-      let o : IsAt (Asks mutex next) some.steps = record {
+      let o : IsAt (Asks (lock_number seen.locals lock) next) some.steps = record {
         environment = bare_here;
         answers = bare_answers y s w h site.below (now b.config);
         side = core.side;
         at_side = core.at_side;
-        fragment = subst (FragmentWith bare_here core.side some.steps (Asks mutex next)) (sym none) some.on;
+        fragment = subst (FragmentWith bare_here core.side some.steps (Asks (lock_number seen.locals lock) next)) (sym none) some.on;
         fits = core.goes;
         soon =
             let whole : core_ahead y.plan places graph_thread.at ≡ 2 * places.words graph_thread.at =
@@ -180,8 +145,8 @@ module _ {y : System} {s : IsSystem y} {w : World} {h : ℕ} (site : Site y s w 
             let no_cleans : cleans_in (seen_effects (c.cleans ++ c.rest)) ≡ 0 = ap (λ (es : List Effect). cleans_in (seen_effects es)) none in
             less_soon y n c.before_mark _ _ core.soon (omega (arith, whole, no_cleans));
       } in
-      fragment_ready some.steps o (asks mutex next)
-  core_by core action e = moving.at_core core (λ is mutex next at locks.
+      fragment_ready some.steps o (asks (lock_number seen.locals lock) next)
+  core_by core action e = moving.at_core core (λ is lock next at locks.
       let z = sym e ∙ (ap (λ (x : Node). x.action) (same_Some there.is is (sym there.at ∙ at)) ∙ locks) in cc)
 
   core_ready : AtCoreNow site → Ready
@@ -269,7 +234,7 @@ module _ {y : System} {s : IsSystem y} {w : World} {h : ℕ} (site : Site y s w 
         ap (λ (z : Action). effect_of z seen) here.is
         ∙ ap (λ (o : Option Pending). elim o [ Some p ↦ Some (a.Makes p here.next) | None ↦ None ]) store.1 in
         let kind : kind_at (flat_of y).variables store.0.variable ≡ Some is.it.kind =
-        slice_get-map (λ (x : v.Variable). x.kind) (flat_of y).variables store.0.variable ∙ ap (option_map (λ (x : v.Variable). x.kind)) is.found in
+        slice_get-map (λ (x : Variable). x.kind) (flat_of y).variables store.0.variable ∙ ap (option_map (λ (x : Variable). x.kind)) is.found in
         let storing = (of_node.performs m (a.Makes store.0 here.next) refl
         (record { meets = bare_meets y s w h site.below; own = fragment.own; enters = fragment.has })
         (subst (λ (z : Action). IsAnswered (source_of y.plan code.thread seen) bare_here.around.loads z) (sym here.is) tt) does is.it.kind kind).0 in
@@ -335,7 +300,7 @@ module _ {y : System} {s : IsSystem y} {w : World} {h : ℕ} (site : Site y s w 
       records = records_begin y b code ghost refl (describes_over y b code c t.records no_boundary) begins.describes;
       graph_thread = graph_thread;
       walks = t.walks;
-      phase = subst (λ (p : Phase). InPhase y w b code ghost log.hart graph_thread p) (sym runs) (courses.on_fragment Keeps keeps.steps keeps_now);
+      phase = subst (λ (p : Phase). InPhase y w b code ghost log.hart graph_thread p) (sym runs) (on_fragment Keeps keeps.steps keeps_now);
       stored = stored_same passage none_clean
           (still_reached passage (left_empty c.cleans c.rest (none_left at)) (reaches_same passage refl (ap (λ (x : Hart). x.queue) same_hart)))
           (λ u e position since. since)
@@ -375,8 +340,7 @@ module _ {y : System} {s : IsSystem y} {w : World} {h : ℕ} (site : Site y s w 
 
     locked_on : AreLocked y w b site.stands.ghosts → AreLocked y w b new
     locked_on (gathering none gathers) = absurd (subst (Gathers w h (records_of site.stands.ghosts h)) i.phase_is (gathers.each h i.hart i.here))
-    locked_on (gathered ag held) =
-        gathered (gathered_on ag) (held_alike w w site.stands.ghosts new (now_of y b) refl (λ m. (says_same m).giving) held)
+    locked_on (gathered ag held) = gathered (gathered_on ag) (held_alike w w site.stands.ghosts new (now_of y b) refl (λ m. (says_same m).giving) held)
 
     abbrev begun : Simulates y s w
     begun = record {
@@ -428,19 +392,18 @@ module _ {y : System} {s : IsSystem y} {w : World} {h : ℕ} (site : Site y s w 
   -- after the boundary that follows a lock
   took : (from : ℕ) → IsAt site (Took from) 0 → Result
   took from a =
-      let bounded = a.fits in
       let none = none_left site a in
       let some = took_end y.plan _ y.runs.program _ code.is w n (bare_here site) from _ _ a.side [] (placed_here site) (alone_on site a) in
       let going : IsGoing b.config n = ⊎_elim (λ e. e)
-      (λ e. absurd (let more = e.0 in omega (arith, more, bounded.after (settled site a)))) ((resumed y s b).resumed.invariant.tried n).begun in
+      (λ e. absurd (omega (arith, e.0, a.fits.after (settled site a)))) ((resumed y s b).resumed.invariant.tried n).begun in
       arrives some.steps (record {
         environment = bare_here site;
         answers = bare_answers y s w h site.below (now b.config);
         side = a.side;
         at_side = a.at_side;
         fragment = subst (FragmentWith site (bare_here site) a.side some.steps Arrives) (sym none) some.on;
-        fits = (record { going = going; rest = right_empty c.cleans c.rest none; giving = bounded.gives; committed = settled site a }, bounded.execution);
-        soon = let short = some.short in less_soon y n c.before_mark _ _ a.soon (omega (arith, short));
+        fits = (record { going = going; rest = right_empty c.cleans c.rest none; giving = a.fits.gives; committed = settled site a }, a.fits.execution);
+        soon = less_soon y n c.before_mark _ _ a.soon (omega (arith, some.short));
       })
 
   by_exit : (exit : ExitPoint) (steps : ℕ) → IsAt site exit steps → Result
@@ -449,12 +412,12 @@ module _ {y : System} {s : IsSystem y} {w : World} {h : ℕ} (site : Site y s w 
   by_exit (Asks mutex next) steps = calling (asks mutex next)
   by_exit (Took from) zero = took from
   by_exit (Took from) (suc k) = goes_on k
-  by_exit (ways.Gives from mutex) steps = calling (gives from mutex)
-  by_exit ways.Ends steps = calling ends
+  by_exit (Gives from mutex) steps = calling (gives from mutex)
+  by_exit Ends steps = calling ends
 
   in_run : IsRunningThread y w b code c t.log.hart graph_thread → Result
-  in_run (courses.on_fragment exit steps o) = by_exit exit steps o
-  in_run (courses.at_core core) = as_it_is (core_ready site core)
+  in_run (on_fragment exit steps o) = by_exit exit steps o
+  in_run (at_core core) = as_it_is (core_ready site core)
 
   ready : Result
   ready =
@@ -464,5 +427,4 @@ module _ {y : System} {s : IsSystem y} {w : World} {h : ℕ} (site : Site y s w 
       in_run (subst (λ (p : Phase). InPhase y w b code c t.log.hart graph_thread p) (ap (λ (x : Hart). x.phase) same ∙ i.phase_is) t.phase)
 
 pub runs_ready : RunsReady
-runs_ready y s w h stands i =
-    ready (record { stands = stands; below = omega (arith, slice_get_within w.harts h i.hart i.here, stands.machine.count) }) i
+runs_ready y s w h stands i = ready (record { stands = stands; below = omega (arith, slice_get_within w.harts h i.hart i.here, stands.machine.count) }) i

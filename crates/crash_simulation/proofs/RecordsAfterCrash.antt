@@ -1,23 +1,8 @@
 -- What a crash would leave describes the kept state.
-use Rattle.std.proofs.Common.{◌≡◌, ℕ, ◌<◌, [], sym, ◌∙◌, subst, Bool, true, ap, List, map, Option}
-use Rattle.std.specs.Prelude.{if◌then◌else◌}
-use Rattle.rv64_isa.specs.Machine.{World, durable_point}
-use Rattle.log_states.specs.Logs.{Record}
-use Rattle.log_states.specs.Stages.{LogConfig, left_by_crash}
-use Rattle.log_states.specs.Machines.{config_of}
-use Rattle.log_states.specs.LogInvariant.{LogInv}
-use Rattle.log_states.proofs.Public.{log_facts, ends_committed}
-use Rattle.recovered_threads.specs.RecordDescriptions.{Code, Describes, AllDescribe}
-use Rattle.crash_simulation.specs.Systems.{System, IsSystem, thread_count, flat_of}
-use Rattle.crash_simulation.specs.AbstractRuns.{AbstractRun, kept_of}
-use Rattle.crash_simulation.specs.ThreadGhosts.{ThreadGhost, ThreadInv, HasCommittedLog, record_kept}
-use Rattle.crash_simulation.specs.SimulationRelation.{Simulates}
-use Rattle.ido_base.specs.Locks.{holds_none}
-use Rattle.c_tree.specs.Source.{State}
-use Rattle.recovery_semantics.specs.ElementHistories.{Memory, durable_number}
-use Rattle.recovery_semantics.proofs.Public.{between_is_kept}
-use Rattle.recovered_threads.proofs.Public.{points_settle}
-use Rattle.crash_simulation.specs.Laws.{SettledIsKept}
+use Rattle.crash_simulation.proofs.Common.{◌≡◌, ℕ, List, sym, ◌∙◌, ap, subst, true, Option, ◌<◌, [], Bool, if◌then◌else◌, map, holds_none, State, World}
+use Rattle.crash_simulation.proofs.Common.{durable_point, Memory, durable_number, between_is_kept, LogInv, Record, config_of, LogConfig, left_by_crash}
+use Rattle.crash_simulation.proofs.Common.{log_facts, ends_committed, Code, Describes, AllDescribe, points_settle, AbstractRun, kept_of, SettledIsKept}
+use Rattle.crash_simulation.proofs.Common.{Simulates, System, IsSystem, thread_count, flat_of, ThreadGhost, ThreadInv, HasCommittedLog, record_kept}
 use Rattle.crash_simulation.proofs.StatesMatchSource.{free_holds_none, resumed, kept_matches, orderly}
 
 module _ (y : System) (w : World) (b : AbstractRun y) (code : Code y.plan) (c : ThreadGhost) where
@@ -36,11 +21,9 @@ module _ (y : System) (s : IsSystem y) (w : World) (stands : Simulates y s w) wh
   abbrev pub left : ℕ → Record
   left n = left_by_crash w.log n (stands.ghosts n).old (stands.ghosts n).new (seen (stands.ghosts n))
 
-  pub log_of : (n : ℕ) → n < thread_count y →
-      LogInv n (stands.ghosts n).old (stands.ghosts n).new w (stands.ghosts n).rest
+  pub log_of : (n : ℕ) → n < thread_count y → LogInv n (stands.ghosts n).old (stands.ghosts n).new w (stands.ghosts n).rest
   log_of n below =
-      subst (λ (k : ℕ). LogInv k (stands.ghosts n).old (stands.ghosts n).new w (stands.ghosts n).rest)
-      (s.codes.number n below)
+      subst (λ (k : ℕ). LogInv k (stands.ghosts n).old (stands.ghosts n).new w (stands.ghosts n).rest) (s.codes.number n below)
       (stands.each n below).log
 
   -- the records that are kept

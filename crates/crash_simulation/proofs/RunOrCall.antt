@@ -1,26 +1,14 @@
 -- Where a hart that executes instructions is: on a run, or at a call.
-use Rattle.std.proofs.Common.{◌≢◌, ℕ, suc, List}
-use Rattle.rv64_isa.specs.Machine.{World}
-use Rattle.flow_graph.specs.Nodes.{Lock, Node}
-use Rattle.flow_graph.specs.Liveness.{NodeAt}
-use Rattle.flow_graph.specs.Actions.{Seen, seen_by}
-use Rattle.flow_graph.specs.Actions as a
-use Rattle.hart_runs.specs.HartsOnRuns.{Agrees, OnRun}
-use Rattle.thread_runs.specs.Laws.{IsAtSomeMark, MarksPass, run_of, run_at}
-use Rattle.thread_runs.specs.CodeFragments.{on_machine, ExitPoint}
-use Rattle.recovered_threads.specs.RecordDescriptions.{Code}
-use Rattle.crash_simulation.specs.Systems.{System, IsSystem}
-use Rattle.crash_simulation.specs.AbstractRuns.{now_of}
-use Rattle.crash_simulation.specs.ThreadGhosts.{ThreadGhost, ThreadInv}
-use Rattle.crash_simulation.specs.InstructionSteps.{OnFragmentNow, AtCoreNow, thread_of}
-use Rattle.crash_simulation.specs.InstructionSteps as moving
+use Rattle.crash_simulation.proofs.Common.{◌≢◌, ℕ, List, suc, LockName, World, Seen, NodeAt, Node, Lock, MarkedEnvironment, Agrees, OnRun, ExitPoint}
+use Rattle.crash_simulation.proofs.Common.{on_machine, run_of, MarksPass, run_at, IsAtSomeMark, Code, Site, IsReadyToStep, calls, OnFragmentNow}
+use Rattle.crash_simulation.proofs.Common.{thread_of, AtCoreNow, System, IsSystem, ThreadGhost, ThreadInv}
+use Rattle.flow_graph.specs.Actions.{Effect}
+use Rattle.crash_simulation.specs.InstructionSteps.{IsCalling, at_core, on_fragment}
 use Rattle.crash_simulation.proofs.OwnHartSteps.{AtNode}
 use Rattle.crash_simulation.proofs.NodeCodeSteps.{found, by_node}
 use Rattle.crash_simulation.proofs.LocalNodeSteps.{mark as quietly_mark}
 use Rattle.crash_simulation.proofs.StoreNodeSteps.{mark as making_mark}
 use Rattle.crash_simulation.proofs.UnlockNodeSteps.{mark as unlocking_mark}
-use Rattle.code_runs.specs.CodeTraces.{MarkedEnvironment}
-use Rattle.crash_simulation.specs.InstructionSteps.{Site}
 
 -- ---- Where a hart that executes instructions is
 
@@ -45,33 +33,30 @@ module _ {y : System} {s : IsSystem y} {w : World} {h : ℕ} (site : Site y s w 
   open code.thread use {number as n}
   open thread use {graph_thread}
 
-  abbrev seen : Seen
-  seen = seen_by (now_of y b) graph_thread
-
   -- in a fragment
   fragments : {exit : ExitPoint} (steps : ℕ) → OnFragmentNow site exit (suc steps) → RunsOn y w n
   fragments steps o = record { run = run_of y.plan code.thread code.is.places o.fragment; agrees = o.fragment.agrees }
 
   -- at a node's code it is at the node's mark
-  at_mark : {z : MarkedEnvironment} {node side : ℕ} {at : Seen} {registers : List ℕ} {e : a.Effect} →
+  at_mark : {z : MarkedEnvironment} {node side : ℕ} {at : Seen} {registers : List ℕ} {e : Effect} →
       IsAtSomeMark y.plan code.thread code.is.places (on_machine y.runs.program w n z) node at side registers e → RunsOn y w n
   at_mark mark = record { run = run_at y.plan code.thread code.is.places mark.at; agrees = mark.at.agrees }
 
   cores : MarksPass → (core : AtCoreNow site) →
-      ((is : Node) (mutex next : ℕ) → NodeAt y.plan.graph thread.graph_thread.at is → is.action ≢ Lock mutex next) → RunsOn y w n
+      ((is : Node) (lock : LockName) (next : ℕ) → NodeAt y.plan.graph thread.graph_thread.at is → is.action ≢ Lock lock next) → RunsOn y w n
   cores marks core free =
       let node : AtNode y s w h = record { hart = site; core = core } in
       let at = found node in
       by_node node (RunsOn y w n) free (λ e does quiet. at_mark (quietly_mark node at.0 at.1 (record { e = e; does = does; quiet = quiet })))
       (λ makes. at_mark (making_mark node at.0 at.1 makes))
-      (λ mutex next is. at_mark (unlocking_mark node at.0 at.1 (record { mutex = mutex; next_node = next; action = is })))
+      (λ lock next is. at_mark (unlocking_mark node at.0 at.1 (record { lock = lock; next_node = next; action = is })))
 
   -- a hart that executes instructions is on a run, or at a call
   pub data IsWhere : Type 0 where
     on_run : RunsOn y w n → IsWhere
-    at_call : (exit : ExitPoint) → OnFragmentNow site exit 0 → moving.IsCalling exit → IsWhere
+    at_call : (exit : ExitPoint) → OnFragmentNow site exit 0 → IsCalling exit → IsWhere
 
-  pub is_where : MarksPass → moving.IsReadyToStep site → IsWhere
-  is_where marks (moving.on_fragment exit steps o) = on_run (fragments steps o)
-  is_where marks (moving.calls exit o calling) = at_call exit o calling
-  is_where marks (moving.at_core core free) = on_run (cores marks core free)
+  pub is_where : MarksPass → IsReadyToStep site → IsWhere
+  is_where marks (on_fragment exit steps o) = on_run (fragments steps o)
+  is_where marks (calls exit o calling) = at_call exit o calling
+  is_where marks (at_core core free) = on_run (cores marks core free)

@@ -1,86 +1,34 @@
 -- Where it starts, after a crash, and where recovery begins with words that describe an origin, the machine simulates an abstract run.
-use Rattle.std.proofs.Common.{◌≡◌, refl, ℕ, ◌<◌, [], sym, ◌∙◌, ap, subst, arith, Some, None, true, zero, suc, List, ◌∷◌, ◌++◌, map, length, replicate, Option}
-use Rattle.std.proofs.Common.{◌+◌, add-zero, ℤ}
-use Rattle.std.specs.Prelude.{slice_get, Contains, pos}
-use Rattle.std.proofs.lemmas.Bool.{true≢false}
-use Rattle.std.proofs.lemmas.Option.{none-some, same_Some, slice_get-map, slice_get_within}
-use Rattle.rv64_isa.specs.declared.phase.Phase.{Phase}
-use Rattle.rv64_isa.specs.declared.phase.Phase.TheVariants.{Run}
-use Rattle.rv64_isa.specs.Machine.{Hart, World, after_event, happens, after_crash_of, resume_of, fresh_hart, numbers_from, start_of}
-use Rattle.source_machine.specs.StepExchanges.{steps_of}
-use Rattle.flow_graph.specs.Lowering.{lowered, parts, part, thread_count as node_count}
-use Rattle.flow_graph.specs.Actions.{GraphThread, graph_after, Seen, graph_thread_start, seen_by}
-use Rattle.flow_graph.proofs.Public.{found_in}
-use Rattle.recovery_semantics.specs.Configs.{now, attempt_of}
-use Rattle.recovery_semantics.specs.VariableSpots.{memory_in}
-use Rattle.log_states.specs.Logs.{Record, nothing_recorded}
-use Rattle.log_states.specs.Machines.{config_of}
-use Rattle.log_states.specs.LogInvariant.{LogInv}
-use Rattle.log_states.proofs.Public.{ends_committed, contains_first, starts_standing}
-use Rattle.recovered_threads.specs.RecordDescriptions.{Code, AllDescribe, Describes, ResumesAt, at_chosen, past_lock, past_unlock, between, inside}
-use Rattle.recovered_threads.specs.RecoveryStates.{Gathers, AreGathering, HasGathered}
-use Rattle.crash_simulation.specs.Systems.{System, IsSystem, flat_of, places_of, thread_count}
-use Rattle.crash_simulation.specs.AbstractRuns.{AbstractRun, kept_of, now_of}
-use Rattle.crash_simulation.specs.ThreadGhosts.{ThreadGhost, Rests, InPhase, ThreadInv, InFragment, on_fragment}
-use Rattle.crash_simulation.specs.StepsToMark.{most_ahead}
-use Rattle.crash_simulation.specs.SimulationRelation.{IsMachineOf, Simulates, gathering, gathered}
+use Rattle.crash_simulation.proofs.Common.{◌≡◌, ℕ, List, ◌∷◌, sym, ◌∙◌, ap, arith, subst, true, Option, Some, None, refl, suc, ◌+◌, ◌<◌, [], ◌++◌, length, zero}
+use Rattle.crash_simulation.proofs.Common.{replicate, slice_get, true≢false, append-nil, map, ℤ, pos, Contains, add-zero, option_map, length-replicate}
+use Rattle.crash_simulation.proofs.Common.{none-some, same_Some, slice_get_within, slice_get-map, word_count, Word, durable_value, word_of, Crash, Log, typed}
+use Rattle.crash_simulation.proofs.Common.{Kind, Holds-zero, steps_of, first_world, IsWellFormedWorld, Hart, World, happens, after_event, after_crash_of}
+use Rattle.crash_simulation.proofs.Common.{resume_of, fresh_hart, numbers_from, start_of, code_start, Slot, Phase, Run, crashes_simulate, starts_simulate, Seen}
+use Rattle.crash_simulation.proofs.Common.{GraphThread, seen_by, graph_after, graph_thread_start, AreCuts, at_boundary, NodeAt, lowered, parts, part, Action}
+use Rattle.crash_simulation.proofs.Common.{Store, Graph, successors, Part, found_in, durable_variables, well_formed_placed, crashes_hold, durable_are_memory}
+use Rattle.crash_simulation.proofs.Common.{starts_hold, zero_form, fresh_on_side, Attempt, attempt_at, now, attempt_of, Memory, durable_number, crashed}
+use Rattle.crash_simulation.proofs.Common.{AreStable, memory_of, crashes, IsAgain, then, first_config, memory_in, crashed_are_stable, none_yet}
+use Rattle.crash_simulation.proofs.Common.{fresh_are_stable, Resumes, BeginsAtBoundaries, flow_kept, node_of, Origin, free_at_boundaries, start_free}
+use Rattle.crash_simulation.proofs.Common.{start_origin, Program, config, LogInv, Record, nothing_recorded, config_of, contains_first, ends_committed}
+use Rattle.crash_simulation.proofs.Common.{starts_standing, HomeCarries, home_of, Home, InRegister, AreShort, queues_stay_short, starts_are_short, Plan}
+use Rattle.crash_simulation.proofs.Common.{IsNodeOf, IsPendingIn, Enters, locals_are, Arrives, threads_start, Code, ResumesAt, Describes, past_lock, at_chosen}
+use Rattle.crash_simulation.proofs.Common.{AllDescribe, past_unlock, between, inside, Gathers, HasGathered, AreGathering, crashes_gather, AbstractRun, kept_of}
+use Rattle.crash_simulation.proofs.Common.{now_of, CrashSimulates, StartSimulates, IsRecoveredFrom, RecoveredWordsSimulate, Simulates, gathering, gathered}
+use Rattle.crash_simulation.proofs.Common.{IsMachineOf, most_ahead, System, IsSystem, thread_count, flat_of, places_of, Rests, ThreadGhost, on_fragment}
+use Rattle.crash_simulation.proofs.Common.{InPhase, ThreadInv, InFragment}
+use Rattle.flow_graph.specs.Lowering.{thread_count as node_count}
+use Rattle.recovery_semantics.specs.Executions.{begins}
+use Rattle.flow_graph.specs.IdempotentCuts as cutting
+use Rattle.region_attempts.specs.AttemptsInRegion as attempts
+use Rattle.c_tree.specs.Flats as f
+use Rattle.c_tree.specs.Source as m
 use Rattle.crash_simulation.proofs.StatesMatchSource.{orderly, begins_orderly, free_holds_none, none_holds, is_repeated, repeated_or}
 use Rattle.crash_simulation.proofs.RecordsAfterCrash.{over_is_caught, left, log_of, left_describes}
 use Rattle.crash_simulation.proofs.ThreadViews.{none_clean, none_stored, records_over}
-use Rattle.std.proofs.lemmas.List.{append-nil, length-replicate}
-use Rattle.ido_base.specs.declared.event.Event.TheVariants.{Crash}
-use Rattle.recovery_semantics.specs.ElementHistories.{crashed, Memory, AreStable, durable_number, memory_of}
-use Rattle.recovery_semantics.specs.Attempts.{Attempt, attempt_at}
-use Rattle.recovery_semantics.specs.Events.{IsAgain, crashes}
-use Rattle.recovery_semantics.specs.Executions.{then, first_config, begins}
-use Rattle.region_attempts.specs.GraphStates.{flow_kept, node_of}
-use Rattle.variable_words.proofs.Public.{crashes_hold, durable_are_memory, well_formed_placed, starts_hold}
-use Rattle.recovered_threads.proofs.Public.{crashes_gather}
-use Rattle.crash_simulation.specs.Laws.{CrashSimulates, StartSimulates}
 use Rattle.crash_simulation.proofs.ThreadsOfMachines.{machine_stays}
-use Rattle.std.specs.Option.{option_map}
-use Rattle.ido_base.specs.declared.log.Log.{Log}
-use Rattle.ido_base.specs.Layout.{word_count}
-use Rattle.ido_base.specs.Words.{Word, durable_value, word_of}
-use Rattle.rv64_isa.specs.declared.object.Slot.{Slot}
-use Rattle.rv64_isa.specs.Frames.{IsWellFormedWorld}
-use Rattle.rv64_isa.proofs.Public.{crashes_simulate, starts_simulate}
-use Rattle.flow_graph.specs.Nodes.{Action, Graph, successors, Store}
-use Rattle.flow_graph.specs.Liveness.{NodeAt}
-use Rattle.flow_graph.specs.IdempotentCuts as cutting
-use Rattle.flow_graph.specs.IdempotentCuts.{AreCuts, at_boundary}
-use Rattle.recovery_semantics.proofs.Public.{crashed_are_stable, none_yet, fresh_are_stable}
-use Rattle.variable_words.specs.Variables.{durable_variables}
-use Rattle.region_attempts.specs.Origins.{Origin}
-use Rattle.region_attempts.specs.AttemptsInRegion as attempts
-use Rattle.region_attempts.specs.AttemptsInRegion.{Resumes, BeginsAtBoundaries}
-use Rattle.hart_runs.specs.Laws.{AreShort}
-use Rattle.hart_runs.proofs.Public.{queues_stay_short, starts_are_short}
-use Rattle.crash_simulation.specs.RecoveredWords.{IsRecoveredFrom, RecoveredWordsSimulate}
 use Rattle.crash_simulation.proofs.LastReleases.{holds_some}
-use Rattle.ido_ints.specs.TypedNumbers.{typed}
-use Rattle.ido_ints.proofs.Public.{Holds-zero}
-use Rattle.operator_code.proofs.Public.{zero_form}
-use Rattle.c_tree.specs.Flats as f
-use Rattle.c_tree.specs.Source as m
-use Rattle.rv64_isa.specs.Executables.{first_world}
-use Rattle.rv64_isa.specs.Programs.{code_start}
-use Rattle.boundary_code.proofs.Public.{fresh_on_side}
-use Rattle.code_runs.specs.ComputingRuns.{config}
-use Rattle.code_runs.specs.CodeTraces.{Program}
-use Rattle.flow_graph.specs.declared.graph.Part.{Part}
-use Rattle.region_attempts.proofs.Public.{free_at_boundaries, start_free, start_origin}
-use Rattle.thread_code.specs.Plans.{Plan, IsNodeOf}
-use Rattle.thread_code.specs.RegistersAtNodes.{IsPendingIn, Enters}
-use Rattle.thread_code.proofs.Public.{locals_are}
-use Rattle.thread_runs.specs.CodeFragments.{Arrives}
-use Rattle.thread_runs.proofs.Public.{threads_start}
 use Rattle.crash_simulation.proofs.StepsAfterMarks.{entry_soon}
 use Rattle.crash_simulation.proofs.LoadFreeEnvironment.{bare, bare_agrees, bare_meets, bare_answers}
-use Rattle.expr_code.specs.declared.home.Home.{Home}
-use Rattle.expr_code.specs.declared.home.Home.TheVariants.{InRegister}
-use Rattle.expr_code.specs.EvaluationCode.{home_of, HomeCarries}
-use Rattle.ido_ints.specs.declared.kinds.Kind.{Kind}
 
 -- ---- A machine whose harts begin to gather the locks of records simulates an abstract run at the state that these describe
 
@@ -123,11 +71,10 @@ module _ (y : System) (s : IsSystem y) (v : World) (abstract : AbstractRun y) (r
   gathering_thread n below =
       let code = s.codes.each n below in
       let same : code.thread.number ≡ n = s.codes.number n below in
-      let count = again.machine.count in
-      let there = again.gathers.logs n (omega (arith, below, count)) in
+      let there = again.gathers.logs n (omega (arith, below, again.machine.count)) in
       let log : LogInv code.thread.number nothing_recorded (records n) v [] =
       subst (λ (k : ℕ). LogInv k nothing_recorded (records n) v []) (sym same) there in
-      let found = found_in (kept_of y abstract).graph_threads code.thread.number (let k = (orderly y s abstract).count in omega (arith, below, same, k)) in
+      let found = found_in (kept_of y abstract).graph_threads code.thread.number (omega (arith, below, same, (orderly y s abstract).count)) in
       let none = again.fresh code.thread.number in
       let rests : Rests y abstract.config code.thread.number (gathering_ghosts n) = record {
         begun = ap (steps_of code.thread.number) again.none;
@@ -201,7 +148,7 @@ module _ (y : System) (s : IsSystem y) (w : World) (stands : Simulates y s w) wh
   gathers =
       crashes_gather y.runs.program w (λ n. (stands.ghosts n).old) (λ n. (stands.ghosts n).new) (left y s w stands)
       (λ n. (stands.ghosts n).rest) (s.count ∙ sym stands.machine.count)
-      (λ n below. log_of y s w stands n (let c = stands.machine.count in omega (arith, below, c))) (λ n below. refl)
+      (λ n below. log_of y s w stands n (omega (arith, below, stands.machine.count))) (λ n below. refl)
 
   pub describe : AllDescribe y.plan s.codes (kept_of y crashed_run) (left y s w stands)
   describe n below =
@@ -232,8 +179,7 @@ left_again (n ∷ words) = λ i. n ∷ left_again words i
 pub crashed_again : (log : Log) (program : List (List Slot)) (locks : ℕ) (words : List ℕ) →
     after_event program (after_crash_of log program locks words) Crash ≡ after_crash_of log program locks words
 unfolding happens after_crash_of
-crashed_again log program locks words =
-    λ i. after_crash_of log program (length-replicate locks (let none : Option ℕ = None in none) i) (left_again words i)
+crashed_again log program locks words = λ i. after_crash_of log program (length-replicate locks (let none : Option ℕ = None in none) i) (left_again words i)
 
 module _ (y : System) (s : IsSystem y) (o : Origin (flat_of y)) (words : List ℕ) (is : IsRecoveredFrom y s o words) where
   abbrev v : World
@@ -290,16 +236,16 @@ module _ (y : System) (s : IsSystem y) (o : Origin (flat_of y)) (words : List �
   -- a thread stands where its record resumes it
   pub resumes_at : (code : Code y.plan) (node address : ℕ) → ResumesAt y.plan code node address → Resumes (lowered (flat_of y)) y.plan.boundaries node
   resumes_at code node address (at_chosen chosen) = attempts.begins (at_boundary chosen.stands)
-  resumes_at code node address (past_lock from mutex it own there takes) =
+  resumes_at code node address (past_lock from lock it own there takes) =
       let at : NodeAt (lowered (flat_of y)) from it = subst (λ (g : Graph). NodeAt g from it) s.plan.lowered there in
-      attempts.begins (cutting.past_lock from (cuts.past_locks from (cutting.locks it mutex node at takes)) (record {
+      attempts.begins (cutting.past_lock from (cuts.past_locks from (cutting.locks it lock node at takes)) (record {
         is = it;
         at = at;
         goes = subst (λ (a : Action). Contains (successors a) node) (sym takes) (contains_first node []);
       }))
-  resumes_at code node address (past_unlock from mutex it own there gives holds) =
+  resumes_at code node address (past_unlock from lock it own there gives holds) =
       let at : NodeAt (lowered (flat_of y)) from it = subst (λ (g : Graph). NodeAt g from it) s.plan.lowered there in
-      attempts.past_unlock from (cutting.unlocks it mutex node at gives) (record {
+      attempts.past_unlock from (cutting.unlocks it lock node at gives) (record {
         is = it;
         at = at;
         goes = subst (λ (a : Action). Contains (successors a) node) (sym gives) (contains_first node []);
@@ -307,8 +253,7 @@ module _ (y : System) (s : IsSystem y) (o : Origin (flat_of y)) (words : List �
 
   pub boundary_by : (code : Code y.plan) (mutex node : ℕ) (r : Record) → slice_get o.flow.holders mutex ≡ Some (Some code.thread.number) →
       node_of o.flow code.thread.number ≡ Some node → Describes y.plan code o.flow r → Resumes (lowered (flat_of y)) y.plan.boundaries node
-  boundary_by code mutex node r held at (between none point) =
-      absurd (true≢false (sym none ∙ holds_some code.thread.number o.flow.holders mutex held))
+  boundary_by code mutex node r held at (between none point) = absurd (true≢false (sym none ∙ holds_some code.thread.number o.flow.holders mutex held))
   boundary_by code mutex node r held at (inside some i) =
       let same : i.graph_thread.at ≡ node = same_Some i.graph_thread.at node (ap (option_map (λ (g : GraphThread). g.at)) (sym i.there) ∙ at) in
       subst (λ (k : ℕ). Resumes (lowered (flat_of y)) y.plan.boundaries k) same (resumes_at code i.graph_thread.at (resume_of r.point) i.resumes)
@@ -418,8 +363,7 @@ module _ (y : System) (s : IsSystem y) where
   part_there code = subst (λ (graph : Graph). slice_get graph.threads code.thread.number ≡ Some code.thread.part) s.plan.lowered code.of.nodes
 
   walks : (code : Code y.plan) → slice_get (now_of y abstract).graph_threads code.thread.number ≡ Some (graph_thread code)
-  walks code =
-      slice_get-map graph_thread_start (lowered (flat_of y)).threads code.thread.number ∙ ap (option_map graph_thread_start) (part_there code)
+  walks code = slice_get-map graph_thread_start (lowered (flat_of y)).threads code.thread.number ∙ ap (option_map graph_thread_start) (part_there code)
 
   has_nodes : (n : ℕ) (own : Part) → slice_get (lowered (flat_of y)).threads n ≡ Some own → own.first < own.end
   unfolding lowered
@@ -446,12 +390,10 @@ module _ (y : System) (s : IsSystem y) where
       InFragment y w abstract (s.codes.each n below) (ghosts n) hart (graph_thread (s.codes.each n below)) Arrives 0
   on_its_fragment n below hart here =
       let code = s.codes.each n below in
-      let own = s.own n below in
       let number = code.thread.number in
-      let c = s.count in
       let same = s.codes.number n below in
-      let inside : number < length y.runs.program = omega (arith, below, c, same) in
-      let start : code_start y.runs.program number ≡ code.program.start = ap (λ (p : Program). p.start) (sym own.program) in
+      let inside : number < length y.runs.program = omega (arith, below, s.count, same) in
+      let start : code_start y.runs.program number ≡ code.program.start = ap (λ (p : Program). p.start) (sym (s.own n below).program) in
       record {
         environment = bare y s w n below;
         answers = bare_answers y s w n below (now abstract.config);
@@ -474,9 +416,7 @@ module _ (y : System) (s : IsSystem y) where
   thread n below =
       let code = s.codes.each n below in
       let number = code.thread.number in
-      let c = s.count in
-      let same = s.codes.number n below in
-      let inside : number < length y.runs.program = omega (arith, below, c, same) in
+      let inside : number < length y.runs.program = omega (arith, below, s.count, s.codes.number n below) in
       let log = starts_standing y.runs.log y.runs.program y.runs.mutexes number y.runs.initial inside in
       let is : fresh_hart y.runs.program Run number ≡ log.hart = same_Some _ _ (sym (fresh number inside) ∙ log.here) in
       let runs : Run ≡ log.hart.phase = ap (λ (h : Hart). h.phase) is in
@@ -491,9 +431,7 @@ module _ (y : System) (s : IsSystem y) where
 
   pub all_run : (h : ℕ) (hart : Hart) → slice_get w.harts h ≡ Some hart → HasGathered w h nothing_recorded hart.phase
   all_run h hart there =
-      let inside = slice_get_within w.harts h hart there in
-      let c = count in
-      let below : h < length y.runs.program = omega (arith, inside, c) in
+      let below : h < length y.runs.program = omega (arith, slice_get_within w.harts h hart there, count) in
       subst (λ (x : Hart). HasGathered w h nothing_recorded x.phase) (same_Some _ hart (sym (fresh h below) ∙ there)) tt
 
   abbrev pub stands : Simulates y s w
@@ -509,12 +447,11 @@ module _ (y : System) (s : IsSystem y) where
     memory = starts_hold y.runs.log (flat_of y) y.runs.program y.runs.mutexes y.runs.initial s.plan.formed s.initial;
     ghosts = ghosts;
     each = thread;
-    locks = gathered (record { each = all_run })
-        (record {
-          held = λ lock n there. absurd (none_holds y.runs.mutexes lock n (ap (λ (hs : List (Option ℕ)). slice_get hs lock) (sym holders_are) ∙ there));
-          holds = λ lock n there. absurd (none_holds (length (flat_of y).mutexes) lock n there);
-          giving = λ lock n inside gives. absurd (none-some lock gives);
-        });
+    locks = gathered (record { each = all_run }) (record {
+      held = λ lock n there. absurd (none_holds y.runs.mutexes lock n (ap (λ (hs : List (Option ℕ)). slice_get hs lock) (sym holders_are) ∙ there));
+      holds = λ lock n there. absurd (none_holds (length (flat_of y).mutexes) lock n there);
+      giving = λ lock n inside gives. absurd (none-some lock gives);
+    });
     caught_up = λ n below all. over_is_caught y w abstract (s.codes.each n below) (ghosts n) (thread n below) refl refl;
   }
 

@@ -1,57 +1,27 @@
 -- Steps of harts that gather their locks, of those that recovery resumes, and of those that have stopped.
-use Rattle.std.proofs.Common.{◌≡◌, ◌⊎◌, inl, inr, refl, ℕ, ◌<◌, List, [], length, ap, arith, sym, ◌∙◌, subst, Option, Some, ◌≢◌, ◌++◌, ap₂, ◌≤◌}
-use Rattle.std.specs.Prelude.{slice_get}
-use Rattle.std.proofs.lemmas.Option.{none-some}
-use Rattle.ido_base.specs.declared.event.Event.TheVariants.{Step}
-use Rattle.ido_base.specs.declared.event.Reply.{Reply}
-use Rattle.ido_base.specs.declared.event.Reply.TheVariants.{Waits, Barrier, Still}
-use Rattle.rv64_isa.specs.declared.phase.Phase.{Phase}
-use Rattle.rv64_isa.specs.declared.phase.Phase.TheVariants.{Take, Wait, Resume, Done, Ended}
-use Rattle.rv64_isa.specs.Machine.{Hart, World, Outcome, happens, moved, with_holder, after_event, resume_of}
-use Rattle.flow_graph.specs.Actions.{GraphThread, FlowState, seen_by}
-use Rattle.flow_graph.specs.Lowering.{lowered}
-use Rattle.flow_graph.specs.Actions as g
-use Rattle.recovery_semantics.specs.VariableSpots.{memory_in}
-use Rattle.log_states.specs.Logs.{Record, side_of}
-use Rattle.hart_runs.specs.Calls as calls
-use Rattle.hart_runs.specs.Calls.{IsInPhase, TakesLocks, has_all, takes_one, is_kept_from, AwaitsOthers}
-use Rattle.hart_runs.proofs.Public.{takes_step, waits_step, stopped_stay, resumes_step}
-use Rattle.recovered_threads.specs.RecordDescriptions.{Code, Describes, AllDescribe, ResumesAt, at_chosen, past_lock, past_unlock}
+use Rattle.crash_simulation.proofs.Common.{◌≡◌, ◌≢◌, ℕ, List, sym, ◌∙◌, ap, arith, subst, Option, Some, refl, ◌<◌, [], ◌++◌, length, ◌⊎◌, inl, inr, slice_get}
+use Rattle.crash_simulation.proofs.Common.{◌≤◌, ap₂, Contains, none-some, Step, Reply, Still, Waits, Barrier, lock_number, Hart, World, happens, after_event}
+use Rattle.crash_simulation.proofs.Common.{Outcome, with_holder, moved, resume_of, Effect, Phase, Done, Take, Wait, Resume, Ended, GraphThread, FlowState}
+use Rattle.crash_simulation.proofs.Common.{seen_by, graph_after, NodeAt, lowered, Action, Node, End, successors, now, memory_in, flow_solo, seen_effects}
+use Rattle.crash_simulation.proofs.Common.{config, Record, side_of, IsInPhase, has_all, takes_one, is_kept_from, all_have, one_takes, TakesLocks, AwaitsOthers}
+use Rattle.crash_simulation.proofs.Common.{IsRunningAt, cleans_in, takes_step, waits_step, resumes_step, stopped_stay, IsNodeOf, Arrives, IsOnFragment}
+use Rattle.crash_simulation.proofs.Common.{on_machine, GoesOnFrom, unlocks_go_on, fragments_see_all, cores_see_all, locks_go_on, AreRecordsApart, Code}
+use Rattle.crash_simulation.proofs.Common.{ResumesAt, Describes, past_lock, at_chosen, AllDescribe, past_unlock, Gathers, HasGathered, AreGathered}
+use Rattle.crash_simulation.proofs.Common.{AreGathering, Awaits, IsRecoveredHart, ResumesThread, same_there, same_or_other, takes_never_wait, waits_for_takers}
+use Rattle.crash_simulation.proofs.Common.{gathered_go_on, records_are_apart, gathered_are_kept, harts_go_on, kept_of, now_of, Site, TakesStand, WaitsStand}
+use Rattle.crash_simulation.proofs.Common.{StoppedStand, ResumesStand, SimulatesBut, Simulates, anybody, AreHeld, AreLocked, gathering, gathered, records_of}
+use Rattle.crash_simulation.proofs.Common.{IsMachineOf, System, IsSystem, thread_count, flat_of, places_of, Rests, on_fragment, at_core, InPhase, ThreadInv}
+use Rattle.crash_simulation.proofs.Common.{IsRunningThread, IsInAttempt}
 use Rattle.recovered_threads.specs.RecoveryStates as r
-use Rattle.recovered_threads.specs.RecoveryStates.{Gathers, AreGathering, HasGathered, AreGathered, Awaits, IsRecoveredHart, ResumesThread}
-use Rattle.recovered_threads.specs.Laws.{AreRecordsApart}
-use Rattle.recovered_threads.proofs.Public.{same_there, same_or_other, takes_never_wait, waits_for_takers, gathered_go_on, records_are_apart, gathered_are_kept}
-use Rattle.recovered_threads.proofs.Public.{harts_go_on}
-use Rattle.crash_simulation.specs.Systems.{System, IsSystem, flat_of, places_of, thread_count}
-use Rattle.crash_simulation.specs.AbstractRuns.{kept_of, now_of}
-use Rattle.recovery_semantics.specs.Configs.{now}
-use Rattle.crash_simulation.specs.ThreadGhosts.{Rests, InPhase, ThreadInv, IsRunningThread}
-use Rattle.crash_simulation.specs.SimulationRelation.{AreHeld, AreLocked, gathering, gathered, records_of, SimulatesBut, Simulates, anybody, IsMachineOf}
-use Rattle.crash_simulation.specs.Laws.{TakesStand, WaitsStand, StoppedStand, ResumesStand}
 use Rattle.crash_simulation.proofs.LocksAfterStep.{held_alike}
 use Rattle.crash_simulation.proofs.StatesMatchSource.{orderly}
 use Rattle.crash_simulation.proofs.KeptThreads.{phase_moves, others_stand}
 use Rattle.crash_simulation.proofs.ThreadViews.{IsQuiet, describes_over, moves_alone}
 use Rattle.crash_simulation.proofs.ThreadsOfMachines.{machine_stays, phase_of}
 use Rattle.crash_simulation.proofs.CommitSimulation.{commit_stutters}
-use Rattle.rv64_isa.specs.Rows.{Effect}
-use Rattle.code_runs.specs.ComputingRuns.{config}
-use Rattle.code_runs.specs.CodeTraces.{seen_effects}
-use Rattle.region_attempts.specs.GraphStates.{flow_solo}
-use Rattle.thread_runs.specs.CodeFragments.{Arrives, IsOnFragment, on_machine}
-use Rattle.thread_runs.specs.Laws.{GoesOnFrom}
-use Rattle.thread_runs.proofs.Public.{fragments_see_all, cores_see_all, locks_go_on, unlocks_go_on}
-use Rattle.crash_simulation.specs.ThreadGhosts as courses
 use Rattle.crash_simulation.proofs.LoadFreeEnvironment.{bare, bare_agrees, bare_meets, bare_answers, placed}
 use Rattle.crash_simulation.proofs.GraphAfterBegin.{alone}
 use Rattle.crash_simulation.proofs.OwnHartSteps.{view, same_number}
-use Rattle.crash_simulation.specs.InstructionSteps.{Site}
-use Rattle.hart_runs.specs.HartsOnRuns.{IsRunningAt}
-use Rattle.hart_runs.specs.RunSteps.{cleans_in}
-use Rattle.std.specs.List.{Contains}
-use Rattle.flow_graph.specs.Nodes.{Action, Node, End, successors}
-use Rattle.flow_graph.specs.Liveness.{NodeAt}
-use Rattle.thread_code.specs.Plans.{IsNodeOf}
 use Rattle.crash_simulation.proofs.StepsAfterMarks.{entry_soon, core_less, whole_soon, most_is, fits_by}
 
 -- the machine simulates the same abstract run, in memory that is as it was, with the same ghost states
@@ -93,8 +63,7 @@ module _ (y : System) (s : IsSystem y) (w : World) (h : ℕ) (stands : Simulates
           let t = stands.each h below in
           let number = s.codes.number h below in
           let is : old ≡ t.log.hart = same_there (slice_get w.harts h) old t.log.hart here (ap (slice_get w.harts) (sym number) ∙ t.log.here) in
-          phase_moves after (stands.ghosts h).giving (stands.ghosts h).before_mark (λ mutex gives. gives) t new
-          (record {
+          phase_moves after (stands.ghosts h).giving (stands.ghosts h).before_mark (λ mutex gives. gives) t new (record {
             words = q.words;
             log = q.log;
             here = ap (slice_get after.harts) number ∙ q.here;
@@ -133,8 +102,7 @@ module _ (y : System) (s : IsSystem y) (w : World) (h : ℕ) (stands : Simulates
         (gathers.each n t.log.hart (ap (slice_get w.harts) (sym number) ∙ t.log.here)) t.phase
 
     pub all_describe : AllDescribe y.plan s.codes (kept_of y b) records
-    all_describe n below =
-        describes_over y b (s.codes.each n below) (stands.ghosts n) (stands.each n below).records (all_rest n below).committed
+    all_describe n below = describes_over y b (s.codes.each n below) (stands.ghosts n) (stands.each n below).records (all_rest n below).committed
 
     pub apart : AreRecordsApart (length w.harts) records
     apart =
@@ -164,7 +132,7 @@ module _ (y : System) (s : IsSystem y) (w : World) (h : ℕ) (stands : Simulates
     -- ---- Wait
 
     now_is : now_of y b ≡ kept_of y b
-    now_is = ap (g.graph_after (lowered (flat_of y)) (kept_of y b)) none
+    now_is = ap (graph_after (lowered (flat_of y)) (kept_of y b)) none
 
     held_as_kept : ((k : ℕ) → ¬ (IsInPhase w k Take)) → AreHeld w stands.ghosts (now_of y b)
     held_as_kept nobody =
@@ -177,8 +145,7 @@ module _ (y : System) (s : IsSystem y) (w : World) (h : ℕ) (stands : Simulates
           held = λ lock n there. inl (ap (λ (hs : List (Option ℕ)). slice_get hs lock) (sym same) ∙ there);
           holds = λ lock n there. ap (λ (hs : List (Option ℕ)). slice_get hs lock) same ∙ there;
           giving = λ lock n exists gives.
-              let inside : n < thread_count y =
-              (let k = ap (λ (z : FlowState). length z.graph_threads) now_is in let m = kept.count in omega (arith, exists, k, m)) in
+              let inside : n < thread_count y = omega (arith, exists, ap (λ (z : FlowState). length z.graph_threads) now_is, kept.count) in
               absurd (none-some lock (sym (all_rest n inside).giving ∙ gives));
         }
 
@@ -201,14 +168,17 @@ module _ (y : System) (s : IsSystem y) (w : World) (h : ℕ) (stands : Simulates
       first none gathers nobody does (r.one_takes k ik stays) = absurd (nobody k ik)
 
       by : AwaitsOthers y.runs.program w h i.hart → AreLocked y w b stands.ghosts → SimulatesStill y s w after stands
-      by (calls.one_takes k ik does) locked = nothing_happens (Barrier k) does
-      by (calls.all_have nobody does) (gathering none gathers) = first none gathers nobody does (waits_for_takers y.runs.program w records h gathers i)
-      by (calls.all_have nobody does) (gathered ag held) = go does (gathered_go_on y.runs.program w records h Wait ag (inl refl) i).1 held
+      by (one_takes k ik does) locked = nothing_happens (Barrier k) does
+      by (all_have nobody does) (gathering none gathers) = first none gathers nobody does (waits_for_takers y.runs.program w records h gathers i)
+      by (all_have nobody does) (gathered ag held) = go does (gathered_go_on y.runs.program w records h Wait ag (inl refl) i).1 held
 
   -- ---- Whichever is so of its locks
 
   pub takes_still : IsInPhase w h Take → SimulatesStill y s w after stands
-  takes_still h0 = grind (arith, takes)
+  takes_still i = elim stands.locks [
+    | gathering none gathers ↦ takes none gathers i
+    | gathered ag held ↦ absurd (subst (HasGathered w h (records h)) i.phase_is (ag.each h i.hart i.here))
+  ]
 
   pub waits_still : IsInPhase w h Wait → SimulatesStill y s w after stands
   waits_still i = waits i stands.locks
@@ -278,7 +248,7 @@ module _ (y : System) (s : IsSystem y) (w : World) (h : ℕ) (stands : Simulates
     abbrev side : ℕ
     side = side_of ghost.new
 
-    goes : courses.IsInAttempt y b.config n ghost
+    goes : IsInAttempt y b.config n ghost
     goes = record { going = rests.begun ∙ sym rests.done; rest = rests.rest; giving = rests.giving; committed = rests.committed }
 
     short : length go.after.queue ≤ 16
@@ -288,7 +258,7 @@ module _ (y : System) (s : IsSystem y) (w : World) (h : ℕ) (stands : Simulates
     IsHere address = IsRunningAt resumed n (config go.after.registers address)
 
     runs_at_core : IsHere (places.core graph_thread.at) → IsRunningThread y resumed b code ghost go.after graph_thread
-    runs_at_core at = courses.at_core (record {
+    runs_at_core at = at_core (record {
       side = side;
       at_side = λ some. refl;
       registers = go.after.registers;
@@ -299,8 +269,7 @@ module _ (y : System) (s : IsSystem y) (w : World) (h : ℕ) (stands : Simulates
       fresh = λ chosen. rests.done;
       soon =
           let all = entry_soon y s h below graph_thread.at (length go.after.queue) of_thread short in
-          let less = core_less y.plan places graph_thread.at in
-          whole_soon y n ghost.before_mark _ rests.whole (omega (arith, all, less));
+          whole_soon y n ghost.before_mark _ rests.whole (omega (arith, all, core_less y.plan places graph_thread.at));
     })
 
     -- resumed a lock or an unlock, whose code leads to the node
@@ -313,7 +282,7 @@ module _ (y : System) (s : IsSystem y) (w : World) (h : ℕ) (stands : Simulates
         let fragment = leads y.runs.program code.program code.is resumed n environment seen side go.after.registers
         (placed y s resumed h below machine.log machine.count) (bare_meets y s resumed h below) (bare_agrees y s resumed h below) at go.enters in
         let none : ghost.cleans ++ ghost.rest ≡ [] = ap₂ ◌++◌ rests.cleans rests.rest in
-        courses.on_fragment Arrives fragment.steps (record {
+        on_fragment Arrives fragment.steps (record {
           environment = environment;
           answers = bare_answers y s resumed h below (now b.config);
           side = side;
@@ -322,22 +291,21 @@ module _ (y : System) (s : IsSystem y) (w : World) (h : ℕ) (stands : Simulates
               (fragments_see_all y.plan code.thread places y.runs.program resumed n environment _ fragment.steps [] (now_of y b).variables fragment.on);
           fits = (goes, go.told.goes_on);
           soon =
-              let few = fragment.short in
-              let queue = short in
-              let most = most_is y s h below in
               let fit = fits_by y s h below from is own found graph_thread.at of_thread follows other in
               let no_cleans : cleans_in (seen_effects (ghost.cleans ++ ghost.rest)) ≡ 0 = ap (λ (es : List Effect). cleans_in (seen_effects es)) none in
-              whole_soon y n ghost.before_mark _ rests.whole (omega (arith, few, queue, most, no_cleans, fit));
+              whole_soon y n ghost.before_mark _ rests.whole (omega (arith, fragment.short, short, most_is y s h below, no_cleans, fit));
         })
 
     runs_by : (address : ℕ) → ResumesAt y.plan code graph_thread.at address → IsHere address → IsRunningThread y resumed b code ghost go.after graph_thread
     runs_by _ (at_chosen chosen) at = runs_at_core at
-    runs_by _ (past_lock from mutex is own found locks) at =
+    runs_by _ (past_lock from lock is own found locks) at =
         runs_after from is own found (subst (λ (z : Action). Contains (successors z) graph_thread.at) (sym locks) (0, omega arith, refl)) (λ ends. cc)
-        (locks_go_on y.plan code.thread from mutex graph_thread.at (record { own = own; is = is; at = found; locks = locks })) at
-    runs_by _ (past_unlock from mutex is own found unlocks holds) at =
+        (locks_go_on y.plan code.thread from graph_thread.locals (lock_number graph_thread.locals lock) graph_thread.at
+        (record { own = own; is = is; at = found; lock = lock; locks = locks; number = refl })) at
+    runs_by _ (past_unlock from lock is own found unlocks holds) at =
         runs_after from is own found (subst (λ (z : Action). Contains (successors z) graph_thread.at) (sym unlocks) (0, omega arith, refl)) (λ ends. cc)
-        (unlocks_go_on y.plan code.thread from mutex graph_thread.at (record { own = own; is = is; at = found; unlocks = unlocks })) at
+        (unlocks_go_on y.plan code.thread from graph_thread.locals (lock_number graph_thread.locals lock) graph_thread.at
+        (record { own = own; is = is; at = found; lock = lock; unlocks = unlocks; number = refl })) at
 
     own : InPhase y resumed b code ghost new (stands.each h below).graph_thread new.phase
     own =

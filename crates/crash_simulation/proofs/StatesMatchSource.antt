@@ -1,27 +1,11 @@
 -- The kept state and the state now match ones of the source, in which mutexes are held by threads.
-use Rattle.std.proofs.Common.{◌≡◌, refl, ℕ, zero, suc, ◌+◌, List, [], ◌∷◌, length, replicate, sym, ◌∙◌, ap, subst, arith, Option, Some, None, true}
-use Rattle.std.specs.Prelude.{slice_get, slice_index_or, is_none}
-use Rattle.std.specs.List.{AllZip}
-use Rattle.std.proofs.lemmas.Option.{none-some, same_Some}
-use Rattle.std.proofs.lemmas.List.{length-map}
-use Rattle.ido_base.specs.Locks.{held_from}
+use Rattle.crash_simulation.proofs.Common.{◌≡◌, ℕ, List, ◌∷◌, sym, ◌∙◌, ap, arith, subst, true, Option, Some, None, refl, suc, ◌+◌, [], length, zero, replicate}
+use Rattle.crash_simulation.proofs.Common.{slice_get, slice_index_or, AllZip, is_none, length-map, none-some, same_Some, held_from, IsThreadOf, FlowState}
+use Rattle.crash_simulation.proofs.Common.{graph_step, graph_after, graph_thread_start, AreCuts, Matches, lowered, Graph, Good, begins_lockstep, good_after}
+use Rattle.crash_simulation.proofs.Common.{StaysResumed, MatchesSource, Origin, graph_stands, executions_stay, kept_good as kept_good_of, Plan, IsPlan}
+use Rattle.crash_simulation.proofs.Common.{IsOrderly, steps_orderly, AbstractRun, kept_of, now_of, System, IsSystem, flat_of}
 use Rattle.c_tree.specs.Flats as f
 use Rattle.c_tree.specs.Source as m
-use Rattle.c_ranges.specs.RunInvariants.{IsThreadOf}
-use Rattle.flow_graph.specs.Nodes.{Graph}
-use Rattle.flow_graph.specs.Lowering.{lowered}
-use Rattle.flow_graph.specs.IdempotentCuts.{AreCuts}
-use Rattle.flow_graph.specs.Lockstep.{Matches}
-use Rattle.flow_graph.specs.Actions.{FlowState, graph_thread_start, graph_step, graph_after}
-use Rattle.flow_graph.proofs.Public.{Good, begins_lockstep, good_after}
-use Rattle.region_attempts.specs.Origins.{Origin}
-use Rattle.region_attempts.specs.Laws.{StaysResumed, MatchesSource}
-use Rattle.region_attempts.proofs.Public.{executions_stay, graph_stands, kept_good as kept_good_of}
-use Rattle.thread_code.specs.Plans.{Plan, IsPlan}
-use Rattle.recovered_threads.specs.RecordDescriptions.{IsOrderly}
-use Rattle.recovered_threads.proofs.Public.{steps_orderly}
-use Rattle.crash_simulation.specs.Systems.{System, IsSystem, flat_of}
-use Rattle.crash_simulation.specs.AbstractRuns.{AbstractRun, kept_of, now_of}
 
 -- ---- Schedules lead from an orderly state to one
 

@@ -1,27 +1,10 @@
 -- After a step of a hart that executes instructions, and after an eviction, the machine simulates an abstract run, where commits may still be to be taken.
-use Rattle.std.proofs.Common.{◌≢◌, refl, ℕ, suc, ◌<◌, [], arith, sym, ◌∙◌}
-use Rattle.ido_base.specs.declared.event.Event.TheVariants.{Step, Evict}
-use Rattle.rv64_isa.specs.declared.phase.Phase.TheVariants.{Run}
-use Rattle.rv64_isa.specs.Machine.{World, after_event, happens}
-use Rattle.recovery_semantics.specs.ElementHistories.{Memory, ArePersisted}
-use Rattle.recovery_semantics.specs.Configs.{Config}
-use Rattle.recovery_semantics.specs.Events.{persists}
-use Rattle.recovery_semantics.specs.Executions.{Execution}
-use Rattle.recovery_semantics.specs.VariableSpots.{memory_in}
-use Rattle.region_attempts.specs.AttemptsInRegion.{RespectsAll}
-use Rattle.variable_words.proofs.Public.{events_raise}
-use Rattle.log_states.specs.Logs.{Record, nothing_recorded}
-use Rattle.log_states.proofs.Public.{steps_move, evictions_move, evictions_keep}
-use Rattle.hart_runs.specs.Calls.{IsInPhase}
-use Rattle.hart_runs.proofs.Public.{evictions_agree}
-use Rattle.recovered_threads.proofs.Public.{gathers_on, gathered_on}
-use Rattle.recovered_threads.specs.RecoveryStates.{HasRecord, AreGathering, AreGathered}
-use Rattle.crash_simulation.specs.Systems.{System, IsSystem, flat_of, places_of, thread_count}
-use Rattle.crash_simulation.specs.AbstractRuns.{AbstractRun, now_of}
-use Rattle.crash_simulation.specs.ThreadGhosts.{ThreadGhost, ThreadInv}
-use Rattle.crash_simulation.specs.SimulationRelation.{AreLocked, gathering, gathered, records_of, SimulatesBut, Simulates, anybody}
-use Rattle.crash_simulation.specs.InstructionSteps.{goes, abstract_next, with_ghost, OwnStep, OwnStepsSimulate}
-use Rattle.crash_simulation.specs.Laws.{EvictionsSimulate}
+use Rattle.crash_simulation.proofs.Common.{◌≢◌, ℕ, sym, ◌∙◌, arith, refl, suc, ◌<◌, [], Step, Evict, World, happens, after_event, Run, events_raise, Config}
+use Rattle.crash_simulation.proofs.Common.{Memory, ArePersisted, persists, Execution, memory_in, RespectsAll, Record, nothing_recorded, steps_move}
+use Rattle.crash_simulation.proofs.Common.{evictions_move, evictions_keep, IsInPhase, evictions_agree, AreGathered, AreGathering, HasRecord, gathered_on}
+use Rattle.crash_simulation.proofs.Common.{gathers_on, AbstractRun, now_of, OwnStep, with_ghost, goes, abstract_next, OwnStepsSimulate, EvictionsSimulate}
+use Rattle.crash_simulation.proofs.Common.{SimulatesBut, Simulates, anybody, AreLocked, gathering, gathered, records_of, System, IsSystem, thread_count}
+use Rattle.crash_simulation.proofs.Common.{flat_of, places_of, ThreadGhost, ThreadInv}
 use Rattle.crash_simulation.proofs.LocksAfterStep.{held_alike}
 use Rattle.crash_simulation.proofs.UncommittedSteps.{leads_on}
 use Rattle.crash_simulation.proofs.DisjointStores.{elsewhere, agrees_after}

@@ -1,30 +1,15 @@
 -- What is ahead of a thread up to its next mark fits into its code: no lock, unlock or store is followed by itself, and a thread's last node is its end.
-use Rattle.std.proofs.Common.{◌≡◌, ◌≢◌, refl, ℕ, zero, suc, ◌+◌, ◌<◌, ◌≤◌, List, [], ◌∷◌, ◌++◌, length, sym, ◌∙◌, ap, arith, subst, Some, inl, inr, ◌-◌, ◌*◌}
-use Rattle.std.proofs.Common.{cond, Bool, Option, None, slice_get}
-use Rattle.std.proofs.lemmas.Option.{slice_get_within, same_Some}
-use Rattle.ido_base.specs.declared.place.Place.{Place}
-use Rattle.ido_ints.specs.declared.kinds.Kind.{Kind}
+use Rattle.crash_simulation.proofs.Common.{◌≡◌, ◌≢◌, ℕ, List, ◌∷◌, sym, ◌∙◌, ap, arith, subst, Option, Some, None, refl, suc, ◌+◌, ◌<◌, [], ◌++◌, length, Bool}
+use Rattle.crash_simulation.proofs.Common.{inl, inr, zero, slice_get, ◌≤◌, ◌-◌, ◌*◌, Contains, cond, cases_order, nat_tests, same_Some, slice_get_within, Place}
+use Rattle.crash_simulation.proofs.Common.{Kind, LockName, IsWellFormed, NodeAt, Standing, threads_standings, HasStandingAt, lowered, parts, threads_nodes}
+use Rattle.crash_simulation.proofs.Common.{part, plain_node, statements_nodes, statements_count, thread_nodes, Action, Store, Node, Graph, Lock, End}
+use Rattle.crash_simulation.proofs.Common.{successors, Unlock, Part, found_in, ActionLeads, agrees, length-statements_nodes, length-thread_nodes, Program, Mark}
+use Rattle.crash_simulation.proofs.Common.{marked, Places, Plan, IsNodeOf, IsPlan, Thread, IsThread, IsCalling, IsNodeCode, IsThreadCode, IsCallWithin, mark_of}
+use Rattle.crash_simulation.proofs.Common.{any_at, Code, entry_ahead, most_ahead, IsSoon, weight, core_ahead, weight_at, System, IsSystem, thread_count}
+use Rattle.crash_simulation.proofs.Common.{flat_of}
+use Rattle.flow_graph.specs.Lowering.{table_of, thread_count as nodes_count}
 use Rattle.c_tree.specs.Flats as f
-use Rattle.c_tree.specs.WellFormed.{IsWellFormed}
-use Rattle.flow_graph.specs.Nodes.{Action, Store, Lock, Unlock, End, Node, Graph, successors}
-use Rattle.flow_graph.specs.Lowering.{lowered, plain_node, statements_nodes, statements_count, thread_nodes, threads_nodes, part, parts}
-use Rattle.flow_graph.specs.Lowering.{thread_count as nodes_count}
-use Rattle.flow_graph.specs.declared.graph.Part.{Part}
-use Rattle.flow_graph.specs.Liveness.{NodeAt}
-use Rattle.flow_graph.specs.Lockstep.{Standing, HasStandingAt, threads_standings}
-use Rattle.flow_graph.proofs.Public.{found_in, length-statements_nodes, length-thread_nodes, ActionLeads, agrees}
 use Rattle.crash_simulation.proofs.LocksAtCalls.{standing_of}
-use Rattle.std.proofs.lemmas.Bool.Decides.{nat_tests}
-use Rattle.std.proofs.lemmas.Bool.{cases_order}
-use Rattle.code_runs.specs.CodeTraces.{Program, Mark, marked}
-use Rattle.thread_code.specs.Plans.{Plan, Thread, IsThread, IsNodeOf, IsPlan}
-use Rattle.thread_code.specs.NodeCodeEffects.{Places}
-use Rattle.thread_code.specs.Programs.{IsThreadCode, IsNodeCode, IsCalling, IsCallWithin, mark_of}
-use Rattle.crash_simulation.specs.StepsToMark.{weight, weight_at, entry_ahead, core_ahead, most_ahead, IsSoon}
-use Rattle.thread_runs.proofs.Public.{any_at}
-use Rattle.std.specs.List.{Contains}
-use Rattle.recovered_threads.specs.RecordDescriptions.{Code}
-use Rattle.crash_simulation.specs.Systems.{System, IsSystem, flat_of, thread_count}
 
 -- ---- What is left at a node
 
@@ -38,7 +23,7 @@ module _ (x : f.Flat) (w : IsWellFormed x) (node : ℕ) (is : Node) (at : NodeAt
   left_there : IsOwnNode x node is
   unfolding lowered
   left_there =
-      let l = standing_of (threads_standings x.threads) (threads_nodes x.threads 0) (threads_standings x.threads) node is (agrees x w.threads) at in
+      let l = standing_of (threads_standings x.threads) (threads_nodes x x.threads 0) (threads_standings x.threads) node is (agrees x w.threads) at in
       record { standing = l.0; there = l.1; does = l.2 }
 
   one_standing : (other : Standing) → HasStandingAt x node other → left_there.standing ≡ other
@@ -54,11 +39,11 @@ module _ (x : f.Flat) (w : IsWellFormed x) (node : ℕ) (is : Node) (at : NodeAt
   does_as : (z : Action) → is.action ≡ z → DoneBy z
   does_as z e = subst DoneBy e left_there.does
 
-  pub lock_goes_on : (mutex next : ℕ) → is.action ≡ Lock mutex next → next ≢ node
-  lock_goes_on mutex next e same = grind (arith, does_as, left_there, no_rest, one_standing)
+  pub lock_goes_on : (lock : LockName) (next : ℕ) → is.action ≡ Lock lock next → next ≢ node
+  lock_goes_on lock next e same = grind (arith, does_as, left_there, no_rest, one_standing)
 
-  pub unlock_goes_on : (mutex next : ℕ) → is.action ≡ Unlock mutex next → next ≢ node
-  unlock_goes_on mutex next e same = grind (arith, does_as, left_there, no_rest, one_standing)
+  pub unlock_goes_on : (lock : LockName) (next : ℕ) → is.action ≡ Unlock lock next → next ≢ node
+  unlock_goes_on lock next e same = grind (arith, does_as, left_there, no_rest, one_standing)
 
   pub store_goes_on : (variable : ℕ) (kind : Kind) (next : ℕ) → is.action ≡ Store variable kind next → next ≢ node
   store_goes_on variable kind next e same = grind (arith, does_as, left_there, one_standing)
@@ -83,28 +68,28 @@ record HasEnd (ns : List Node) (first : ℕ) (p : Part) : Type 0 where
   last : first + suc number ≡ p.end
   there : slice_get ns number ≡ Some (plain_node place End)
 
-has_end : (ts : List f.Thread) (first k : ℕ) (p : Part) → slice_get (parts ts first) k ≡ Some p → HasEnd (threads_nodes ts first) first p
-has_end [] first k p g = cc
-has_end (t ∷ ts) first zero p g =
+has_end : (x : f.Flat) (ts : List f.Thread) (first k : ℕ) (p : Part) → slice_get (parts ts first) k ≡ Some p → HasEnd (threads_nodes x ts first) first p
+has_end x [] first k p g = cc
+has_end x (t ∷ ts) first zero p g =
     let here : part t first ≡ p = cc in
-    let prefix = statements_nodes t.body first (first + statements_count t.body) in
-    let count : length prefix ≡ statements_count t.body = length-statements_nodes t.body first (first + statements_count t.body) in
-    let own : slice_get (thread_nodes t first) (length prefix + 0) ≡ Some (plain_node t.closing End) =
+    let prefix = statements_nodes (table_of x t) t.body first (first + statements_count t.body) in
+    let count : length prefix ≡ statements_count t.body = length-statements_nodes (table_of x t) t.body first (first + statements_count t.body) in
+    let own : slice_get (thread_nodes (table_of x t) t first) (length prefix + 0) ≡ Some (plain_node t.closing End) =
     get_suffix prefix (plain_node t.closing End ∷ []) 0 (plain_node t.closing End) refl in
     record {
       place = t.closing;
       number = length prefix + 0;
       last = omega (arith, count, ap (λ (q : Part). q.end) here);
-      there = get_prefix (thread_nodes t first) (threads_nodes ts (first + nodes_count t)) (length prefix + 0) (plain_node t.closing End) own;
+      there = get_prefix (thread_nodes (table_of x t) t first) (threads_nodes x ts (first + nodes_count t)) (length prefix + 0) (plain_node t.closing End) own;
     }
-has_end (t ∷ ts) first (suc k) p g =
-    let more = has_end ts (first + nodes_count t) k p g in
-    let count : length (thread_nodes t first) ≡ nodes_count t = length-thread_nodes t first in
+has_end x (t ∷ ts) first (suc k) p g =
+    let more = has_end x ts (first + nodes_count t) k p g in
+    let count : length (thread_nodes (table_of x t) t first) ≡ nodes_count t = length-thread_nodes (table_of x t) t first in
     record {
       place = more.place;
-      number = length (thread_nodes t first) + more.number;
+      number = length (thread_nodes (table_of x t) t first) + more.number;
       last = omega (arith, count, more.last);
-      there = get_suffix (thread_nodes t first) (threads_nodes ts (first + nodes_count t)) more.number (plain_node more.place End) more.there;
+      there = get_suffix (thread_nodes (table_of x t) t first) (threads_nodes x ts (first + nodes_count t)) more.number (plain_node more.place End) more.there;
     }
 
 -- the thread's end
@@ -118,20 +103,21 @@ pub record IsEnding (x : f.Flat) (p : Part) : Type 0 where
 pub ending : (x : f.Flat) (thread : ℕ) (p : Part) → slice_get (lowered x).threads thread ≡ Some p → IsEnding x p
 unfolding lowered
 ending x thread p g =
-    let e = has_end x.threads 0 thread p g in
+    let e = has_end x x.threads 0 thread p g in
     record { number = e.number; last = omega (arith, e.last); is = plain_node e.place End; at = e.there; ends = refl }
 
 -- ---- Each node of a part is there
 
-ends_within : (ts : List f.Thread) (first k : ℕ) (p : Part) → slice_get (parts ts first) k ≡ Some p → p.end ≤ first + length (threads_nodes ts first)
-ends_within ts first k p g =
-    let e = has_end ts first k p g in
-    omega (arith, slice_get_within (threads_nodes ts first) e.number _ e.there)
+ends_within : (x : f.Flat) (ts : List f.Thread) (first k : ℕ) (p : Part) → slice_get (parts ts first) k ≡ Some p →
+    p.end ≤ first + length (threads_nodes x ts first)
+ends_within x ts first k p g =
+    let e = has_end x ts first k p g in
+    omega (arith, slice_get_within (threads_nodes x ts first) e.number _ e.there)
 
 pub node_there : (x : f.Flat) (thread : ℕ) (p : Part) → slice_get (lowered x).threads thread ≡ Some p → (node : ℕ) → node < p.end →
     (is : Node) × NodeAt (lowered x) node is
 unfolding lowered
-node_there x thread p g node inside = found_in (threads_nodes x.threads 0) node (omega (arith, ends_within x.threads 0 thread p g, inside))
+node_there x thread p g node inside = found_in (threads_nodes x x.threads 0) node (omega (arith, ends_within x x.threads 0 thread p g, inside))
 
 -- ---- How much is ahead
 
@@ -175,15 +161,13 @@ module _ (p : Plan) (t : Thread) (own : Program) (code : IsThreadCode p t own) w
   room n of =
       let before = up_to first n (omega arith) of.from_first (omega (arith, of.below_end)) in
       let place : c.entry n ≡ own.start + 4 * before.0 = omega (arith, before.1, code.begins) in
-      let high = after n end of of.below_end (omega arith) in
-      record { from = before.0; place = place; within = omega (arith, place, high, code.ends) }
+      record { from = before.0; place = place; within = omega (arith, place, after n end of of.below_end (omega arith), code.ends) }
 
   two_fit : (n m : ℕ) → IsNodeOf t n → IsNodeOf t m → n < m → c.words n + c.words m ≤ length own.code
   two_fit n m of there less =
       let a = room n of in
       let b = room m there in
-      let next = after n m of less (omega (arith, there.below_end)) in
-      omega (arith, a.place, b.place, b.within, next)
+      omega (arith, a.place, b.place, b.within, after n m of less (omega (arith, there.below_end)))
 
   three_fit : (n m k : ℕ) → IsNodeOf t n → IsNodeOf t m → IsNodeOf t k → n < m → m < k → c.words n + c.words m + c.words k ≤ length own.code
   three_fit n m k of there last less more =
@@ -257,7 +241,7 @@ core_less p c node = grind (arith, nat_tests)
 
 -- where less is ahead
 pub less_soon : (y : System) (thread before_mark ahead less : ℕ) → IsSoon y thread before_mark ahead → less ≤ ahead → IsSoon y thread before_mark less
-less_soon y thread before_mark ahead less soon l = let fits = soon.0 in (omega (arith, fits, l), soon.1)
+less_soon y thread before_mark ahead less soon l = (omega (arith, soon.0, l), soon.1)
 
 -- where it is said to be the most
 pub whole_soon : (y : System) (thread before_mark ahead : ℕ) → before_mark ≡ most_ahead y thread → ahead ≤ most_ahead y thread →

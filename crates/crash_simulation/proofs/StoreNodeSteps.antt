@@ -1,56 +1,18 @@
 -- A hart at the code of a node that makes its thread's pending store.
-use Rattle.std.proofs.lemmas.Bool.Decides.{nat_tests}
-use Rattle.std.proofs.Common.{◌≡◌, ◌≢◌, inl, inr, refl, ℕ, ◌<◌, List, [], ◌∷◌, length, ap, sym, ◌∙◌, subst, arith, Option, Some, Bool, true, false}
-use Rattle.std.proofs.lemmas.Bool.{true≢false, true_from_ne_false, ne_eqb}
-use Rattle.std.proofs.lemmas.Option.{none-some, same_Some, slice_get-map}
-use Rattle.std.specs.Prelude.{slice_get, slice_index_or, Contains, ℤ, ◌*◌, ◌%◌, ◌^◌, if◌then◌else◌}
-use Rattle.std.specs.List.{AllZip}
-use Rattle.std.specs.Option.{option_map}
+use Rattle.crash_simulation.proofs.Common.{◌≡◌, ℕ, List, ◌∷◌, sym, ◌∙◌, ap, arith, subst, true, false, Option, Some, refl, ◌<◌, [], length, Bool, inl, inr}
+use Rattle.crash_simulation.proofs.Common.{slice_get, if◌then◌else◌, true≢false, ◌*◌, ◌%◌, ◌^◌, ℤ, slice_index_or, Contains, AllZip, option_map, ne_eqb}
+use Rattle.crash_simulation.proofs.Common.{true_from_ne_false, nat_tests, none-some, same_Some, slice_get-map, byte_number, variable_at, Word, bytes_of, typed}
+use Rattle.crash_simulation.proofs.Common.{register_form_of, Kind, Variable, Pending, Guards, element_lock, IsStoreInRange, AreNumbersOf, zip_at, World, Effect}
+use Rattle.crash_simulation.proofs.Common.{is_point_store, GraphThread, effect_of, NodeAt, lowered, Action, Store, Node, variables_apart, addresses_reach}
+use Rattle.crash_simulation.proofs.Common.{Writes, store_ahead, WritesAt, now, attempt_of, history_at, Memory, IsStored, IsOther, stores, begun, ConfigStep}
+use Rattle.crash_simulation.proofs.Common.{memory_in, since_stays, memory_stored, stored_is_since, HasCome, line_of, is_there, MarkedEnvironment, IsNext}
+use Rattle.crash_simulation.proofs.Common.{variables_are_apart, stores_to_variable, is_clean, kind_at, IsAnswered, source_of, MayDo, cleans_of, MarksPass}
+use Rattle.crash_simulation.proofs.Common.{same_or_other, AbstractRun, kept_of, now_of, attempts_of, MayStore, element, System, IsSystem, flat_of, shapes_of}
+use Rattle.crash_simulation.proofs.Common.{places_of, ThreadGhost, is_ahead, IsFlushed, IsComing}
+use Rattle.region_attempts.specs.PendingCleans.{Cleans}
 use Rattle.ido_base.specs.Words as words
-use Rattle.ido_base.specs.Words.{Word}
-use Rattle.ido_base.specs.Layout.{variable_at, byte_number}
-use Rattle.ido_ints.specs.declared.kinds.Kind.{Kind}
-use Rattle.ido_ints.specs.Kinds.{bytes_of}
-use Rattle.ido_ints.specs.TypedNumbers.{typed, register_form_of}
-use Rattle.c_tree.specs.Source.{Pending}
-use Rattle.c_tree.specs.Programs.{Variable}
-use Rattle.source_machine.specs.ElementLocks.{element_lock}
-use Rattle.source_machine.specs.Discipline.{Guards}
-use Rattle.c_ranges.specs.RunInvariants as ranges
-use Rattle.c_ranges.specs.RunInvariants.{AreNumbersOf}
-use Rattle.c_ranges.proofs.Public.{zip_at}
 use Rattle.rv64_isa.specs.Rows as r
-use Rattle.rv64_isa.specs.Rows.{Effect}
-use Rattle.rv64_isa.specs.Machine.{World}
-use Rattle.rv64_isa.specs.Schedule.{is_point_store}
-use Rattle.code_runs.specs.CodeTraces.{MarkedEnvironment}
-use Rattle.variable_words.proofs.Public.{addresses_reach, variables_apart}
-use Rattle.flow_graph.specs.Nodes.{Node, Action, Store}
-use Rattle.flow_graph.specs.Lowering.{lowered}
-use Rattle.flow_graph.specs.Liveness.{NodeAt}
-use Rattle.flow_graph.specs.Actions.{GraphThread, effect_of}
 use Rattle.flow_graph.specs.Actions as a
-use Rattle.hart_runs.specs.RunSteps.{is_clean}
-use Rattle.recovery_semantics.specs.ElementHistories.{Memory, IsStored, IsOther, history_at}
-use Rattle.recovery_semantics.specs.Attempts.{WritesAt, Writes, store_ahead}
-use Rattle.recovery_semantics.specs.Configs.{now, attempt_of}
-use Rattle.recovery_semantics.specs.Events.{ConfigStep, stores, begun}
-use Rattle.recovery_semantics.specs.VariableSpots.{memory_in}
-use Rattle.recovery_semantics.proofs.Public.{memory_stored, stored_is_since, since_stays}
-use Rattle.region_attempts.specs.PendingCleans.{line_of, Cleans}
-use Rattle.region_attempts.specs.AttemptsInRegion.{HasCome}
-use Rattle.region_attempts.proofs.Public.{is_there}
-use Rattle.log_states.specs.Machines.{IsNext}
-use Rattle.log_states.proofs.Public.{stores_to_variable, variables_are_apart}
-use Rattle.recovered_threads.proofs.Public.{same_or_other}
-use Rattle.thread_code.specs.RegistersAtNodes.{IsAnswered, source_of}
-use Rattle.thread_code.specs.NodeCodeEffects.{kind_at}
-use Rattle.thread_runs.specs.CodeFragments.{MayDo, cleans_of}
-use Rattle.thread_runs.specs.Laws.{MarksPass}
-use Rattle.crash_simulation.specs.Systems.{System, IsSystem, flat_of, shapes_of, places_of}
-use Rattle.crash_simulation.specs.AbstractRuns.{AbstractRun, kept_of, now_of, attempts_of}
-use Rattle.crash_simulation.specs.ThreadGhosts.{ThreadGhost, IsFlushed, IsComing, is_ahead}
-use Rattle.crash_simulation.specs.InstructionSteps.{MayStore, element}
 use Rattle.crash_simulation.proofs.ConfigAfterBegin.{one_longer, attempted, done_longer, alone_ahead}
 use Rattle.crash_simulation.proofs.GraphAfterBegin.{matches_now, follows_on, not_come, boundary_after_is}
 use Rattle.crash_simulation.proofs.MarksAtNodes.{Doing, MarkIn, AtMark, Passes, environment, in_graph, at_some_mark}
@@ -105,7 +67,7 @@ module _ {y : System} {s : IsSystem y} {w : World} {h : ℕ} (site : AtNode y s 
 
   -- ---- The store
 
-  formed : ranges.IsStoreInRange (flat_of y).variables store
+  formed : IsStoreInRange (flat_of y).variables store
   formed = store_is y.plan code s.plan (now_of y b) (now_good y s b) graph_thread t.walks store pending
 
   open formed.it use {kind as k}
@@ -151,9 +113,8 @@ module _ {y : System} {s : IsSystem y} {w : World} {h : ℕ} (site : AtNode y s 
   -- what the present step writes is the store
   written : (u i : ℕ) → WritesAt b.config.kept n (attempt_of b.config n).done u i → (u ≡ store.variable) × (i ≡ store.element)
   written u i writes =
-      let r = (resumed y s b).resumed in
       let same : writes.store ≡ store =
-      same_Some _ _ (sym writes.is ∙ alone_ahead (flat_of y) b.config r.invariant n site.core.goes.goes.going ∙ ahead) in
+      same_Some _ _ (sym writes.is ∙ alone_ahead (flat_of y) b.config (resumed y s b).resumed.invariant n site.core.goes.goes.going ∙ ahead) in
       (sym writes.variable_is ∙ ap (λ (q : Pending). q.variable) same, sym writes.element_is ∙ ap (λ (q : Pending). q.element) same)
 
   -- the thread guards it
@@ -253,27 +214,24 @@ module _ {y : System} {s : IsSystem y} {w : World} {h : ℕ} (site : AtNode y s 
         ((λ j. line_of (shapes_of y) ((sym is.0) j) ((sym is.1) j)) ∙ cleaned.in_line ∙ sym in_line)
 
     newest : IsFlushed y v next code new p.on.on.hart store.variable store.element
-    newest =
-        let r = (resumed y s b).resumed in
-        let longer = done_longer b.config n in
-        record {
-          before = (attempt_of b.config n).done;
-          within = omega (arith, longer);
-          writes = record {
-            store = store;
-            is = alone_ahead (flat_of y) b.config r.invariant n site.core.goes.goes.going ∙ ahead;
-            variable_is = refl;
-            element_is = refl;
-          };
-          position = length (history_at b.config.memory store.variable store.element).values;
-          since = stored_is_since b.config.memory memory store.variable store.element store.number stored;
-          comes = λ cleaned.
-              let same : cleaned.last ≡ (attempt_of b.config n).done = omega (arith, longer) in
-              let line : ℕ = line_of (shapes_of y) store.variable store.element in
-              let cleans_it = as_before (passing.passage site passed) cleaned.last line cleaned.at in
-              comes_now line (subst (λ (j : ℕ). Cleans (attempts_of y b) n j line) same cleans_it) store.variable store.element _ refl;
-          fenced = λ un. absurd (true≢false un);
-        }
+    newest = record {
+      before = (attempt_of b.config n).done;
+      within = omega (arith, done_longer b.config n);
+      writes = record {
+        store = store;
+        is = alone_ahead (flat_of y) b.config (resumed y s b).resumed.invariant n site.core.goes.goes.going ∙ ahead;
+        variable_is = refl;
+        element_is = refl;
+      };
+      position = length (history_at b.config.memory store.variable store.element).values;
+      since = stored_is_since b.config.memory memory store.variable store.element store.number stored;
+      comes = λ cleaned.
+          let same : cleaned.last ≡ (attempt_of b.config n).done = omega (arith, done_longer b.config n) in
+          let line : ℕ = line_of (shapes_of y) store.variable store.element in
+          let cleans_it = as_before (passing.passage site passed) cleaned.last line cleaned.at in
+          comes_now line (subst (λ (j : ℕ). Cleans (attempts_of y b) n j line) same cleans_it) store.variable store.element _ refl;
+      fenced = λ un. absurd (true≢false un);
+    }
 
     flushed : (u i : ℕ) → Writes next.config.kept n (attempt_of next.config n).done u i → IsFlushed y v next code new p.on.on.hart u i
     flushed u i writes = elim (same_or_other u store.variable) [

@@ -1,43 +1,19 @@
 -- A thread's begun steps are kept: what that is to it and to the others, and that their invariants still hold.
-use Rattle.std.proofs.Common.{◌≡◌, ◌≢◌, refl, ℕ, zero, suc, ◌<◌, ◌≤◌, List, [], ◌∷◌, ◌++◌, replicate, sym, ◌∙◌, ap, subst, arith, slice_set, Option, Some}
-use Rattle.std.proofs.Common.{true, false, ⊎_elim}
-use Rattle.std.specs.Prelude.{slice_get}
-use Rattle.std.specs.Option.{option_map}
-use Rattle.std.proofs.lemmas.List.{get_or-set_other}
-use Rattle.c_tree.specs.Source as m
-use Rattle.source_machine.specs.Mutexes.{held_by}
-use Rattle.source_machine.specs.Discipline.{StateKeeps, Guards}
-use Rattle.source_machine.specs.StepExchanges.{IsSameTo}
-use Rattle.source_machine.proofs.Public.{run_keeps, locks_same, unlocks_same, solo as solo_law}
-use Rattle.flow_graph.specs.Actions.{GraphThread, FlowState}
-use Rattle.flow_graph.specs.Lockstep.{Matches}
-use Rattle.recovery_semantics.specs.Attempts.{Attempt, attempt_at, no_attempt, IsAttempted, IsInner, solo, WritesAt}
-use Rattle.recovery_semantics.specs.Configs.{Invariant, now, attempt_of}
-use Rattle.recovery_semantics.specs.Events.{commits, settled_by, IsSettled, steps_begun}
-use Rattle.recovery_semantics.specs.Executions.{then}
-use Rattle.recovery_semantics.specs.Laws.{IsKeptBy, HasLocked, HasUnlocked, LastUnlocks}
-use Rattle.recovery_semantics.proofs.Public.{inner_along, writes_at_same, none_left, none_of_other, others_left, rest_after, same_other, path, last_after}
-use Rattle.recovery_semantics.proofs.Public.{last_alone, last_stays, unlocked_is_last}
-use Rattle.region_attempts.specs.GraphStates.{flow_solo, node_after}
-use Rattle.region_attempts.specs.AttemptsInRegion.{SettlesThere}
-use Rattle.region_attempts.specs.Laws.{GraphThreadsSettle}
-use Rattle.region_attempts.proofs.Public.{step_lockstep, matched_run, inner_runs, own_step, graph_follows, graph_settles}
-use Rattle.log_states.specs.Logs.{Record}
-use Rattle.recovered_threads.specs.RecordDescriptions.{Code, Describes}
-use Rattle.recovered_threads.proofs.Public.{others_describe}
-use Rattle.crash_simulation.specs.Systems.{System, IsSystem, flat_of}
-use Rattle.crash_simulation.specs.AbstractRuns.{AbstractRun, kept_of, now_of}
+use Rattle.crash_simulation.proofs.Common.{◌≡◌, ◌≢◌, ℕ, List, ◌∷◌, sym, ◌∙◌, ap, arith, subst, true, false, Option, Some, refl, suc, ◌<◌, [], ◌++◌, zero}
+use Rattle.crash_simulation.proofs.Common.{replicate, slice_set, slice_get, true≢false, ◌≤◌, ⊎_elim, option_map, cases_Bool, get_or-set_other, State, Guards}
+use Rattle.crash_simulation.proofs.Common.{StateKeeps, held_by, IsSameTo, run_keeps, locks_same, unlocks_same, Hart, World, Phase, GraphThread, FlowState}
+use Rattle.crash_simulation.proofs.Common.{Matches, no_attempt, Attempt, IsAttempted, attempt_at, solo, WritesAt, IsInner, now, attempt_of, Invariant}
+use Rattle.crash_simulation.proofs.Common.{steps_begun, IsSettled, commits, settled_by, then, HasUnlocked, LastUnlocks, IsKeptBy, HasLocked, none_left}
+use Rattle.crash_simulation.proofs.Common.{same_other, inner_along, writes_at_same, none_of_other, others_left, rest_after, path, last_after, last_alone}
+use Rattle.crash_simulation.proofs.Common.{last_stays, unlocked_is_last, SettlesThere, flow_solo, node_after, GraphThreadsSettle, own_step, graph_follows}
+use Rattle.crash_simulation.proofs.Common.{step_lockstep, matched_run, inner_runs, graph_settles, Record, ExitPoint, Code, Describes, others_describe}
+use Rattle.crash_simulation.proofs.Common.{AbstractRun, kept_of, now_of, System, IsSystem, flat_of, ThreadGhost, on_fragment, InPhase, ThreadInv, IsBounded}
+use Rattle.crash_simulation.proofs.Common.{ExitInv, committed, InFragment, record_kept}
+use Rattle.source_machine.proofs.Public.{solo as solo_law}
 use Rattle.crash_simulation.proofs.StatesMatchSource.{resumed, kept_matches, as_source}
-use Rattle.std.proofs.lemmas.Bool.{true≢false, cases_Bool}
-use Rattle.rv64_isa.specs.declared.phase.Phase.{Phase}
-use Rattle.rv64_isa.specs.Machine.{Hart, World}
-use Rattle.thread_runs.specs.CodeFragments.{ExitPoint}
-use Rattle.crash_simulation.specs.ThreadGhosts.{ThreadGhost, IsBounded, ExitInv, InFragment}
-use Rattle.crash_simulation.specs.ThreadGhosts.{on_fragment, InPhase, ThreadInv, committed, record_kept}
 use Rattle.crash_simulation.proofs.PendingReleases.{IsAtBoundary, at_keeps, at_took, at_gives, under_way, bounded_of}
 use Rattle.crash_simulation.proofs.KeptThreads.{moves_nowhere, IsKept, IsLeftAlone, stands_kept}
 use Rattle.crash_simulation.proofs.ThreadViews.{none_stored}
-use Rattle.c_tree.specs.Source.{State}
 
 -- ---- Attempts
 
@@ -131,15 +107,14 @@ module _ (y : System) (s : IsSystem y) (b : AbstractRun y) where
         let alone = subst (λ (n : ℕ). LastUnlocks old.kept (replicate n t) t mutex) (sym h.begun)
         (last_alone old.kept t (attempt_of old t).done mutex h.unlocks_it) in
         last_after b.origin.source b.schedule (replicate (steps_begun old t) t) t mutex kept_by.runs
-        (subst (λ (z : m.State). LastUnlocks z (replicate (steps_begun old t) t) t mutex) (sym kept_by.is) alone)
+        (subst (λ (z : State). LastUnlocks z (replicate (steps_begun old t) t) t mutex) (sym kept_by.is) alone)
 
     -- ---- Another thread
 
     module _ (u : ℕ) (apart : u ≢ t) where
       -- its last step that is kept stays so
       pub unlock_stays : (mutex : ℕ) → LastUnlocks b.origin.source b.schedule u mutex → LastUnlocks b.origin.source committed_run.schedule u mutex
-      unlock_stays mutex l =
-          last_stays b.origin.source b.schedule (replicate (steps_begun old t) t) u mutex (none_of_other t u (steps_begun old t) apart) l
+      unlock_stays mutex l = last_stays b.origin.source b.schedule (replicate (steps_begun old t) t) u mutex (none_of_other t u (steps_begun old t) apart) l
 
       open attempt_of old u use {done, longest}
 
@@ -301,7 +276,7 @@ module _ (y : System) (s : IsSystem y) (b : AbstractRun y) (k : ℕ) (may : MayS
       giving = refl;
       committed = refl;
     };
-    guards = λ v e g. subst (λ (z : m.State). Guards (flat_of y) z u v e) (sym (source_same y s b k may)) g;
+    guards = λ v e g. subst (λ (z : State). Guards (flat_of y) z u v e) (sym (source_same y s b k may)) g;
     graph_thread = ap (λ (z : FlowState). slice_get z.graph_threads u) (now_same y s b k may);
     holds = ap (λ (z : FlowState). held_by u z.holders) (now_same y s b k may);
     describes = λ d. describes_on y s b k may u apart code (record_kept c) refl d;

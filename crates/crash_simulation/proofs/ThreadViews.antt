@@ -1,32 +1,10 @@
 -- Views of a thread: its log, what that says, how far the thread is, and what it has stored; and by what they are kept.
-use Rattle.std.proofs.Common.{◌≡◌, ℕ, List, [], ap, sym, ◌∙◌, subst, arith, Option, Some, None, Bool, true, false}
-use Rattle.std.proofs.lemmas.Bool.{cond-true, cond-false, true≢false}
-use Rattle.std.proofs.lemmas.Option.{none-some}
-use Rattle.std.specs.Prelude.{slice_get, Contains}
-use Rattle.ido_base.specs.declared.log.Log.{Log}
-use Rattle.ido_base.specs.declared.event.Event.TheVariants.{Step}
-use Rattle.rv64_isa.specs.declared.object.Slot.{Slot}
-use Rattle.rv64_isa.specs.Frames.{IsWellFormedWorld}
-use Rattle.rv64_isa.specs.Rows.{Effect}
-use Rattle.rv64_isa.specs.Machine.{Hart, World, Outcome, after_event, happens, moved}
-use Rattle.rv64_isa.proofs.Public.{log_stays, get-set_same}
-use Rattle.flow_graph.specs.Actions.{GraphThread}
-use Rattle.flow_graph.proofs.Public.{contains_none}
-use Rattle.hart_runs.specs.RunSteps.{is_clean}
-use Rattle.recovery_semantics.specs.Configs.{Config, attempt_of}
-use Rattle.recovery_semantics.specs.Events.{steps_begun}
-use Rattle.recovery_semantics.specs.Laws.{HasLocked, HasUnlocked}
-use Rattle.log_states.specs.Logs.{Record}
-use Rattle.log_states.specs.Stages.{LogIs, Moves, is_committed}
-use Rattle.log_states.specs.Machines.{MovesTo, config_of}
-use Rattle.log_states.specs.LogInvariant.{LogInv}
-use Rattle.log_states.proofs.Public.{keeps, stays_committed}
-use Rattle.thread_runs.specs.CodeFragments.{ExitPoint, Arrives, Keeps, Asks, Took, Gives, Ends}
-use Rattle.recovered_threads.specs.RecordDescriptions.{Code, Describes}
-use Rattle.recovered_threads.proofs.Public.{same_there}
-use Rattle.crash_simulation.specs.Systems.{System}
-use Rattle.crash_simulation.specs.AbstractRuns.{AbstractRun, kept_of, now_of}
-use Rattle.crash_simulation.specs.ThreadGhosts.{ThreadGhost, IsInAttempt, GoesClean, IsBounded, ExitInv, Rests, HasRecords, HasStored}
+use Rattle.crash_simulation.proofs.Common.{◌≡◌, ℕ, List, sym, ◌∙◌, ap, arith, subst, true, false, Option, Some, None, [], Bool, slice_get, true≢false, Contains}
+use Rattle.crash_simulation.proofs.Common.{cond-true, cond-false, none-some, Step, Log, IsWellFormedWorld, Hart, World, happens, after_event, Outcome, moved}
+use Rattle.crash_simulation.proofs.Common.{Effect, Slot, log_stays, get-set_same, GraphThread, contains_none, Config, attempt_of, steps_begun, HasUnlocked}
+use Rattle.crash_simulation.proofs.Common.{HasLocked, LogInv, Record, config_of, MovesTo, is_committed, Moves, LogIs, keeps, stays_committed, is_clean}
+use Rattle.crash_simulation.proofs.Common.{ExitPoint, Arrives, Gives, Ends, Keeps, Asks, Took, Code, Describes, same_there, AbstractRun, kept_of, now_of}
+use Rattle.crash_simulation.proofs.Common.{System, Rests, ThreadGhost, GoesClean, IsBounded, ExitInv, HasStored, IsInAttempt, HasRecords}
 
 -- ---- Its log
 
@@ -148,5 +126,4 @@ none_clean effect has = absurd (contains_none effect has)
 pub none_stored : (y : System) (w : World) (b : AbstractRun y) (code : Code y.plan) (c : ThreadGhost) (hart : Hart) →
     (attempt_of b.config code.thread.number).done ≡ 0 → ((effect : Effect) → Contains c.cleans effect → is_clean effect ≡ true) →
     HasStored y w b code c hart
-none_stored y w b code c hart none clean =
-    record { cleans = clean; flushed = λ v e writes. let within = writes.within in absurd (omega (arith, within, none)) }
+none_stored y w b code c hart none clean = record { cleans = clean; flushed = λ v e writes. absurd (omega (arith, writes.within, none)) }

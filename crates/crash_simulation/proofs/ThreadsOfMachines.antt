@@ -1,21 +1,8 @@
 -- What stays so of a machine by every event, and what is so of each of its threads since it is so of one and of all others.
-use Rattle.std.proofs.lemmas.Bool.Decides.{nat_tests}
-use Rattle.std.proofs.Common.{arith, ◌≡◌, ◌≢◌, inl, inr, ℕ, ◌<◌, List, length, ap, sym, ◌∙◌, subst, slice_get}
-use Rattle.std.proofs.Props.{props}
-use Rattle.ido_base.specs.declared.event.Event.{Event}
-use Rattle.ido_base.specs.declared.event.Event.TheVariants.{Step, Evict, Crash}
-use Rattle.rv64_isa.specs.declared.object.Slot.{Slot}
-use Rattle.rv64_isa.specs.declared.phase.Phase.{Phase}
-use Rattle.rv64_isa.specs.Machine.{World, after_event}
-use Rattle.rv64_isa.specs.Frames.{IsWellFormedWorld}
-use Rattle.rv64_isa.proofs.Public.{log_stays, queues_stand, steps_touch, evictions_touch}
-use Rattle.hart_runs.specs.Calls.{IsInPhase}
-use Rattle.hart_runs.proofs.Public.{crashes_step, queues_stay_short}
-use Rattle.recovered_threads.proofs.Public.{same_there, same_or_other}
-use Rattle.crash_simulation.specs.Systems.{System, IsSystem, thread_count}
-use Rattle.crash_simulation.specs.ThreadGhosts.{ThreadGhost, InPhase}
-use Rattle.crash_simulation.specs.SimulationRelation.{IsMachineOf, SimulatesBut}
-use Rattle.crash_simulation.specs.InstructionSteps.{with_ghost}
+use Rattle.crash_simulation.proofs.Common.{◌≡◌, ◌≢◌, ℕ, List, sym, ◌∙◌, ap, arith, subst, ◌<◌, length, inl, inr, slice_get, props, nat_tests, Event, Step}
+use Rattle.crash_simulation.proofs.Common.{Evict, Crash, IsWellFormedWorld, World, after_event, Slot, Phase, log_stays, evictions_touch, steps_touch}
+use Rattle.crash_simulation.proofs.Common.{queues_stand, IsInPhase, queues_stay_short, crashes_step, same_there, same_or_other, with_ghost, SimulatesBut}
+use Rattle.crash_simulation.proofs.Common.{IsMachineOf, System, IsSystem, thread_count, ThreadGhost, InPhase}
 use Rattle.crash_simulation.proofs.LocksAfterStep.{own_ghost, other_ghost}
 
 -- ---- The machine

@@ -1,57 +1,18 @@
 -- A hart at the code of a node that gives a mutex back: it passes its mark, and the boundary before the call begins.
-use Rattle.std.proofs.lemmas.Bool.Decides.{nat_tests}
-use Rattle.std.proofs.Common.{◌≡◌, inr, refl, ℕ, suc, ◌+◌, ◌*◌, ◌<◌, ◌≤◌, List, [], ◌∷◌, ◌++◌, length, ap, sym, ◌∙◌, subst, arith}
-use Rattle.std.proofs.Common.{Option, Some, Bool, true, false}
-use Rattle.std.proofs.lemmas.Bool.{true≢false}
-use Rattle.std.proofs.lemmas.Option.{none-some, same_Some, slice_get_within}
-use Rattle.std.specs.Prelude.{slice_get, not, ◌&&◌, if◌then◌else◌}
-use Rattle.std.specs.List.{list_any}
-use Rattle.boundary_code.specs.Boundaries.{Boundary, boundary_effects, side_after}
-use Rattle.ido_base.specs.Layout.{log_of}
-use Rattle.ido_base.specs.Growth.{PersistsThrough}
-use Rattle.ido_base.specs.declared.event.Reply.{Reply}
-use Rattle.source_machine.specs.Mutexes.{unlocks}
-use Rattle.source_machine.proofs.Public.{unlocks_held}
-use Rattle.rv64_isa.specs.declared.phase.Phase.{Phase}
-use Rattle.rv64_isa.specs.Rows.{Effect}
-use Rattle.rv64_isa.specs.Machine.{Hart, World}
-use Rattle.rv64_isa.specs.Schedule.{has_moved, is_point_store}
-use Rattle.rv64_isa.specs.Rows as r
-use Rattle.code_runs.specs.CodeTraces.{MarkedEnvironment}
-use Rattle.flow_graph.specs.Actions.{GraphThread, FlowState, Seen, effect_of, seen_by}
-use Rattle.flow_graph.specs.Nodes.{Node, Action, Unlock}
-use Rattle.flow_graph.specs.Lowering.{lowered}
-use Rattle.flow_graph.specs.Liveness.{NodeAt}
-use Rattle.flow_graph.specs.Actions as a
+use Rattle.crash_simulation.proofs.Common.{◌≡◌, ℕ, List, ◌∷◌, sym, ◌∙◌, ap, arith, subst, true, false, Option, Some, refl, suc, ◌+◌, ◌<◌, [], ◌++◌, length}
+use Rattle.crash_simulation.proofs.Common.{Bool, inr, slice_get, ◌&&◌, if◌then◌else◌, not, true≢false, ◌≤◌, ◌*◌, list_any, nat_tests, none-some, same_Some}
+use Rattle.crash_simulation.proofs.Common.{slice_get_within, PersistsThrough, log_of, Reply, LockName, lock_number, unlocks, unlocks_held, Hart, World, Effect}
+use Rattle.crash_simulation.proofs.Common.{Cleans, Fences, has_moved, is_point_store, Phase, Seen, GraphThread, FlowState, seen_by, effect_of, NodeAt, lowered}
+use Rattle.crash_simulation.proofs.Common.{Action, Node, Unlock, Boundary, boundary_effects, side_after, now, history_at, Memory, begun, ConfigStep}
+use Rattle.crash_simulation.proofs.Common.{synchronises, Synchronises, HasUnlocked, memory_in, counted_own, MarkedEnvironment, recorded_by, LogInv, Record}
+use Rattle.crash_simulation.proofs.Common.{config_of, IsNext, MovesTo, IsLogEffect, StoresWord, CleansLine, PassesFence, is_boundary_effect, is_store}
+use Rattle.crash_simulation.proofs.Common.{fences_ahead, stores_nothing, point_store_is_last, boundaries_stay_in, not_done, own_steps_move, side_follows}
+use Rattle.crash_simulation.proofs.Common.{boundaries_fence, steps_keep, fences_settle, keeping, Enters, IsAnswered, source_of, Gives, MarksPass, run_at}
+use Rattle.crash_simulation.proofs.Common.{fragments_see_all, past_unlock, unlocks_enter, AbstractRun, now_of, is_bound, nothing_released, MayStore, nothing}
+use Rattle.crash_simulation.proofs.Common.{goes, abstract_next, begins_step, begins_unlock, most_ahead, System, IsSystem, flat_of, places_of, ThreadGhost}
+use Rattle.crash_simulation.proofs.Common.{on_fragment, InPhase, ThreadInv, IsFlushed}
 use Rattle.flow_graph.proofs.Public.{moved}
-use Rattle.hart_runs.proofs.Public.{fences_settle}
-use Rattle.recovery_semantics.specs.ElementHistories.{Memory, history_at}
-use Rattle.recovery_semantics.specs.Configs.{now}
-use Rattle.recovery_semantics.specs.Events.{ConfigStep, synchronises, begun}
-use Rattle.recovery_semantics.specs.Laws.{HasUnlocked}
-use Rattle.recovery_semantics.specs.VariableSpots.{memory_in}
-use Rattle.recovery_semantics.specs.Events as events
-use Rattle.recovery_semantics.proofs.Public.{counted_own}
-use Rattle.log_states.specs.Machines.{IsNext, IsLogEffect, MovesTo, StoresWord, CleansLine, PassesFence, config_of, is_boundary_effect}
-use Rattle.log_states.specs.LogInvariant.{LogInv}
-use Rattle.log_states.specs.Logs.{Record}
-use Rattle.log_states.specs.Stages.{is_store, fences_ahead}
-use Rattle.log_states.specs.Laws.{recorded_by}
-use Rattle.log_states.proofs.Public.{stores_nothing, boundaries_stay_in, point_store_is_last, side_follows, boundaries_fence}
-use Rattle.log_states.proofs.Public.{steps_keep, own_steps_move, not_done}
-use Rattle.recovered_threads.specs.RecordDescriptions.{past_unlock}
-use Rattle.recovered_threads.proofs.Public.{unlocks_enter}
-use Rattle.thread_code.specs.RegistersAtNodes.{Enters, IsAnswered, source_of}
-use Rattle.thread_code.specs.NodeCodeEffects.{keeping}
-use Rattle.thread_runs.specs.CodeFragments.{Gives}
-use Rattle.thread_runs.specs.Laws.{MarksPass, run_at}
-use Rattle.thread_runs.proofs.Public.{fragments_see_all}
-use Rattle.crash_simulation.specs.ThreadGhosts.{ThreadGhost, on_fragment, InPhase, IsFlushed, ThreadInv}
-use Rattle.crash_simulation.specs.InstructionSteps.{goes, MayStore, nothing, abstract_next, begins_unlock, is_bound, nothing_released}
-use Rattle.crash_simulation.specs.InstructionSteps.{begins_step}
-use Rattle.crash_simulation.specs.Systems.{System, IsSystem, flat_of, places_of}
-use Rattle.crash_simulation.specs.AbstractRuns.{AbstractRun, now_of}
-use Rattle.crash_simulation.specs.StepsToMark.{most_ahead}
+use Rattle.flow_graph.specs.Actions as a
 use Rattle.crash_simulation.proofs.StatesMatchSource.{resumed, now_orderly, now_good}
 use Rattle.crash_simulation.proofs.GraphAfterBegin.{after_effect, graph_thread_is, graph_threads_count, follows_on}
 use Rattle.crash_simulation.proofs.OwnHartSteps.{log_begins, step_to, view, StepOf, own_giving, locks_to, AtNode}
@@ -70,16 +31,20 @@ use Rattle.crash_simulation.proofs.PendingFlushes.{Passage, stored_same, still_r
 use Rattle.crash_simulation.proofs.FragmentSteps.{Made, no_effect, cleans_first, bounds_first, made_by, words_same, log_may, log_memory}
 use Rattle.crash_simulation.proofs.WriteBackSteps.{mark_step, not_bound}
 
--- a node that unlocks a mutex
+-- a node that gives a lock back
 pub record UnlocksAt (node : Node) : Type 0 where
-  pub mutex : ℕ
+  pub lock : LockName
   pub next_node : ℕ
-  pub action : node.action ≡ Unlock mutex next_node
+  pub action : node.action ≡ Unlock lock next_node
 
 module _ {y : System} {s : IsSystem y} {w : World} {h : ℕ} (site : AtNode y s w h) (node : Node)
     (at : NodeAt (lowered (flat_of y)) (view site.hart).graph_thread.at node) (unlocking : UnlocksAt node) where
   open view site.hart use {b, code, ghosts, c, t, n, v, places, graph_thread, seen}
-  open unlocking use {mutex, next_node, action}
+  open unlocking use {next_node, action}
+  open unlocking use {lock as name}
+
+  abbrev mutex : ℕ
+  mutex = lock_number graph_thread.locals name
 
   abbrev e : a.Effect
   e = a.Gives mutex next_node
@@ -103,9 +68,9 @@ module _ {y : System} {s : IsSystem y} {w : World} {h : ℕ} (site : AtNode y s 
   -- ---- The source
 
   unlocks_now : unlocks (now b.config) n ≡ Some mutex
-  unlocks_now = unlocks_it (in_graph site doing) mutex next_node action
+  unlocks_now = unlocks_it (in_graph site doing) name next_node action
 
-  passing : events.Synchronises b.config n
+  passing : Synchronises b.config n
   passing =
       let stepped = source_steps (in_graph site doing) _ (graph_step_is site doing) in
       record {
@@ -114,7 +79,7 @@ module _ {y : System} {s : IsSystem y} {w : World} {h : ℕ} (site : AtNode y s 
         is = stepped.1;
         mutex = mutex;
         passes = inr unlocks_now;
-        own = λ over. none-some over.mutex (sym (unlock_locks_none (in_graph site doing) mutex next_node action) ∙ over.takes);
+        own = λ over. none-some over.mutex (sym (unlock_locks_none (in_graph site doing) name next_node action) ∙ over.takes);
       }
 
   abbrev happened : ConfigStep b.config (begun b.config n b.config.memory b.config.attempts)
@@ -133,18 +98,16 @@ module _ {y : System} {s : IsSystem y} {w : World} {h : ℕ} (site : AtNode y s 
   walks_next = ap (λ (z : FlowState). slice_get z.graph_threads n) state ∙ graph_thread_is (now_of y b) n graph_thread e t.walks
 
   has_unlocked : HasUnlocked next.config n mutex
-  has_unlocked =
-      let i = (resumed y s b).resumed.invariant in
-      record {
-        begun = counted_own n b.config.uncommitted ∙ ap suc site.core.goes.goes.going;
-        unlocks_it = alone_unlocks (flat_of y) b.config i n site.core.goes.goes.going ∙ unlocks_now;
-      }
+  has_unlocked = record {
+    begun = counted_own n b.config.uncommitted ∙ ap suc site.core.goes.goes.going;
+    unlocks_it = alone_unlocks (flat_of y) b.config (resumed y s b).resumed.invariant n site.core.goes.goes.going ∙ unlocks_now;
+  }
 
   -- the thread has the mutex now
   owned : slice_get (now_of y b).holders mutex ≡ Some (Some n)
   owned =
       let o = now_orderly y s b in
-      let there = unlocks_it (record { formed = s.plan.formed; matches = o.matches; graph_thread = graph_thread; found = t.walks; node = node; at = at }) mutex
+      let there = unlocks_it (record { formed = s.plan.formed; matches = o.matches; graph_thread = graph_thread; found = t.walks; node = node; at = at }) name
       next_node action in
       ap (λ (hs : List (Option ℕ)). slice_get hs mutex) o.matches.holders ∙ unlocks_held (flat_of y) o.source n mutex o.keeps there
 
@@ -165,7 +128,7 @@ module _ {y : System} {s : IsSystem y} {w : World} {h : ℕ} (site : AtNode y s 
   enters_next : Enters y.plan code.thread next_node (seen_by (now_of y next) graph_thread_next) site.core.side site.core.registers
   enters_next =
       let seen_same : seen ≡ seen_by (now_of y next) graph_thread_next = ap (λ (z : FlowState). seen_by z graph_thread_next) (sym state) in
-      unlocks_enter y.plan code (now_of y next) graph_thread_next graph_thread.at mutex site.core.side node site.core.registers s.plan
+      unlocks_enter y.plan code (now_of y next) graph_thread_next graph_thread.at name site.core.side node site.core.registers s.plan
       (now_orderly y s next)
       walks_next (at_plan site doing) action
       (subst (λ (z : Seen). Enters y.plan code.thread graph_thread.at z site.core.side site.core.registers) seen_same site.core.core.enters)
@@ -177,10 +140,10 @@ module _ {y : System} {s : IsSystem y} {w : World} {h : ℕ} (site : AtNode y s 
         there = walks_next;
         goes_on = site.core.goes.execution;
         own = mark.at.own;
-        resumes = λ holds. past_unlock graph_thread.at mutex node site.core.core.own (at_plan site doing) action holds;
+        resumes = λ holds. past_unlock graph_thread.at name node site.core.core.own (at_plan site doing) action holds;
         enters = enters_next;
-        address = after_unlock_in y s h site.hart.below graph_thread.at mutex next_node
-            (record { own = site.core.core.own; is = node; at = at_plan site doing; unlocks = action });
+        address = after_unlock_in y s h site.hart.below graph_thread.at graph_thread.locals mutex next_node
+            (record { own = site.core.core.own; is = node; at = at_plan site doing; lock = name; unlocks = action; number = refl });
       })
 
   log_first : LogInv n c.new new_record w effects_all
@@ -201,7 +164,7 @@ module _ {y : System} {s : IsSystem y} {w : World} {h : ℕ} (site : AtNode y s 
       may : MayStore y b n p.forward.effect
       memory : memory_in (places_of y) v.words ≡ memory_in (places_of y) w.words
       point : is_point_store w.log n p.forward.effect ≡ not (list_any is_store p.later)
-      fenced : fences_ahead p.later < 2 → p.forward.effect ≡ r.Fences
+      fenced : fences_ahead p.later < 2 → p.forward.effect ≡ Fences
 
     same_words : v.words ≡ p.forward.contents.words
     same_words = ap (λ (z : World). z.words) p.forward.world
@@ -235,7 +198,7 @@ module _ {y : System} {s : IsSystem y} {w : World} {h : ℕ} (site : AtNode y s 
           subst (λ (reply : Reply). MovesTo n w hart (p.forward.effect ∷ p.later) v (if has_moved reply then p.later else p.forward.effect ∷ p.later))
           p.forward.reply (own_steps_move y.runs.program w n hart p.forward.effect p.later next_is inside.1)
 
-      first_by : is_point_store w.log n p.forward.effect ≡ not (list_any is_store p.later) → (fences_ahead p.later < 2 → p.forward.effect ≡ r.Fences) → IsFirst
+      first_by : is_point_store w.log n p.forward.effect ≡ not (list_any is_store p.later) → (fences_ahead p.later < 2 → p.forward.effect ≡ Fences) → IsFirst
       first_by point fenced = record {
         log = log_moved log_found moves;
         may = log_may y b w n site.hart.stands.machine.log p.forward.effect inside.0;
@@ -248,8 +211,7 @@ module _ {y : System} {s : IsSystem y} {w : World} {h : ℕ} (site : AtNode y s 
       point_kept : (f : Effect) → p.forward.effect ≡ f → is_store f ≡ false → is_point_store w.log n p.forward.effect ≡ not (list_any is_store p.later)
       point_kept f is none = grind (arith, nat_tests)
 
-      unfenced : (f : Effect) → p.forward.effect ≡ f → fences_ahead (f ∷ p.later) ≡ fences_ahead p.later → fences_ahead p.later < 2 →
-          p.forward.effect ≡ r.Fences
+      unfenced : (f : Effect) → p.forward.effect ≡ f → fences_ahead (f ∷ p.later) ≡ fences_ahead p.later → fences_ahead p.later < 2 → p.forward.effect ≡ Fences
       unfenced f is none few = grind (arith, two_fences)
 
       first_of : IsLogEffect w.log n p.forward.effect → IsFirst
@@ -270,7 +232,7 @@ module _ {y : System} {s : IsSystem y} {w : World} {h : ℕ} (site : AtNode y s 
       point = stores_ahead none (ap (list_any is_store) (sym same));
       fenced = λ few. absurd (omega (arith, few, two_fences, ap fences_ahead same));
     }
-    by_made (cleans_first address others is cleans later) = absurd (not_done (r.Cleans address) others cleans)
+    by_made (cleans_first address others is cleans later) = absurd (not_done (Cleans address) others cleans)
     by_made (bounds_first none rest) = first_of rest (inside rest).0
 
     first : IsFirst
@@ -311,7 +273,7 @@ module _ {y : System} {s : IsSystem y} {w : World} {h : ℕ} (site : AtNode y s 
     memory_same = first.memory ∙ site.hart.stands.memory
 
     -- what it has stored is durable after a fence
-    settled : (u i : ℕ) (f : IsFlushed y w b code c t.log.hart u i) → p.forward.effect ≡ r.Fences → f.position ≤ (history_at b.config.memory u i).durable
+    settled : (u i : ℕ) (f : IsFlushed y w b code c t.log.hart u i) → p.forward.effect ≡ Fences → f.position ≤ (history_at b.config.memory u i).durable
     settled u i f fence =
         subst (λ (m : Memory). f.position ≤ (history_at m u i).durable) memory_same
         (fence_settles step s site.hart.stands.memory site.core.goes.cleans (inr (mutex, inr has_unlocked.unlocks_it))
@@ -346,8 +308,7 @@ module _ {y : System} {s : IsSystem y} {w : World} {h : ℕ} (site : AtNode y s 
       held =
           λ held. held_unlocked (locks_to site.hart next new
           (ap (λ (z : FlowState). length z.graph_threads) state ∙ graph_threads_count (now_of y b) n graph_thread e)) held mutex owned still_held
-          (ap (λ (z : FlowState). z.holders) state)
-          (sym (own_giving site.hart) ∙ site.core.goes.goes.giving) refl
+          (ap (λ (z : FlowState). z.holders) state) (sym (own_giving site.hart) ∙ site.core.goes.goes.giving) refl
           (slice_get_within (now_of y next).graph_threads n graph_thread_next walks_next);
       counted = record {
         marks = p.mark y.runs.marks refl;

@@ -1,31 +1,11 @@
 -- A hart at its node's code that writes an entry of its queue back stays there.
-use Rattle.std.proofs.lemmas.Bool.Decides.{nat_tests}
-use Rattle.std.proofs.Common.{◌≡◌, ⊎_elim, refl, ℕ, suc, ◌+◌, List, [], ◌∷◌, length, ap, sym, ◌∙◌, subst, arith, Bool, true, false}
-use Rattle.std.proofs.lemmas.Bool.{true≢false}
-use Rattle.std.proofs.lemmas.Option.{none-some}
-use Rattle.std.specs.Prelude.{not, ◌-◌}
-use Rattle.ido_base.specs.Words.{Entry}
-use Rattle.ido_base.specs.Growth.{AreEntries, PersistsThrough}
-use Rattle.ido_base.specs.Growth as growth
-use Rattle.ido_base.proofs.Public.{write_backs_raise}
-use Rattle.rv64_isa.specs.Machine.{World}
-use Rattle.rv64_isa.specs.Schedule.{is_running}
-use Rattle.hart_runs.proofs.Public.{drains_reach}
+use Rattle.crash_simulation.proofs.Common.{◌≡◌, ℕ, List, ◌∷◌, sym, ◌∙◌, ap, arith, subst, true, false, refl, suc, ◌+◌, [], length, Bool, not, true≢false, ◌-◌}
+use Rattle.crash_simulation.proofs.Common.{⊎_elim, nat_tests, none-some, AreEntries, PersistsThrough, Entry, write_backs_raise, World, is_running, Memory}
+use Rattle.crash_simulation.proofs.Common.{persists, memory_in, memory_persisted, since_is_persisted, IsNext, is_store, stores_nothing, one_effect}
+use Rattle.crash_simulation.proofs.Common.{drains_reach, MarksPass, stays_are_at_core, AbstractRun, is_bound, nothing_released, is_nearer, MayStore, nothing}
+use Rattle.crash_simulation.proofs.Common.{goes, IsSoon, core_ahead, System, IsSystem, places_of, ThreadGhost, InPhase, ThreadInv, IsInAttempt}
+use Rattle.ido_base.specs.Growth.{ArePersisted}
 use Rattle.recovery_semantics.specs.ElementHistories as histories
-use Rattle.recovery_semantics.specs.ElementHistories.{Memory}
-use Rattle.recovery_semantics.specs.Events.{persists}
-use Rattle.recovery_semantics.specs.VariableSpots.{memory_in}
-use Rattle.recovery_semantics.proofs.Public.{memory_persisted, since_is_persisted}
-use Rattle.log_states.specs.Stages.{is_store}
-use Rattle.log_states.specs.Machines.{IsNext}
-use Rattle.log_states.proofs.Public.{stores_nothing, one_effect}
-use Rattle.thread_runs.specs.Laws as laws
-use Rattle.thread_runs.proofs.Public.{stays_are_at_core}
-use Rattle.crash_simulation.specs.ThreadGhosts.{ThreadGhost, IsInAttempt, InPhase, ThreadInv}
-use Rattle.crash_simulation.specs.InstructionSteps.{is_nearer, goes, MayStore, nothing, is_bound, nothing_released}
-use Rattle.crash_simulation.specs.Systems.{System, IsSystem, places_of}
-use Rattle.crash_simulation.specs.AbstractRuns.{AbstractRun}
-use Rattle.crash_simulation.specs.StepsToMark.{core_ahead, IsSoon}
 use Rattle.crash_simulation.proofs.LastReleases.{holders_stay_none, none_leaving, and_none}
 use Rattle.crash_simulation.proofs.PendingFlushes.{Passage, run_after, still_reached, stored_same}
 use Rattle.crash_simulation.proofs.ThreadViews.{none_clean}
@@ -60,8 +40,8 @@ module _ {y : System} {s : IsSystem y} {w : World} {h : ℕ} (site : AtNode y s 
   memory_persists =
       let entries : AreEntries w.words (d.entry ∷ d.rest) =
       subst (λ (q : List Entry). AreEntries w.words q) d.queue_is (sound.queues n hart m.mark.at.on.here) in
-      let persisted : growth.ArePersisted w.words v.words =
-      subst (λ (z : World). growth.ArePersisted w.words z.words) (sym d.world) (write_backs_raise w.words d.entry entries.0) in
+      let persisted : ArePersisted w.words v.words =
+      subst (λ (z : World). ArePersisted w.words z.words) (sym d.world) (write_backs_raise w.words d.entry entries.0) in
       subst (λ (m : Memory). histories.ArePersisted m memory) memory_is (memory_persisted (places_of y) w.words v.words persisted)
 
   abbrev new : ThreadGhost
@@ -123,7 +103,7 @@ module _ {y : System} {s : IsSystem y} {w : World} {h : ℕ} (site : AtNode y s 
   }
 
 -- a step at a mark passes it, or is such a one
-pub mark_step : {y : System} {s : IsSystem y} {w : World} {h : ℕ} (site : AtNode y s w h) (m : AtMark site) → laws.MarksPass →
+pub mark_step : {y : System} {s : IsSystem y} {w : World} {h : ℕ} (site : AtNode y s w h) (m : AtMark site) → MarksPass →
     (Passes site m → StepOf site.hart (view site.hart).n) → StepOf site.hart (view site.hart).n
 mark_step {y} {s} {w} {h} site m marks passes =
     let c = view site.hart in

@@ -1,5 +1,6 @@
 -- A step of a hart that executes instructions: what it is to its own thread, and all that the others need to know of it.
 use Rattle.std.specs.Prelude.{◌≡◌, ◌≢◌, ◌⊎◌, ℕ, suc, ◌/◌, ◌<◌, slice_get, Option, Some, is_some, Bool, true, false, not, ◌&&◌, ◌==◌, if◌then◌else◌}
+use Rattle.c_tree.specs.Exprs.{LockName}
 use Rattle.std.specs.List.{list_any}
 use Rattle.ido_base.specs.declared.event.Event.TheVariants.{Step}
 use Rattle.ido_base.specs.declared.event.Reply.TheVariants.{Waits}
@@ -155,7 +156,8 @@ module _ {y : System} {s : IsSystem y} {w : World} {h : ℕ} (site : Site y s w 
   pub data IsReadyToStep : Type 0 where
     on_fragment : (exit : ExitPoint) (steps : ℕ) → OnFragmentNow exit (suc steps) → IsReadyToStep
     calls : (exit : ExitPoint) → OnFragmentNow exit 0 → IsCalling exit → IsReadyToStep
-    at_core : AtCoreNow → ((is : Node) (mutex next : ℕ) → NodeAt y.plan.graph thread_of.graph_thread.at is → is.action ≢ Lock mutex next) → IsReadyToStep
+    at_core : AtCoreNow → ((is : Node) (lock : LockName) (next : ℕ) → NodeAt y.plan.graph thread_of.graph_thread.at is → is.action ≢ Lock lock next) →
+        IsReadyToStep
 
 -- whether the thread's steps are bound, whether it leaves a section, what it has to give back, and how near its hart is to the next mark, are the same
 pub record SaysSame (new old : ThreadGhost) : Type 0 where
@@ -187,7 +189,8 @@ FragmentsStep = (y : System) (s : IsSystem y) (w : World) (h : ℕ) (site : Site
 
 abbrev pub CoresStep : Type 0
 CoresStep = (y : System) (s : IsSystem y) (w : World) (h : ℕ) (site : Site y s w h) → IsInPhase w h Run → AtCoreNow site →
-    ((is : Node) (mutex next : ℕ) → NodeAt y.plan.graph (thread_of site).graph_thread.at is → is.action ≢ Lock mutex next) → OwnStep y s w h site.stands
+    ((is : Node) (lock : LockName) (next : ℕ) → NodeAt y.plan.graph (thread_of site).graph_thread.at is → is.action ≢ Lock lock next) →
+    OwnStep y s w h site.stands
 
 abbrev pub CallsStep : Type 0
 CallsStep = (y : System) (s : IsSystem y) (w : World) (h : ℕ) (site : Site y s w h) → IsInPhase w h Run → (exit : ExitPoint) → OnFragmentNow site exit 0 →

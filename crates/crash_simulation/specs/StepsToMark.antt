@@ -1,5 +1,5 @@
 -- How many steps a thread's hart makes at most before it passes its next mark, by where in its code it is.
-use Rattle.std.specs.Prelude.{ℕ, suc, ◌+◌, ◌*◌, ◌≤◌, length, slice_get, Some, None}
+use Rattle.std.specs.Prelude.{ℕ, suc, ◌+◌, ◌-◌, ◌*◌, ◌≤◌, length, slice_get, Some, None}
 use Rattle.rv64_isa.specs.Programs.{code_of}
 use Rattle.flow_graph.specs.Nodes.{Action, Eval, Store, Test, Lock, Unlock, End}
 use Rattle.thread_code.specs.Plans.{Plan}
@@ -12,8 +12,8 @@ abbrev pub weight : Action → (words : ℕ) → ℕ
 weight (Eval target value next) words = 0
 weight (Store variable kind next) words = 2 * words
 weight (Test condition holds fails) words = 0
-weight (Lock mutex next) words = 2 * words
-weight (Unlock mutex next) words = 0
+weight (Lock lock next) words = 2 * words
+weight (Unlock lock next) words = 0
 weight End words = 0
 
 -- from a node's code to its mark: a lock's call is its mark
@@ -21,8 +21,8 @@ abbrev pub call_weight : Action → (words : ℕ) → ℕ
 call_weight (Eval target value next) words = 0
 call_weight (Store variable kind next) words = 0
 call_weight (Test condition holds fails) words = 0
-call_weight (Lock mutex next) words = 2 * words
-call_weight (Unlock mutex next) words = 0
+call_weight (Lock lock next) words = 2 * words
+call_weight (Unlock lock next) words = 0
 call_weight End words = 0
 
 abbrev pub weight_at : (Action → (words : ℕ) → ℕ) → Plan → Places → (node : ℕ) → ℕ
@@ -37,13 +37,13 @@ entry_ahead p c node = weight_at weight p c node
 abbrev pub core_ahead : Plan → Places → (node : ℕ) → ℕ
 core_ahead p c node = weight_at call_weight p c node
 
--- after a fragment's end
+-- after a fragment's end; of the words of a lock or an unlock three are its call's
 abbrev pub beyond : Plan → Places → ExitPoint → (node : ℕ) → ℕ
 beyond p c Arrives node = entry_ahead p c node
 beyond p c Keeps node = core_ahead p c node
 beyond p c (Asks mutex next) node = 0
-beyond p c (Took from) node = c.words from + entry_ahead p c node
-beyond p c (Gives from mutex) node = suc (c.words from + entry_ahead p c node)
+beyond p c (Took from) node = c.words from - 3 + entry_ahead p c node
+beyond p c (Gives from mutex) node = suc (c.words from - 3 + entry_ahead p c node)
 beyond p c Ends node = 0
 
 -- the most from any place

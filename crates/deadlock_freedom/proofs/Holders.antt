@@ -7,7 +7,7 @@ use Rattle.ido_base.specs.declared.log.Log.{Log}
 use Rattle.ido_base.specs.declared.event.Event.{Event}
 use Rattle.ido_base.specs.declared.event.Event.TheVariants.{Step, Evict, Crash}
 use Rattle.ido_base.specs.declared.event.Reply.TheVariants.{Waits}
-use Rattle.ido_base.specs.Locks.{is_held_by, held_from, holds_none, first_missing}
+use Rattle.ido_base.specs.Locks.{is_held_by, held_from, holds_none, least_missing}
 use Rattle.rv64_isa.specs.declared.object.Slot.{Slot}
 use Rattle.rv64_isa.specs.declared.phase.Phase.{Phase}
 use Rattle.rv64_isa.specs.declared.phase.Phase.TheVariants.{Take, Wait, Resume, Run, Done, Ended}
@@ -93,7 +93,7 @@ module _ (w : World) (h : ℕ) (hart : Hart) (here : slice_get w.harts h ≡ Som
 
     -- what the step leaves, or the world stays
     left : (phase : Phase) → hart.phase ≡ phase → IsLeft h (phase_step program w h hart phase).0 ⊎ ((phase_step program w h hart phase).0 ≡ w)
-    left Take is = inl (takes is (first_missing w.holders (record_of w.log w.words h) h))
+    left Take is = inl (takes is (least_missing w.holders (record_of w.log w.words h) h))
     left Wait is = inl (waits is (taking_from 0 w.harts))
     left Resume is = inl (goes w _ refl (run_goes_on _ refl))
     left Run is = inl (runs is)

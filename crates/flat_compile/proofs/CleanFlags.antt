@@ -24,8 +24,8 @@ abbrev cleans_by : Places → (node : ℕ) → Action → Bool
 cleans_by c node (Eval target value next) = true
 cleans_by c node (Store variable kind next) = c.cleans node
 cleans_by c node (Test condition holds fails) = true
-cleans_by c node (Lock mutex next) = true
-cleans_by c node (Unlock mutex next) = true
+cleans_by c node (Lock lock next) = true
+cleans_by c node (Unlock lock next) = true
 cleans_by c node End = true
 
 abbrev cleans_in : Places → (node : ℕ) → Option Node → Bool
@@ -67,8 +67,8 @@ module _ (p : Plan) (t : Thread) (program : Program) (code : IsThreadCode p t pr
   makes_store node is seen (Eval (e.ToElement place variable kind index) value to) store next at same makes = cc
   makes_store node is seen (Store variable kind to) store next at same makes = as_before node is variable kind to at same
   makes_store node is seen (Test condition holds fails) store next at same makes = cc
-  makes_store node is seen (Lock mutex to) store next at same makes = cc
-  makes_store node is seen (Unlock mutex to) store next at same makes = cc
+  makes_store node is seen (Lock lock to) store next at same makes = cc
+  makes_store node is seen (Unlock lock to) store next at same makes = cc
   makes_store node is seen End store next at same makes = cc
 
   performs : (is : Node) (m : Entrance) (effect : Effect) → NodeAt p.graph m.node is → effect_of is.action m.seen ≡ Some effect →
@@ -103,8 +103,8 @@ module _ (p : Plan) (t : Thread) (program : Program) (code : IsThreadCode p t pr
   calls (Eval target value next) node h = tt
   calls (Store variable kind next) node h = tt
   calls (Test condition holds fails) node h = tt
-  calls (Lock mutex next) node h = (h.0, goes_on node next h.1, h.2)
-  calls (Unlock mutex next) node h = (h.0, goes_on node next h.1, h.2, h.3)
+  calls (Lock lock next) node h = (h.0, goes_on node next h.1, h.2)
+  calls (Unlock lock next) node h = (h.0, goes_on node next h.1, h.2, h.3)
   calls End node h = h
 
   cleaning : (node : ℕ) (is : Node) (action : Action) → NodeAt p.graph node is → is.action ≡ action → IsCleaning p t old action node →
@@ -114,16 +114,16 @@ module _ (p : Plan) (t : Thread) (program : Program) (code : IsThreadCode p t pr
       subst (λ (b : Bool). (b ≡ false) ↔ IsCleanedLater p.graph p.boundaries (map shape_of p.flat.variables) node)
       (as_before node is variable kind next at same) h
   cleaning node is (Test condition holds fails) at same h = tt
-  cleaning node is (Lock mutex next) at same h = tt
-  cleaning node is (Unlock mutex next) at same h = tt
+  cleaning node is (Lock lock next) at same h = tt
+  cleaning node is (Unlock lock next) at same h = tt
   cleaning node is End at same h = tt
 
   call_within : (action : Action) (node : ℕ) → IsCallWithin old action node → IsCallWithin new action node
   call_within (Eval target value next) node h = h
   call_within (Store variable kind next) node h = h
   call_within (Test condition holds fails) node h = h
-  call_within (Lock mutex next) node h = h
-  call_within (Unlock mutex next) node h = h
+  call_within (Lock lock next) node h = h
+  call_within (Unlock lock next) node h = h
   call_within End node h = h
 
   node_code : (node : ℕ) (is : Node) → NodeAt p.graph node is → IsNodeCode p t old node is → IsNodeCode p t new node is
@@ -146,19 +146,19 @@ module _ (p : Plan) (t : Thread) (program : Program) (code : IsThreadCode p t pr
   mark_same (Eval target value next) node = refl
   mark_same (Store variable kind next) node = refl
   mark_same (Test condition holds fails) node = refl
-  mark_same (Lock mutex next) node = refl
-  mark_same (Unlock mutex next) node = refl
+  mark_same (Lock lock next) node = refl
+  mark_same (Unlock lock next) node = refl
   mark_same End node = refl
 
   to_new : (address : ℕ) → IsResumeAddress p t old address → IsResumeAddress p t new address
   to_new address (at_chosen node own chosen) = at_chosen node own chosen
-  to_new address (past_lock node mutex next is own at does) = past_lock node mutex next is own at does
-  to_new address (past_unlock node mutex next is own at does some) = past_unlock node mutex next is own at does some
+  to_new address (past_lock node lock next is own at does) = past_lock node lock next is own at does
+  to_new address (past_unlock node lock next is own at does some) = past_unlock node lock next is own at does some
 
   to_old : (address : ℕ) → IsResumeAddress p t new address → IsResumeAddress p t old address
   to_old address (at_chosen node own chosen) = at_chosen node own chosen
-  to_old address (past_lock node mutex next is own at does) = past_lock node mutex next is own at does
-  to_old address (past_unlock node mutex next is own at does some) = past_unlock node mutex next is own at does some
+  to_old address (past_lock node lock next is own at does) = past_lock node lock next is own at does
+  to_old address (past_unlock node lock next is own at does some) = past_unlock node lock next is own at does some
 
   pub recleaned : IsThreadCode p t program
   recleaned = record {
@@ -186,6 +186,6 @@ module _ (p : Plan) (t : Thread) (program : Program) (code : IsThreadCode p t pr
       by (Eval target value next) e c = cc
       by (Store variable kind next) e c = c.0 e
       by (Test condition holds fails) e c = cc
-      by (Lock mutex next) e c = cc
-      by (Unlock mutex next) e c = cc
+      by (Lock lock next) e c = cc
+      by (Unlock lock next) e c = cc
       by End e c = cc

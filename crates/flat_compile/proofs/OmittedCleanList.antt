@@ -10,7 +10,7 @@ use Rattle.flow_graph.specs.declared.graph.Part.{Part}
 use Rattle.flow_graph.specs.Nodes.{Action, Eval, Store, Test, Lock, Unlock, End, Node, Graph}
 use Rattle.flow_graph.specs.OmittedCleans.{IsCleanedLater}
 use Rattle.flow_graph.specs.Liveness.{NodeAt}
-use Rattle.flow_graph.specs.Lowering.{thread_count, thread_nodes, threads_nodes, part, parts}
+use Rattle.flow_graph.specs.Lowering.{table_of, thread_count, thread_nodes, threads_nodes, part, parts}
 use Rattle.flow_graph.proofs.Public.{length-thread_nodes, get_cases, lowered_nodes, lowered_threads, ShapedAs, node_shaped}
 use Rattle.thread_code.specs.Plans.{Plan, IsPlan, Thread, IsNodeOf}
 use Rattle.thread_code.specs.NodeCodeEffects.{Places}
@@ -60,14 +60,15 @@ record Owner (ts : List f.Thread) (first node : ℕ) : Type 0 where
   from_first : own.first ≤ node
   below_end : node < own.end
 
-owner : (ts : List f.Thread) (first node : ℕ) → first ≤ node → node < first + length (threads_nodes ts first) → Owner ts first node
-owner [] first node from below = absurd (omega (arith, from, below))
-owner (t ∷ ts) first node from below = elim (cases_lt node (first + thread_count t)) [
+owner : (x : f.Flat) (ts : List f.Thread) (first node : ℕ) → first ≤ node → node < first + length (threads_nodes x ts first) → Owner ts first node
+owner x [] first node from below = absurd (omega (arith, from, below))
+owner x (t ∷ ts) first node from below = elim (cases_lt node (first + thread_count t)) [
   | inl here ↦ record { number = 0; own = part t first; there = refl; from_first = from; below_end = here }
   | inr past ↦
-      let after : List Node = threads_nodes ts (first + thread_count t) in
-      let whole : length (thread_nodes t first ++ after) ≡ length (thread_nodes t first) + length after = length-append (thread_nodes t first) after in
-      let later = owner ts (first + thread_count t) node past (omega (arith, below, whole, length-thread_nodes t first)) in
+      let after : List Node = threads_nodes x ts (first + thread_count t) in
+      let whole : length (thread_nodes (table_of x t) t first ++ after) ≡ length (thread_nodes (table_of x t) t first) + length after =
+      length-append (thread_nodes (table_of x t) t first) after in
+      let later = owner x ts (first + thread_count t) node past (omega (arith, below, whole, length-thread_nodes (table_of x t) t first)) in
       record { number = suc later.number; own = later.own; there = later.there; from_first = later.from_first; below_end = later.below_end }
 ]
 
@@ -77,7 +78,7 @@ module _ (p : Plan) (plan : IsPlan p) (codes : Codes p) where
   abbrev Later : ℕ → Type 0
   Later node = IsCleanedLater p.graph p.boundaries (map shape_of p.flat.variables) node
 
-  shaped : (node : ℕ) (is : Node) → NodeAt p.graph node is → ShapedAs (threads_nodes p.flat.threads 0) is is.action
+  shaped : (node : ℕ) (is : Node) → NodeAt p.graph node is → ShapedAs (threads_nodes p.flat p.flat.threads 0) is is.action
   shaped node is at =
       node_shaped p.flat node is (ap (λ (ns : List Node). slice_get ns node)
       (sym (ap (λ (g : Graph). g.nodes) plan.lowered ∙ lowered_nodes p.flat)) ∙ at)
@@ -88,16 +89,16 @@ module _ (p : Plan) (plan : IsPlan p) (codes : Codes p) where
       none-some later.stores.written (sym none ∙ ap (λ (n : Node). n.writes) (sym same) ∙ later.stores.writes)
 
   decide_by : (node : ℕ) (is : Node) (at : NodeAt p.graph node is) (t : Thread) (c : Places) (action : Action) →
-      ShapedAs (threads_nodes p.flat.threads 0) is action → IsCleaning p t c action node → Later node ⊎ (Later node → ⊥)
-  decide_by node is at t c (Eval target value next) shape cleans = inr (silent node is at shape.writes)
+      ShapedAs (threads_nodes p.flat p.flat.threads 0) is action → IsCleaning p t c action node → Later node ⊎ (Later node → ⊥)
+  decide_by node is at t c (Eval target value next) shape cleans = inr (silent node is at shape.1.writes)
   decide_by node is at t c (Store variable kind next) shape cleans = elim (cases_Bool (c.cleans node)) [
     | inl cleaned ↦ inr (λ later. true≢false (sym cleaned ∙ cleans.1 later))
     | inr uncleaned ↦ inl (cleans.0 uncleaned)
   ]
-  decide_by node is at t c (Test condition holds fails) shape cleans = inr (silent node is at shape.writes)
-  decide_by node is at t c (Lock mutex next) shape cleans = inr (silent node is at shape)
-  decide_by node is at t c (Unlock mutex next) shape cleans = inr (silent node is at shape)
-  decide_by node is at t c End shape cleans = inr (silent node is at shape)
+  decide_by node is at t c (Test condition holds fails) shape cleans = inr (silent node is at shape.1.writes)
+  decide_by node is at t c (Lock lock next) shape cleans = inr (silent node is at shape.1)
+  decide_by node is at t c (Unlock lock next) shape cleans = inr (silent node is at shape.1)
+  decide_by node is at t c End shape cleans = inr (silent node is at shape.1)
 
   decide_own : (node n : ℕ) (own : Part) (is : Node) → NodeAt p.graph node is → slice_get p.graph.threads n ≡ Some own → own.first ≤ node → node < own.end →
       Later node ⊎ (Later node → ⊥)
@@ -118,10 +119,10 @@ module _ (p : Plan) (plan : IsPlan p) (codes : Codes p) where
   decide node below = elim (get_cases p.graph.nodes node) [
     | inl none ↦ inr (λ later. none-some later.stores.is (sym none ∙ later.stores.at))
     | inr found ↦
-        let nodes : p.graph.nodes ≡ threads_nodes p.flat.threads 0 = ap (λ (g : Graph). g.nodes) plan.lowered ∙ lowered_nodes p.flat in
+        let nodes : p.graph.nodes ≡ threads_nodes p.flat p.flat.threads 0 = ap (λ (g : Graph). g.nodes) plan.lowered ∙ lowered_nodes p.flat in
         let threads : p.graph.threads ≡ parts p.flat.threads 0 = ap (λ (g : Graph). g.threads) plan.lowered ∙ lowered_threads p.flat in
-        let long : length p.graph.nodes ≡ length (threads_nodes p.flat.threads 0) = ap length nodes in
-        let o = owner p.flat.threads 0 node (omega arith) (omega (arith, below, long)) in
+        let long : length p.graph.nodes ≡ length (threads_nodes p.flat p.flat.threads 0) = ap length nodes in
+        let o = owner p.flat p.flat.threads 0 node (omega arith) (omega (arith, below, long)) in
         decide_own node o.number o.own found.0 found.1 (ap (λ (qs : List Part). slice_get qs o.number) threads ∙ o.there) o.from_first o.below_end
   ]
 

@@ -1,13 +1,16 @@
 -- A plan's code, linked, is what its flat form is translated to.
-use Rattle.std.proofs.Common.{◌≡◌, refl, ℕ, zero, suc, ◌≤◌, List, [], ◌∷◌, length, map, sym, subst, ◌∙◌, arith}
+use Rattle.std.proofs.Common.{◌≡◌, refl, ℕ, zero, suc, ◌+◌, ◌-◌, ◌≤◌, List, [], ◌∷◌, length, map, sym, subst, ◌∙◌, arith, true, false}
 use Rattle.std.specs.Prelude.{sum_by, All, Vec}
 use Rattle.std.specs.Global.{Global}
 use Rattle.std.proofs.lemmas.List.{length-map}
 use Rattle.std.proofs.lemmas.List.Elements.{All-head, All-tail}
 use Rattle.std.proofs.lemmas.Option.{none-some, same_Some}
-use Rattle.ido_base.specs.declared.log.Log.TheVariants.{V1}
+use Rattle.ido_base.specs.declared.log.Log.{Log}
+use Rattle.ido_base.specs.declared.log.Log.TheVariants.{V1, V2}
 use Rattle.ido_base.specs.declared.limits.TheConstants.{MOST_THREADS, MOST_CODE_WORDS}
 use Rattle.c_tree.specs.Flats.{flat_of}
+use Rattle.c_tree.specs.LockNames.{Held, count_held}
+use Rattle.c_tree.specs.Prices.{node_price}
 use Rattle.rv64_isa.specs.declared.object.Code.{Code}
 use Rattle.rv64_isa.specs.declared.object.CodeItem.{CodeItem}
 use Rattle.rv64_isa.specs.declared.object.Object.{Object}
@@ -19,6 +22,7 @@ use Rattle.rv64_link.specs.LinkedCode.{AreLinked}
 use Rattle.rv64_link.specs.links.Threads.{items_in}
 use Rattle.c_tree.specs.WellFormed.{shape_of, initial_numbers}
 use Rattle.memory_layout.specs.Variables.{AreInitial}
+use Rattle.boundary_code.specs.Boundaries.{HaveRoom, words_beside}
 use Rattle.flow_graph.specs.declared.cuts.Cuts.{Cuts}
 use Rattle.flow_graph.specs.Nodes.{Graph, graph_of}
 use Rattle.flow_graph.specs.Colours.{colouring_of}
@@ -26,7 +30,7 @@ use Rattle.flow_graph.specs.IdempotentCuts.{AreCuts, IsMinimal, boundaries_of, A
 use Rattle.region_cutter.specs.FewestCuts.{AreFewestCuts}
 use Rattle.flat_analysis.specs.declared.analyses.Analysis.{Analysis}
 use Rattle.flat_analysis.specs.Analyses.{IsAnalysis}
-use Rattle.thread_code.specs.Plans.{Plan, IsPlan}
+use Rattle.thread_code.specs.Plans.{Plan, IsPlan, locks_held, locks_held_from}
 use Rattle.rv64_codegen.specs.StoreCleans.{AllCleanAtOnce}
 use Rattle.rv64_codegen.specs.ThreadPieces.{IsCode}
 use Rattle.std.proofs.Common.{ap}
@@ -38,16 +42,40 @@ use Rattle.recovered_threads.specs.RecordDescriptions.{Codes}
 use Rattle.crash_simulation.specs.Systems.{System, IsSystem}
 use Rattle.flat_compile.specs.declared.resumes.Resume.{Resume}
 use Rattle.flat_compile.specs.ResumePlaces.{AreMarksOf, AreMarked, IsResumeTable}
-use Rattle.flat_compile.specs.TranslatedForms.{IsTranslated, IsResumable}
+use Rattle.flat_compile.specs.TranslatedForms.{AreFewHeld, IsTranslatedAs, IsResumableAs}
 use Rattle.flat_compile.proofs.LinkedThreads.{AllFew, marked_count}
 use Rattle.flat_compile.proofs.Limits.{count, within_limits}
 use Rattle.flat_compile.proofs.Systems.{system, system_is}
 
 -- ---- What was found out of a flat form, and the cuts of its graph
 
-abbrev pub plan_at : Analysis → Cuts → Plan
-plan_at a cuts = record {
-  log = V1;
+-- as many locks as names are held
+count_is : (at : ℕ) (held : Held) → length (locks_held_from at held) ≡ count_held held
+count_is at [] = refl
+count_is at (true ∷ held) = ap suc (count_is (at + 1) held)
+count_is at (false ∷ held) = count_is (at + 1) held
+
+-- a bank has room for each set
+room_for : (log : Log) (sets : List (List Held)) → AreFewHeld log sets → (thread step : ℕ) →
+    HaveRoom log (locks_held (slice_index_or (slice_index_or sets thread []) step []))
+room_for V1 sets few thread step = tt
+room_for V2 sets few thread step =
+    let set : Held = slice_index_or (slice_index_or sets thread []) step [] in
+    let most : count_held set ≤ 11 = few thread step in
+    omega (arith, most, count_is 0 set)
+
+-- a node's price pays for each set
+paid_for : (log : Log) (sets : List (List Held)) → AreFewHeld log sets → (thread step : ℕ) →
+    words_beside log (locks_held (slice_index_or (slice_index_or sets thread []) step [])) + 24 ≤ node_price 0
+paid_for V1 sets few thread step = omega arith
+paid_for V2 sets few thread step =
+    let set : Held = slice_index_or (slice_index_or sets thread []) step [] in
+    let most : count_held set ≤ 11 = few thread step in
+    omega (arith, most, count_is 0 set)
+
+abbrev pub plan_at : Log → Analysis → Cuts → Plan
+plan_at log a cuts = record {
+  log = log;
   flat = flat_of a.flat.now;
   graph = graph_of a.graph;
   boundaries = boundaries_of cuts;
@@ -56,9 +84,9 @@ plan_at a cuts = record {
   colours = colouring_of a.colours;
 }
 
-pub plan_is : (a : Analysis) (cuts : Cuts) → IsAnalysis a → AreCuts (graph_of a.graph) (boundaries_of cuts) →
-    AreAtWrites (graph_of a.graph) (boundaries_of cuts) → IsPlan (plan_at a cuts)
-plan_is a cuts is chosen places = record {
+pub plan_is : (log : Log) (a : Analysis) (cuts : Cuts) → IsAnalysis a → AreFewHeld log a.held → AreCuts (graph_of a.graph) (boundaries_of cuts) →
+    AreAtWrites (graph_of a.graph) (boundaries_of cuts) → IsPlan (plan_at log a cuts)
+plan_is log a cuts is few chosen places = record {
   formed = is.accepted.formed;
   lowered = is.lowered;
   cuts = chosen;
@@ -68,6 +96,8 @@ plan_is a cuts is chosen places = record {
   registers = is.registers;
   apart = is.apart;
   priced = is.accepted.priced;
+  room = λ t node. room_for log a.held few t.number (node - t.part.first);
+  paid = λ t node. paid_for log a.held few t.number (node - t.part.first);
 }
 
 -- ---- Its code
@@ -94,8 +124,8 @@ few_at (first ∷ threads) few (suc n) items there = few_at threads (All-tail Is
 pub is_translated : (p : Plan) (code : Code) → IsCodeFor p code → IsPlan p → (object : Object) (marks : Marks) (cuts : Cuts) →
     p.boundaries ≡ boundaries_of cuts → IsMinimal p.graph (boundaries_of cuts) → AreFewestCuts p.graph (boundaries_of cuts) →
     AreLinked code_base (map items_in code.threads.items) (program_of object) marks.threads.items →
-    object.initial ≡ code.initial → object.mutexes ≡ code.mutexes → object.log ≡ code.log → p.log ≡ V1 → IsTranslated p.flat object marks cuts
-is_translated p code is plan object marks cuts at minimal fewest linked initial mutexes log first =
+    object.initial ≡ code.initial → object.mutexes ≡ code.mutexes → object.log ≡ code.log → IsTranslatedAs p.log p.flat object marks cuts
+is_translated p code is plan object marks cuts at minimal fewest linked initial mutexes log =
     let threads = map items_in code.threads.items in
     let few = few_at code.threads.items is.few in
     let few_threads : length threads ≤ MOST_THREADS = omega (arith, is.few_threads, length-map code.threads.items items_in) in
@@ -111,7 +141,7 @@ is_translated p code is plan object marks cuts at minimal fewest linked initial 
       minimal = subst (λ (g : Graph). IsMinimal g (boundaries_of cuts)) plan.lowered minimal;
       fewest = subst (λ (g : Graph). AreFewestCuts g (boundaries_of cuts)) plan.lowered fewest;
       runs = refl;
-      log = sym logs ∙ first;
+      log = sym logs;
       items = threads;
       linked = linked;
       cleans = is.cleans;
@@ -133,9 +163,9 @@ marks_of y s long = record {
 module _ (p : Plan) (code : Code) (is : IsCodeFor p code) (plan : IsPlan p) (object : Object) (marks : Marks) (cuts : Cuts)
     (at : p.boundaries ≡ boundaries_of cuts) (minimal : IsMinimal p.graph (boundaries_of cuts)) (fewest : AreFewestCuts p.graph (boundaries_of cuts))
     (linked : AreLinked code_base (map items_in code.threads.items) (program_of object) marks.threads.items)
-    (initial : object.initial ≡ code.initial) (mutexes : object.mutexes ≡ code.mutexes) (log : object.log ≡ code.log) (first : p.log ≡ V1) where
-  abbrev whole : IsTranslated p.flat object marks cuts
-  whole = is_translated p code is plan object marks cuts at minimal fewest linked initial mutexes log first
+    (initial : object.initial ≡ code.initial) (mutexes : object.mutexes ≡ code.mutexes) (log : object.log ≡ code.log) where
+  abbrev whole : IsTranslatedAs p.log p.flat object marks cuts
+  whole = is_translated p code is plan object marks cuts at minimal fewest linked initial mutexes log
 
   resumes_long : length (resume_marks marks.threads.items) ≡ length p.graph.threads
   resumes_long =
@@ -148,6 +178,6 @@ module _ (p : Plan) (code : Code) (is : IsCodeFor p code) (plan : IsPlan p) (obj
 
   pub resumable : (table : List (Vec Resume Global)) →
       ((codes : Codes p) → AreMarksOf p codes (resume_marks marks.threads.items) → IsResumeTable p codes table) →
-      IsResumable p.flat object marks cuts table
+      IsResumableAs p.log p.flat object marks cuts table
   unfolding is_translated
   resumable table h = record { translated = whole; are = h whole.is.codes (marks_of whole.system whole.is resumes_long) }

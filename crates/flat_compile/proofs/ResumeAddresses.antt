@@ -1,5 +1,6 @@
 -- Places where a thread may be resumed, in their order, are the addresses of its code where it may be.
 use Rattle.std.proofs.Common.{◌≡◌, ◌≢◌, ⊎_elim, refl, ℕ, zero, suc, ◌+◌, ◌*◌, ◌-◌, ◌<◌, ◌≤◌, List, [], ◌∷◌, map, ◌∙◌, ap, sym, subst, arith}
+use Rattle.c_tree.specs.Exprs.{LockName}
 use Rattle.std.proofs.Common.{Some, None, Bool, true, false}
 use Rattle.std.proofs.Common.{Option, ◌++◌}
 use Rattle.std.specs.Option.{option_to_list}
@@ -79,8 +80,8 @@ stores : (p : Plan) (plan : IsPlan p) (a : Action) → IsStoring p plan a → is
 stores p plan (Eval target value next) h = absurd h
 stores p plan (Store variable kind next) h = refl
 stores p plan (Test condition holds fails) h = absurd h
-stores p plan (Lock mutex next) h = absurd h
-stores p plan (Unlock mutex next) h = absurd h
+stores p plan (Lock lock next) h = absurd h
+stores p plan (Unlock lock next) h = absurd h
 stores p plan End h = absurd h
 
 module _ (p : Plan) (plan : IsPlan p) (t : Thread) where
@@ -90,8 +91,8 @@ module _ (p : Plan) (plan : IsPlan p) (t : Thread) where
 
   pub own_of : (s : Spot) → IsSpot p t s → IsNodeOf t (node_in s)
   own_of s (at_chosen node own chosen) = own
-  own_of s (past_lock node mutex next is own at does) = own
-  own_of s (past_unlock node mutex next is own at does some) = own
+  own_of s (past_lock node lock next is own at does) = own
+  own_of s (past_unlock node lock next is own at does some) = own
 
   -- a chosen boundary stands before a store, and that after its evaluation
   apart : (n next m : ℕ) → m ≡ suc n → IsSpot p t (After n next) → IsSpot p t (Before m) → (is : Node) → NodeAt p.graph m is → ⊥
@@ -100,15 +101,15 @@ module _ (p : Plan) (plan : IsPlan p) (t : Thread) where
       stored : is_store is.action ≡ true
       stored = stores p plan is.action (chosen_stores p plan m is at chosen)
 
-      there : (k : ℕ) (x : Node) → NodeAt p.graph k x → slice_get (threads_nodes p.flat.threads 0) k ≡ Some x
+      there : (k : ℕ) (x : Node) → NodeAt p.graph k x → slice_get (threads_nodes p.flat p.flat.threads 0) k ≡ Some x
       there k x h = ap (λ (ns : List Node). slice_get ns k) (sym (nodes_are p plan)) ∙ h
 
       eval : (x : Node) → NodeAt p.graph n x → is_eval x.action ≡ true
-      eval x h = store_after p.flat n x is (there n x h) (ap (slice_get (threads_nodes p.flat.threads 0)) (sym same) ∙ there m is at) stored
+      eval x h = store_after p.flat n x is (there n x h) (ap (slice_get (threads_nodes p.flat p.flat.threads 0)) (sym same) ∙ there m is at) stored
 
       by : IsSpot p t (After n next) → ⊥
-      by (past_lock node mutex to x own h does) = let no : false ≡ true = sym (ap is_eval does) ∙ eval x h in cc
-      by (past_unlock node mutex to x own h does some) = let no : false ≡ true = sym (ap is_eval does) ∙ eval x h in cc
+      by (past_lock node lock to x own h does) = let no : false ≡ true = sym (ap is_eval does) ∙ eval x h in cc
+      by (past_unlock node lock to x own h does some) = let no : false ≡ true = sym (ap is_eval does) ∙ eval x h in cc
 
   module _ (th : IsThread p t) (program : Program) (code : IsThreadCode p t program) where
     abbrev c : Places
@@ -137,11 +138,11 @@ module _ (p : Plan) (plan : IsPlan p) (t : Thread) where
     called node a b same h = subst (λ (x : Action). IsCallWithin c x node) same h
 
     after_within : (node next : ℕ) → IsSpot p t (After node next) → (c.core node + 4 ≤ c.after node) × (c.after node ≤ c.entry (node + 1))
-    after_within node next (past_lock n mutex to is own at does) =
-        let w = called node is.action (Lock mutex next) does (code.code node is own at).within.call in
+    after_within node next (past_lock n lock to is own at does) =
+        let w = called node is.action (Lock lock next) does (code.code node is own at).within.call in
         (omega (arith, w.0.is, w.1.is), omega (arith, w.2.is))
-    after_within node next (past_unlock n mutex to is own at does some) =
-        let w = called node is.action (Unlock mutex next) does (code.code node is own at).within.call in
+    after_within node next (past_unlock n lock to is own at does some) =
+        let w = called node is.action (Unlock lock next) does (code.code node is own at).within.call in
         (omega (arith, w.0.is, w.1.is), omega (arith, w.2.is))
 
     far : (n m : ℕ) → n + 1 < m → IsNodeOf t n → IsNodeOf t m → c.entry (n + 1) + 4 ≤ c.entry m
@@ -220,13 +221,13 @@ module _ (p : Plan) (plan : IsPlan p) (t : Thread) where
 
     pub resumed : (s : Spot) → IsSpot p t s → IsResumeAddress p t c (address_in c s)
     resumed s (at_chosen node own chosen) = places.at_chosen node own chosen
-    resumed s (past_lock node mutex next is own at does) = places.past_lock node mutex next is own at does
-    resumed s (past_unlock node mutex next is own at does some) = places.past_unlock node mutex next is own at does some
+    resumed s (past_lock node lock next is own at does) = places.past_lock node lock next is own at does
+    resumed s (past_unlock node lock next is own at does some) = places.past_unlock node lock next is own at does some
 
     spot_of : (x : ℕ) → IsResumeAddress p t c x → (s : Spot) × IsSpot p t s × (address_in c s ≡ x)
     spot_of x (places.at_chosen node own chosen) = (Before node, at_chosen node own chosen, refl)
-    spot_of x (places.past_lock node mutex next is own at does) = (After node next, past_lock node mutex next is own at does, refl)
-    spot_of x (places.past_unlock node mutex next is own at does some) = (After node next, past_unlock node mutex next is own at does some, refl)
+    spot_of x (places.past_lock node lock next is own at does) = (After node next, past_lock node lock next is own at does, refl)
+    spot_of x (places.past_unlock node lock next is own at does some) = (After node next, past_unlock node lock next is own at does some, refl)
 
     low_rank : (s : Spot) (to : ℕ) → node_in s < to → rank s < 2 * to
     low_rank (Before node) to h = omega (arith, h)
@@ -251,51 +252,51 @@ abbrev pub calls : Action → Bool
 calls (Eval target value next) = false
 calls (Store variable kind next) = false
 calls (Test condition holds fails) = false
-calls (Lock mutex next) = true
-calls (Unlock mutex next) = true
+calls (Lock lock next) = true
+calls (Unlock lock next) = true
 calls End = false
 
 module _ (p : Plan) (t : Thread) (node : ℕ) (is : Node) (own : IsNodeOf t node) (at : NodeAt p.graph node is) where
-  pub locks : (mutex next : ℕ) → is.action ≡ Lock mutex next → IsPastCall p t node (Some next)
-  locks mutex next does to = (
+  pub locks : (lock : LockName) (next : ℕ) → is.action ≡ Lock lock next → IsPastCall p t node (Some next)
+  locks lock next does to = (
     λ e. let same : next ≡ to = cc in
-        subst (λ (n : ℕ). IsSpot p t (After node n)) same (past_lock node mutex next is own at does),
+        subst (λ (n : ℕ). IsSpot p t (After node n)) same (past_lock node lock next is own at does),
     λ s. ap (λ (n : ℕ). Some n) (only s),
   )
     where
       only : IsSpot p t (After node to) → next ≡ to
-      only (past_lock n m to x o h e) =
+      only (past_lock n other to x o h e) =
           let same : is ≡ x = same_Some is x (sym at ∙ h) in
-          let both : Lock mutex next ≡ Lock m to = sym does ∙ ap (λ (z : Node). z.action) same ∙ e in cc
-      only (past_unlock n m to x o h e some) =
+          let both : Lock lock next ≡ Lock other to = sym does ∙ ap (λ (z : Node). z.action) same ∙ e in cc
+      only (past_unlock n other to x o h e some) =
           let same : is ≡ x = same_Some is x (sym at ∙ h) in
-          let both : Lock mutex next ≡ Unlock m to = sym does ∙ ap (λ (z : Node). z.action) same ∙ e in cc
+          let both : Lock lock next ≡ Unlock other to = sym does ∙ ap (λ (z : Node). z.action) same ∙ e in cc
 
-  pub unlocks : (mutex next : ℕ) → is.action ≡ Unlock mutex next → locks_before p t next ≢ [] → IsPastCall p t node (Some next)
-  unlocks mutex next does some to = (
+  pub unlocks : (lock : LockName) (next : ℕ) → is.action ≡ Unlock lock next → locks_before p t next ≢ [] → IsPastCall p t node (Some next)
+  unlocks lock next does some to = (
     λ e. let same : next ≡ to = cc in
-        subst (λ (n : ℕ). IsSpot p t (After node n)) same (past_unlock node mutex next is own at does some),
+        subst (λ (n : ℕ). IsSpot p t (After node n)) same (past_unlock node lock next is own at does some),
     λ s. ap (λ (n : ℕ). Some n) (only s),
   )
     where
       only : IsSpot p t (After node to) → next ≡ to
-      only (past_lock n m to x o h e) =
+      only (past_lock n other to x o h e) =
           let same : is ≡ x = same_Some is x (sym at ∙ h) in
-          let both : Unlock mutex next ≡ Lock m to = sym does ∙ ap (λ (z : Node). z.action) same ∙ e in cc
-      only (past_unlock n m to x o h e some) =
+          let both : Unlock lock next ≡ Lock other to = sym does ∙ ap (λ (z : Node). z.action) same ∙ e in cc
+      only (past_unlock n other to x o h e some) =
           let same : is ≡ x = same_Some is x (sym at ∙ h) in
-          let both : Unlock mutex next ≡ Unlock m to = sym does ∙ ap (λ (z : Node). z.action) same ∙ e in cc
+          let both : Unlock lock next ≡ Unlock other to = sym does ∙ ap (λ (z : Node). z.action) same ∙ e in cc
 
-  pub frees : (mutex next : ℕ) → is.action ≡ Unlock mutex next → locks_before p t next ≡ [] → IsPastCall p t node None
-  frees mutex next does none to = (λ e. cc, λ s. absurd (never s))
+  pub frees : (lock : LockName) (next : ℕ) → is.action ≡ Unlock lock next → locks_before p t next ≡ [] → IsPastCall p t node None
+  frees lock next does none to = (λ e. cc, λ s. absurd (never s))
     where
       never : IsSpot p t (After node to) → ⊥
-      never (past_lock n m to x o h e) =
+      never (past_lock n other to x o h e) =
           let same : is ≡ x = same_Some is x (sym at ∙ h) in
-          let both : Unlock mutex next ≡ Lock m to = sym does ∙ ap (λ (z : Node). z.action) same ∙ e in cc
-      never (past_unlock n m to x o h e some) =
+          let both : Unlock lock next ≡ Lock other to = sym does ∙ ap (λ (z : Node). z.action) same ∙ e in cc
+      never (past_unlock n other to x o h e some) =
           let same : is ≡ x = same_Some is x (sym at ∙ h) in
-          let both : Unlock mutex next ≡ Unlock m to = sym does ∙ ap (λ (z : Node). z.action) same ∙ e in
+          let both : Unlock lock next ≡ Unlock other to = sym does ∙ ap (λ (z : Node). z.action) same ∙ e in
           let one : next ≡ to = cc in
           some (ap (λ (n : ℕ). locks_before p t n) (sym one) ∙ none)
 
@@ -303,10 +304,10 @@ module _ (p : Plan) (t : Thread) (node : ℕ) (is : Node) (own : IsNodeOf t node
   passes none to = (λ e. cc, λ s. absurd (never s))
     where
       never : IsSpot p t (After node to) → ⊥
-      never (past_lock n m to x o h e) =
+      never (past_lock n other to x o h e) =
           let same : is ≡ x = same_Some is x (sym at ∙ h) in
           let no : true ≡ false = sym (ap calls (ap (λ (z : Node). z.action) same ∙ e)) ∙ none in cc
-      never (past_unlock n m to x o h e some) =
+      never (past_unlock n other to x o h e some) =
           let same : is ≡ x = same_Some is x (sym at ∙ h) in
           let no : true ≡ false = sym (ap calls (ap (λ (z : Node). z.action) same ∙ e)) ∙ none in cc
 
@@ -400,8 +401,8 @@ module _ (p : Plan) (t : Thread) where
 
   from_first : (s : Spot) → IsSpot p t s → t.part.first ≤ node_in s
   from_first s (at_chosen node own chosen) = own.from_first
-  from_first s (past_lock node mutex next is own at does) = own.from_first
-  from_first s (past_unlock node mutex next is own at does some) = own.from_first
+  from_first s (past_lock node lock next is own at does) = own.from_first
+  from_first s (past_unlock node lock next is own at does some) = own.from_first
 
   -- before the thread's first node there is none
   pub begun : AreNodesBelow p t (2 * t.part.first) []
@@ -428,19 +429,20 @@ module _ (p : Plan) (t : Thread) where
   -- a place is where the thread goes on at one of its nodes
   pub goes_on_own : IsPlan p → IsThread p t → (s : Spot) → IsSpot p t s → IsNodeOf t (goes_on_at s)
   goes_on_own plan th s (at_chosen node own chosen) = own
-  goes_on_own plan th s (past_lock node mutex next is own at does) =
-      let f = formed_as plan th is.action (Lock mutex next) does (sound_node p plan t th node is own at).formed in
+  goes_on_own plan th s (past_lock node lock next is own at does) =
+      let f = formed_as plan th is.action (Lock lock next) does (sound_node p plan t th node is own at).formed in
       record { from_first = f.1.0; below_end = f.1.1 }
-  goes_on_own plan th s (past_unlock node mutex next is own at does some) =
-      let f = formed_as plan th is.action (Unlock mutex next) does (sound_node p plan t th node is own at).formed in
+  goes_on_own plan th s (past_unlock node lock next is own at does some) =
+      let f = formed_as plan th is.action (Unlock lock next) does (sound_node p plan t th node is own at).formed in
       record { from_first = f.1.0; below_end = f.1.1 }
 
   pub chosen_before : (node : ℕ) → IsNodeOf t node → IsChosen p.graph p.boundaries node → IsBefore p t node (Some node)
   chosen_before node own chosen n =
       (λ e. let same : node ≡ n = cc in (sym same, at_chosen node own chosen), λ w. ap (λ (k : ℕ). Some k) (sym w.0))
 
-  pub unlock_own : IsPlan p → IsThread p t → (node mutex next : ℕ) (is : Node) → IsNodeOf t node → NodeAt p.graph node is → is.action ≡ Unlock mutex next →
+  pub unlock_own : IsPlan p → IsThread p t → (node : ℕ) (lock : LockName) (next : ℕ) (is : Node) → IsNodeOf t node → NodeAt p.graph node is →
+      is.action ≡ Unlock lock next →
       IsNodeOf t next
-  unlock_own plan th node mutex next is own at does =
-      let f = formed_as plan th is.action (Unlock mutex next) does (sound_node p plan t th node is own at).formed in
+  unlock_own plan th node lock next is own at does =
+      let f = formed_as plan th is.action (Unlock lock next) does (sound_node p plan t th node is own at).formed in
       record { from_first = f.1.0; below_end = f.1.1 }

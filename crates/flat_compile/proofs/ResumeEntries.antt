@@ -58,8 +58,8 @@ module _ (p : Plan) (t : Thread) where
     goes_on : next_of is.action ≡ Some next
 
   leads : (node next : ℕ) → IsSpot p t (After node next) → Leads node next
-  leads node next (past_lock n mutex to is own at does) = record { is = is; at = at; goes_on = ap next_of does }
-  leads node next (past_unlock n mutex to is own at does some) = record { is = is; at = at; goes_on = ap next_of does }
+  leads node next (past_lock n lock to is own at does) = record { is = is; at = at; goes_on = ap next_of does }
+  leads node next (past_unlock n lock to is own at does some) = record { is = is; at = at; goes_on = ap next_of does }
 
   one_next : (n m x y : ℕ) → n ≡ m → Leads n x → Leads m y → x ≡ y
   one_next n m x y same a b =

@@ -1,5 +1,6 @@
 -- Nodes of a thread whose resumes are found.
-use Rattle.std.proofs.Common.{Vec, List, map, sym, ◌≡◌, ℕ, ◌<◌, length, get_or, ◌∙◌, ap, refl, false, arith}
+use Rattle.std.proofs.Common.{Vec, List, map, sym, ◌≡◌, ℕ, ◌<◌, length, get_or, ◌∙◌, ap, refl, false, arith, Bor}
+use Rattle.c_tree.specs.declared.expr.LockName.{LockName}
 use Rattle.std.specs.Option.{option_map}
 use Rattle.std.proofs.lemmas.List.{length-map}
 use Rattle.std.specs.Global.{Global}
@@ -20,12 +21,13 @@ use Rattle.rv64_codegen.proofs.Public.{read_get, end_within}
 use Rattle.flat_compile.specs.links.ResumePlacesByNode.{thread_in, IsOwnNode}
 use Rattle.flat_compile.proofs.ResumeAddresses.{calls}
 
-pub passing : (a : raw.Action) → ((m n : ℕ) → a ≡ raws.Lock m n → ⊥) → ((m n : ℕ) → a ≡ raws.Unlock m n → ⊥) → calls (action_of a) ≡ false
+pub passing : (a : raw.Action) → ((l : Bor LockName) (n : ℕ) → a ≡ raws.Lock l n → ⊥) → ((l : Bor LockName) (n : ℕ) → a ≡ raws.Unlock l n → ⊥) →
+    calls (action_of a) ≡ false
 passing (raws.Eval target value next) l u = refl
 passing (raws.Store variable kind next) l u = refl
 passing (raws.Test condition holds fails) l u = refl
-passing (raws.Lock mutex next) l u = absurd (l mutex next refl)
-passing (raws.Unlock mutex next) l u = absurd (u mutex next refl)
+passing (raws.Lock lock next) l u = absurd (l lock next refl)
+passing (raws.Unlock lock next) l u = absurd (u lock next refl)
 passing raws.End l u = refl
 
 module _ (q : plan.Plan) (number : ℕ) (part : Part) (n : ℕ) (own : IsOwnNode (plan_of q) number part n) where

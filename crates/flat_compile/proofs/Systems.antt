@@ -16,7 +16,7 @@ use Rattle.rv64_link.specs.LinkedCode.{AreLinked}
 use Rattle.memory_layout.specs.Variables.{AreInitial}
 use Rattle.flow_graph.specs.declared.graph.Part.{Part}
 use Rattle.flow_graph.specs.Nodes.{Graph, Node}
-use Rattle.flow_graph.specs.Lowering.{part, parts, thread_count, thread_nodes, threads_nodes}
+use Rattle.flow_graph.specs.Lowering.{table_of, part, parts, thread_count, thread_nodes, threads_nodes}
 use Rattle.flow_graph.specs.Liveness.{NodeAt}
 use Rattle.flow_graph.specs.OmittedCleans.{IsCleanedLater}
 use Rattle.flow_graph.proofs.Public.{found_in, lowered_nodes, lowered_threads, length-thread_nodes}
@@ -70,27 +70,29 @@ module _ (p : Plan) (plan : IsPlan p) (n : ℕ) (below : n < length p.graph.thre
   }
 
 -- a node of a thread is in the graph
-parts_inside : (ts : List f.Thread) (first number : ℕ) (own : Part) → slice_get (parts ts first) number ≡ Some own →
-    own.end ≤ first + length (threads_nodes ts first)
-parts_inside [] first number own g = absurd (none-some own g)
-parts_inside (t ∷ ts) first zero own g =
+parts_inside : (x : f.Flat) (ts : List f.Thread) (first number : ℕ) (own : Part) → slice_get (parts ts first) number ≡ Some own →
+    own.end ≤ first + length (threads_nodes x ts first)
+parts_inside x [] first number own g = absurd (none-some own g)
+parts_inside x (t ∷ ts) first zero own g =
     let end : first + thread_count t ≡ own.end = ap (λ (y : Part). y.end) (same_Some (part t first) own g) in
-    let back : List Node = threads_nodes ts (first + thread_count t) in
-    let whole : length (thread_nodes t first ++ back) ≡ length (thread_nodes t first) + length back = length-append (thread_nodes t first) back in
-    omega (arith, end, whole, length-thread_nodes t first)
-parts_inside (t ∷ ts) first (suc number) own g =
-    let back : List Node = threads_nodes ts (first + thread_count t) in
-    let later : own.end ≤ first + thread_count t + length back = parts_inside ts (first + thread_count t) number own g in
-    let whole : length (thread_nodes t first ++ back) ≡ length (thread_nodes t first) + length back = length-append (thread_nodes t first) back in
-    omega (arith, later, whole, length-thread_nodes t first)
+    let back : List Node = threads_nodes x ts (first + thread_count t) in
+    let whole : length (thread_nodes (table_of x t) t first ++ back) ≡ length (thread_nodes (table_of x t) t first) + length back =
+    length-append (thread_nodes (table_of x t) t first) back in
+    omega (arith, end, whole, length-thread_nodes (table_of x t) t first)
+parts_inside x (t ∷ ts) first (suc number) own g =
+    let back : List Node = threads_nodes x ts (first + thread_count t) in
+    let later : own.end ≤ first + thread_count t + length back = parts_inside x ts (first + thread_count t) number own g in
+    let whole : length (thread_nodes (table_of x t) t first ++ back) ≡ length (thread_nodes (table_of x t) t first) + length back =
+    length-append (thread_nodes (table_of x t) t first) back in
+    omega (arith, later, whole, length-thread_nodes (table_of x t) t first)
 
 pub node_there : (p : Plan) → IsPlan p → (t : Thread) → IsThread p t → (node : ℕ) → IsNodeOf t node → (is : Node) × NodeAt p.graph node is
 node_there p plan t of node own =
-    let long : length p.graph.nodes ≡ length (threads_nodes p.flat.threads 0) =
+    let long : length p.graph.nodes ≡ length (threads_nodes p.flat p.flat.threads 0) =
     ap length (ap (λ (g : Graph). g.nodes) plan.lowered ∙ lowered_nodes p.flat) in
     let threads : parts p.flat.threads 0 ≡ p.graph.threads = sym (ap (λ (g : Graph). g.threads) plan.lowered ∙ lowered_threads p.flat) in
-    let inside : t.part.end ≤ 0 + length (threads_nodes p.flat.threads 0) =
-    parts_inside p.flat.threads 0 t.number t.part (ap (λ (qs : List Part). slice_get qs t.number) threads ∙ of.nodes) in
+    let inside : t.part.end ≤ 0 + length (threads_nodes p.flat p.flat.threads 0) =
+    parts_inside p.flat p.flat.threads 0 t.number t.part (ap (λ (qs : List Part). slice_get qs t.number) threads ∙ of.nodes) in
     let below = own.below_end in
     found_in p.graph.nodes node (omega (arith, below, inside, long))
 

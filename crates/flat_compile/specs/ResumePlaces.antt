@@ -1,5 +1,6 @@
 -- Where recovery resumes threads, and what it finds there.
 use Rattle.std.specs.Prelude.{◌≡◌, ◌≢◌, ◌↔◌, ℕ, ◌<◌, List, [], length, map, slice_get, slice_index_or, Contains, Some, Vec}
+use Rattle.c_tree.specs.Exprs.{LockName}
 use Rattle.std.specs.Global.{Global}
 use Rattle.std.specs.List.Sorted.{IsStrictlyIncreasing}
 use Rattle.ido_base.specs.Locks.{mask_with}
@@ -41,8 +42,9 @@ module _ (p : Plan) (t : Thread) where
   -- the thread may be resumed there
   pub data IsSpot : Spot → Type 0 where
     at_chosen : (node : ℕ) → IsNodeOf t node → IsChosen p.graph p.boundaries node → IsSpot (Before node)
-    past_lock : (node mutex next : ℕ) (is : Node) → IsNodeOf t node → NodeAt p.graph node is → is.action ≡ Lock mutex next → IsSpot (After node next)
-    past_unlock : (node mutex next : ℕ) (is : Node) → IsNodeOf t node → NodeAt p.graph node is → is.action ≡ Unlock mutex next →
+    past_lock : (node : ℕ) (lock : LockName) (next : ℕ) (is : Node) → IsNodeOf t node → NodeAt p.graph node is → is.action ≡ Lock lock next →
+        IsSpot (After node next)
+    past_unlock : (node : ℕ) (lock : LockName) (next : ℕ) (is : Node) → IsNodeOf t node → NodeAt p.graph node is → is.action ≡ Unlock lock next →
         locks_before p t next ≢ [] → IsSpot (After node next)
 
   -- ---- What is found

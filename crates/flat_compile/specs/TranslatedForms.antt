@@ -1,7 +1,9 @@
 -- What the machine runs for a flat form.
-use Rattle.std.specs.Prelude.{◌≡◌, List, length}
-use Rattle.ido_base.specs.declared.log.Log.TheVariants.{V1}
+use Rattle.std.specs.Prelude.{◌≡◌, ◌≤◌, ℕ, List, [], length, slice_index_or}
+use Rattle.ido_base.specs.declared.log.Log.{Log}
+use Rattle.ido_base.specs.declared.log.Log.TheVariants.{V1, V2}
 use Rattle.c_tree.specs.Flats.{Flat}
+use Rattle.c_tree.specs.LockNames.{Held, count_held}
 use Rattle.rv64_isa.specs.declared.object.Object.{Object}
 use Rattle.rv64_isa.specs.declared.object.Marks.{Marks}
 use Rattle.rv64_isa.specs.declared.object.CodeItem.{CodeItem}
@@ -20,10 +22,16 @@ use Rattle.std.specs.Global.{Global}
 use Rattle.flat_compile.specs.declared.resumes.Resume.{Resume}
 use Rattle.flat_compile.specs.ResumePlaces.{IsResumeTable}
 
--- What the machine runs is a system of the flat form, so all laws of compiled programs hold of it; none of the boundaries can be taken away, and in
--- straight code they are the fewest.
+-- Of each thread the sets that are held before its steps: a bank of the log has room for each, and the price of a node pays for the code that writes it.
+-- A log with a mask has room for all; one that lists its locks is paid for up to 11.
+abbrev pub AreFewHeld : Log → (sets : List (List Held)) → Type 0
+AreFewHeld V1 sets = Unit {0}
+AreFewHeld V2 sets = (thread step : ℕ) → count_held (slice_index_or (slice_index_or sets thread []) step []) ≤ 11
+
+-- What the machine runs is a system of the flat form, whose threads log as it is wanted, so all laws of compiled programs hold of it; none of the boundaries
+-- can be taken away, and in straight code they are the fewest.
 -- A machine can begin with the object: it is within a machine's limits, and each of its threads has its marks.
-pub record IsTranslated (flat : Flat) (object : Object) (marks : Marks) (cuts : Cuts) : Type 0 where
+pub record IsTranslatedAs (wanted : Log) (flat : Flat) (object : Object) (marks : Marks) (cuts : Cuts) : Type 0 where
   pub system : System
   pub is : IsSystem system
   pub of_flat : flat_of system ≡ flat
@@ -31,8 +39,7 @@ pub record IsTranslated (flat : Flat) (object : Object) (marks : Marks) (cuts : 
   pub minimal : IsMinimal (lowered flat) (boundaries_of cuts)
   pub fewest : AreFewestCuts (lowered flat) (boundaries_of cuts)
   pub runs : system.runs ≡ executable_of object marks
-  -- its threads log as the first log has it
-  pub log : object.log ≡ V1
+  pub log : object.log ≡ wanted
   -- The items that the code is linked from, thread after thread: at once after a store they clean its line where no later store of the region does,
   -- and outside the code of boundaries no other line.
   pub items : List (List CodeItem)
@@ -44,6 +51,14 @@ pub record IsTranslated (flat : Flat) (object : Object) (marks : Marks) (cuts : 
   pub threads : length marks.threads.items ≡ length object.code.items
 
 -- the table tells of each thread of that system what it has where recovery may resume it
-pub record IsResumable (flat : Flat) (object : Object) (marks : Marks) (cuts : Cuts) (table : List (Vec Resume Global)) : Type 0 where
-  pub translated : IsTranslated flat object marks cuts
+pub record IsResumableAs (wanted : Log) (flat : Flat) (object : Object) (marks : Marks) (cuts : Cuts) (table : List (Vec Resume Global)) : Type 0 where
+  pub translated : IsTranslatedAs wanted flat object marks cuts
   pub are : IsResumeTable translated.system.plan translated.is.codes table
+
+-- ---- With the first log, which all files have
+
+abbrev pub IsTranslated : Flat → Object → Marks → Cuts → Type 0
+IsTranslated flat object marks cuts = IsTranslatedAs V1 flat object marks cuts
+
+abbrev pub IsResumable : Flat → Object → Marks → Cuts → List (Vec Resume Global) → Type 0
+IsResumable flat object marks cuts table = IsResumableAs V1 flat object marks cuts table

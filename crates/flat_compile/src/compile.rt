@@ -2,7 +2,7 @@
 ghost use Rattle.std.specs.Prelude.{IfOk};
 ghost use Rattle.c_tree.specs.Flats.{flat_of};
 ghost use Rattle.flat_analysis.specs.Analyses.{IsAnalysis};
-ghost use Rattle.flat_compile.specs.TranslatedForms.{IsTranslated, IsResumable};
+ghost use Rattle.flat_compile.specs.TranslatedForms.{AreFewHeld, IsTranslatedAs, IsResumableAs};
 
 use crate::resumes::{Resume, resume_table};
 use flat_analysis::Analysis;
@@ -27,16 +27,17 @@ pub struct Translated {
     pub resumes: Vec<Vec<Resume>>,
 }
 
-/// The object of a flat form that was analysed, the addresses of its marks, and where boundaries stand: a machine that runs it is
-/// resumed after each crash. Want of memory is all that may hinder it.
-pub fn translate(alloc: Global, analysis: &Analysis) -> Result<Translated, OutOfMemory>
-    requires { IsAnalysis analysis.now }
-    ensures translated { IfOk result (λ r. IsTranslated (flat_of analysis.now.flat.now) r.object r.marks r.cuts) }
-    ensures resumes { IfOk result (λ r. IsResumable (flat_of analysis.now.flat.now) r.object r.marks r.cuts r.resumes.items) }
+/// The object of a flat form that was analysed, whose threads log so, the addresses of its marks, and where boundaries stand: a machine
+/// that runs it is resumed after each crash. Want of memory is all that may hinder it.
+pub fn translate(alloc: Global, log: Log, analysis: &Analysis) -> Result<Translated, OutOfMemory>
+    requires analysis { IsAnalysis analysis.now }
+    requires few { AreFewHeld log analysis.now.held }
+    ensures translated { IfOk result (λ r. IsTranslatedAs log (flat_of analysis.now.flat.now) r.object r.marks r.cuts) }
+    ensures resumes { IfOk result (λ r. IsResumableAs log (flat_of analysis.now.flat.now) r.object r.marks r.cuts r.resumes.items) }
 {
     let cuts = cut(alloc, &analysis.graph)?;
     let plan = Plan {
-        log: Log::V1,
+        log,
         flat: analysis.flat,
         graph: &analysis.graph,
         cuts: &cuts,

@@ -43,7 +43,7 @@ by_typing text items source.Memory is h = tt
 pub by_index : (text : List ℕ) (x : p.Program) (e : IndexError) → IsTyped Plain text x → IsFaultOf x e → IsRefusal text (of_index e)
 by_index text x e is h = faulty (unfit x h.index is h.first refl h.place)
 
-pub by_calls : (text : List ℕ) (x : p.Program) (e : inline.InlineError) → IsRanged Plain text x → IsInlining x (Err e) → IsRefusal text (of_inline e)
+pub by_calls : (text : List ℕ) (x : p.Program) (e : inline.InlineError) → IsRanged Plain text x → IsInlining Plain x (Err e) → IsRefusal text (of_inline e)
 by_calls text x (inline_error.Recursion place) is h = faulty (leads_back x is h refl)
 by_calls text x (inline_error.Code place) is h = faulty (too_long x is h.0 h.1 refl)
 by_calls text x inline_error.Memory is h = tt

@@ -12,7 +12,8 @@ use Rattle.c_tree.specs.Programs as p
 use Rattle.c_tree.specs.Ranges.{AllFit, Index, IsFirstUnfit}
 use Rattle.c_tree.specs.TextReadings.{IsRead, IsRefused}
 use Rattle.c_tree.specs.LexicalScan.{Fault}
-use Rattle.c_tree.specs.Temporaries.{price_fault, temporaries_fault}
+use Rattle.c_tree.specs.HoldPrices.{price_fault}
+use Rattle.c_tree.specs.Temporaries.{temporaries_fault}
 use Rattle.c_tree.specs.Trees.{Item}
 use Rattle.c_tree.specs.TypeRules.{IsFirst, type_faults}
 use Rattle.c_tree.specs.Elaboration.{typed_program}
@@ -94,29 +95,29 @@ one_by_room flat = one_check (RoomStop flat) (HasRoom (lowered flat)) (ByTempora
 -- ---- The lock discipline
 
 abbrev LockStop : f.Flat → Verdict → Type 0
-LockStop flat v = (x : l.Fault) × (lock_fault flat ≡ Some x) × (v ≡ Refused x.rule x.place)
+LockStop flat v = (x : l.Fault) × (lock_fault Plain flat ≡ Some x) × (v ≡ Refused x.rule x.place)
 
 abbrev ByLocks : f.Flat → Verdict → Type 0
-ByLocks flat = Check (LockStop flat) (lock_fault flat ≡ None) (ByRoom flat)
+ByLocks flat = Check (LockStop flat) (lock_fault Plain flat ≡ None) (ByRoom flat)
 
 one_by_locks : (flat : f.Flat) → IsOne (ByLocks flat)
-one_by_locks flat = one_check (LockStop flat) (lock_fault flat ≡ None) (ByRoom flat)
-    (λ v w s t. s.2 ∙ ap (λ (x : l.Fault). Refused x.rule x.place) (one_some (lock_fault flat) s.0 t.0 s.1 t.1) ∙ sym t.2)
-    (λ v s e. not_none (lock_fault flat) s.0 s.1 e)
+one_by_locks flat = one_check (LockStop flat) (lock_fault Plain flat ≡ None) (ByRoom flat)
+    (λ v w s t. s.2 ∙ ap (λ (x : l.Fault). Refused x.rule x.place) (one_some (lock_fault Plain flat) s.0 t.0 s.1 t.1) ∙ sym t.2)
+    (λ v s e. not_none (lock_fault Plain flat) s.0 s.1 e)
     (one_by_room flat)
 
 -- ---- The price
 
 abbrev PriceStop : f.Flat → Verdict → Type 0
-PriceStop flat v = (place : Place) × (price_fault flat ≡ Some place) × (v ≡ Refused rule.Code place)
+PriceStop flat v = (place : Place) × (price_fault Plain flat ≡ Some place) × (v ≡ Refused rule.Code place)
 
 abbrev ByPrice : f.Flat → Verdict → Type 0
-ByPrice flat = Check (PriceStop flat) (price_fault flat ≡ None) (ByLocks flat)
+ByPrice flat = Check (PriceStop flat) (price_fault Plain flat ≡ None) (ByLocks flat)
 
 one_by_price : (flat : f.Flat) → IsOne (ByPrice flat)
-one_by_price flat = one_check (PriceStop flat) (price_fault flat ≡ None) (ByLocks flat)
-    (λ v w s t. s.2 ∙ ap (Refused rule.Code) (one_some (price_fault flat) s.0 t.0 s.1 t.1) ∙ sym t.2)
-    (λ v s e. not_none (price_fault flat) s.0 s.1 e)
+one_by_price flat = one_check (PriceStop flat) (price_fault Plain flat ≡ None) (ByLocks flat)
+    (λ v w s t. s.2 ∙ ap (Refused rule.Code) (one_some (price_fault Plain flat) s.0 t.0 s.1 t.1) ∙ sym t.2)
+    (λ v s e. not_none (price_fault Plain flat) s.0 s.1 e)
     (one_by_locks flat)
 
 -- ---- Calls

@@ -25,7 +25,7 @@ pub fn flatten(alloc: Global, text: &[u8]) -> Result<Flat, CompileError>
     let tree = read(alloc, Language::Plain, text)?;
     let program = type_tree(alloc, Language::Plain, tree)?;
     c_ranges::check(&program)?;
-    let flat = inline(alloc, &program)?;
+    let flat = inline(alloc, Language::Plain, &program)?;
     Ok(flat)
 }
 

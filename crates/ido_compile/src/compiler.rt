@@ -12,6 +12,7 @@ use crate::error::CompileError;
 use crate::laws::translations_are_compilations;
 use c_tree::flat::Flat;
 use flat_compile::{Translated, translate};
+use ido_base::log::Log;
 use ido_base::memory::OutOfMemory;
 use std::alloc::Global;
 
@@ -31,7 +32,7 @@ fn object_of(alloc: Global, text: &[u8], flat: &Flat) -> Result<Translated, Comp
     ensures { IsTranslationAnswer text.now (flat_of flat.now) result }
 {
     let analysis = checked(alloc, text, flat)?;
-    let translated = translate(alloc, &analysis)?;
+    let translated = translate(alloc, Log::V1, &analysis)?;
     Ok(translated)
 }
 

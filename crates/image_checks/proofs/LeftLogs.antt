@@ -37,7 +37,7 @@ use Rattle.flow_graph.specs.Liveness.{NodeAt}
 use Rattle.flow_graph.specs.Lowering.{lowered, threads_nodes}
 use Rattle.flow_graph.specs.Nodes.{Action, Eval, Store, Test, Lock, Unlock, End, Graph, Node}
 use Rattle.flow_graph.specs.Paths.{LiesInWritten, stored_element, no_names}
-use Rattle.flow_graph.proofs.Public.{ShapedAs, found_in, node_shaped, nodes_at}
+use Rattle.flow_graph.proofs.Public.{ShapedAs, found_in, node_shaped, nodes_at, owes_plain}
 use Rattle.log_states.specs.LogInvariant.{LogInv}
 use Rattle.log_states.specs.Logs.{Record, IsRecord, IsRecorded, nothing_recorded, slots_of, value_of}
 use Rattle.log_states.specs.Machines.{config_of}
@@ -96,10 +96,10 @@ place : (p : Plan) (code : Code p) (node address : ℕ) → (own : IsNodeOf code
     Place p code node address
 place p code node address own (at_chosen chosen) =
     record { spot = Before node; is = places.at_chosen node own chosen; at = refl; goes_on = refl }
-place p code node address own (past_lock from mutex is from_own there locks) =
-    record { spot = After from node; is = places.past_lock from mutex node is from_own there locks; at = refl; goes_on = refl }
-place p code node address own (past_unlock from mutex is from_own there unlocks holds) =
-    record { spot = After from node; is = places.past_unlock from mutex node is from_own there unlocks holds; at = refl; goes_on = refl }
+place p code node address own (past_lock from lock is from_own there locks) =
+    record { spot = After from node; is = places.past_lock from lock node is from_own there locks; at = refl; goes_on = refl }
+place p code node address own (past_unlock from lock is from_own there unlocks holds) =
+    record { spot = After from node; is = places.past_unlock from lock node is from_own there unlocks holds; at = refl; goes_on = refl }
 
 -- ---- The log of a thread
 
@@ -205,11 +205,11 @@ module _ (y : System) (s : IsSystem y) (w : World) (stands : Simulates y s w) (f
         flat_there : NodeAt (lowered (flat_of y)) at is
         flat_there = subst (λ (g : Graph). NodeAt g at is) s.plan.lowered there
 
-        here : slice_get (threads_nodes (flat_of y).threads 0) at ≡ Some is
+        here : slice_get (threads_nodes (flat_of y) (flat_of y).threads 0) at ≡ Some is
         here = nodes_at (flat_of y) at is flat_there
 
-        shaped : (a : Action) → is.action ≡ a → ShapedAs (threads_nodes (flat_of y).threads 0) is a
-        shaped a does = subst (λ (z : Action). ShapedAs (threads_nodes (flat_of y).threads 0) is z) does (node_shaped (flat_of y) at is here)
+        shaped : (a : Action) → is.action ≡ a → ShapedAs (threads_nodes (flat_of y) (flat_of y).threads 0) is a
+        shaped a does = subst (λ (z : Action). ShapedAs (threads_nodes (flat_of y) (flat_of y).threads 0) is z) does (node_shaped (flat_of y) at is here)
 
         none : is.writes ≡ None → Has
         none e = subst (λ (o : Option Location). HasAddress (flat_of y).variables logs n (bank_of r.point) o) (sym e) tt
@@ -220,7 +220,7 @@ module _ (y : System) (s : IsSystem y) (w : World) (stands : Simulates y s w) (f
             let owed = owes_here (flat_of y) s.plan.formed kept good.source t.number good.matches i.graph_thread i.there is flat_there
             (record { variable = variable; kind = kind; next = next; is = does }) in
             let store : Pending = owed.0 in
-            let owes = good.owes t.number i.graph_thread store i.there owed.1 in
+            let owes = owes_plain (flat_of y) s.plan.formed kept good t.number i.graph_thread i.there store owed.1 in
             let lies : LiesInWritten no_names is.writes (stored_element store) =
             subst (λ (z : Node). LiesInWritten no_names z.writes (stored_element store)) (same_Some owes.node is (sym owes.here ∙ here)) owes.lies in
             let pending : HasPending y.plan store variable kind r.registers =
@@ -245,12 +245,12 @@ module _ (y : System) (s : IsSystem y) (w : World) (stands : Simulates y s w) (f
             })
 
         written : (a : Action) → is.action ≡ a → Has
-        written (Eval target value next) does = none (shaped (Eval target value next) does).writes
+        written (Eval target value next) does = none (shaped (Eval target value next) does).1.writes
         written (Store variable kind next) does = stored variable next kind does
-        written (Test condition holds fails) does = none (shaped (Test condition holds fails) does).writes
-        written (Lock mutex next) does = none (shaped (Lock mutex next) does)
-        written (Unlock mutex next) does = none (shaped (Unlock mutex next) does)
-        written End does = none (shaped End does)
+        written (Test condition holds fails) does = none (shaped (Test condition holds fails) does).1.writes
+        written (Lock lock next) does = none (shaped (Lock lock next) does).1
+        written (Unlock lock next) does = none (shaped (Unlock lock next) does).1
+        written End does = none (shaped End does).1
 
       -- ---- By the entry of its table
 

@@ -29,7 +29,8 @@ use Rattle.rv64_isa.specs.Rows.{read}
 use Rattle.flow_graph.specs.Nodes.{Node}
 use Rattle.flow_graph.specs.Liveness.{NodeAt, IsLive}
 use Rattle.log_states.specs.Logs.{IsKeepable, IsWord, log_word}
-use Rattle.log_states.proofs.Public.{kept_are_keepable, scheme}
+use Rattle.log_states.specs.Schemes.{HasKept}
+use Rattle.log_states.proofs.Public.{kept_are_keepable, mask_has_kept, scheme}
 use Rattle.thread_code.specs.Plans.{Plan, Thread, locks_before}
 use Rattle.recovered_threads.specs.RecordDescriptions.{Code, ResumesAt}
 use Rattle.recovered_threads.specs.RecordDescriptions as telling
@@ -45,7 +46,7 @@ use Rattle.image_runs.specs.Shapes.{GoesOnAt, HasThreadShape, HasShape}
 use Rattle.image_runs.specs.Shapes as shapes
 use Rattle.image_runs.specs.Laws.{AcceptedHaveShape}
 use Rattle.image_runs.proofs.SpreadWords as spread
-use Rattle.image_runs.proofs.ResumedLocals.{local_keepable, of_mask}
+use Rattle.image_runs.proofs.ResumedLocals.{local_keepable}
 use Rattle.expr_code.specs.declared.home.Home.{Home}
 use Rattle.expr_code.specs.declared.home.Home.TheVariants.{InRegister}
 use Rattle.expr_code.specs.EvaluationCode.{home_of}
@@ -86,8 +87,8 @@ found_at (x ∷ rs) address r h = elim (cases_Bool (x.address == address)) [
 
 resumes_by : (p : Plan) (code : Code p) (spot : Spot) → IsSpot p code.thread spot → ResumesAt p code (goes_on_at spot) (address_in code.is.places spot)
 resumes_by p code _ (places.at_chosen node own chosen) = telling.at_chosen chosen
-resumes_by p code _ (places.past_lock node mutex next is own there locks) = telling.past_lock node mutex is own there locks
-resumes_by p code _ (places.past_unlock node mutex next is own there unlocks holds) = telling.past_unlock node mutex is own there unlocks holds
+resumes_by p code _ (places.past_lock node lock next is own there locks) = telling.past_lock node lock is own there locks
+resumes_by p code _ (places.past_unlock node lock next is own there unlocks holds) = telling.past_unlock node lock is own there unlocks holds
 
 -- ---- The words of the logs, where the machine has them
 
@@ -151,10 +152,11 @@ module _ (y : System) (first : y.plan.log ≡ V1) (words : List Word) (logs : Li
       register_there : (register : ℕ) → IsKeepable log register → read (shapes.resumed y.plan code words) register ≡ slot_in logs n bank register
       register_there register k = (scheme log).reads.registers words n register k ∙ slot_there register
 
-      locks : record_of log words n ≡ locks_before y.plan t r.node
+      locks : HasKept log words n (locks_before y.plan t r.node)
       locks =
-          some_locks n w.some
-          ∙ (ap locks_in (slot_there 0 ∙ (right.mask ∙ of.found.mask_is)) ∙ (of_mask y.plan s.plan t code.of r.node).read_back)
+          subst (λ (l : Log). HasKept l words n (locks_before y.plan t r.node)) (sym first)
+          (mask_has_kept words n (locks_before y.plan t r.node)
+          (sym (ap (λ (l : Log). recorded l words n 0) first) ∙ (slot_there 0 ∙ (right.mask ∙ of.found.mask_is))))
 
       form_there : (local : ℕ) (k : Kind) → slice_get t.kinds local ≡ Some k → IsLive y.plan.graph local r.node → (home : Home) →
           home_of t.locals local ≡ home → shapes.HomeHasForm (shapes.resumed y.plan code words) home k

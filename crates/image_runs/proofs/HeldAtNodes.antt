@@ -1,5 +1,5 @@
 -- What a thread of a plan holds at its nodes, and that something is held where it may be resumed.
-use Rattle.std.proofs.Common.{◌≡◌, ◌≢◌, refl, ℕ, zero, suc, ◌-◌, ◌<◌, List, [], ◌∷◌, length, ap, sym, ◌∙◌, subst, arith, Some, None}
+use Rattle.std.proofs.Common.{◌≡◌, ◌≢◌, refl, ℕ, zero, suc, ◌-◌, ◌<◌, List, [], ◌∷◌, length, ap, sym, ◌∙◌, subst, arith, Option, Some, None}
 use Rattle.std.proofs.Common.{true, false}
 use Rattle.std.specs.Prelude.{slice_get, slice_set, slice_index_or}
 use Rattle.std.specs.List.{AllByRecursion, AllZip}
@@ -82,7 +82,7 @@ module _ (p : Plan) (plan : IsPlan p) (t : Thread) (of : IsThread p t) where
 
     -- what is left there
     pub stands : (s : Standing) × (At all node s) × ActionLeads all node_is.0.action s
-    stands = zip_there (λ (n : Node) (s : Standing). ActionLeads all n.action s) (threads_nodes p.flat.threads 0) all node node_is.0
+    stands = zip_there (λ (n : Node) (s : Standing). ActionLeads all n.action s) (threads_nodes p.flat p.flat.threads 0) all node node_is.0
         (agrees p.flat plan.formed.threads) (nodes_at p.flat node node_is.0 lowered_is)
 
     own_standing : slice_get (thread_standings of.text) step ≡ Some stands.0
@@ -133,9 +133,9 @@ module _ (p : Plan) (plan : IsPlan p) (t : Thread) (of : IsThread p t) where
 
   -- ---- After a lock
 
-  module _ (from mutex node : ℕ) (is : Node) (own_from : IsNodeOf t from) (own : IsNodeOf t node) (at : NodeAt p.graph from is)
-      (locks : is.action ≡ Lock mutex node) where
-    pub leads : Locks all mutex node (stands from own_from).0
+  module _ (from : ℕ) (lock : e.LockName) (node : ℕ) (is : Node) (own_from : IsNodeOf t from) (own : IsNodeOf t node) (at : NodeAt p.graph from is)
+      (locks : is.action ≡ Lock lock node) where
+    pub leads : Locks all lock node (stands from own_from).0
     leads =
         let same : (node_is from own_from).0 ≡ is = same_Some _ is (sym (node_is from own_from).1 ∙ at) in
         subst (λ (a : Action). ActionLeads all a (stands from own_from).0) (ap (λ (n : Node). n.action) same ∙ locks) (stands from own_from).2
@@ -144,16 +144,24 @@ module _ (p : Plan) (plan : IsPlan p) (t : Thread) (of : IsThread p t) where
     pub free_after_lock : (stands node own).0 ≡ free leads.rest
     free_after_lock = same_Some _ _ (sym (stands node own).1 ∙ leads.follows)
 
+    abbrev mutex : ℕ
+    mutex = lock.mutex
+
     abbrev named : e.LockName
     named = record { mutex = mutex; key = None }
 
+    -- it has no key
+    name_is : lock ≡ named
+    name_is = ap (λ (key : Option e.Placed). let x : e.LockName = record { mutex = mutex; key = key } in x) leads.keyless
+
     keeps_from : KeepsLeft p.flat names (set_before p t from) (f.Lock leads.place named ∷ leads.rest)
-    keeps_from = subst (λ (s : Standing). KeepsLeft p.flat names (set_before p t from) s.left) leads.is (keeps from own_from)
+    keeps_from = subst (λ (name : e.LockName). KeepsLeft p.flat names (set_before p t from) (f.Lock leads.place name ∷ leads.rest)) name_is
+        (subst (λ (s : Standing). KeepsLeft p.flat names (set_before p t from) s.left) leads.is (keeps from own_from))
 
     below : mutex < length p.flat.mutexes
     below = (subst (λ (s : Standing). AllByRecursion (IsStatementLeft p.flat of.text.locals) s.left) leads.is (left_is from own_from)).0.1.0
 
-    pub held_after_lock : holds (set_before p t node) mutex ≡ true
+    pub held_after_lock : holds (set_before p t node) lock.mutex ≡ true
     held_after_lock =
         let n = number_in names named in
         let number_is : n ≡ mutex = ap (λ (ns : List e.LockName). number_in ns named) plain ∙ plain_number count mutex below in
@@ -167,11 +175,11 @@ module _ (p : Plan) (plan : IsPlan p) (t : Thread) (of : IsThread p t) where
         ap (λ (h : Held). holds h mutex) (sym between ∙ taken) ∙ get_or-set_same (set_before p t from) mutex true false inside
 
   -- no store is pending after an unlock either
-  pub free_after_unlock : (from mutex node : ℕ) (is : Node) (own_from : IsNodeOf t from) (own : IsNodeOf t node) → NodeAt p.graph from is →
-      is.action ≡ Unlock mutex node → (stands node own).0.owes ≡ false
-  free_after_unlock from mutex node is own_from own at unlocks =
+  pub free_after_unlock : (from : ℕ) (lock : e.LockName) (node : ℕ) (is : Node) (own_from : IsNodeOf t from) (own : IsNodeOf t node) → NodeAt p.graph from is →
+      is.action ≡ Unlock lock node → (stands node own).0.owes ≡ false
+  free_after_unlock from lock node is own_from own at unlocks =
       let same : (node_is from own_from).0 ≡ is = same_Some _ is (sym (node_is from own_from).1 ∙ at) in
-      let leads : Unlocks all mutex node (stands from own_from).0 =
+      let leads : Unlocks all lock node (stands from own_from).0 =
       subst (λ (a : Action). ActionLeads all a (stands from own_from).0) (ap (λ (n : Node). n.action) same ∙ unlocks) (stands from own_from).2 in
       ap (λ (s : Standing). s.owes) (same_Some _ _ (sym (stands node own).1 ∙ leads.follows))
 
@@ -189,9 +197,9 @@ module _ (locked : ChosenAreLocked) (p : Plan) (plan : IsPlan p) (code : Code p)
   resumed_hold node address own (at_chosen chosen) =
       let s = locked_here p plan t code.of node own locked chosen in
       some_locks (set_before p t node) (number_in (lock_names p.flat s.text) (guard_name p.flat.variables s.used)) s.locked
-  resumed_hold node address own (past_lock from mutex is own_from at locks) =
-      some_locks (set_before p t node) mutex (held_after_lock p plan t code.of from mutex node is own_from own at locks)
-  resumed_hold node address own (past_unlock from mutex is own_from at unlocks some) = some
+  resumed_hold node address own (past_lock from lock is own_from at locks) =
+      some_locks (set_before p t node) lock.mutex (held_after_lock p plan t code.of from lock node is own_from own at locks)
+  resumed_hold node address own (past_unlock from lock is own_from at unlocks some) = some
 
   -- a guard that is held by its name is held by its number
   guard_held : (text : f.Thread) (node : ℕ) (own : IsNodeOf code.thread node) (u : Use) (n : ℕ) →
@@ -215,7 +223,7 @@ module _ (locked : ChosenAreLocked) (p : Plan) (plan : IsPlan p) (code : Code p)
       let variable_is : s.used.variable ≡ variable = cc one in
       subst (λ (v : ℕ). holds (set_before p t node) (element_lock p.flat.variables v element) ≡ true) variable_is
       (guard_held s.text node own s.used element s.locked)
-  resumed_store_locked node address own (past_lock from mutex is own_from at locks) variable kind next element stores owes =
-      absurd (true≢false (sym owes ∙ ap (λ (s : Standing). s.owes) (free_after_lock p plan t code.of from mutex node is own_from own at locks)))
-  resumed_store_locked node address own (past_unlock from mutex is own_from at unlocks some) variable kind next element stores owes =
-      absurd (true≢false (sym owes ∙ free_after_unlock p plan t code.of from mutex node is own_from own at unlocks))
+  resumed_store_locked node address own (past_lock from lock is own_from at locks) variable kind next element stores owes =
+      absurd (true≢false (sym owes ∙ ap (λ (s : Standing). s.owes) (free_after_lock p plan t code.of from lock node is own_from own at locks)))
+  resumed_store_locked node address own (past_unlock from lock is own_from at unlocks some) variable kind next element stores owes =
+      absurd (true≢false (sym owes ∙ free_after_unlock p plan t code.of from lock node is own_from own at unlocks))

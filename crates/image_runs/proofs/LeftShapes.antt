@@ -1,7 +1,6 @@
 -- What a crash leaves of a run has the shape.
 use Rattle.std.proofs.Common.{◌≡◌, refl, ℕ, ◌<◌, List, [], length, map, ap, sym, ◌∙◌, subst, arith, Some, None, true}
-use Rattle.std.specs.Prelude.{slice_get, Contains, ◌==◌, ℤ, slice_index_or, pos}
-use Rattle.std.proofs.lemmas.Bool.{cond-false, ne_eqb}
+use Rattle.std.specs.Prelude.{slice_get, Contains, ℤ, slice_index_or, pos}
 use Rattle.std.proofs.lemmas.List.{length-map}
 use Rattle.std.proofs.lemmas.Option.{none-some, same_Some, slice_get_within}
 use Rattle.ido_base.specs.Layout.{word_count}
@@ -28,9 +27,10 @@ use Rattle.flow_graph.specs.Liveness.{NodeAt, IsLive}
 use Rattle.flow_graph.specs.Lowering.{lowered, threads_nodes}
 use Rattle.flow_graph.specs.Nodes.{Action, Eval, Store, Test, Lock, Unlock, End, Graph, Node}
 use Rattle.flow_graph.specs.Paths.{LiesInWritten, stored_element, no_names}
-use Rattle.flow_graph.proofs.Public.{ShapedAs, found_in, node_shaped, nodes_at}
+use Rattle.flow_graph.proofs.Public.{ShapedAs, found_in, node_shaped, nodes_at, owes_plain}
 use Rattle.log_states.specs.LogInvariant.{LogInv}
 use Rattle.log_states.specs.Logs.{Record, IsRecord, IsRecorded, HasLog, nothing_recorded}
+use Rattle.log_states.specs.Schemes.{HasKept}
 use Rattle.log_states.specs.Laws.{ResumesRecord}
 use Rattle.log_states.specs.Machines.{config_of}
 use Rattle.log_states.proofs.Public.{crashes_standing, ends, log_facts}
@@ -131,11 +131,11 @@ module _ (y : System) (s : IsSystem y) (w : World) (stands : Simulates y s w) wh
         flat_there : NodeAt (lowered (flat_of y)) at is
         flat_there = subst (λ (g : Graph). NodeAt g at is) s.plan.lowered there
 
-        here : slice_get (threads_nodes (flat_of y).threads 0) at ≡ Some is
+        here : slice_get (threads_nodes (flat_of y) (flat_of y).threads 0) at ≡ Some is
         here = nodes_at (flat_of y) at is flat_there
 
-        shaped : (a : Action) → is.action ≡ a → ShapedAs (threads_nodes (flat_of y).threads 0) is a
-        shaped a does = subst (λ (z : Action). ShapedAs (threads_nodes (flat_of y).threads 0) is z) does (node_shaped (flat_of y) at is here)
+        shaped : (a : Action) → is.action ≡ a → ShapedAs (threads_nodes (flat_of y) (flat_of y).threads 0) is a
+        shaped a does = subst (λ (z : Action). ShapedAs (threads_nodes (flat_of y) (flat_of y).threads 0) is z) does (node_shaped (flat_of y) at is here)
 
         none : is.writes ≡ None → Has
         none e = absurd (none-some location (sym e ∙ writes))
@@ -146,7 +146,7 @@ module _ (y : System) (s : IsSystem y) (w : World) (stands : Simulates y s w) wh
             let owed = owes_here (flat_of y) s.plan.formed kept good.source t.number good.matches i.graph_thread i.there is flat_there
             (record { variable = variable; kind = kind; next = next; is = does }) in
             let store : Pending = owed.0 in
-            let owes = good.owes t.number i.graph_thread store i.there owed.1 in
+            let owes = owes_plain (flat_of y) s.plan.formed kept good t.number i.graph_thread i.there store owed.1 in
             let lies : LiesInWritten no_names is.writes (stored_element store) =
             subst (λ (z : Node). LiesInWritten no_names z.writes (stored_element store)) (same_Some owes.node is (sym owes.here ∙ here)) owes.lies in
             let pending : HasPending y.plan store variable kind r.registers =
@@ -170,18 +170,18 @@ module _ (y : System) (s : IsSystem y) (w : World) (stands : Simulates y s w) wh
             })
 
         written : (a : Action) → is.action ≡ a → Has
-        written (Eval target value next) does = none (shaped (Eval target value next) does).writes
+        written (Eval target value next) does = none (shaped (Eval target value next) does).1.writes
         written (Store variable kind next) does = stored variable next kind does
-        written (Test condition holds fails) does = none (shaped (Test condition holds fails) does).writes
-        written (Lock mutex next) does = none (shaped (Lock mutex next) does)
-        written (Unlock mutex next) does = none (shaped (Unlock mutex next) does)
-        written End does = none (shaped End does)
+        written (Test condition holds fails) does = none (shaped (Test condition holds fails) does).1.writes
+        written (Lock lock next) does = none (shaped (Lock lock next) does).1
+        written (Unlock lock next) does = none (shaped (Unlock lock next) does).1
+        written End does = none (shaped End does).1
 
       goes_on : GoesOnAt y.plan code ws at
       goes_on = record {
         own = i.own;
         resumes = subst (λ (q : ℕ). ResumesAt y.plan code at (resume_of q)) (sym resumes_own.point) i.resumes;
-        locks = resumes_own.locks ∙ (cond-false (r.point == 0) [] r.locks (ne_eqb r.point 0 i.point) ∙ i.locks);
+        locks = subst (HasKept y.plan.log ws t.number) i.locks (resumes_own.kept i.point);
         locals = local_right;
         pending = λ is location there writes. written is there location writes is.action refl;
       }

@@ -33,7 +33,7 @@ use Rattle.rv64_isa.specs.declared.object.Slot.{Slot}
 use Rattle.rv64_isa.specs.Machine.{Hart, World, after_crash_of, after_event, durable_point, fresh_hart, happens, numbers_from, phase_after_crash, record_of}
 use Rattle.boundary_code.specs.Boundaries.{is_empty}
 use Rattle.flow_graph.specs.Actions.{FlowState, GraphThread}
-use Rattle.flow_graph.specs.Lockstep.{GraphThreadMatches, Matches}
+use Rattle.flow_graph.specs.Lockstep.{GraphThreadMatches, Matches, IsOwnNode}
 use Rattle.flow_graph.specs.Lowering.{parts}
 use Rattle.flow_graph.specs.Nodes.{Graph}
 use Rattle.flow_graph.specs.declared.graph.Part.{Part}
@@ -404,6 +404,15 @@ module _ (locked : ChosenAreLocked) (y : System) (s : IsSystem y) (words : List 
       let same : (of n below).graph_thread ≡ g = same_Some _ g (sym (graph_thread_there n below) ∙ there) in
       subst (λ (z : GraphThread). z.pending ≡ Some store → IsPendingAt x z.at store) same ((of n below).stored store) is
 
+  own_there : (n : ℕ) (g : GraphThread) → slice_get kept.graph_threads n ≡ Some g → IsOwnNode x n g.at
+  own_there n g there =
+      let l = slice_get_within kept.graph_threads n g there in
+      let c = count_of graph_thread 0 count in
+      let below : n < count = omega (arith, l, c) in
+      let same : (of n below).graph_thread ≡ g = same_Some _ g (sym (graph_thread_there n below) ∙ there) in
+      subst (λ (z : GraphThread). IsOwnNode x n z.at) same
+      (subst (λ (k : ℕ). IsOwnNode x k (of n below).graph_thread.at) (s.codes.number n below) (of n below).own)
+
   -- ---- Records
 
   describes : AllDescribe y.plan s.codes kept entry
@@ -438,6 +447,7 @@ module _ (locked : ChosenAreLocked) (y : System) (s : IsSystem y) (words : List 
       matches = matches;
       keeps = keeps;
       formed = formed;
+      own = own_there;
       holders = λ lock n there. (let b = holders_below lock n there in let c = count_of thread 0 count in omega (arith, b, c));
       pending = pending_there;
     },

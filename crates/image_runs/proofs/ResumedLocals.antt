@@ -83,4 +83,4 @@ module _ (p : Plan) (plan : IsPlan p) (t : Thread) (is : IsThread p t) where
   of_mask node = record { fits = held_fits (set_before p t node) (few_set node); read_back = held_read_back (set_before p t node) (few_set node) }
 
   pub loggable : (node : ℕ) → AreLoggable p.log (locks_before p t node)
-  loggable node = (scheme p.log).keeps.masks (locks_before p t node) (of_mask node)
+  loggable node = (scheme p.log).keeps.masks (locks_before p t node) (of_mask node) (plan.room t node)

@@ -4,11 +4,9 @@ use Rattle.std.proofs.Common.{subst, arith, Option, Some, None, Bool, true, fals
 use Rattle.std.specs.Prelude.{slice_get, slice_index_or, Contains, is_some, ◌^◌, ℤ, pos}
 use Rattle.std.specs.List.{AllZip}
 use Rattle.std.specs.Option.{option_map}
-use Rattle.std.proofs.lemmas.Bool.Decides.{nat_tests}
 use Rattle.std.proofs.lemmas.List.{length-replicate}
 use Rattle.std.proofs.lemmas.Option.{none-some, same_Some, slice_get-map}
-use Rattle.ido_base.specs.declared.log.Log.TheVariants.{V1}
-use Rattle.ido_base.specs.Layout.{in_range, point_at, variable_at, word_number}
+use Rattle.ido_base.specs.Layout.{point_at, variable_at, word_number}
 use Rattle.ido_base.specs.Locks.{holds_none}
 use Rattle.ido_base.specs.Words.{Word, word_of}
 use Rattle.ido_ints.specs.declared.kinds.Kind.{Kind}
@@ -31,18 +29,17 @@ use Rattle.memory_layout.specs.Roles.{pending_address, pending_value}
 use Rattle.rv64_isa.specs.Rows.{read}
 use Rattle.rv64_isa.specs.Machine.{bank_of, durable_point, recorded, record_of, resumed_registers}
 use Rattle.boundary_code.specs.Boundaries.{is_empty, kept_locks}
-use Rattle.variable_words.proofs.Public.{addresses_reach, well_formed_placed}
+use Rattle.variable_words.proofs.Public.{address_is, element_whole, well_formed_placed}
 use Rattle.flow_graph.specs.Actions.{FlowState, GraphThread, Seen, graph_thread_start, seen_by}
 use Rattle.flow_graph.specs.Liveness.{NodeAt, IsLive}
-use Rattle.flow_graph.specs.Lockstep.{GraphThreadMatches, Standing}
+use Rattle.flow_graph.specs.Lockstep.{GraphThreadMatches, Standing, IsOwnNode}
 use Rattle.flow_graph.specs.Lowering.{lowered}
 use Rattle.flow_graph.specs.Nodes.{Action, Eval, Store, Test, Lock, Unlock, End, Graph, Node}
-use Rattle.flow_graph.proofs.Public.{ActionLeads, Tests, all_at, begins_lockstep, chooses, nodes_at, repeats}
+use Rattle.flow_graph.proofs.Public.{ActionLeads, Tests, all_at, begins_lockstep, chooses, nodes_at, repeats, good_start}
 use Rattle.region_attempts.specs.Origins.{IsPendingAt}
 use Rattle.region_cutter.specs.LocksAtBoundaries.{ChosenAreLocked}
 use Rattle.log_states.specs.Logs.{Record, side_of, IsKeepable, IsRecord, IsDurable, IsRecorded, HasLog, nothing_recorded, slot_in, slots_of, value_of, kept_in}
 use Rattle.log_states.specs.Logs.{bank_word}
-use Rattle.log_states.specs.Schemes.{HasKept}
 use Rattle.log_states.specs.Laws.{ResumesRecord}
 use Rattle.log_states.proofs.Public.{kept_are_keepable, log_facts, nothing_is_record, scheme, slot_cases}
 use Rattle.thread_code.specs.Plans.{Plan, Thread, IsPlan, IsKept, of_local, of_address, of_value, locks_held, locks_held_from, set_before, locks_before}
@@ -53,7 +50,7 @@ use Rattle.image_runs.specs.Shapes.{GoesOnAt, HasThreadShape, idle, resumes, Hom
 use Rattle.image_runs.proofs.HeldAtNodes.{all, names, names_long, node_is, lowered_is, stands}
 use Rattle.image_runs.proofs.HeldAtNodes.{keeps, long, left_is, sets, resumed_hold, resumed_store_locked}
 use Rattle.image_runs.proofs.LeftStatements.{opened_all_left}
-use Rattle.image_runs.proofs.RecordedWords.{durable_word, nothing_is_recorded, point_small, recorded_small, register_small, record_none}
+use Rattle.image_runs.proofs.RecordedWords.{durable_word, nothing_is_recorded, point_small, register_small, record_none}
 use Rattle.image_runs.proofs.ResumedLocals.{local_keepable, loggable}
 use Rattle.image_runs.proofs.StoredElements.{StoresAs, StoresElements, stores_elements}
 use Rattle.expr_code.specs.declared.home.Home.{Home}
@@ -83,9 +80,6 @@ low_bytes k w =
     sym (same_low (modulus_of k) (positive k) (register_of k z) w
     (Same_trans (modulus_of k) (pos (register_of k z)) z (pos w) (register-Same k z) (Same-reduced k (pos w))))
 
-address_small : (address bytes : ℕ) → in_range V1 0 address bytes ≡ true → address < 2 ^ 64
-address_small address bytes is_in = grind (arith, nat_tests)
-
 tests_free : (ss : List Standing) (condition : Placed) (to other : ℕ) (s : Standing) → Tests ss condition to other s → s.owes ≡ false
 tests_free ss condition to other s (chooses place body arms otherwise rest is a b) = ap (λ (z : Standing). z.owes) is
 tests_free ss condition to other s (repeats place body rest is a b) = ap (λ (z : Standing). z.owes) is
@@ -105,6 +99,7 @@ pub record IsSaid (p : Plan) (code : Code p) (words : List ℕ) : Type 0 where
   pub graph_thread : GraphThread
   pub thread : m.Thread
   pub matches : GraphThreadMatches p.flat graph_thread thread
+  pub own : IsOwnNode p.flat code.thread.number graph_thread.at
   pub formed : IsThreadOf p.flat code.of.text.locals thread
   -- the mutexes that it holds
   pub set : Held
@@ -152,6 +147,9 @@ module _ (locked : ChosenAreLocked) (p : Plan) (plan : IsPlan p) (code : Code p)
       graph_thread = graph_thread_start t.part;
       thread = m.thread_start code.of.text;
       matches = begun;
+      own = (good_start x plan.formed).own n (graph_thread_start t.part)
+          (slice_get-map graph_thread_start (lowered x).threads n ∙ ap (option_map graph_thread_start)
+          (subst (λ (g : Graph). slice_get g.threads n ≡ Some t.part) plan.lowered code.of.nodes));
       formed = record {
         left = opened_all_left x code.of.text.locals code.of.text.body
             (all_at (λ (u : f.Thread). AreFlatStatements x u.locals u.body) x.threads n code.of.text plan.formed.threads code.of.of_text);
@@ -287,8 +285,11 @@ module _ (locked : ChosenAreLocked) (p : Plan) (plan : IsPlan p) (code : Code p)
         variable_is = refl;
         address = at_element.is ∙ ap (λ (v : ℕ). variable_at (map shape_of x.variables) v store.element) stores.variable_is;
         below =
-            let reach = addresses_reach V1 x.variables 0 variable store.element stores.it (well_formed_placed x plan.formed).room stores.found exists in
-            address_small (variable_at (map shape_of x.variables) variable store.element) (bytes_of stores.it.kind) reach.inside;
+            omega (
+              arith,
+              address_is x.variables variable store.element stores.it stores.found,
+              (element_whole x.variables variable store.element stores.it (well_formed_placed x plan.formed).room stores.found exists).ends,
+            );
         value = record {
           held = Holds-reduced kind (pos (read registers pending_value));
           below =
@@ -328,9 +329,9 @@ module _ (locked : ChosenAreLocked) (p : Plan) (plan : IsPlan p) (code : Code p)
     owed_by (Store variable kind next) does leads stores = store_owed variable kind next does (ap (λ (z : Standing). z.owes) leads.is) stores
     owed_by (Test condition to other) does leads stores =
         nothing_owed (tests_free _ condition to other st leads) (λ seen. subst (λ (a : Action). IsPendingIn p a seen registers) (sym does) tt)
-    owed_by (Lock mutex next) does leads stores =
+    owed_by (Lock lock next) does leads stores =
         nothing_owed (ap (λ (z : Standing). z.owes) leads.is) (λ seen. subst (λ (a : Action). IsPendingIn p a seen registers) (sym does) tt)
-    owed_by (Unlock mutex next) does leads stores =
+    owed_by (Unlock lock next) does leads stores =
         nothing_owed (ap (λ (z : Standing). z.owes) leads.is) (λ seen. subst (λ (a : Action). IsPendingIn p a seen registers) (sym does) tt)
     owed_by End does leads stores =
         nothing_owed (ap (λ (z : Standing). z.owes) leads) (λ seen. subst (λ (a : Action). IsPendingIn p a seen registers) (sym does) tt)
@@ -386,16 +387,12 @@ module _ (locked : ChosenAreLocked) (p : Plan) (plan : IsPlan p) (code : Code p)
       registers = λ slot c. register_small p.log n ws log slot (live_keepable slot c);
     }
 
-    locks_kept : HasKept p.log ws n (locks_before p t node)
-    locks_kept =
-        subst (HasKept p.log ws n) g.locks ((scheme p.log).reads.said ws n some (λ slot inside. recorded_small p.log n ws log slot inside))
-
     slot_is : (slot : ℕ) → Contains (slots_of p.log entry) slot → recorded p.log ws n slot ≡ value_of p.log entry slot
     slot_is slot c = elim (slot_cases p.log entry slot c) [
       | inl h ↦
           let keeps = (scheme p.log).keeps.locks entry.locks h.pair (loggable p plan t code.of node) h.own in
           subst (λ (k : ℕ). recorded p.log ws n k ≡ kept_in (kept_locks p.log entry.locks) k (read registers slot)) (sym h.is)
-          (locks_kept h.pair h.own ∙ sym (keeps.alone (read registers slot)))
+          (g.locks h.pair h.own ∙ sym (keeps.alone (read registers slot)))
       | inr more ↦
           let k = live_keepable slot more in
           sym ((scheme p.log).reads.registers ws n slot k) ∙ sym (((scheme p.log).keeps.registers slot k).alone entry.locks (read registers slot))
@@ -430,13 +427,19 @@ module _ (locked : ChosenAreLocked) (p : Plan) (plan : IsPlan p) (code : Code p)
       graph_thread = graph_thread;
       thread = thread;
       matches = matches;
+      own = record {
+        part = t.part;
+        of_thread = subst (λ (g : Graph). slice_get g.threads n ≡ Some t.part) plan.lowered code.of.nodes;
+        from_first = g.own.from_first;
+        below_end = g.own.below_end;
+      };
       formed = formed;
       set = set;
       long = long p plan t code.of node g.own;
       left = keeps p plan t code.of node g.own;
       pending = owed.guarded;
       stored = owed.stored;
-      locks = g.locks;
+      locks = (scheme p.log).reads.locks ws n (locks_before p t node) (loggable p plan t code.of node) some g.locks;
       entry = entry;
       is_record = is_record;
       is_recorded = is_recorded;

@@ -14,7 +14,10 @@ use Rattle.c_tree.specs.Ranges.{Interval, range_of}
 use Rattle.c_tree.specs.WellFormed.{elements_in, IsDeclared, IsVariable, IndexFits, IsFlatTarget, IsFlatStatement, AreFlatStatements, AreFlatArms}
 use Rattle.c_ranges.proofs.Public.{elements_is}
 use Rattle.flow_graph.specs.Nodes.{Action, Eval, Store, Test, Lock, Unlock, End, Node}
-use Rattle.flow_graph.specs.Lowering.{scalar, elements, element_number, test_node, plain_node, assign_nodes, count, statements_count, arms_count, thread_count}
+use Rattle.c_tree.specs.LockNames.{lock_names}
+use Rattle.flow_graph.proofs.Public.{plain_key}
+use Rattle.flow_graph.specs.Lowering.{Table, table_of, scalar, elements, element_number, test_node, plain_node}
+use Rattle.flow_graph.specs.Lowering.{assign_nodes, count, statements_count, arms_count, thread_count}
 use Rattle.flow_graph.specs.Lowering.{entry, statement_nodes, statements_nodes, arms_nodes, thread_nodes, threads_nodes}
 use Rattle.flow_graph.proofs.Public.{all_at}
 
@@ -49,8 +52,8 @@ module _ (x : f.Flat) (variables : AllByRecursion (IsVariable (length x.mutexes)
   StoresAs n (Eval target value next) = Unit {0}
   StoresAs n (Store variable kind next) = StoresElements n variable kind
   StoresAs n (Test condition holds fails) = Unit {0}
-  StoresAs n (Lock mutex next) = Unit {0}
-  StoresAs n (Unlock mutex next) = Unit {0}
+  StoresAs n (Lock lock next) = Unit {0}
+  StoresAs n (Unlock lock next) = Unit {0}
   StoresAs n End = Unit {0}
 
   abbrev AllStore : List Node → Type 0
@@ -71,11 +74,14 @@ module _ (x : f.Flat) (variables : AllByRecursion (IsVariable (length x.mutexes)
       let small : element_number (range_of index).hi < n = below_count (range_of index).hi n high (omega (arith, count, some)) in
       omega (arith, small, count)
 
+  abbrev with_names : List e.LockName → Table
+  with_names names = record { variables = x.variables; names = names }
+
   module _ (ks : List Kind) where
-    stores_assign : (target : e.Lvalue) (place : Place) (value : e.Placed) (first next : ℕ) → IsFlatTarget x ks target →
-        AllStore (assign_nodes place target value first next)
-    stores_assign (e.ToLocal name local kind) place value first next t = (tt, tt)
-    stores_assign (e.ToVariable name variable kind) place value first next t = (
+    stores_assign : (names : List e.LockName) (target : e.Lvalue) (place : Place) (value : e.Placed) (first next : ℕ) → IsFlatTarget x ks target →
+        AllStore (assign_nodes (with_names names) place target value first next)
+    stores_assign names (e.ToLocal name local kind) place value first next t = (tt, tt)
+    stores_assign names (e.ToVariable name variable kind) place value first next t = (
       tt,
       (
         record {
@@ -91,62 +97,66 @@ module _ (x : f.Flat) (variables : AllByRecursion (IsVariable (length x.mutexes)
         tt,
       ),
     )
-    stores_assign (e.ToElement name variable kind index) place value first next t = (
+    stores_assign names (e.ToElement name variable kind index) place value first next t = (
       tt,
       (
         record {
-          location = elements variable (range_of index.expr);
+          location = elements (with_names names) variable index;
           writes = refl;
           variable_is = refl;
           it = t.0.0.it;
           found = t.0.0.found;
           kind_is = t.0.0.kind;
           within = element_within variable kind index.place index.expr t.0.0 t.1.0;
-          no_key = refl;
+          no_key = plain_key (length x.mutexes) x.variables names variable index variables;
         },
         tt,
       ),
     )
 
     mutual
-      stored : (y : f.Statement) (first next : ℕ) → IsFlatStatement x ks y → AllStore (statement_nodes y first next)
-      stored (f.Assign place target value) first next w = stores_assign target place value first next w.0
-      stored (f.If place arms otherwise) first next w =
+      stored : (names : List e.LockName) (y : f.Statement) (first next : ℕ) → IsFlatStatement x ks y →
+          AllStore (statement_nodes (with_names names) y first next)
+      stored names (f.Assign place target value) first next w = stores_assign names target place value first next w.0
+      stored names (f.If place arms otherwise) first next w =
           let last = entry (statements_count otherwise) (first + arms_count arms) next in
-          joined (arms_nodes arms place last first next) (statements_nodes otherwise (first + arms_count arms) next)
-          (stored_arms arms place last first next w.1) (stored_all otherwise (first + arms_count arms) next w.2)
-      stored (f.While place condition body) first next w = (tt, stored_all body (suc first) first w.1)
-      stored (f.Do place body condition) first next w =
-          joined (statements_nodes body first (first + statements_count body)) (test_node place condition first next ∷ [])
-          (stored_all body first (first + statements_count body) w.0) (tt, tt)
-      stored (f.Lock place name) first next w = (tt, tt)
-      stored (f.Unlock place name) first next w = (tt, tt)
+          joined (arms_nodes (with_names names) arms place last first next) (statements_nodes (with_names names) otherwise (first + arms_count arms) next)
+          (stored_arms names arms place last first next w.1) (stored_all names otherwise (first + arms_count arms) next w.2)
+      stored names (f.While place condition body) first next w = (tt, stored_all names body (suc first) first w.1)
+      stored names (f.Do place body condition) first next w =
+          joined (statements_nodes (with_names names) body first (first + statements_count body)) (test_node (with_names names) place condition first next ∷ [])
+          (stored_all names body first (first + statements_count body) w.0) (tt, tt)
+      stored names (f.Lock place name) first next w = (tt, tt)
+      stored names (f.Unlock place name) first next w = (tt, tt)
 
-      stored_all : (ys : f.Statements) (first next : ℕ) → AreFlatStatements x ks ys → AllStore (statements_nodes ys first next)
-      stored_all f.no_statement first next w = tt
-      stored_all (f.statement_and y rest) first next w =
+      stored_all : (names : List e.LockName) (ys : f.Statements) (first next : ℕ) → AreFlatStatements x ks ys →
+          AllStore (statements_nodes (with_names names) ys first next)
+      stored_all names f.no_statement first next w = tt
+      stored_all names (f.statement_and y rest) first next w =
           let further = entry (statements_count rest) (first + count y) next in
-          joined (statement_nodes y first further) (statements_nodes rest (first + count y) next)
-          (stored y first further w.0) (stored_all rest (first + count y) next w.1)
+          joined (statement_nodes (with_names names) y first further) (statements_nodes (with_names names) rest (first + count y) next)
+          (stored names y first further w.0) (stored_all names rest (first + count y) next w.1)
 
-      stored_arms : (arms : f.Arms) (place : Place) (last first next : ℕ) → AreFlatArms x ks arms → AllStore (arms_nodes arms place last first next)
-      stored_arms f.no_arm place last first next w = tt
-      stored_arms (f.arm_and condition body rest) place last first next w =
+      stored_arms : (names : List e.LockName) (arms : f.Arms) (place : Place) (last first next : ℕ) → AreFlatArms x ks arms →
+          AllStore (arms_nodes (with_names names) arms place last first next)
+      stored_arms names f.no_arm place last first next w = tt
+      stored_arms names (f.arm_and condition body rest) place last first next w =
           let further = suc first + statements_count body in (
             tt,
-            joined (statements_nodes body (suc first) next) (arms_nodes rest place last further next)
-                (stored_all body (suc first) next w.1) (stored_arms rest place last further next w.2),
+            joined (statements_nodes (with_names names) body (suc first) next) (arms_nodes (with_names names) rest place last further next)
+                (stored_all names body (suc first) next w.1) (stored_arms names rest place last further next w.2),
           )
 
   stored_threads : (ts : List f.Thread) (first : ℕ) → AllByRecursion (λ (t : f.Thread). AreFlatStatements x t.locals t.body) ts →
-      AllStore (threads_nodes ts first)
+      AllStore (threads_nodes x ts first)
   stored_threads [] first w = tt
   stored_threads (t ∷ ts) first w =
       let end = first + statements_count t.body in
-      joined (thread_nodes t first) (threads_nodes ts (first + thread_count t))
-      (joined (statements_nodes t.body first end) (plain_node t.closing End ∷ []) (stored_all t.locals t.body first end w.0) (tt, tt))
+      joined (thread_nodes (table_of x t) t first) (threads_nodes x ts (first + thread_count t))
+      (joined (statements_nodes (table_of x t) t.body first end) (plain_node t.closing End ∷ [])
+      (stored_all t.locals (lock_names x t) t.body first end w.0) (tt, tt))
       (stored_threads ts (first + thread_count t) w.1)
 
   pub stores_elements : (node : ℕ) (n : Node) → AllByRecursion (λ (t : f.Thread). AreFlatStatements x t.locals t.body) x.threads →
-      slice_get (threads_nodes x.threads 0) node ≡ Some n → StoresAs n n.action
-  stores_elements node n w at = all_at (λ (m : Node). StoresAs m m.action) (threads_nodes x.threads 0) node n (stored_threads x.threads 0 w) at
+      slice_get (threads_nodes x x.threads 0) node ≡ Some n → StoresAs n n.action
+  stores_elements node n w at = all_at (λ (m : Node). StoresAs m m.action) (threads_nodes x x.threads 0) node n (stored_threads x.threads 0 w) at

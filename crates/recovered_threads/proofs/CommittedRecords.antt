@@ -63,8 +63,8 @@ pending_on : (p : Plan) (kept after : FlowState) (graph_thread : GraphThread) (x
 pending_on p kept after graph_thread x (Eval target value next) h = h
 pending_on p kept after graph_thread x (Store variable kind next) h = h
 pending_on p kept after graph_thread x (Test condition to other) h = h
-pending_on p kept after graph_thread x (Lock mutex next) h = h
-pending_on p kept after graph_thread x (Unlock mutex next) h = h
+pending_on p kept after graph_thread x (Lock lock next) h = h
+pending_on p kept after graph_thread x (Unlock lock next) h = h
 pending_on p kept after graph_thread x End h = h
 
 enters_on : (p : Plan) (code : Code p) (kept after : FlowState) (graph_thread : GraphThread) (node side : ℕ) (x : List ℕ) →

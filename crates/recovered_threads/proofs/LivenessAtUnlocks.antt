@@ -10,7 +10,8 @@ use Rattle.c_tree.specs.Flats as f
 use Rattle.c_tree.specs.Source.{Pending}
 use Rattle.flow_graph.specs.Nodes.{Action, Eval, Store, Test, Lock, Unlock, End, Node, Graph, successors}
 use Rattle.flow_graph.specs.Actions.{GraphThread, FlowState, seen_by}
-use Rattle.flow_graph.specs.Lowering.{assign_nodes, count, statements_count, arms_count, thread_count, entry, statement_nodes, statements_nodes, arms_nodes}
+use Rattle.flow_graph.specs.Lowering.{table_of, Table, assign_nodes, count, statements_count, arms_count}
+use Rattle.flow_graph.specs.Lowering.{thread_count, entry, statement_nodes, statements_nodes, arms_nodes}
 use Rattle.flow_graph.specs.Lowering.{thread_nodes, threads_nodes}
 use Rattle.flow_graph.specs.Lockstep.{Standing, threads_standings, GraphThreadMatches}
 use Rattle.flow_graph.specs.Liveness.{NodeAt, IsLive, is_read_later}
@@ -26,8 +27,8 @@ abbrev AssignsAs : Action → Node → Type 0
 AssignsAs (Eval target value next) n = Unit {0}
 AssignsAs (Store variable kind next) n = Unit {0}
 AssignsAs (Test condition to other) n = Unit {0}
-AssignsAs (Lock mutex next) n = Unit {0}
-AssignsAs (Unlock mutex next) n = n.assigns ≡ None
+AssignsAs (Lock lock next) n = Unit {0}
+AssignsAs (Unlock lock next) n = n.assigns ≡ None
 AssignsAs End n = Unit {0}
 
 abbrev AllAssign : List Node → Type 0
@@ -37,45 +38,47 @@ both : (ns ms : List Node) → AllAssign ns → AllAssign ms → AllAssign (ns +
 both [] ms a b = b
 both (n ∷ ns) ms a b = (a.0, both ns ms a.1 b)
 
-assign_assigns : (place : Place) (target : e.Lvalue) (value : e.Placed) (first next : ℕ) → AllAssign (assign_nodes place target value first next)
-assign_assigns place (e.ToLocal name local kind) value first next = (tt, tt)
-assign_assigns place (e.ToVariable name variable kind) value first next = (tt, (tt, tt))
-assign_assigns place (e.ToElement name variable kind index) value first next = (tt, (tt, tt))
+assign_assigns : (table : Table) (place : Place) (target : e.Lvalue) (value : e.Placed) (first next : ℕ) →
+    AllAssign (assign_nodes table place target value first next)
+assign_assigns table place (e.ToLocal name local kind) value first next = (tt, tt)
+assign_assigns table place (e.ToVariable name variable kind) value first next = (tt, (tt, tt))
+assign_assigns table place (e.ToElement name variable kind index) value first next = (tt, (tt, tt))
 
 mutual
-  one_assigns : (x : f.Statement) (first next : ℕ) → AllAssign (statement_nodes x first next)
-  one_assigns (f.Assign place target value) first next = assign_assigns place target value first next
-  one_assigns (f.If place arms otherwise) first next =
-      both (arms_nodes arms place (entry (statements_count otherwise) (first + arms_count arms) next) first next)
-      (statements_nodes otherwise (first + arms_count arms) next)
-      (arms_assign arms place (entry (statements_count otherwise) (first + arms_count arms) next) first next)
-      (all_assign otherwise (first + arms_count arms) next)
-  one_assigns (f.While place condition body) first next = (tt, all_assign body (suc first) first)
-  one_assigns (f.Do place body condition) first next =
-      both (statements_nodes body first (first + statements_count body)) _ (all_assign body first (first + statements_count body)) (tt, tt)
-  one_assigns (f.Lock place name) first next = (tt, tt)
-  one_assigns (f.Unlock place name) first next = (refl, tt)
+  one_assigns : (table : Table) (x : f.Statement) (first next : ℕ) → AllAssign (statement_nodes table x first next)
+  one_assigns table (f.Assign place target value) first next = assign_assigns table place target value first next
+  one_assigns table (f.If place arms otherwise) first next =
+      both (arms_nodes table arms place (entry (statements_count otherwise) (first + arms_count arms) next) first next)
+      (statements_nodes table otherwise (first + arms_count arms) next)
+      (arms_assign table arms place (entry (statements_count otherwise) (first + arms_count arms) next) first next)
+      (all_assign table otherwise (first + arms_count arms) next)
+  one_assigns table (f.While place condition body) first next = (tt, all_assign table body (suc first) first)
+  one_assigns table (f.Do place body condition) first next =
+      both (statements_nodes table body first (first + statements_count body)) _ (all_assign table body first (first + statements_count body)) (tt, tt)
+  one_assigns table (f.Lock place name) first next = (tt, tt)
+  one_assigns table (f.Unlock place name) first next = (refl, tt)
 
-  all_assign : (xs : f.Statements) (first next : ℕ) → AllAssign (statements_nodes xs first next)
-  all_assign f.no_statement first next = tt
-  all_assign (f.statement_and x more) first next =
-      both (statement_nodes x first (entry (statements_count more) (first + count x) next)) (statements_nodes more (first + count x) next)
-      (one_assigns x first (entry (statements_count more) (first + count x) next)) (all_assign more (first + count x) next)
+  all_assign : (table : Table) (xs : f.Statements) (first next : ℕ) → AllAssign (statements_nodes table xs first next)
+  all_assign table f.no_statement first next = tt
+  all_assign table (f.statement_and x more) first next =
+      both (statement_nodes table x first (entry (statements_count more) (first + count x) next)) (statements_nodes table more (first + count x) next)
+      (one_assigns table x first (entry (statements_count more) (first + count x) next)) (all_assign table more (first + count x) next)
 
-  arms_assign : (xs : f.Arms) (place : Place) (last first next : ℕ) → AllAssign (arms_nodes xs place last first next)
-  arms_assign f.no_arm place last first next = tt
-  arms_assign (f.arm_and condition body more) place last first next = (
+  arms_assign : (table : Table) (xs : f.Arms) (place : Place) (last first next : ℕ) → AllAssign (arms_nodes table xs place last first next)
+  arms_assign table f.no_arm place last first next = tt
+  arms_assign table (f.arm_and condition body more) place last first next = (
     tt,
-    both (statements_nodes body (suc first) next) (arms_nodes more place last (suc first + statements_count body) next)
-        (all_assign body (suc first) next) (arms_assign more place last (suc first + statements_count body) next),
+    both (statements_nodes table body (suc first) next) (arms_nodes table more place last (suc first + statements_count body) next)
+        (all_assign table body (suc first) next) (arms_assign table more place last (suc first + statements_count body) next),
   )
 
-threads_assign : (ts : List f.Thread) (first : ℕ) → AllAssign (threads_nodes ts first)
-threads_assign [] first = tt
-threads_assign (t ∷ ts) first =
-    both (thread_nodes t first) (threads_nodes ts (first + thread_count t))
-    (both (statements_nodes t.body first (first + statements_count t.body)) _ (all_assign t.body first (first + statements_count t.body)) (tt, tt))
-    (threads_assign ts (first + thread_count t))
+threads_assign : (x : f.Flat) (ts : List f.Thread) (first : ℕ) → AllAssign (threads_nodes x ts first)
+threads_assign x [] first = tt
+threads_assign x (t ∷ ts) first =
+    both (thread_nodes (table_of x t) t first) (threads_nodes x ts (first + thread_count t))
+    (both (statements_nodes (table_of x t) t.body first (first + statements_count t.body)) _
+    (all_assign (table_of x t) t.body first (first + statements_count t.body)) (tt, tt))
+    (threads_assign x ts (first + thread_count t))
 
 assigns_at : (ns : List Node) (k : ℕ) (n : Node) → AllAssign ns → slice_get ns k ≡ Some n → AssignsAs n.action n
 assigns_at [] k n all g = absurd (none-some n g)
@@ -102,18 +105,21 @@ no_pending_in : (p : Plan) (a : Action) (s : FlowState) (graph_thread : GraphThr
 no_pending_in p (Eval target value next) s graph_thread x none = tt
 no_pending_in p (Store variable kind next) s graph_thread x none = λ store some. absurd (none-some store (sym none ∙ some))
 no_pending_in p (Test condition to other) s graph_thread x none = tt
-no_pending_in p (Lock mutex next) s graph_thread x none = tt
-no_pending_in p (Unlock mutex next) s graph_thread x none = tt
+no_pending_in p (Lock lock next) s graph_thread x none = tt
+no_pending_in p (Unlock lock next) s graph_thread x none = tt
 no_pending_in p End s graph_thread x none = tt
 
-module _ (p : Plan) (code : Code p) (s : FlowState) (graph_thread : GraphThread) (from mutex : ℕ) (is : Node) (plan : IsPlan p) (orderly : IsOrderly p s)
+module _ (p : Plan) (code : Code p) (s : FlowState) (graph_thread : GraphThread) (from : ℕ) (lock : e.LockName) (is : Node) (plan : IsPlan p)
+    (orderly : IsOrderly p s)
     (there : slice_get s.graph_threads code.thread.number ≡ Some graph_thread) (at : NodeAt p.graph from is)
-    (unlocks : is.action ≡ Unlock mutex graph_thread.at) where
-  node_is : slice_get (threads_nodes p.flat.threads 0) from ≡ Some is
+    (unlocks : is.action ≡ Unlock lock graph_thread.at) where
+  node_is : slice_get (threads_nodes p.flat p.flat.threads 0) from ≡ Some is
   node_is = ap (λ (ns : List Node). slice_get ns from) (sym (ap (λ (g : Graph). g.nodes) plan.lowered ∙ lowered_nodes p.flat)) ∙ at
 
   assigns_none : is.assigns ≡ None
-  assigns_none = subst (λ (a : Action). AssignsAs a is) unlocks (assigns_at (threads_nodes p.flat.threads 0) from is (threads_assign p.flat.threads 0) node_is)
+  assigns_none =
+      subst (λ (a : Action). AssignsAs a is) unlocks
+      (assigns_at (threads_nodes p.flat p.flat.threads 0) from is (threads_assign p.flat p.flat.threads 0) node_is)
 
   live_before : (local : ℕ) → IsLive p.graph local graph_thread.at → IsLive p.graph local from
   live_before local live =
@@ -123,8 +129,8 @@ module _ (p : Plan) (code : Code p) (s : FlowState) (graph_thread : GraphThread)
   none_pending : graph_thread.pending ≡ None
   none_pending =
       let all = threads_standings p.flat.threads in
-      let does = standing_of all (threads_nodes p.flat.threads 0) all from is (agrees p.flat plan.formed.threads) node_is in
-      let after : Unlocks all mutex graph_thread.at does.0 = subst (λ (a : Action). ActionLeads all a does.0) unlocks does.1 in
+      let does = standing_of all (threads_nodes p.flat p.flat.threads 0) all from is (agrees p.flat plan.formed.threads) node_is in
+      let after : Unlocks all lock graph_thread.at does.0 = subst (λ (a : Action). ActionLeads all a does.0) unlocks does.1 in
       let source = found_in orderly.source.threads code.thread.number
       (let l = slice_get_within s.graph_threads code.thread.number graph_thread there in omega (arith, l, orderly.matches.count)) in
       let matches : GraphThreadMatches p.flat graph_thread source.0 = orderly.matches.each code.thread.number graph_thread source.0 there source.1 in

@@ -17,7 +17,7 @@ use Rattle.flow_graph.specs.Lowering.{parts}
 use Rattle.flow_graph.specs.Lockstep.{GraphThreadMatches}
 use Rattle.flow_graph.specs.Actions.{GraphThread, FlowState}
 use Rattle.flow_graph.proofs.Public.{found_in, lowered_threads}
-use Rattle.boundary_code.specs.Boundaries.{is_empty}
+use Rattle.boundary_code.specs.Boundaries.{HaveRoom, is_empty}
 use Rattle.boundary_code.proofs.Public.{none_there}
 use Rattle.log_states.specs.Logs.{Record, AreLoggable}
 use Rattle.log_states.proofs.Public.{scheme}
@@ -110,7 +110,8 @@ module _ (p : Plan) (kept : FlowState) (plan : IsPlan p) (orderly : IsOrderly p 
   -- a log can hold the locks before the node
   pub are_loggable : AreLoggable p.log (locks_before p t graph_thread.at)
   are_loggable = subst (AreLoggable p.log) (sym locks_is) ((scheme p.log).keeps.masks (locks_held (held_by t.number kept.holders))
-      (record { fits = held_fits (held_by t.number kept.holders) few_held; read_back = held_read_back (held_by t.number kept.holders) few_held }))
+      (record { fits = held_fits (held_by t.number kept.holders) few_held; read_back = held_read_back (held_by t.number kept.holders) few_held })
+      (subst (HaveRoom p.log) locks_is (plan.room t graph_thread.at)))
 
 -- ---- Records
 

@@ -26,8 +26,8 @@ use Rattle.recovered_threads.specs.Laws.{HartsGoOn}
 pub resumed_there : (p : Plan) (code : Code p) (node address : ℕ) → IsNodeOf code.thread node → ResumesAt p code node address →
     c.IsResumeAddress p code.thread code.is.places address
 resumed_there p code node address own (at_chosen chosen) = c.at_chosen node own chosen
-resumed_there p code node address own (past_lock from mutex is from_own at locks) = c.past_lock from mutex node is from_own at locks
-resumed_there p code node address own (past_unlock from mutex is from_own at unlocks holds) = c.past_unlock from mutex node is from_own at unlocks holds
+resumed_there p code node address own (past_lock from lock is from_own at locks) = c.past_lock from lock node is from_own at locks
+resumed_there p code node address own (past_unlock from lock is from_own at unlocks holds) = c.past_unlock from lock node is from_own at unlocks holds
 
 module _ (program : List (List Slot)) (p : Plan) (code : Code p) (kept : FlowState) (w : World) (r : Record) (logs : p.log ≡ w.log)
     (told : IsInside p code kept r)

@@ -1,5 +1,6 @@
 -- What follows from what the records of threads say of the kept state.
 use Rattle.std.specs.Prelude.{◌≡◌, ◌≢◌, ◌⊎◌, ◌↔◌, ℕ, ◌%◌, ◌^◌, ◌<◌, List, [], length, slice_get, Option, Some, None, true, false}
+use Rattle.c_tree.specs.Exprs.{LockName}
 use Rattle.ido_base.specs.declared.log.Log.{Log}
 use Rattle.ido_base.specs.declared.event.Event.{Event}
 use Rattle.ido_base.specs.declared.event.Event.TheVariants.{Step, Crash}
@@ -155,8 +156,9 @@ CommitsDescribe = (p : Plan) (code : Code p) (kept : FlowState) (side resume : �
 -- the boundary before an unlock keeps what is live after it: registers with which the thread enters the unlock represent what it sees there
 abbrev pub UnlocksEnter : Type 0
 UnlocksEnter =
-    (p : Plan) (code : Code p) (s : FlowState) (graph_thread : GraphThread) (from mutex side : ℕ) (is : Node) (x : List ℕ) → IsPlan p → IsOrderly p s →
-    slice_get s.graph_threads code.thread.number ≡ Some graph_thread → NodeAt p.graph from is → is.action ≡ Unlock mutex graph_thread.at →
+    (p : Plan) (code : Code p) (s : FlowState) (graph_thread : GraphThread) (from : ℕ) (lock : LockName) (side : ℕ) (is : Node) (x : List ℕ) →
+    IsPlan p → IsOrderly p s →
+    slice_get s.graph_threads code.thread.number ≡ Some graph_thread → NodeAt p.graph from is → is.action ≡ Unlock lock graph_thread.at →
     Enters p code.thread from (seen_by s graph_thread) side x → Enters p code.thread graph_thread.at (seen_by s graph_thread) side x
 
 -- the records of the others go on to describe the kept state, where their threads and what these hold are kept as they were

@@ -1,5 +1,6 @@
 -- What the records of threads' logs say of the kept state.
 use Rattle.std.specs.Prelude.{◌≡◌, ◌≢◌, ℕ, ◌<◌, List, [], length, slice_get, Some, true, false, ◌==◌, if◌then◌else◌}
+use Rattle.c_tree.specs.Exprs.{LockName}
 use Rattle.ido_base.specs.Locks.{holds_none}
 use Rattle.c_tree.specs.Source as m
 use Rattle.source_machine.specs.Discipline.{StateKeeps}
@@ -45,9 +46,9 @@ locks_of r = if r.point == 0 then [] else r.locks
 -- after the boundary at which a thread stands at the node, it is resumed at this address
 pub data ResumesAt (p : Plan) (code : Code p) (node : ℕ) : (address : ℕ) → Type 0 where
   at_chosen : IsChosen p.graph p.boundaries node → ResumesAt p code node (code.is.places.core node)
-  past_lock : (from mutex : ℕ) (is : Node) → IsNodeOf code.thread from → NodeAt p.graph from is → is.action ≡ Lock mutex node →
+  past_lock : (from : ℕ) (lock : LockName) (is : Node) → IsNodeOf code.thread from → NodeAt p.graph from is → is.action ≡ Lock lock node →
       ResumesAt p code node (code.is.places.after from)
-  past_unlock : (from mutex : ℕ) (is : Node) → IsNodeOf code.thread from → NodeAt p.graph from is → is.action ≡ Unlock mutex node →
+  past_unlock : (from : ℕ) (lock : LockName) (is : Node) → IsNodeOf code.thread from → NodeAt p.graph from is → is.action ≡ Unlock lock node →
       locks_before p code.thread node ≢ [] → ResumesAt p code node (code.is.places.after from)
 
 -- the thread stands at a node of a section, and the record is what a boundary keeps there

@@ -15,7 +15,7 @@ use Rattle.rv64_codegen.specs.declared.thread.ThreadPlan as opened
 use Rattle.rv64_codegen.specs.Evaluations.{IsEvaluation, IsTest, target_nodes}
 use Rattle.rv64_codegen.specs.ThreadPieces.{turned, straight}
 use Rattle.rv64_codegen.specs.links.Threads.{IsOwn, HasAction, IsKeptFor, GoesToNode, DoesAction, plan_in, thread_of, choices_of}
-use Rattle.rv64_codegen.proofs.NodePieces.{two_appended, one_appended, boundary_is, few_live}
+use Rattle.rv64_codegen.proofs.NodePieces.{two_appended, one_appended, boundary_is, few_beside, few_live}
 
 pub nodes_lockstep : (t : e.Lvalue) → target_nodes t ≡ programs.target_nodes t
 nodes_lockstep (e.ToLocal place local kind) = refl
@@ -62,22 +62,27 @@ module _ (x : opened.ThreadPlan) (node : ℕ) where
       two_appended x at.own.open_is node next old mid new (IsStorePiece kind cleans) (Store variable kind next) 2 a g
       (λ does goes is fragment. (subst (λ (b : Bool). IsStorePiece kind b does) e is, fragment)) (λ does is. is.few) (omega arith)
 
-  pub lock_done : (mutex next : ℕ) (k : kept.Kept) (old mid new : List CodeItem) → HasAction x node (Lock mutex next) → IsOwn x next → IsKeptFor x next k →
-      Appends old mid (IsLockPiece (boundary_of k 0) mutex) → Appends mid new (GoesToNode x node next) → Appends old new (DoesAction x node (Lock mutex next))
-  lock_done mutex next k old mid new at own is_kept a g =
+  pub lock_done : (lock : e.LockName) (next : ℕ) (k : kept.Kept) (old mid new : List CodeItem) → HasAction x node (Lock lock next) → IsOwn x next →
+      IsKeptFor x next k →
+      Appends old mid (IsLockPiece (boundary_of k 0) lock.mutex) → Appends mid new (GoesToNode x node next) →
+      Appends old new (DoesAction x node (Lock lock next))
+  lock_done lock next k old mid new at own is_kept a g =
       let o = at.own.open_is in
-      two_appended x o node next old mid new (IsLockPiece (boundary_of k 0) mutex) (Lock mutex next) 58 a g
-      (λ does goes is fragment. (subst (λ (b : Boundary). IsLockPiece b mutex does) (boundary_is x o next k 0 is_kept) is, fragment))
-      (λ does is. omega (arith, is.few, few_live x o next own.own, ap (λ (l : List ℕ). length l) is_kept.live_is)) (omega arith)
+      two_appended x o node next old mid new (IsLockPiece (boundary_of k 0) lock.mutex) (Lock lock next) 95 a g
+      (λ does goes is fragment. (subst (λ (b : Boundary). IsLockPiece b lock.mutex does) (boundary_is x o next k 0 is_kept) is, fragment))
+      (λ does is. omega (arith, is.few, few_live x o next own.own, few_beside x o next k is_kept, ap (λ (l : List ℕ). length l) is_kept.live_is))
+      (omega arith)
 
-  pub unlock_done : (mutex next : ℕ) (k : kept.Kept) (old mid new : List CodeItem) → HasAction x node (Unlock mutex next) → IsOwn x next → IsKeptFor x next k →
-      Appends old mid (IsUnlockPiece (boundary_of k 12) mutex) → Appends mid new (GoesToNode x node next) →
-      Appends old new (DoesAction x node (Unlock mutex next))
-  unlock_done mutex next k old mid new at own is_kept a g =
+  pub unlock_done : (lock : e.LockName) (next : ℕ) (k : kept.Kept) (old mid new : List CodeItem) → HasAction x node (Unlock lock next) → IsOwn x next →
+      IsKeptFor x next k →
+      Appends old mid (IsUnlockPiece (boundary_of k 12) lock.mutex) → Appends mid new (GoesToNode x node next) →
+      Appends old new (DoesAction x node (Unlock lock next))
+  unlock_done lock next k old mid new at own is_kept a g =
       let o = at.own.open_is in
-      two_appended x o node next old mid new (IsUnlockPiece (boundary_of k 12) mutex) (Unlock mutex next) 58 a g
-      (λ does goes is fragment. (subst (λ (b : Boundary). IsUnlockPiece b mutex does) (boundary_is x o next k 12 is_kept) is, fragment))
-      (λ does is. omega (arith, is.few, few_live x o next own.own, ap (λ (l : List ℕ). length l) is_kept.live_is)) (omega arith)
+      two_appended x o node next old mid new (IsUnlockPiece (boundary_of k 12) lock.mutex) (Unlock lock next) 95 a g
+      (λ does goes is fragment. (subst (λ (b : Boundary). IsUnlockPiece b lock.mutex does) (boundary_is x o next k 12 is_kept) is, fragment))
+      (λ does is. omega (arith, is.few, few_live x o next own.own, few_beside x o next k is_kept, ap (λ (l : List ℕ). length l) is_kept.live_is))
+      (omega arith)
 
   pub end_done : (old new : List CodeItem) → HasAction x node End → Appends old new IsEnd → Appends old new (DoesAction x node End)
   end_done old new at a =

@@ -14,7 +14,7 @@ read_get xs k x h e = slice_get-get_or xs k x h ∙ ap (λ z. Some z) (sym e)
 module _ (g : Graph) (b : Boundaries) (node : ℕ) where
   giving : (is : Node) → NodeAt g node is → IsUnlock g node → gives is.action ≡ true
   giving is at u = elim u [
-    | unlocks x mutex next there does ↦
+    | unlocks x lock next there does ↦
         let same : x ≡ is = (let both : Some x ≡ Some is = sym there ∙ at in cc) in
         ap (λ (z : Node). gives z.action) (sym same) ∙ ap gives does
   ]
@@ -23,8 +23,8 @@ module _ (g : Graph) (b : Boundaries) (node : ℕ) where
   unlocking is (Eval target value next) at e h = cc
   unlocking is (Store variable kind next) at e h = cc
   unlocking is (Test condition holds fails) at e h = cc
-  unlocking is (Lock mutex next) at e h = cc
-  unlocking is (Unlock mutex next) at e h = unlocks is mutex next at e
+  unlocking is (Lock lock next) at e h = cc
+  unlocking is (Unlock lock next) at e h = unlocks is lock next at e
   unlocking is End at e h = cc
 
   answered : (answer : Bool) → HasBefore b node → (IsUnlock g node → answer ≡ true) → (answer ≡ true → IsUnlock g node) →

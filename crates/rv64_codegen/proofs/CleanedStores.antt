@@ -98,13 +98,13 @@ module _ (p : Plan) (t : Thread) (c : Choices) (plan : IsPlan p) (choices : AreC
       by : IsChoosing p t c node condition holds fails x.does x.goes → cleans_in (x.does ++ x.goes) ≡ 0
       by (turned same test none) = none_of_two x.does x.goes test.cleans (ap cleans_in none)
       by (straight test goes_on) = none_of_two x.does x.goes test.cleans (goes_none fails x.goes goes_on)
-  cleans_by piece x (Lock mutex next) e d =
+  cleans_by piece x (Lock lock next) e d =
       subst (λ (xs : List CodeItem). CleansInBoundaries p t xs) (sym x.split)
-      (alone x.before x.does x.goes (x.guarded.plain (unchosen (Lock mutex next) e (λ h. h)))
+      (alone x.before x.does x.goes (x.guarded.plain (unchosen (Lock lock next) e (λ h. h)))
       (in_one _ refl (more _ x.does x.goes d.0.cleans (goes_none next x.goes d.1))))
-  cleans_by piece x (Unlock mutex next) e d =
+  cleans_by piece x (Unlock lock next) e d =
       subst (λ (xs : List CodeItem). CleansInBoundaries p t xs) (sym x.split)
-      (alone x.before x.does x.goes (x.guarded.plain (unchosen (Unlock mutex next) e (λ h. h)))
+      (alone x.before x.does x.goes (x.guarded.plain (unchosen (Unlock lock next) e (λ h. h)))
       (in_one _ refl (more _ x.does x.goes d.0.cleans (goes_none next x.goes d.1))))
   cleans_by piece x End e d =
       subst (λ (xs : List CodeItem). CleansInBoundaries p t xs) (sym x.split)

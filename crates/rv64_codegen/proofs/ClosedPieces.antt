@@ -33,8 +33,8 @@ module _ (p : Plan) (t : Thread) (c : Choices) where
   last_closed node (Eval target value next) does goes d = goes_closed node next goes d.1
   last_closed node (Store variable kind next) does goes d = goes_closed node next goes d.1
   last_closed node (Test condition holds fails) does goes d = choosing_closed node condition holds fails does goes d
-  last_closed node (Lock mutex next) does goes d = goes_closed node next goes d.1
-  last_closed node (Unlock mutex next) does goes d = goes_closed node next goes d.1
+  last_closed node (Lock lock next) does goes d = goes_closed node next goes d.1
+  last_closed node (Unlock lock next) does goes d = goes_closed node next goes d.1
   last_closed node End does goes d = closed_as goes d.1
 
   piece_closed : (node : ℕ) (is : Node) (piece : List CodeItem) → NodeAt p.graph node is → IsNodePiece p t c node is piece → IsClosed piece

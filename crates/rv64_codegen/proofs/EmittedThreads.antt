@@ -20,7 +20,7 @@ use Rattle.flow_graph.specs.declared.graph.Part.{Part}
 use Rattle.flow_graph.specs.Nodes.{Action, Eval, Store, Test, Lock, Unlock, End, Node, Graph}
 use Rattle.flow_graph.specs.IdempotentCuts.{IsChosen}
 use Rattle.flow_graph.specs.Liveness.{NodeAt}
-use Rattle.flow_graph.specs.Lowering.{lowered, parts, part, thread_count, thread_nodes, threads_nodes}
+use Rattle.flow_graph.specs.Lowering.{table_of, lowered, parts, part, thread_count, thread_nodes, threads_nodes}
 use Rattle.flow_graph.proofs.Public.{length-thread_nodes}
 use Rattle.node_code.specs.JoinedPieces.{joined, AreClosed}
 use Rattle.thread_code.specs.Plans.{Plan, IsPlan, Thread, IsThread, IsNodeOf, locks_before}
@@ -41,26 +41,28 @@ use Rattle.rv64_codegen.proofs.Marks.{ResumesAre, resumes_after}
 
 -- ---- A thread's nodes are in the graph
 
-parts_inside : (ts : List f.Thread) (first number : ℕ) (own : Part) → slice_get (parts ts first) number ≡ Some own →
-    own.end ≤ first + length (threads_nodes ts first)
-parts_inside [] first number own g = absurd (none-some own g)
-parts_inside (t ∷ ts) first zero own g =
+parts_inside : (x : f.Flat) (ts : List f.Thread) (first number : ℕ) (own : Part) → slice_get (parts ts first) number ≡ Some own →
+    own.end ≤ first + length (threads_nodes x ts first)
+parts_inside x [] first number own g = absurd (none-some own g)
+parts_inside x (t ∷ ts) first zero own g =
     let end : first + thread_count t ≡ own.end = ap (λ (y : Part). y.end) (same_Some (part t first) own g) in
-    let back : List Node = threads_nodes ts (first + thread_count t) in
-    let whole : length (thread_nodes t first ++ back) ≡ length (thread_nodes t first) + length back = length-append (thread_nodes t first) back in
-    let many : length (thread_nodes t first) ≡ thread_count t = length-thread_nodes t first in
+    let back : List Node = threads_nodes x ts (first + thread_count t) in
+    let whole : length (thread_nodes (table_of x t) t first ++ back) ≡ length (thread_nodes (table_of x t) t first) + length back =
+    length-append (thread_nodes (table_of x t) t first) back in
+    let many : length (thread_nodes (table_of x t) t first) ≡ thread_count t = length-thread_nodes (table_of x t) t first in
     omega (arith, end, whole, many)
-parts_inside (t ∷ ts) first (suc number) own g =
-    let back : List Node = threads_nodes ts (first + thread_count t) in
-    let later : own.end ≤ first + thread_count t + length back = parts_inside ts (first + thread_count t) number own g in
-    let whole : length (thread_nodes t first ++ back) ≡ length (thread_nodes t first) + length back = length-append (thread_nodes t first) back in
-    let many : length (thread_nodes t first) ≡ thread_count t = length-thread_nodes t first in
+parts_inside x (t ∷ ts) first (suc number) own g =
+    let back : List Node = threads_nodes x ts (first + thread_count t) in
+    let later : own.end ≤ first + thread_count t + length back = parts_inside x ts (first + thread_count t) number own g in
+    let whole : length (thread_nodes (table_of x t) t first ++ back) ≡ length (thread_nodes (table_of x t) t first) + length back =
+    length-append (thread_nodes (table_of x t) t first) back in
+    let many : length (thread_nodes (table_of x t) t first) ≡ thread_count t = length-thread_nodes (table_of x t) t first in
     omega (arith, later, whole, many)
 
 thread_inside : (x : f.Flat) (number : ℕ) (own : Part) → slice_get (lowered x).threads number ≡ Some own → own.end ≤ length (lowered x).nodes
 unfolding lowered
 thread_inside x number own g =
-    let inside : own.end ≤ 0 + length (threads_nodes x.threads 0) = parts_inside x.threads 0 number own g in
+    let inside : own.end ≤ 0 + length (threads_nodes x x.threads 0) = parts_inside x x.threads 0 number own g in
     omega (arith, inside)
 
 pub node_there : (p : Plan) → IsPlan p → (t : Thread) → IsThread p t → (i : ℕ) → i < t.part.end - t.part.first →
@@ -304,15 +306,15 @@ module _ (p : Plan) (plan : IsPlan p) (t : Thread) (thread : IsThread p t) (c : 
   after_resumed node is a of found (Eval target value next) same has = absurd (let l : has.0 < 0 = has.1 in omega (arith, l))
   after_resumed node is a of found (Store variable kind next) same has = absurd (let l : has.0 < 0 = has.1 in omega (arith, l))
   after_resumed node is a of found (Test condition holds fails) same has = absurd (let l : has.0 < 0 = has.1 in omega (arith, l))
-  after_resumed node is a of found (Lock mutex next) same has =
-      subst (λ (b : ℕ). IsResumeAddress p t places b) (contains_one (places.after node) a has) (past_lock node mutex next is of found same)
-  after_resumed node is a of found (Unlock mutex next) same has = by (is_empty (locks_before p t next)) refl has
+  after_resumed node is a of found (Lock lock next) same has =
+      subst (λ (b : ℕ). IsResumeAddress p t places b) (contains_one (places.after node) a has) (past_lock node lock next is of found same)
+  after_resumed node is a of found (Unlock lock next) same has = by (is_empty (locks_before p t next)) refl has
     where
       by : (none : Bool) → (is_empty (locks_before p t next)) ≡ none → Contains (if none then [] else places.after node ∷ []) a → IsResumeAddress p t places a
       by true e has = absurd (let l : has.0 < 0 = has.1 in omega (arith, l))
       by false e has =
           subst (λ (b : ℕ). IsResumeAddress p t places b) (contains_one (places.after node) a has)
-          (past_unlock node mutex next is of found same (some_there (locks_before p t next) e))
+          (past_unlock node lock next is of found same (some_there (locks_before p t next) e))
   after_resumed node is a of found End same has = absurd (let l : has.0 < 0 = has.1 in omega (arith, l))
 
   resumed_first : (i : ℕ) → i < length pieces → (m : Node_at i) (a : ℕ) (r : ResumesAre p t places m.a.is.action (t.part.first + i) (resumes_of m.a)) →
@@ -369,18 +371,18 @@ module _ (p : Plan) (plan : IsPlan p) (t : Thread) (thread : IsThread p t) (c : 
   there a (at_chosen node of chosen) =
       let k = numbered node of in
       subst (λ (j : ℕ). IsChosen p.graph p.boundaries j → Contains program.resumes (places.core j)) k.is (core_there k.number (node_at k.number k.below)) chosen
-  there a (past_lock node mutex next is of found action) =
+  there a (past_lock node lock next is of found action) =
       let k = numbered node of in
       let m = node_at k.number k.below in
       let found_there : NodeAt p.graph (t.part.first + k.number) is = ap (λ (j : ℕ). slice_get p.graph.nodes j) k.is ∙ found in
-      let same : m.a.is.action ≡ Lock mutex next = ap (λ (y : Node). y.action) (same_node k.number m is found_there) ∙ action in
+      let same : m.a.is.action ≡ Lock lock next = ap (λ (y : Node). y.action) (same_node k.number m is found_there) ∙ action in
       subst (λ (j : ℕ). Contains program.resumes (places.after j)) k.is
       (after_there k.number m (ap (λ (z : Action). resumes_after p t places z (t.part.first + k.number)) same))
-  there a (past_unlock node mutex next is of found action holds) =
+  there a (past_unlock node lock next is of found action holds) =
       let k = numbered node of in
       let m = node_at k.number k.below in
       let found_there : NodeAt p.graph (t.part.first + k.number) is = ap (λ (j : ℕ). slice_get p.graph.nodes j) k.is ∙ found in
-      let same : m.a.is.action ≡ Unlock mutex next = ap (λ (y : Node). y.action) (same_node k.number m is found_there) ∙ action in
+      let same : m.a.is.action ≡ Unlock lock next = ap (λ (y : Node). y.action) (same_node k.number m is found_there) ∙ action in
       let b : ℕ = places.after (t.part.first + k.number) in
       subst (λ (j : ℕ). Contains program.resumes (places.after j)) k.is
       (after_there k.number m (ap (λ (z : Action). resumes_after p t places z (t.part.first + k.number)) same ∙

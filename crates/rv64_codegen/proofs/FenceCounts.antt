@@ -35,16 +35,16 @@ abbrev is_lock : Action → Bool
 is_lock (Eval target value next) = false
 is_lock (Store variable kind next) = false
 is_lock (Test condition holds fails) = false
-is_lock (Lock mutex next) = true
-is_lock (Unlock mutex next) = false
+is_lock (Lock lock next) = true
+is_lock (Unlock lock next) = false
 is_lock End = false
 
 abbrev is_unlock : Action → Bool
 is_unlock (Eval target value next) = false
 is_unlock (Store variable kind next) = false
 is_unlock (Test condition holds fails) = false
-is_unlock (Lock mutex next) = false
-is_unlock (Unlock mutex next) = true
+is_unlock (Lock lock next) = false
+is_unlock (Unlock lock next) = true
 is_unlock End = false
 
 module _ (p : Plan) (t : Thread) (c : Choices) (plan : IsPlan p) (node : ℕ) (is : Node) (at : NodeAt p.graph node is) (before does goes : List CodeItem)
@@ -56,13 +56,13 @@ module _ (p : Plan) (t : Thread) (c : Choices) (plan : IsPlan p) (node : ℕ) (i
   has_after = slice_index_or p.boundaries.after_lock node false
 
   no_lock : is_lock is.action ≡ false → cutting.IsLock p.graph node → ⊥
-  no_lock off (locks x mutex next there does_it) =
+  no_lock off (locks x lock next there does_it) =
       let same : x ≡ is = same_Some x is (sym there ∙ at) in
       let on : is_lock is.action ≡ true = ap (λ (y : Node). is_lock y.action) (sym same) ∙ ap is_lock does_it in
       true≢false (sym on ∙ off)
 
   no_unlock : is_unlock is.action ≡ false → cutting.IsUnlock p.graph node → ⊥
-  no_unlock off (unlocks x mutex next there does_it) =
+  no_unlock off (unlocks x lock next there does_it) =
       let same : x ≡ is = same_Some x is (sym there ∙ at) in
       let on : is_unlock is.action ≡ true = ap (λ (y : Node). is_unlock y.action) (sym same) ∙ ap is_unlock does_it in
       true≢false (sym on ∙ off)
@@ -114,14 +114,14 @@ module _ (p : Plan) (t : Thread) (c : Choices) (plan : IsPlan p) (node : ℕ) (i
       by : IsChoosing p t c node condition holds fails does goes → fences_in (before ++ (does ++ goes)) ≡ 2 * boundary_count p.boundaries node
       by (turned same test none) = plain_fences (ap is_lock e) (ap is_unlock e) test.fences (ap fences_in none)
       by (straight test goes_to) = plain_fences (ap is_lock e) (ap is_unlock e) test.fences (goes_none fails goes_to)
-  fences_by (Lock mutex next) e d =
+  fences_by (Lock lock next) e d =
       let on : one_if has_after ≡ 1 =
-      ap one_if (flag_on p.boundaries.after_lock node (plan.cuts.past_locks node (locks is mutex next at e)).stands) in
+      ap one_if (flag_on p.boundaries.after_lock node (plan.cuts.past_locks node (locks is lock next at e)).stands) in
       total (2 * one_if has_before) 2 (2 * boundary_count p.boundaries node) (before_fences (ap is_unlock e)) d.0.fences (goes_none next d.1)
       (omega (arith, on))
-  fences_by (Unlock mutex next) e d =
-      let none : fences_in before ≡ 0 = ap fences_in (guarded.plain (λ chosen. chosen.free (unlocks is mutex next at e))) in
-      let on : one_if has_before ≡ 1 = ap one_if (flag_on p.boundaries.before node (plan.cuts.before_unlocks node (unlocks is mutex next at e))) in
+  fences_by (Unlock lock next) e d =
+      let none : fences_in before ≡ 0 = ap fences_in (guarded.plain (λ chosen. chosen.free (unlocks is lock next at e))) in
+      let on : one_if has_before ≡ 1 = ap one_if (flag_on p.boundaries.before node (plan.cuts.before_unlocks node (unlocks is lock next at e))) in
       let off = after_none (ap is_lock e) in
       total 0 2 (2 * boundary_count p.boundaries node) none d.0.fences (goes_none next d.1) (omega (arith, on, off))
   fences_by End e d = plain_fences (ap is_lock e) (ap is_unlock e) d.0.fences (ap fences_in d.1)

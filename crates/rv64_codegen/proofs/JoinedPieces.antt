@@ -13,7 +13,7 @@ use Rattle.rv64_isa.specs.declared.object.CodeItem.TheVariants.{Here}
 use Rattle.rv64_link.specs.LabelledCode.{most_words_of}
 use Rattle.flow_graph.specs.Nodes.{Node, Graph}
 use Rattle.flow_graph.specs.Liveness.{NodeAt}
-use Rattle.flow_graph.specs.Lowering.{thread_nodes}
+use Rattle.flow_graph.specs.Lowering.{table_of, thread_nodes}
 use Rattle.flow_graph.proofs.Public.{length-thread_nodes}
 use Rattle.node_code.specs.Pieces.{Appends}
 use Rattle.node_code.specs.JoinedPieces.{joined}
@@ -111,7 +111,7 @@ pub thread_emitted : (x : opened.ThreadPlan) (items : List CodeItem) → IsOpen 
 thread_emitted x items o b =
     let p = plan_in x in
     let t = thread_of x in
-    let ns = thread_nodes o.thread.text t.part.first in
+    let ns = thread_nodes (table_of p.flat o.thread.text) o.thread.text t.part.first in
     record {
       emitted = record {
         choices = choices_of x;
@@ -123,7 +123,8 @@ thread_emitted x items o b =
       words = omega (
         arith,
         ap (λ (xs : List CodeItem). sum_by most_words_of xs) b.joined_are,
-        words_joined 0 b.pieces ns (omega (arith, b.long, end_is p o.plan t o.thread, length-thread_nodes o.thread.text t.part.first))
+        words_joined 0 b.pieces ns
+            (omega (arith, b.long, end_is p o.plan t o.thread, length-thread_nodes (table_of p.flat o.thread.text) o.thread.text t.part.first))
             (λ i piece is g k.
             let below : i < length b.pieces = slice_get_within b.pieces i piece g in
             let own : IsNodeOf t (t.part.first + i) = record { from_first = omega arith; below_end = omega (arith, below, b.long) } in

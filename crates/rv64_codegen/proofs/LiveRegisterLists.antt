@@ -144,8 +144,8 @@ module _ (g : Graph) (homes : List Home) (sets : List (List ℕ)) (node : ℕ) (
   with_pending_live all (Store variable kind next) e w =
       subst (AreLiveRegisters g homes sets node) (sym w) (pending (stores is variable kind next at e))
   with_pending_live all (Test condition holds fails) e w = subst (AreLiveRegisters g homes sets node) (sym w) (unpending (not_store _ e refl))
-  with_pending_live all (Lock mutex next) e w = subst (AreLiveRegisters g homes sets node) (sym w) (unpending (not_store _ e refl))
-  with_pending_live all (Unlock mutex next) e w = subst (AreLiveRegisters g homes sets node) (sym w) (unpending (not_store _ e refl))
+  with_pending_live all (Lock lock next) e w = subst (AreLiveRegisters g homes sets node) (sym w) (unpending (not_store _ e refl))
+  with_pending_live all (Unlock lock next) e w = subst (AreLiveRegisters g homes sets node) (sym w) (unpending (not_store _ e refl))
   with_pending_live all End e w = subst (AreLiveRegisters g homes sets node) (sym w) (unpending (not_store _ e refl))
 
 -- ---- Lists

@@ -1,4 +1,4 @@
--- Nodes of a well formed flat form's graph: what they name is there, they lead to nodes of their thread, and their prices make up the thread's.
+-- Nodes of a well formed flat form's graph: what they name is there, they lead to nodes of their thread, and their prices are no more than the thread's.
 use Rattle.std.proofs.Common.{◌≡◌, ⊎_elim, refl, ℕ, zero, suc, ◌+◌, ◌-◌, ◌<◌, ◌≤◌, List, [], ◌∷◌, ◌++◌, length, ◌∙◌, ap, ap₂, sym, subst, arith, Some, None}
 use Rattle.std.proofs.Common.{true}
 use Rattle.std.specs.Prelude.{slice_get, sum_by, map, ℤ, pos, negsuc, ◌-ℤ◌, ◌≤ℤ◌}
@@ -22,7 +22,8 @@ use Rattle.c_ranges.proofs.Public.{elements_is}
 use Rattle.memory_layout.specs.Variables.{elements_of}
 use Rattle.flow_graph.specs.declared.graph.Part.{Part}
 use Rattle.flow_graph.specs.Nodes.{Action, Eval, Store, Test, Lock, Unlock, End, Node}
-use Rattle.flow_graph.specs.Lowering.{scalar, elements, element_number, test_node, plain_node, assign_nodes, assign_count, count, statements_count, arms_count}
+use Rattle.flow_graph.specs.Lowering.{table_of, Table, scalar, elements, element_number, test_node, plain_node}
+use Rattle.flow_graph.specs.Lowering.{assign_nodes, assign_count, count, statements_count, arms_count}
 use Rattle.flow_graph.specs.Lowering.{thread_count, entry, statement_nodes, statements_nodes, arms_nodes, thread_nodes, threads_nodes, part, parts}
 use Rattle.flow_graph.proofs.Public.{length-thread_nodes}
 use Rattle.region_cutter.specs.Places.{WritesAnElement}
@@ -42,58 +43,72 @@ prices_append ns ms = sum_by-append price_of ns ms
 prices_one : (n : Node) → prices (n ∷ []) ≡ price_of n
 prices_one n = omega arith
 
-price_assign : (target : e.Lvalue) (place : Place) (value : e.Placed) (first next : ℕ) →
-    prices (assign_nodes place target value first next) ≡ assign_price target (nodes_of value.expr)
-price_assign (e.ToLocal name local kind) place value first next = omega arith
-price_assign (e.ToVariable name variable kind) place value first next = omega arith
-price_assign (e.ToElement name variable kind index) place value first next = omega arith
+price_assign : (table : Table) (target : e.Lvalue) (place : Place) (value : e.Placed) (first next : ℕ) →
+    prices (assign_nodes table place target value first next) ≡ assign_price target (nodes_of value.expr)
+price_assign table (e.ToLocal name local kind) place value first next = omega arith
+price_assign table (e.ToVariable name variable kind) place value first next = omega arith
+price_assign table (e.ToElement name variable kind index) place value first next = omega arith
 
 mutual
-  price_statement : (y : f.Statement) (first next : ℕ) → prices (statement_nodes y first next) ≡ statement_price y
-  price_statement (f.Assign place target value) first next = price_assign target place value first next
-  price_statement (f.If place arms otherwise) first next =
+  price_statement : (table : Table) (y : f.Statement) (first next : ℕ) → prices (statement_nodes table y first next) ≤ statement_price y
+  price_statement table (f.Assign place target value) first next = omega (arith, price_assign table target place value first next)
+  price_statement table (f.If place arms otherwise) first next =
       let last = entry (statements_count otherwise) (first + arms_count arms) next in
-      prices_append (arms_nodes arms place last first next) (statements_nodes otherwise (first + arms_count arms) next)
-      ∙ ap₂ ◌+◌ (price_arms arms place last first next) (price_statements otherwise (first + arms_count arms) next)
-  price_statement (f.While place condition body) first next =
-      sum_by-cons price_of (test_node place condition (entry (statements_count body) (suc first) first) next) (statements_nodes body (suc first) first)
-      ∙ ap (λ (n : ℕ). node_price (nodes_of condition.expr) + n) (price_statements body (suc first) first)
-  price_statement (f.Do place body condition) first next =
       omega (
         arith,
-        prices_append (statements_nodes body first (first + statements_count body)) (test_node place condition first next ∷ []),
-        price_statements body first (first + statements_count body),
-        prices_one (test_node place condition first next),
+        prices_append (arms_nodes table arms place last first next) (statements_nodes table otherwise (first + arms_count arms) next),
+        price_arms table arms place last first next,
+        price_statements table otherwise (first + arms_count arms) next,
       )
-  price_statement (f.Lock place name) first next = refl
-  price_statement (f.Unlock place name) first next = refl
+  price_statement table (f.While place condition body) first next =
+      omega (
+        arith,
+        sum_by-cons price_of (test_node table place condition (entry (statements_count body) (suc first) first) next)
+            (statements_nodes table body (suc first) first),
+        price_statements table body (suc first) first,
+      )
+  price_statement table (f.Do place body condition) first next =
+      omega (
+        arith,
+        prices_append (statements_nodes table body first (first + statements_count body)) (test_node table place condition first next ∷ []),
+        price_statements table body first (first + statements_count body),
+        prices_one (test_node table place condition first next),
+      )
+  price_statement table (f.Lock place name) first next =
+      let one : prices (statement_nodes table (f.Lock place name) first next) ≡ node_price 0 = refl in omega (arith, one)
+  price_statement table (f.Unlock place name) first next =
+      let one : prices (statement_nodes table (f.Unlock place name) first next) ≡ node_price 0 = refl in omega (arith, one)
 
-  price_statements : (ys : f.Statements) (first next : ℕ) → prices (statements_nodes ys first next) ≡ statements_price ys
-  price_statements f.no_statement first next = refl
-  price_statements (f.statement_and y rest) first next =
+  price_statements : (table : Table) (ys : f.Statements) (first next : ℕ) → prices (statements_nodes table ys first next) ≤ statements_price ys
+  price_statements table f.no_statement first next = omega arith
+  price_statements table (f.statement_and y rest) first next =
       let after = entry (statements_count rest) (first + count y) next in
-      prices_append (statement_nodes y first after) (statements_nodes rest (first + count y) next)
-      ∙ ap₂ ◌+◌ (price_statement y first after) (price_statements rest (first + count y) next)
+      omega (
+        arith,
+        prices_append (statement_nodes table y first after) (statements_nodes table rest (first + count y) next),
+        price_statement table y first after,
+        price_statements table rest (first + count y) next,
+      )
 
-  price_arms : (arms : f.Arms) (place : Place) (last first next : ℕ) → prices (arms_nodes arms place last first next) ≡ arms_price arms
-  price_arms f.no_arm place last first next = refl
-  price_arms (f.arm_and condition body rest) place last first next =
+  price_arms : (table : Table) (arms : f.Arms) (place : Place) (last first next : ℕ) → prices (arms_nodes table arms place last first next) ≤ arms_price arms
+  price_arms table f.no_arm place last first next = omega arith
+  price_arms table (f.arm_and condition body rest) place last first next =
       let more = suc first + statements_count body in
       omega (
         arith,
-        sum_by-cons price_of (test_node place condition (entry (statements_count body) (suc first) next) (entry (arms_count rest) more last))
-            (statements_nodes body (suc first) next ++ arms_nodes rest place last more next),
-        prices_append (statements_nodes body (suc first) next) (arms_nodes rest place last more next),
-        price_statements body (suc first) next,
-        price_arms rest place last more next,
+        sum_by-cons price_of (test_node table place condition (entry (statements_count body) (suc first) next) (entry (arms_count rest) more last))
+            (statements_nodes table body (suc first) next ++ arms_nodes table rest place last more next),
+        prices_append (statements_nodes table body (suc first) next) (arms_nodes table rest place last more next),
+        price_statements table body (suc first) next,
+        price_arms table rest place last more next,
       )
 
-pub price_thread : (t : f.Thread) (first : ℕ) → prices (thread_nodes t first) ≡ thread_price t
-price_thread t first =
+pub price_thread : (table : Table) (t : f.Thread) (first : ℕ) → prices (thread_nodes table t first) ≤ thread_price t
+price_thread table t first =
     omega (
       arith,
-      prices_append (statements_nodes t.body first (first + statements_count t.body)) (plain_node t.closing End ∷ []),
-      price_statements t.body first (first + statements_count t.body),
+      prices_append (statements_nodes table t.body first (first + statements_count t.body)) (plain_node t.closing End ∷ []),
+      price_statements table t.body first (first + statements_count t.body),
       prices_one (plain_node t.closing End),
     )
 
@@ -143,8 +158,8 @@ module _ (x : f.Flat) (ks : List Kind) (lo hi : ℕ) (variables : AllByRecursion
   IsFormed (Eval target value next) = IsFlatTarget x ks target × (IsFlatPlaced x ks value × Within next)
   IsFormed (Store variable kind next) = Within next
   IsFormed (Test condition holds fails) = IsFlatPlaced x ks condition × (Within holds × Within fails)
-  IsFormed (Lock mutex next) = (mutex < length x.mutexes) × Within next
-  IsFormed (Unlock mutex next) = (mutex < length x.mutexes) × Within next
+  IsFormed (Lock lock next) = (lock.mutex < length x.mutexes) × Within next
+  IsFormed (Unlock lock next) = (lock.mutex < length x.mutexes) × Within next
   IsFormed End = Unit {0}
 
   pub record IsLoweredNode (n : Node) : Type 0 where
@@ -173,8 +188,8 @@ module _ (x : f.Flat) (ks : List Kind) (lo hi : ℕ) (variables : AllByRecursion
   scalar_there variable it found = omega (arith, elements_there x.variables variable it found, variable_at x.variables variable it variables found)
 
   element_there : (variable : ℕ) (kind : Kind) (place : Place) (index : e.Expr) → IsDeclared x.variables variable kind true →
-      IndexFits x.variables variable place index → (elements variable (range_of index)).lo ≡ (elements variable (range_of index)).hi →
-      (elements variable (range_of index)).lo < elements_of (map shape_of x.variables) variable
+      IndexFits x.variables variable place index → element_number (range_of index).lo ≡ element_number (range_of index).hi →
+      element_number (range_of index).lo < elements_of (map shape_of x.variables) variable
   element_there variable kind place index d fit single =
       let r = range_of index in
       let n = ranges.elements_of x.variables variable in
@@ -185,11 +200,12 @@ module _ (x : f.Flat) (ks : List Kind) (lo hi : ℕ) (variables : AllByRecursion
       let small : element_number r.hi < n = below_count r.hi n high (omega (arith, count, some)) in
       omega (arith, single, small, count, same)
 
-  sound_assign : (target : e.Lvalue) (place : Place) (value : e.Placed) (first next : ℕ) → IsFlatTarget x ks target → IsFlatPlaced x ks value → lo ≤ first →
-      first + assign_count target ≤ hi → Within next → AllSound (assign_nodes place target value first next)
-  sound_assign (e.ToLocal name local kind) place value first next t v a b w =
+  sound_assign : (table : Table) (target : e.Lvalue) (place : Place) (value : e.Placed) (first next : ℕ) → IsFlatTarget x ks target →
+      IsFlatPlaced x ks value → lo ≤ first →
+      first + assign_count target ≤ hi → Within next → AllSound (assign_nodes table place target value first next)
+  sound_assign table (e.ToLocal name local kind) place value first next t v a b w =
       (record { formed = (t, (v, w)); writes = none_written _ _ refl }, tt)
-  sound_assign (e.ToVariable name variable kind) place value first next t v a b w = (
+  sound_assign table (e.ToVariable name variable kind) place value first next t v a b w = (
     record { formed = (t, (v, (omega (arith, a), omega (arith, b)))); writes = none_written _ _ refl },
     (
       record {
@@ -200,72 +216,73 @@ module _ (x : f.Flat) (ks : List Kind) (lo hi : ℕ) (variables : AllByRecursion
       tt,
     ),
   )
-  sound_assign (e.ToElement name variable kind index) place value first next t v a b w = (
+  sound_assign table (e.ToElement name variable kind index) place value first next t v a b w = (
     record { formed = (t, (v, (omega (arith, a), omega (arith, b)))); writes = none_written _ _ refl },
     (
       record {
         formed = w;
-        writes = one_written _ _ (elements variable (range_of index.expr)) refl (shape_there x.variables variable t.0.0.it t.0.0.found)
+        writes = one_written _ _ (elements table variable index) refl (shape_there x.variables variable t.0.0.it t.0.0.found)
             (element_there variable kind index.place index.expr t.0.0 t.1.0);
       },
       tt,
     ),
   )
 
-  sound_test : (place : Place) (condition : e.Placed) (holds fails : ℕ) → IsFlatPlaced x ks condition → Within holds → Within fails →
-      IsLoweredNode (test_node place condition holds fails)
-  sound_test place condition holds fails c h k = record { formed = (c, (h, k)); writes = none_written _ _ refl }
+  sound_test : (table : Table) (place : Place) (condition : e.Placed) (holds fails : ℕ) → IsFlatPlaced x ks condition → Within holds → Within fails →
+      IsLoweredNode (test_node table place condition holds fails)
+  sound_test table place condition holds fails c h k = record { formed = (c, (h, k)); writes = none_written _ _ refl }
 
   mutual
-    sound : (y : f.Statement) (first next : ℕ) → IsFlatStatement x ks y → lo ≤ first → first + count y ≤ hi → Within next →
-        AllSound (statement_nodes y first next)
-    sound (f.Assign place target value) first next g a b w = sound_assign target place value first next g.0 g.1 a b w
-    sound (f.If place arms otherwise) first next g a b w =
+    sound : (table : Table) (y : f.Statement) (first next : ℕ) → IsFlatStatement x ks y → lo ≤ first → first + count y ≤ hi → Within next →
+        AllSound (statement_nodes table y first next)
+    sound table (f.Assign place target value) first next g a b w = sound_assign table target place value first next g.0 g.1 a b w
+    sound table (f.If place arms otherwise) first next g a b w =
         let other = first + arms_count arms in
         joined _ _
-        (sound_arms arms place (entry (statements_count otherwise) other next) first next g.1 a (omega (arith, b))
+        (sound_arms table arms place (entry (statements_count otherwise) other next) first next g.1 a (omega (arith, b))
         (entry_within (statements_count otherwise) other next w (omega (arith, a)) (omega (arith, b))) w)
-        (sound_all otherwise other next g.2 (omega (arith, a)) (omega (arith, b)) w)
-    sound (f.While place condition body) first next g a b w =
+        (sound_all table otherwise other next g.2 (omega (arith, a)) (omega (arith, b)) w)
+    sound table (f.While place condition body) first next g a b w =
         let here : Within first = (a, omega (arith, b)) in (
-          sound_test place condition (entry (statements_count body) (suc first) first) next g.0
+          sound_test table place condition (entry (statements_count body) (suc first) first) next g.0
               (entry_within (statements_count body) (suc first) first here (omega (arith, a)) (omega (arith, b))) w,
-          sound_all body (suc first) first g.1 (omega (arith, a)) (omega (arith, b)) here,
+          sound_all table body (suc first) first g.1 (omega (arith, a)) (omega (arith, b)) here,
         )
-    sound (f.Do place body condition) first next g a b w =
+    sound table (f.Do place body condition) first next g a b w =
         let test = first + statements_count body in
         let there : Within test = (omega (arith, a), omega (arith, b)) in
         let here : Within first = (a, omega (arith, b)) in
-        joined _ _ (sound_all body first test g.0 a (omega (arith, b)) there) (sound_test place condition first next g.1 here w, tt)
-    sound (f.Lock place name) first next g a b w = (record { formed = (g.0, w); writes = none_written _ _ refl }, tt)
-    sound (f.Unlock place name) first next g a b w = (record { formed = (g.0, w); writes = none_written _ _ refl }, tt)
+        joined _ _ (sound_all table body first test g.0 a (omega (arith, b)) there) (sound_test table place condition first next g.1 here w, tt)
+    sound table (f.Lock place name) first next g a b w = (record { formed = (g.0, w); writes = none_written _ _ refl }, tt)
+    sound table (f.Unlock place name) first next g a b w = (record { formed = (g.0, w); writes = none_written _ _ refl }, tt)
 
-    sound_all : (ys : f.Statements) (first next : ℕ) → AreFlatStatements x ks ys → lo ≤ first → first + statements_count ys ≤ hi → Within next →
-        AllSound (statements_nodes ys first next)
-    sound_all f.no_statement first next g a b w = tt
-    sound_all (f.statement_and y rest) first next g a b w =
+    sound_all : (table : Table) (ys : f.Statements) (first next : ℕ) → AreFlatStatements x ks ys → lo ≤ first → first + statements_count ys ≤ hi → Within next →
+        AllSound (statements_nodes table ys first next)
+    sound_all table f.no_statement first next g a b w = tt
+    sound_all table (f.statement_and y rest) first next g a b w =
         let other = first + count y in
         joined _ _
-        (sound y first (entry (statements_count rest) other next) g.0 a (omega (arith, b))
+        (sound table y first (entry (statements_count rest) other next) g.0 a (omega (arith, b))
         (entry_within (statements_count rest) other next w (omega (arith, a)) (omega (arith, b))))
-        (sound_all rest other next g.1 (omega (arith, a)) (omega (arith, b)) w)
+        (sound_all table rest other next g.1 (omega (arith, a)) (omega (arith, b)) w)
 
-    sound_arms : (arms : f.Arms) (place : Place) (last first next : ℕ) → AreFlatArms x ks arms → lo ≤ first → first + arms_count arms ≤ hi →
-        Within last → Within next → AllSound (arms_nodes arms place last first next)
-    sound_arms f.no_arm place last first next g a b l w = tt
-    sound_arms (f.arm_and condition body rest) place last first next g a b l w =
+    sound_arms : (table : Table) (arms : f.Arms) (place : Place) (last first next : ℕ) → AreFlatArms x ks arms → lo ≤ first → first + arms_count arms ≤ hi →
+        Within last → Within next → AllSound (arms_nodes table arms place last first next)
+    sound_arms table f.no_arm place last first next g a b l w = tt
+    sound_arms table (f.arm_and condition body rest) place last first next g a b l w =
         let more = suc first + statements_count body in (
-          sound_test place condition (entry (statements_count body) (suc first) next) (entry (arms_count rest) more last) g.0
+          sound_test table place condition (entry (statements_count body) (suc first) next) (entry (arms_count rest) more last) g.0
               (entry_within (statements_count body) (suc first) next w (omega (arith, a)) (omega (arith, b)))
               (entry_within (arms_count rest) more last l (omega (arith, a)) (omega (arith, b))),
-          joined _ _ (sound_all body (suc first) next g.1 (omega (arith, a)) (omega (arith, b)) w)
-              (sound_arms rest place last more next g.2 (omega (arith, a)) (omega (arith, b)) l w),
+          joined _ _ (sound_all table body (suc first) next g.1 (omega (arith, a)) (omega (arith, b)) w)
+              (sound_arms table rest place last more next g.2 (omega (arith, a)) (omega (arith, b)) l w),
         )
 
-  pub sound_thread : (t : f.Thread) (first : ℕ) → AreFlatStatements x ks t.body → lo ≤ first → first + thread_count t ≤ hi → AllSound (thread_nodes t first)
-  sound_thread t first g a b =
+  pub sound_thread : (table : Table) (t : f.Thread) (first : ℕ) → AreFlatStatements x ks t.body → lo ≤ first → first + thread_count t ≤ hi →
+      AllSound (thread_nodes table t first)
+  sound_thread table t first g a b =
       let end = first + statements_count t.body in
-      joined _ _ (sound_all t.body first end g a (omega (arith, b)) (omega (arith, a), omega (arith, b)))
+      joined _ _ (sound_all table t.body first end g a (omega (arith, b)) (omega (arith, a), omega (arith, b)))
       (record { formed = tt; writes = none_written _ _ refl }, tt)
 
 pub sound_at : (x : f.Flat) (ks : List Kind) (lo hi : ℕ) (v : AllByRecursion (IsVariable (length x.mutexes)) x.variables) (ns : List Node) (k : ℕ) (n : Node) →
@@ -302,26 +319,28 @@ part_from [] first k q h = cc
 part_from (u ∷ us) first zero q h = let here : part u first ≡ q = cc in let e : first ≡ q.first = ap (λ (z : Part). z.first) here in omega (arith, e)
 part_from (u ∷ us) first (suc k) q h = omega (arith, part_from us (first + thread_count u) k q h)
 
-pub node_of_thread : (ts : List f.Thread) (first k : ℕ) (t : f.Thread) (q : Part) (i j : ℕ) → slice_get ts k ≡ Some t → slice_get (parts ts first) k ≡ Some q →
-    i < thread_count t → first + j ≡ q.first + i → slice_get (threads_nodes ts first) j ≡ slice_get (thread_nodes t q.first) i
-node_of_thread [] first k t q i j g h l s = cc
-node_of_thread (u ∷ us) first zero t q i j g h l s =
+pub node_of_thread : (x : f.Flat) (ts : List f.Thread) (first k : ℕ) (t : f.Thread) (q : Part) (i j : ℕ) → slice_get ts k ≡ Some t →
+    slice_get (parts ts first) k ≡ Some q →
+    i < thread_count t → first + j ≡ q.first + i → slice_get (threads_nodes x ts first) j ≡ slice_get (thread_nodes (table_of x t) t q.first) i
+node_of_thread x [] first k t q i j g h l s = cc
+node_of_thread x (u ∷ us) first zero t q i j g h l s =
     let same : u ≡ t = cc in
     let here : part u first ≡ q = cc in
     let e : first ≡ q.first = ap (λ (z : Part). z.first) here in
     let there : j ≡ i = omega (arith, s, e) in
-    let short : i < length (thread_nodes u first) =
-    omega (arith, l, length-thread_nodes u first, ap (λ (z : f.Thread). thread_count z) same) in
-    ap (slice_get (thread_nodes u first ++ threads_nodes us (first + thread_count u))) there
-    ∙ get_prefix (thread_nodes u first) (threads_nodes us (first + thread_count u)) i short
-    ∙ ap₂ (λ (z : f.Thread) (m : ℕ). slice_get (thread_nodes z m) i) same e
-node_of_thread (u ∷ us) first (suc k) t q i j g h l s =
+    let short : i < length (thread_nodes (table_of x u) u first) =
+    omega (arith, l, length-thread_nodes (table_of x u) u first, ap (λ (z : f.Thread). thread_count z) same) in
+    ap (slice_get (thread_nodes (table_of x u) u first ++ threads_nodes x us (first + thread_count u))) there
+    ∙ get_prefix (thread_nodes (table_of x u) u first) (threads_nodes x us (first + thread_count u)) i short
+    ∙ ap₂ (λ (z : f.Thread) (m : ℕ). slice_get (thread_nodes (table_of x z) z m) i) same e
+node_of_thread x (u ∷ us) first (suc k) t q i j g h l s =
     let after : first + thread_count u ≤ q.first = part_from us (first + thread_count u) k q h in
     let rest : ℕ = j - thread_count u in
     let e : j ≡ thread_count u + rest = omega (arith, s, after) in
-    ap (slice_get (thread_nodes u first ++ threads_nodes us (first + thread_count u))) e
-    ∙ get_suffix (thread_nodes u first) (threads_nodes us (first + thread_count u)) (thread_count u) rest (sym (length-thread_nodes u first))
-    ∙ node_of_thread us (first + thread_count u) k t q i rest g h l (omega (arith, s, after))
+    ap (slice_get (thread_nodes (table_of x u) u first ++ threads_nodes x us (first + thread_count u))) e
+    ∙ get_suffix (thread_nodes (table_of x u) u first) (threads_nodes x us (first + thread_count u)) (thread_count u) rest
+    (sym (length-thread_nodes (table_of x u) u first))
+    ∙ node_of_thread x us (first + thread_count u) k t q i rest g h l (omega (arith, s, after))
 
 -- a thread of this number that the node is one of
 pub record IsIn (ts : List f.Thread) (first k : ℕ) (q : Part) (node : ℕ) : Type 0 where
@@ -330,18 +349,19 @@ pub record IsIn (ts : List f.Thread) (first k : ℕ) (q : Part) (node : ℕ) : T
   pub below_end : node < q.end
 
 -- each node is one of a thread's
-pub thread_of_node : (ts : List f.Thread) (first j : ℕ) (n : Node) → slice_get (threads_nodes ts first) j ≡ Some n →
+pub thread_of_node : (x : f.Flat) (ts : List f.Thread) (first j : ℕ) (n : Node) → slice_get (threads_nodes x ts first) j ≡ Some n →
     (k : ℕ) × (q : Part) × IsIn ts first k q (first + j)
-thread_of_node [] first j n g = cc
-thread_of_node (u ∷ us) first j n g = ⊎_elim
+thread_of_node x [] first j n g = cc
+thread_of_node x (u ∷ us) first j n g = ⊎_elim
     (λ l. (0, part u first, record { is = refl; from_first = omega arith; below_end = omega (arith, l) }))
     (λ l.
     let rest : ℕ = j - thread_count u in
     let e : j ≡ thread_count u + rest = omega (arith, l) in
-    let there : slice_get (threads_nodes us (first + thread_count u)) rest ≡ Some n =
-    sym (get_suffix (thread_nodes u first) (threads_nodes us (first + thread_count u)) (thread_count u) rest (sym (length-thread_nodes u first)))
-    ∙ ap (slice_get (thread_nodes u first ++ threads_nodes us (first + thread_count u))) (sym e) ∙ g in
-    let h = thread_of_node us (first + thread_count u) rest n there in
+    let there : slice_get (threads_nodes x us (first + thread_count u)) rest ≡ Some n =
+    sym (get_suffix (thread_nodes (table_of x u) u first) (threads_nodes x us (first + thread_count u)) (thread_count u) rest
+    (sym (length-thread_nodes (table_of x u) u first)))
+    ∙ ap (slice_get (thread_nodes (table_of x u) u first ++ threads_nodes x us (first + thread_count u))) (sym e) ∙ g in
+    let h = thread_of_node x us (first + thread_count u) rest n there in
     (suc h.0, h.1, record { is = h.2.is; from_first = omega (arith, h.2.from_first, e); below_end = omega (arith, h.2.below_end, e) }))
     (cases_lt j (thread_count u))
 

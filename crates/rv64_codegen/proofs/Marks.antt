@@ -30,8 +30,8 @@ abbrev pub resumes_after : Plan → Thread → Places → Action → (node : ℕ
 resumes_after p t places (Eval target value next) node = []
 resumes_after p t places (Store variable kind next) node = []
 resumes_after p t places (Test condition holds fails) node = []
-resumes_after p t places (Lock mutex next) node = places.after node ∷ []
-resumes_after p t places (Unlock mutex next) node = if is_empty (locks_before p t next) then [] else places.after node ∷ []
+resumes_after p t places (Lock lock next) node = places.after node ∷ []
+resumes_after p t places (Unlock lock next) node = if is_empty (locks_before p t next) then [] else places.after node ∷ []
 resumes_after p t places End node = []
 
 -- where the node may be resumed: at its core after a chosen boundary, and after what it does
@@ -118,8 +118,8 @@ module _ (p : Plan) (t : Thread) (c : Choices) (node : ℕ) (is : Node) (found :
   IsLast (Eval target value next) = Unit {0}
   IsLast (Store variable kind next) = Unit {0}
   IsLast (Test condition holds fails) = Unit {0}
-  IsLast (Lock mutex next) = Unit {0}
-  IsLast (Unlock mutex next) = at k₂ ≡ places.call node + 4
+  IsLast (Lock lock next) = Unit {0}
+  IsLast (Unlock lock next) = at k₂ ≡ places.call node + 4
   IsLast End = at k₂ ≡ places.call node + 4
 
   -- what is said of the parts that do something, and go on
@@ -168,14 +168,14 @@ module _ (p : Plan) (t : Thread) (c : Choices) (node : ℕ) (is : Node) (found :
       last = tt;
     }
     says (Test condition holds fails) d call = choosing_says condition holds fails d
-    says (Lock mutex next) d call = record {
+    says (Lock lock next) d call = record {
       marks = (d.0.at middle_site).marks ∙ ap (λ (y : ℕ). y ∷ []) (sym call);
       no_marks = goes_marks next d.1;
       resumes = (d.0.at middle_site).resumes ∙ ap (λ (y : ℕ). y ∷ []) (sym g.after);
       no_resumes = goes_resumes next d.1;
       last = tt;
     }
-    says (Unlock mutex next) d call = record {
+    says (Unlock lock next) d call = record {
       marks = at_core (d.0.at middle_site).marks;
       no_marks = goes_marks next d.1;
       resumes = (d.0.at middle_site).resumes ∙ ap (λ (y : ℕ). if is_empty (locks_before p t next) then [] else y ∷ []) (sym g.after);
@@ -261,7 +261,7 @@ module _ (p : Plan) (t : Thread) (c : Choices) (node : ℕ) (is : Node) (found :
         within_by (Eval target value following) h among = at_core_alone (Eval target value following) refl among tt
         within_by (Store variable kind following) h among = at_core_alone (Store variable kind following) refl among tt
         within_by (Test condition holds fails) h among = at_core_alone (Test condition holds fails) refl among tt
-        within_by (Lock mutex following) h among =
+        within_by (Lock lock following) h among =
             let call : ℕ = places.call node in
             let before : IsOn (places.core node) call = subst (λ (a : ℕ). IsOn a call) (sym g.core) among.before in
             let over : call ≡ places.core node + 4 * before.words = before.is in
@@ -275,8 +275,8 @@ module _ (p : Plan) (t : Thread) (c : Choices) (node : ℕ) (is : Node) (found :
                 subst (λ (a : ℕ). IsOn a next) (sym g.after) last_on,
               );
             }
-        within_by (Unlock mutex following) h among =
-            at_core_alone (Unlock mutex following) refl among (
+        within_by (Unlock lock following) h among =
+            at_core_alone (Unlock lock following) refl among (
               call_on h among.after,
               on_here (places.call node + 4) (places.after node) (sym h ∙ sym g.after),
               subst (λ (a : ℕ). IsOn a next) (sym g.after) last_on,
@@ -309,11 +309,11 @@ module _ (p : Plan) (t : Thread) (c : Choices) (node : ℕ) (is : Node) (found :
     after_ascends (Eval target value following) w low up = past (Eval target value following) w low up
     after_ascends (Store variable kind following) w low up = past (Store variable kind following) w low up
     after_ascends (Test condition holds fails) w low up = past (Test condition holds fails) w low up
-    after_ascends (Lock mutex following) w low up = one_ascends w.call.0 w.call.1 w.call.2 low up
-    after_ascends (Unlock mutex following) w low up = by (is_empty (locks_before p t following))
+    after_ascends (Lock lock following) w low up = one_ascends w.call.0 w.call.1 w.call.2 low up
+    after_ascends (Unlock lock following) w low up = by (is_empty (locks_before p t following))
       where
         by : (none : Bool) → Ascends low next (if none then [] else places.after node ∷ [])
-        by true = past (Unlock mutex following) w low up
+        by true = past (Unlock lock following) w low up
         by false = one_ascends w.call.0 w.call.1 w.call.2 low up
     after_ascends End w low up = past End w low up
 

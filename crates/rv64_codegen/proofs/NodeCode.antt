@@ -1,5 +1,6 @@
 -- The code of one node is its piece's.
-use Rattle.std.proofs.Common.{◌≡◌, ◌↔◌, ℕ, ◌+◌, ◌*◌, ◌≤◌, List, [], ◌∷◌, ◌++◌, length, map, refl, ap, arith, sym, ◌∙◌, subst, Bool, false}
+use Rattle.std.proofs.Common.{◌≡◌, ◌↔◌, ℕ, ◌+◌, ◌-◌, ◌*◌, ◌≤◌, List, [], ◌∷◌, ◌++◌, length, map, refl, ap, arith, sym, ◌∙◌, subst, Bool, false}
+use Rattle.c_tree.proofs.Public.{plain_lock}
 use Rattle.std.proofs.Common.{Option, Some, None, if◌then◌else◌}
 use Rattle.std.specs.Prelude.{slice_index_or, pos, sum_by}
 use Rattle.std.proofs.lemmas.List.Sums.{sum_by-append}
@@ -70,8 +71,8 @@ module _ (p : Plan) (t : Thread) (c : Choices) (program : Program) (items : List
   call_of (Eval target value next) d = 0
   call_of (Store variable kind next) d = 0
   call_of (Test condition holds fails) d = 0
-  call_of (Lock mutex next) d = (d.0.at does_bare).call
-  call_of (Unlock mutex next) d = (d.0.at does_bare).call
+  call_of (Lock lock next) d = (d.0.at does_bare).call
+  call_of (Unlock lock next) d = (d.0.at does_bare).call
   call_of End d = (d.0.at does_bare).call
 
   abbrev pub spots_in : Spots
@@ -154,13 +155,13 @@ module _ (p : Plan) (t : Thread) (c : Choices) (plan : IsPlan p) (of : IsThread 
   -- ---- What it does
 
   -- a call stands at one address in all environments
-  lock_call : (mutex next : ℕ) (d : IsDoing p t c node (Lock mutex next) does goes) (s : MarkedEnvironment) (meets : Meets program s) →
+  lock_call : (lock : e.LockName) (next : ℕ) (d : IsDoing p t c node (Lock lock next) does goes) (s : MarkedEnvironment) (meets : Meets program s) →
       (d.0.at (site_of s meets)).call ≡ (d.0.at bare_site).call
-  lock_call mutex next d s meets = first_same _ _ (sym (d.0.at (site_of s meets)).marks ∙ (d.0.at bare_site).marks)
+  lock_call lock next d s meets = first_same _ _ (sym (d.0.at (site_of s meets)).marks ∙ (d.0.at bare_site).marks)
 
-  unlock_call : (mutex next : ℕ) (d : IsDoing p t c node (Unlock mutex next) does goes) (s : MarkedEnvironment) (meets : Meets program s) →
+  unlock_call : (lock : e.LockName) (next : ℕ) (d : IsDoing p t c node (Unlock lock next) does goes) (s : MarkedEnvironment) (meets : Meets program s) →
       (d.0.at (site_of s meets)).call ≡ (d.0.at bare_site).call
-  unlock_call mutex next d s meets =
+  unlock_call lock next d s meets =
       let here : addr on_at ≡ (d.0.at (site_of s meets)).call + 4 = (d.0.at (site_of s meets)).after in
       let there : addr on_at ≡ (d.0.at bare_site).call + 4 = (d.0.at bare_site).after in
       omega (arith, here, there)
@@ -237,16 +238,16 @@ module _ (p : Plan) (t : Thread) (c : Choices) (plan : IsPlan p) (of : IsThread 
         subst By (same_Some (a.Goes (if is_zero (number_in seen condition.expr) then fails else holds)) effect eq)
         (performs.tests_it p t c plan of choices places program items n node is own at before does goes guarded doing sited agrees.words agrees.of_program
         agrees.live agrees.cleans agrees.core s meets seen side x enters condition holds fails same known answered d)
-    does_it (Lock mutex next) same known d call answered effect eq =
-        subst By (same_Some (a.Takes mutex next) effect eq)
+    does_it (Lock lock next) same known d call answered effect eq =
+        subst By (same_Some (a.Takes lock.mutex next) effect (ap (λ (k : ℕ). Some (a.Takes k next)) (sym (plain_lock seen.locals lock known.keyless)) ∙ eq))
         (performs.takes_it p t c plan of choices places program items n node is own at before does goes guarded doing sited agrees.words agrees.of_program
-        agrees.live agrees.cleans agrees.core s meets seen side x enters mutex next same known (d.0.at (site_of s meets))
-        (call ∙ sym (lock_call mutex next d s meets)))
-    does_it (Unlock mutex next) same known d call answered effect eq =
-        subst By (same_Some (a.Gives mutex next) effect eq)
+        agrees.live agrees.cleans agrees.core s meets seen side x enters lock next same known (d.0.at (site_of s meets))
+        (call ∙ sym (lock_call lock next d s meets)))
+    does_it (Unlock lock next) same known d call answered effect eq =
+        subst By (same_Some (a.Gives lock.mutex next) effect (ap (λ (k : ℕ). Some (a.Gives k next)) (sym (plain_lock seen.locals lock known.keyless)) ∙ eq))
         (performs.gives_it p t c plan of choices places program items n node is own at before does goes guarded doing sited agrees.words agrees.of_program
-        agrees.live agrees.cleans agrees.core s meets seen side x enters mutex next same known (d.0.at (site_of s meets))
-        (call ∙ sym (unlock_call mutex next d s meets)) agrees.after)
+        agrees.live agrees.cleans agrees.core s meets seen side x enters lock next same known (d.0.at (site_of s meets))
+        (call ∙ sym (unlock_call lock next d s meets)) agrees.after)
     does_it End same known d call answered effect eq =
         subst By (same_Some a.Ends effect eq)
         (performs.ends_it p t c plan of choices places program items n node is own at before does goes guarded doing sited agrees.words agrees.of_program
@@ -262,31 +263,31 @@ module _ (p : Plan) (t : Thread) (c : Choices) (plan : IsPlan p) (of : IsThread 
 
   -- ---- Calls
 
-  goes_on_after : (next : ℕ) → IsNodeOf t next → GoesTo p t c node next goes → GoesOnAfter p t places node next
-  goes_on_after next of_next g = record {
+  goes_on_after : 3 ≤ words_in does bare_site → (next : ℕ) → IsNodeOf t next → GoesTo p t c node next goes → GoesOnAfter p t places node next
+  goes_on_after calling next of_next g = record {
     on = λ m meets same enters.
-        subst (λ (k : ℕ). GoesThrough m.environment (fragment m.registers (places.after node) (places.entry next) (places.words k)) []
+        subst (λ (k : ℕ). GoesThrough m.environment (fragment m.registers (places.after node) (places.entry next) (places.words k - 3)) []
         (Enters p t next m.seen m.side))
         (sym same)
-        (moved m.environment m.registers (addr on_at) (places.after node) (places.entry next) (places.entry next) words [] (Enters p t next m.seen m.side)
-        (sym agrees.after) refl
-        (weaker m.environment (fragment m.registers (addr on_at) (places.entry next) words) [] (λ y. y ≡ m.registers) (Enters p t next m.seen m.side)
+        (moved m.environment m.registers (addr on_at) (places.after node) (places.entry next) (places.entry next) (words - 3) []
+        (Enters p t next m.seen m.side) (sym agrees.after) refl
+        (weaker m.environment (fragment m.registers (addr on_at) (places.entry next) (words - 3)) [] (λ y. y ≡ m.registers) (Enters p t next m.seen m.side)
         (λ y is_it. subst (λ (z : List ℕ). Enters p t next m.seen m.side z) (sym is_it) enters)
-        (parts.on_from_after p t c program items n places.entry node is at before does goes guarded doing sited words agrees.words next of_next g m.environment
-        (met m.environment meets) m.registers)));
+        (parts.on_from_after p t c program items n places.entry node is at before does goes guarded doing sited words agrees.words 3 calling next of_next g
+        m.environment (met m.environment meets) m.registers)));
   }
 
   -- after the call of a lock
-  keeps_after : (mutex next : ℕ) → IsNodeOf t next → (d : IsDoing p t c node (Lock mutex next) does goes) →
+  keeps_after : (lock : e.LockName) (next : ℕ) → IsNodeOf t next → (d : IsDoing p t c node (Lock lock next) does goes) →
       places.call node ≡ (d.0.at bare_site).call → (m : Entrance) → Meets places.program m.environment → m.node ≡ node → EntersAt p t places m next →
       BoundaryCode p t places m next (places.call node + 4) (places.after node) (places.after node)
-  keeps_after mutex next of_next d call m meets same enters =
+  keeps_after lock next of_next d call m meets same enters =
       let s : MarkedEnvironment = m.environment in
       let x : List ℕ = m.registers in
       let b : Boundary = boundary_before p t c next 0 in
       let P : List ℕ → Type 0 = Enters p t next m.seen (side_after b m.side) in
-      let locks : Locks b mutex does (site_of s (met s meets)) = d.0.at (site_of s (met s meets)) in
-      let at_call : locks.call + 4 ≡ places.call node + 4 = ap (λ (z : ℕ). z + 4) (lock_call mutex next d s (met s meets) ∙ sym call) in
+      let locks : Locks b lock.mutex does (site_of s (met s meets)) = d.0.at (site_of s (met s meets)) in
+      let at_call : locks.call + 4 ≡ places.call node + 4 = ap (λ (z : ℕ). z + 4) (lock_call lock next d s (met s meets) ∙ sym call) in
       let lockstep : boundary_observations b m.side (addr on_at) x ≡ boundary_observations (keeping p t places next) m.side (places.after node) x =
       ap (λ (z : ℕ). boundary_observations b m.side z x) (sym agrees.after) ∙
       ap (λ (ls : List ℕ). boundary_observations (record { log = p.log; thread = t.number; locks = b.locks; live = ls; resume = pos 0 }) m.side
@@ -319,16 +320,16 @@ module _ (p : Plan) (t : Thread) (c : Choices) (plan : IsPlan p) (of : IsThread 
   calls_by (Eval target val next) same known d call = tt
   calls_by (Store variable kind next) same known d call = tt
   calls_by (Test condition holds fails) same known d call = tt
-  calls_by (Lock mutex next) same known d call =
+  calls_by (Lock lock next) same known d call =
       let of_next : IsNodeOf t next = record { from_first = known.inside.0; below_end = known.inside.1 } in (
         stands_there (d.0.at bare_site).call call (d.0.at bare_site).stands,
-        goes_on_after next of_next d.1,
-        keeps_after mutex next of_next d call,
+        goes_on_after (d.0.at bare_site).calling next of_next d.1,
+        keeps_after lock next of_next d call,
       )
-  calls_by (Unlock mutex next) same known d call =
+  calls_by (Unlock lock next) same known d call =
       let of_next : IsNodeOf t next = record { from_first = known.inside.0; below_end = known.inside.1 } in (
         stands_there (d.0.at bare_site).call call (d.0.at bare_site).stands,
-        goes_on_after next of_next d.1,
+        goes_on_after (d.0.at bare_site).calling next of_next d.1,
         agrees.after ∙ (d.0.at bare_site).after ∙ ap (λ (z : ℕ). z + 4) (sym call),
         plain_there (d.0.at bare_site).call call (d.0.at bare_site).plain,
       )
@@ -341,8 +342,8 @@ module _ (p : Plan) (t : Thread) (c : Choices) (plan : IsPlan p) (of : IsThread 
       subst (λ (z : Bool). (z ≡ false) ↔ IsCleanedLater p.graph p.boundaries (map shape_of p.flat.variables) node) (sym agrees.cleans)
       (choices.cleaned node is variable kind next own at same)
   cleans_by (Test condition holds fails) same = tt
-  cleans_by (Lock mutex next) same = tt
-  cleans_by (Unlock mutex next) same = tt
+  cleans_by (Lock lock next) same = tt
+  cleans_by (Unlock lock next) same = tt
   cleans_by End same = tt
 
   -- ---- Its price

@@ -1,5 +1,6 @@
 -- What the code of a node does is what the node does.
 use Rattle.std.proofs.Common.{◌≡◌, ◌≢◌, ℕ, ◌+◌, ◌*◌, ◌^◌, ◌<◌, List, [], ◌∷◌, ◌++◌, map, refl, ap, arith, sym, ◌∙◌, subst, Bool}
+use Rattle.c_tree.specs.Exprs.{LockName}
 use Rattle.std.proofs.Common.{true, false, Some, None, ◌==◌, ◌||◌, if◌then◌else◌}
 use Rattle.std.specs.Prelude.{slice_get, Contains, pos, not}
 use Rattle.std.specs.Option.{option_map}
@@ -47,7 +48,7 @@ use Rattle.rv64_codegen.specs.Locals.{HoldsEach}
 use Rattle.rv64_codegen.specs.ThreadPieces.{Choices, AreChoices, IsGuarded, GoesTo, IsChoosing, turned, straight, IsDoing, boundary_before, label_of_node}
 use Rattle.rv64_codegen.proofs.EvaluationCode.{spare, local_spare}
 use Rattle.rv64_codegen.proofs.ReadLocals.{live_is_enough, left_held, right_held}
-use Rattle.rv64_codegen.proofs.Nodes.{Known, EvalKnown, StoreKnown, TestKnown, PlainKnown, StoresThere, node_known}
+use Rattle.rv64_codegen.proofs.Nodes.{Known, EvalKnown, StoreKnown, TestKnown, CallKnown, StoresThere, node_known}
 use Rattle.rv64_codegen.proofs.StoresAfterEvaluations.{owes}
 use Rattle.rv64_codegen.proofs.PieceSites.{IsLinkedIn, spot_site, IsSited}
 use Rattle.rv64_codegen.proofs.LocalRegisters.{home_local}
@@ -386,23 +387,24 @@ module _ (p : Plan) (t : Thread) (c : Choices) (plan : IsPlan p) (of : IsThread 
               (λ r is_one. asks.others r (local_other r 10 refl is_one) (local_other r 17 refl is_one) ∙ kept r is_one);
         }
 
-      pub takes_it : (mutex next : ℕ) → is.action ≡ Lock mutex next → PlainKnown p.flat t.kinds t.part.first t.part.end p.graph.nodes next is →
-          (locks : Locks (boundary_before p t c next 0) mutex does does_site) → places.call node ≡ locks.call → Performs p t places m (a.Takes mutex next)
-      takes_it mutex next same known locks call =
-          within x (places.call node) [] (Asking p t places takes mutex next seen side)
-          (moved s x (to does_at) (to does_at) locks.call (places.call node) does_words [] (Asking p t places takes mutex next seen side) refl (sym call)
-          (weaker s (fragment x (to does_at) locks.call does_words) [] (Asks takes mutex x) (Asking p t places takes mutex next seen side)
+      pub takes_it : (lock : LockName) (next : ℕ) → is.action ≡ Lock lock next → CallKnown p.flat t.kinds t.part.first t.part.end p.graph.nodes lock next is →
+          (locks : Locks (boundary_before p t c next 0) lock.mutex does does_site) → places.call node ≡ locks.call →
+          Performs p t places m (a.Takes lock.mutex next)
+      takes_it lock next same known locks call =
+          within x (places.call node) [] (Asking p t places takes lock.mutex next seen side)
+          (moved s x (to does_at) (to does_at) locks.call (places.call node) does_words [] (Asking p t places takes lock.mutex next seen side) refl (sym call)
+          (weaker s (fragment x (to does_at) locks.call does_words) [] (Asks takes lock.mutex x) (Asking p t places takes lock.mutex next seen side)
           (λ y asks. asks_enter next known.assigns (ap owes same) (subst (λ (b : Action). Contains (successors b) next) (sym same)
-          (0, omega arith, refl)) takes mutex
+          (0, omega arith, refl)) takes lock.mutex
           side x y enters.at_side (λ r is_one. refl) asks)
           (locks.asks x are)))
 
-      pub gives_it : (mutex next : ℕ) → is.action ≡ Unlock mutex next → PlainKnown p.flat t.kinds t.part.first t.part.end p.graph.nodes next is →
-          (unlocks : Unlocks (boundary_before p t c next 12) mutex does does_site) → places.call node ≡ unlocks.call → places.after node ≡ to goes_at →
-          Performs p t places m (a.Gives mutex next)
-      gives_it mutex next same known unlocks call after =
+      pub gives_it : (lock : LockName) (next : ℕ) → is.action ≡ Unlock lock next → CallKnown p.flat t.kinds t.part.first t.part.end p.graph.nodes lock next is →
+          (unlocks : Unlocks (boundary_before p t c next 12) lock.mutex does does_site) → places.call node ≡ unlocks.call → places.after node ≡ to goes_at →
+          Performs p t places m (a.Gives lock.mutex next)
+      gives_it lock next same known unlocks call after =
           let b : Boundary = boundary_before p t c next 12 in
-          let P : List ℕ → Type 0 = Asking p t places gives mutex next seen (side_after b side) in
+          let P : List ℕ → Type 0 = Asking p t places gives lock.mutex next seen (side_after b side) in
           let observations : List Observation = Mark ∷ boundary_observations (keeping p t places next) side (places.after node) x in
           let lockstep : Mark ∷ boundary_observations b side (to goes_at) x ≡ observations =
           ap (λ (z : ℕ). Mark ∷ boundary_observations b side z x) (sym after) ∙
@@ -413,9 +415,9 @@ module _ (p : Plan) (t : Thread) (c : Choices) (plan : IsPlan p) (of : IsThread 
           (moved s x (to does_at) (to does_at) unlocks.call (places.call node) does_words observations P refl (sym call)
           (subst (λ (ss : List Observation). GoesThrough s (fragment x (to does_at) unlocks.call does_words) ss P) lockstep
           (weaker s (fragment x (to does_at) unlocks.call does_words) (Mark ∷ boundary_observations b side (to goes_at) x)
-          (λ y. (z : List ℕ) × LeavesRegisters b side x z × Asks gives mutex z y) P
+          (λ y. (z : List ℕ) × LeavesRegisters b side x z × Asks gives lock.mutex z y) P
           (λ y got. asks_enter next known.assigns (ap owes same) (subst (λ (d : Action). Contains (successors d) next) (sym same)
-          (0, omega arith, refl)) gives mutex
+          (0, omega arith, refl)) gives lock.mutex
           (side_after b side) got.0 y got.1.at_side (λ r is_one. got.1.others r (local_plain r is_one) (local_other r 3 refl is_one)) got.2)
           (unlocks.asks x side enters.at_side))))
 

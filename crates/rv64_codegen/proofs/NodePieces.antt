@@ -14,7 +14,7 @@ use Rattle.c_tree.specs.WellFormed.{IsExpr, IsTarget}
 use Rattle.rv64_isa.specs.declared.object.CodeItem.{CodeItem}
 use Rattle.rv64_link.specs.LabelledCode.{most_words_of}
 use Rattle.memory_layout.specs.Roles.{is_kept}
-use Rattle.boundary_code.specs.Boundaries.{Boundary}
+use Rattle.boundary_code.specs.Boundaries.{Boundary, HaveRoom, words_beside}
 use Rattle.expr_code.specs.EvaluationCode.{Homes, AreAtHome, homes_of}
 use Rattle.flow_graph.specs.Nodes.{Action, Eval, Store, Test, Lock, Unlock, End, Node}
 use Rattle.flow_graph.specs.Liveness.{NodeAt}
@@ -98,6 +98,17 @@ module _ (x : opened.ThreadPlan) (o : IsOpen x) where
   pub few_live : (node : ℕ) → IsNodeOf t node → length (c.live node) ≤ 20
   few_live node own = (live_at node own).few
 
+  pub few_beside : (node : ℕ) (k : kept.Kept) → IsKeptFor x node k → words_beside k.log (locks_in k.mask) ≤ 72
+  few_beside node k is =
+      let paid : words_beside p.log (locks_before p t node) + 24 ≤ node_price 0 = o.plan.paid t node in
+      let same : words_beside k.log (locks_in k.mask) ≡ words_beside p.log (locks_before p t node) =
+      ap (λ (log : Log). words_beside log (locks_in k.mask)) is.log_is ∙ ap (λ (ls : List ℕ). words_beside p.log ls) is.locks_are in
+      omega (arith, paid, same)
+
+  pub kept_room : (node : ℕ) (k : kept.Kept) → IsKeptFor x node k → HaveRoom k.log (locks_in k.mask)
+  kept_room node k is =
+      subst (λ (log : Log). HaveRoom log (locks_in k.mask)) (sym is.log_is) (subst (HaveRoom p.log) (sym is.locks_are) (o.plan.room t node))
+
   -- ---- A node's piece
 
   guard_is : (node : ℕ) (before : List CodeItem) → Guards x node before → IsGuarded p t c node before
@@ -110,23 +121,24 @@ module _ (x : opened.ThreadPlan) (o : IsOpen x) where
   within (Eval target value next) = omega arith
   within (Store variable kind next) = omega arith
   within (Test condition holds fails) = omega arith
-  within (Lock mutex next) = omega arith
-  within (Unlock mutex next) = omega arith
+  within (Lock lock next) = omega arith
+  within (Unlock lock next) = omega arith
   within End = omega arith
 
   within_store : (a : Action) → IsStoring p o.plan a → most_doing a ≤ 3
   within_store (Eval target value next) h = absurd h
   within_store (Store variable kind next) h = omega arith
   within_store (Test condition holds fails) h = absurd h
-  within_store (Lock mutex next) h = absurd h
-  within_store (Unlock mutex next) h = absurd h
+  within_store (Lock lock next) h = absurd h
+  within_store (Unlock lock next) h = absurd h
   within_store End h = absurd h
 
   guard_price : (node : ℕ) (is : Node) (before : List CodeItem) → IsNodeOf t node → NodeAt p.graph node is → Guards x node before →
       sum_by most_words_of before + most_doing is.action ≤ node_price (action_nodes is.action)
   guard_price node is before own at g = elim g [
     | stands chosen b ↦
-        omega (arith, b.few, few_live node own, within_store is.action (chosen_stores p o.plan node is at chosen))
+        let paid : words_beside p.log (locks_before p t node) + 24 ≤ node_price 0 = o.plan.paid t node in
+        omega (arith, b.few, few_live node own, paid, within_store is.action (chosen_stores p o.plan node is at chosen))
     | absent none e ↦ omega (arith, ap (λ (xs : List CodeItem). sum_by most_words_of xs) e, within is.action)
   ]
 
@@ -229,8 +241,8 @@ module _ (x : opened.ThreadPlan) (node : ℕ) where
       IsAtHome (homes_of x.frame) target × (AreAtHome (homes_of x.frame) value.expr × IsOwn x next)
   Formed (Store variable kind next) at = IsOwn x next
   Formed (Test condition holds fails) at = AreAtHome (homes_of x.frame) condition.expr × (IsOwn x holds × IsOwn x fails)
-  Formed (Lock mutex next) at = (mutex < 2048) × IsOwn x next
-  Formed (Unlock mutex next) at = (mutex < 2048) × IsOwn x next
+  Formed (Lock lock next) at = (lock.mutex < 2048) × IsOwn x next
+  Formed (Unlock lock next) at = (lock.mutex < 2048) × IsOwn x next
   Formed End at = Unit {0}
 
   formed_by : (a : Action) (at : HasAction x node a) → sound.IsFormed q.flat at.own.open_is.thread.text.locals u.part.first u.part.end
@@ -238,8 +250,8 @@ module _ (x : opened.ThreadPlan) (node : ℕ) where
   formed_by (Eval target value next) at f = (target_home _ target at f.0.0, (home_of _ value.expr at f.1.0.0, own_at _ at next f.1.1))
   formed_by (Store variable kind next) at f = own_at _ at next f
   formed_by (Test condition holds fails) at f = (home_of _ condition.expr at f.0.0, (own_at _ at holds f.1.0, own_at _ at fails f.1.1))
-  formed_by (Lock mutex next) at f = (omega (arith, f.0, at.own.open_is.plan.formed.shared.mutexes), own_at _ at next f.1)
-  formed_by (Unlock mutex next) at f = (omega (arith, f.0, at.own.open_is.plan.formed.shared.mutexes), own_at _ at next f.1)
+  formed_by (Lock lock next) at f = (omega (arith, f.0, at.own.open_is.plan.formed.shared.mutexes), own_at _ at next f.1)
+  formed_by (Unlock lock next) at f = (omega (arith, f.0, at.own.open_is.plan.formed.shared.mutexes), own_at _ at next f.1)
   formed_by End at f = tt
 
   pub formed_at : (a : Action) (at : HasAction x node a) → Formed a at

@@ -11,7 +11,7 @@ use Rattle.c_tree.specs.Flats as f
 use Rattle.c_tree.specs.WellFormed.{IsFlatPlaced, IsFlatTarget, IsFlatStatement, AreFlatStatements, AreFlatArms, IsDeclared, IsWellFormed}
 use Rattle.flow_graph.specs.declared.graph.Part.{Part}
 use Rattle.flow_graph.specs.Nodes.{Action, Eval, Store, Test, Lock, Unlock, End, Node}
-use Rattle.flow_graph.specs.Lowering.{target_locals, target_local, test_node, plain_node, assign_nodes, assign_count, count, statements_count}
+use Rattle.flow_graph.specs.Lowering.{table_of, Table, target_locals, target_local, test_node, plain_node, assign_nodes, assign_count, count, statements_count}
 use Rattle.flow_graph.specs.Lowering.{arms_count, thread_count, entry, statement_nodes, statements_nodes, arms_nodes, thread_nodes}
 use Rattle.flow_graph.specs.Lowering.{threads_nodes, part, parts, lowered}
 use Rattle.flow_graph.specs.Liveness.{NodeAt}
@@ -97,7 +97,8 @@ module _ (x : f.Flat) (ks : List Kind) (lo hi : ℕ) (all : List Node) where
     pub holds_inside : IsInside holds
     pub fails_inside : IsInside fails
 
-  pub record PlainKnown (next : ℕ) (n : Node) : Type 0 where
+  pub record CallKnown (lock : e.LockName) (next : ℕ) (n : Node) : Type 0 where
+    pub keyless : lock.key ≡ None
     pub assigns : n.assigns ≡ None
     pub inside : IsInside next
 
@@ -105,8 +106,8 @@ module _ (x : f.Flat) (ks : List Kind) (lo hi : ℕ) (all : List Node) where
   Known n (Eval target value next) = EvalKnown target value next n
   Known n (Store variable kind next) = StoreKnown variable kind next n
   Known n (Test condition holds fails) = TestKnown condition holds fails n
-  Known n (Lock mutex next) = PlainKnown next n
-  Known n (Unlock mutex next) = PlainKnown next n
+  Known n (Lock lock next) = CallKnown lock next n
+  Known n (Unlock lock next) = CallKnown lock next n
   Known n End = Unit {0}
 
   abbrev AllKnown : List Node → Type 0
@@ -127,12 +128,12 @@ module _ (x : f.Flat) (ks : List Kind) (lo hi : ℕ) (all : List Node) where
   entry_in zero first next a b c d = (c, d)
   entry_in (suc n) first next a b c d = (a, omega arith)
 
-  assign_known : (target : e.Lvalue) (place : Place) (value : e.Placed) (first next : ℕ) → IsFlatTarget x ks target → IsFlatPlaced x ks value →
-      Has all first (assign_nodes place target value first next) → lo ≤ first → first + assign_count target ≤ hi → lo ≤ next → next < hi →
-      AllKnown (assign_nodes place target value first next)
-  assign_known (e.ToLocal name local kind) place value first next w v h a b c d =
+  assign_known : (table : Table) (target : e.Lvalue) (place : Place) (value : e.Placed) (first next : ℕ) → IsFlatTarget x ks target → IsFlatPlaced x ks value →
+      Has all first (assign_nodes table place target value first next) → lo ≤ first → first + assign_count target ≤ hi → lo ≤ next → next < hi →
+      AllKnown (assign_nodes table place target value first next)
+  assign_known table (e.ToLocal name local kind) place value first next w v h a b c d =
       (record { target_is = w; value_is = v; uses = refl; assigns = refl; inside = (c, d); owed = tt }, tt)
-  assign_known (e.ToVariable name variable kind) place value first next w v h a b c d = (
+  assign_known table (e.ToVariable name variable kind) place value first next w v h a b c d = (
     record {
       target_is = w;
       value_is = v;
@@ -143,7 +144,7 @@ module _ (x : f.Flat) (ks : List Kind) (lo hi : ℕ) (all : List Node) where
     },
     (record { array = _; declared = w.0; assigns = refl; inside = (c, d) }, tt),
   )
-  assign_known (e.ToElement name variable kind index) place value first next w v h a b c d = (
+  assign_known table (e.ToElement name variable kind index) place value first next w v h a b c d = (
     record {
       target_is = w;
       value_is = v;
@@ -156,84 +157,89 @@ module _ (x : f.Flat) (ks : List Kind) (lo hi : ℕ) (all : List Node) where
   )
 
   mutual
-    statement_known : (y : f.Statement) (first next : ℕ) → IsFlatStatement x ks y → Has all first (statement_nodes y first next) → lo ≤ first →
-        first + count y ≤ hi → lo ≤ next → next < hi → AllKnown (statement_nodes y first next)
-    statement_known (f.Assign place target value) first next w h a b c d = assign_known target place value first next w.0 w.1 h a b c d
-    statement_known (f.If place arms otherwise) first next w h a b c d =
+    statement_known : (table : Table) (y : f.Statement) (first next : ℕ) → IsFlatStatement x ks y →
+        Has all first (statement_nodes table y first next) → lo ≤ first →
+        first + count y ≤ hi → lo ≤ next → next < hi → AllKnown (statement_nodes table y first next)
+    statement_known table (f.Assign place target value) first next w h a b c d = assign_known table target place value first next w.0 w.1 h a b c d
+    statement_known table (f.If place arms otherwise) first next w h a b c d =
         let whole : first + (arms_count arms + statements_count otherwise) ≤ hi = b in
         let last : IsInside (entry (statements_count otherwise) (first + arms_count arms) next) =
         entry_in (statements_count otherwise) (first + arms_count arms) next (omega arith) (omega (arith, whole)) c d in
-        let prefix = arms_nodes arms place (entry (statements_count otherwise) (first + arms_count arms) next) first next in
-        let suffix = statements_nodes otherwise (first + arms_count arms) next in
+        let prefix = arms_nodes table arms place (entry (statements_count otherwise) (first + arms_count arms) next) first next in
+        let suffix = statements_nodes table otherwise (first + arms_count arms) next in
         both prefix suffix
-        (arms_known arms place (entry (statements_count otherwise) (first + arms_count arms) next) first next w.1 (has_prefix all first prefix suffix h) a
+        (arms_known table arms place (entry (statements_count otherwise) (first + arms_count arms) next) first next w.1 (has_prefix all first prefix suffix h) a
         (omega (arith, whole)) last.0 last.1 c d)
-        (statements_known otherwise (first + arms_count arms) next w.2
+        (statements_known table otherwise (first + arms_count arms) next w.2
         (has_suffix all first (arms_count arms) prefix suffix
-        (length-arms_nodes arms place (entry (statements_count otherwise) (first + arms_count arms) next) first
+        (length-arms_nodes table arms place (entry (statements_count otherwise) (first + arms_count arms) next) first
         next) h)
         (omega arith) (omega (arith, whole)) c d)
-    statement_known (f.While place condition body) first next w h a b c d =
+    statement_known table (f.While place condition body) first next w h a b c d =
         let whole : first + suc (statements_count body) ≤ hi = b in
         let inner : IsInside (entry (statements_count body) (suc first) first) =
         entry_in (statements_count body) (suc first) first (omega arith) (omega (arith, whole)) a (omega (arith, whole)) in (
           record { condition_is = w.0; uses = refl; assigns = refl; holds_inside = inner; fails_inside = (c, d) },
-          statements_known body (suc first) first w.1 (has_tail all first _ _ h) (omega arith) (omega (arith, whole)) a (omega (arith, whole)),
+          statements_known table body (suc first) first w.1 (has_tail all first _ _ h) (omega arith) (omega (arith, whole)) a (omega (arith, whole)),
         )
-    statement_known (f.Do place body condition) first next w h a b c d =
+    statement_known table (f.Do place body condition) first next w h a b c d =
         let whole : first + suc (statements_count body) ≤ hi = b in
-        let prefix = statements_nodes body first (first + statements_count body) in
-        both prefix (test_node place condition first next ∷ [])
-        (statements_known body first (first + statements_count body) w.0 (has_prefix all first prefix (test_node place condition first next ∷ []) h) a
+        let prefix = statements_nodes table body first (first + statements_count body) in
+        both prefix (test_node table place condition first next ∷ [])
+        (statements_known table body first (first + statements_count body) w.0
+        (has_prefix all first prefix (test_node table place condition first next ∷ []) h) a
         (omega (arith, whole)) (omega arith) (omega (arith, whole)))
         (record { condition_is = w.1; uses = refl; assigns = refl; holds_inside = (a, omega (arith, whole)); fails_inside = (c, d) }, tt)
-    statement_known (f.Lock place name) first next w h a b c d = (record { assigns = refl; inside = (c, d) }, tt)
-    statement_known (f.Unlock place name) first next w h a b c d = (record { assigns = refl; inside = (c, d) }, tt)
+    statement_known table (f.Lock place name) first next w h a b c d = (record { keyless = w.1; assigns = refl; inside = (c, d) }, tt)
+    statement_known table (f.Unlock place name) first next w h a b c d = (record { keyless = w.1; assigns = refl; inside = (c, d) }, tt)
 
-    statements_known : (ys : f.Statements) (first next : ℕ) → AreFlatStatements x ks ys → Has all first (statements_nodes ys first next) → lo ≤ first →
-        first + statements_count ys ≤ hi → lo ≤ next → next < hi → AllKnown (statements_nodes ys first next)
-    statements_known f.no_statement first next w h a b c d = tt
-    statements_known (f.statement_and y rest) first next w h a b c d =
+    statements_known : (table : Table) (ys : f.Statements) (first next : ℕ) → AreFlatStatements x ks ys →
+        Has all first (statements_nodes table ys first next) → lo ≤ first →
+        first + statements_count ys ≤ hi → lo ≤ next → next < hi → AllKnown (statements_nodes table ys first next)
+    statements_known table f.no_statement first next w h a b c d = tt
+    statements_known table (f.statement_and y rest) first next w h a b c d =
         let whole : first + (count y + statements_count rest) ≤ hi = b in
         let after : IsInside (entry (statements_count rest) (first + count y) next) =
         entry_in (statements_count rest) (first + count y) next (omega arith) (omega (arith, whole)) c d in
-        let prefix = statement_nodes y first (entry (statements_count rest) (first + count y) next) in
-        let suffix = statements_nodes rest (first + count y) next in
+        let prefix = statement_nodes table y first (entry (statements_count rest) (first + count y) next) in
+        let suffix = statements_nodes table rest (first + count y) next in
         both prefix suffix
-        (statement_known y first (entry (statements_count rest) (first + count y) next) w.0 (has_prefix all first prefix suffix h) a
+        (statement_known table y first (entry (statements_count rest) (first + count y) next) w.0 (has_prefix all first prefix suffix h) a
         (omega (arith, whole)) after.0
         after.1)
-        (statements_known rest (first + count y) next w.1
-        (has_suffix all first (count y) prefix suffix (length-statement_nodes y first (entry (statements_count rest) (first + count y) next)) h) (omega arith)
+        (statements_known table rest (first + count y) next w.1
+        (has_suffix all first (count y) prefix suffix (length-statement_nodes table y first (entry (statements_count rest) (first + count y) next)) h)
+        (omega arith)
         (omega (arith, whole)) c d)
 
-    arms_known : (xs : f.Arms) (place : Place) (last first next : ℕ) → AreFlatArms x ks xs → Has all first (arms_nodes xs place last first next) →
-        lo ≤ first → first + arms_count xs ≤ hi → lo ≤ last → last < hi → lo ≤ next → next < hi → AllKnown (arms_nodes xs place last first next)
-    arms_known f.no_arm place last first next w h a b l m c d = tt
-    arms_known (f.arm_and condition body rest) place last first next w h a b l m c d =
+    arms_known : (table : Table) (xs : f.Arms) (place : Place) (last first next : ℕ) → AreFlatArms x ks xs →
+        Has all first (arms_nodes table xs place last first next) →
+        lo ≤ first → first + arms_count xs ≤ hi → lo ≤ last → last < hi → lo ≤ next → next < hi → AllKnown (arms_nodes table xs place last first next)
+    arms_known table f.no_arm place last first next w h a b l m c d = tt
+    arms_known table (f.arm_and condition body rest) place last first next w h a b l m c d =
         let whole : first + suc (statements_count body + arms_count rest) ≤ hi = b in
         let body_in : IsInside (entry (statements_count body) (suc first) next) =
         entry_in (statements_count body) (suc first) next (omega arith) (omega (arith, whole)) c d in
         let rest_in : IsInside (entry (arms_count rest) (suc first + statements_count body) last) =
         entry_in (arms_count rest) (suc first + statements_count body) last (omega arith) (omega (arith, whole)) l m in
-        let prefix = statements_nodes body (suc first) next in
-        let suffix = arms_nodes rest place last (suc first + statements_count body) next in
+        let prefix = statements_nodes table body (suc first) next in
+        let suffix = arms_nodes table rest place last (suc first + statements_count body) next in
         let inner = has_tail all first _ _ h in (
           record { condition_is = w.0; uses = refl; assigns = refl; holds_inside = body_in; fails_inside = rest_in },
           both prefix suffix
-              (statements_known body (suc first) next w.1 (has_prefix all (suc first) prefix suffix inner) (omega arith) (omega (arith, whole)) c d)
-              (arms_known rest place last (suc first + statements_count body) next w.2
-              (has_suffix all (suc first) (statements_count body) prefix suffix (length-statements_nodes body (suc first) next) inner) (omega arith)
+              (statements_known table body (suc first) next w.1 (has_prefix all (suc first) prefix suffix inner) (omega arith) (omega (arith, whole)) c d)
+              (arms_known table rest place last (suc first + statements_count body) next w.2
+              (has_suffix all (suc first) (statements_count body) prefix suffix (length-statements_nodes table body (suc first) next) inner) (omega arith)
               (omega (arith, whole)) l m c d),
         )
 
-  thread_known : (t : f.Thread) (first : ℕ) → AreFlatStatements x ks t.body → Has all first (thread_nodes t first) → lo ≤ first →
-      first + thread_count t ≤ hi → AllKnown (thread_nodes t first)
-  thread_known t first w h a b =
+  thread_known : (table : Table) (t : f.Thread) (first : ℕ) → AreFlatStatements x ks t.body → Has all first (thread_nodes table t first) → lo ≤ first →
+      first + thread_count t ≤ hi → AllKnown (thread_nodes table t first)
+  thread_known table t first w h a b =
       let whole : first + suc (statements_count t.body) ≤ hi = b in
-      let prefix = statements_nodes t.body first (first + statements_count t.body) in
+      let prefix = statements_nodes table t.body first (first + statements_count t.body) in
       both prefix (plain_node t.closing End ∷ [])
-      (statements_known t.body first (first + statements_count t.body) w (has_prefix all first prefix (plain_node t.closing End ∷ []) h) a
+      (statements_known table t.body first (first + statements_count t.body) w (has_prefix all first prefix (plain_node t.closing End ∷ []) h) a
       (omega (arith, whole))
       (omega arith) (omega (arith, whole)))
       (tt, tt)
@@ -247,8 +253,8 @@ parts_begin (t ∷ ts) first (suc number) own g =
     let later : first + thread_count t ≤ own.first = parts_begin ts (first + thread_count t) number own g in omega (arith, later)
 
 known_from : (x : f.Flat) (all : List Node) (ts : List f.Thread) (first number : ℕ) (own : Part) (text : f.Thread) → AreThreads x ts →
-    Has all first (threads_nodes ts first) → slice_get (parts ts first) number ≡ Some own → slice_get ts number ≡ Some text → (k : ℕ) (n : Node) →
-    slice_get (threads_nodes ts first) k ≡ Some n → own.first ≤ first + k → first + k < own.end →
+    Has all first (threads_nodes x ts first) → slice_get (parts ts first) number ≡ Some own → slice_get ts number ≡ Some text → (k : ℕ) (n : Node) →
+    slice_get (threads_nodes x ts first) k ≡ Some n → own.first ≤ first + k → first + k < own.end →
     Known x text.locals own.first own.end all n n.action
 known_from x all [] first number own text w h g i k n found a b = absurd (none-some text i)
 known_from x all (t ∷ ts) first zero own text w h g i k n found a b =
@@ -256,21 +262,22 @@ known_from x all (t ∷ ts) first zero own text w h g i k n found a b =
     (subst (λ (o : Part). o.first ≤ first + k → first + k < o.end → Known x t.locals o.first o.end all n n.action) (same_Some (part t first) own g)
     (λ c d.
     let below : first + k < first + thread_count t = d in
-    let many : length (thread_nodes t first) ≡ thread_count t = length-thread_nodes t first in
-    known_at x t.locals first (first + thread_count t) all (thread_nodes t first) k n
-    (thread_known x t.locals first (first + thread_count t) all t first w.0
-    (has_prefix all first (thread_nodes t first) (threads_nodes ts (first + thread_count t)) h) (omega arith) (omega arith))
-    (get_own (thread_nodes t first) (threads_nodes ts (first + thread_count t)) k n (omega (arith, below, many)) found))
+    let many : length (thread_nodes (table_of x t) t first) ≡ thread_count t = length-thread_nodes (table_of x t) t first in
+    known_at x t.locals first (first + thread_count t) all (thread_nodes (table_of x t) t first) k n
+    (thread_known x t.locals first (first + thread_count t) all (table_of x t) t first w.0
+    (has_prefix all first (thread_nodes (table_of x t) t first) (threads_nodes x ts (first + thread_count t)) h) (omega arith) (omega arith))
+    (get_own (thread_nodes (table_of x t) t first) (threads_nodes x ts (first + thread_count t)) k n (omega (arith, below, many)) found))
     a b)
 known_from x all (t ∷ ts) first (suc number) own text w h g i k n found a b =
     let from : first + thread_count t ≤ own.first = parts_begin ts (first + thread_count t) number own g in
-    let many : length (thread_nodes t first) ≡ thread_count t = length-thread_nodes t first in
-    let split : k ≡ length (thread_nodes t first) + (k - thread_count t) = omega (arith, from, many, a) in
-    let at : slice_get (threads_nodes ts (first + thread_count t)) (k - thread_count t) ≡ Some n =
-    sym (get_suffix (thread_nodes t first) (threads_nodes ts (first + thread_count t)) (k - thread_count t)) ∙
-    ap (slice_get (thread_nodes t first ++ threads_nodes ts (first + thread_count t))) (sym split) ∙ found in
+    let many : length (thread_nodes (table_of x t) t first) ≡ thread_count t = length-thread_nodes (table_of x t) t first in
+    let split : k ≡ length (thread_nodes (table_of x t) t first) + (k - thread_count t) = omega (arith, from, many, a) in
+    let at : slice_get (threads_nodes x ts (first + thread_count t)) (k - thread_count t) ≡ Some n =
+    sym (get_suffix (thread_nodes (table_of x t) t first) (threads_nodes x ts (first + thread_count t)) (k - thread_count t)) ∙
+    ap (slice_get (thread_nodes (table_of x t) t first ++ threads_nodes x ts (first + thread_count t))) (sym split) ∙ found in
     known_from x all ts (first + thread_count t) number own text w.1
-    (has_suffix all first (thread_count t) (thread_nodes t first) (threads_nodes ts (first + thread_count t)) many h) g i (k - thread_count t) n at
+    (has_suffix all first (thread_count t) (thread_nodes (table_of x t) t first) (threads_nodes x ts (first + thread_count t)) many h) g i
+    (k - thread_count t) n at
     (omega (arith, from, a)) (omega (arith, from, a, b))
 
 -- a node of the thread of that number
@@ -278,7 +285,7 @@ pub node_known : (x : f.Flat) → IsWellFormed x → (number : ℕ) (own : Part)
     slice_get x.threads number ≡ Some text → (node : ℕ) (n : Node) → NodeAt (lowered x) node n → own.first ≤ node → node < own.end →
     Known x text.locals own.first own.end (lowered x).nodes n n.action
 node_known x w number own text g i node n at a b =
-    let all : List Node = threads_nodes x.threads 0 in
+    let all : List Node = threads_nodes x x.threads 0 in
     let same : node ≡ 0 + node = omega arith in
     subst (λ (ns : List Node). Known x text.locals own.first own.end ns n n.action) (sym (lowered_nodes x))
     (known_from x all x.threads 0 number own text w.threads (record { each = λ k s h. at_same all k (0 + k) s (omega arith) h })

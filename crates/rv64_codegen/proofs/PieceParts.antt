@@ -1,5 +1,5 @@
 -- The three parts of a node's piece: a boundary or nothing, what the node does, and a jump or nothing.
-use Rattle.std.proofs.Common.{◌≡◌, ◌≢◌, ◌⊎◌, inl, inr, ℕ, ◌+◌, ◌-◌, ◌*◌, List, [], ◌++◌, length, refl, ap, arith, sym, ◌∙◌, subst, Bool, true, false}
+use Rattle.std.proofs.Common.{◌≡◌, ◌≢◌, ◌⊎◌, inl, inr, ℕ, ◌+◌, ◌-◌, ◌*◌, ◌≤◌, List, [], ◌++◌, length, refl, ap, arith, sym, ◌∙◌, subst, Bool, true, false}
 use Rattle.std.proofs.Common.{Option, Some, None}
 use Rattle.std.specs.Prelude.{slice_get}
 use Rattle.std.proofs.lemmas.Bool.{true≢false}
@@ -25,25 +25,25 @@ abbrev is_unlock : Action → Bool
 is_unlock (Eval target value next) = false
 is_unlock (Store variable kind next) = false
 is_unlock (Test condition holds fails) = false
-is_unlock (Lock mutex next) = false
-is_unlock (Unlock mutex next) = true
+is_unlock (Lock lock next) = false
+is_unlock (Unlock lock next) = true
 is_unlock End = false
 
 pub chosen_or_not : (g : Graph) (b : Boundaries) (node : ℕ) (is : Node) → NodeAt g node is → IsChosen g b node ⊎ (IsChosen g b node → ⊥)
 chosen_or_not g b node is at = by (slice_get b.before node) refl
   where
     not_unlock : (u : Bool) → is_unlock is.action ≡ u → u ≡ false → IsUnlock g node → ⊥
-    not_unlock u e off (unlocks x mutex next here does) =
+    not_unlock u e off (unlocks x lock next here does) =
         let same : x ≡ is = same_Some x is (sym here ∙ at) in
         let one : is_unlock is.action ≡ true = ap (λ (y : Node). is_unlock y.action) (sym same) ∙ ap is_unlock does in
         true≢false (sym one ∙ e ∙ off)
 
     here : slice_get b.before node ≡ Some true → (a : Action) → is.action ≡ a → IsChosen g b node ⊎ (IsChosen g b node → ⊥)
-    here stands (Unlock mutex next) e = inr (λ ch. ch.free (unlocks is mutex next at e))
+    here stands (Unlock lock next) e = inr (λ ch. ch.free (unlocks is lock next at e))
     here stands (Eval target value next) e = inl (record { stands = stands; free = not_unlock false (ap is_unlock e) refl })
     here stands (Store variable kind next) e = inl (record { stands = stands; free = not_unlock false (ap is_unlock e) refl })
     here stands (Test condition holds fails) e = inl (record { stands = stands; free = not_unlock false (ap is_unlock e) refl })
-    here stands (Lock mutex next) e = inl (record { stands = stands; free = not_unlock false (ap is_unlock e) refl })
+    here stands (Lock lock next) e = inl (record { stands = stands; free = not_unlock false (ap is_unlock e) refl })
     here stands End e = inl (record { stands = stands; free = not_unlock false (ap is_unlock e) refl })
 
     by : (o : Option Bool) → slice_get b.before node ≡ o → IsChosen g b node ⊎ (IsChosen g b node → ⊥)
@@ -73,8 +73,8 @@ module _ (p : Plan) (t : Thread) (c : Choices) where
       by : IsChoosing p t c node condition holds fails does goes → IsClosed does
       by (turned same test none) = test.closed
       by (straight test goes_to) = test.closed
-  does_closed node (Lock mutex next) does goes d = d.0.closed
-  does_closed node (Unlock mutex next) does goes d = d.0.closed
+  does_closed node (Lock lock next) does goes d = d.0.closed
+  does_closed node (Unlock lock next) does goes d = d.0.closed
   does_closed node End does goes d = d.0.closed
 
   module _ (program : Program) (items : List CodeItem) (n : IsLinkedIn program items) (entry : ℕ → ℕ) (node : ℕ) (is : Node) (at : NodeAt p.graph node is)
@@ -180,10 +180,12 @@ module _ (p : Plan) (t : Thread) (c : Choices) where
           GoesThrough s (fragment x from there does_words) ss P → GoesThrough s (fragment x from there words) ss P
       within s x from there ss P g = more_room s x from there does_words words ss P (omega (arith, all_words)) g
 
-      pub on_from_after : (next : ℕ) → IsNodeOf t next → GoesTo p t c node next goes → (s : MarkedEnvironment) → Meets program s → (x : List ℕ) →
-          GoesThrough s (fragment x (to goes_at) (entry next) words) [] (λ y. y ≡ x)
-      on_from_after next of_next g s meets x =
-          more_room s x (to goes_at) (entry next) goes_words words [] (λ y. y ≡ x) (omega (arith, all_words)) (goes_leg next of_next g s meets x)
+      -- after what the node does, within what so many of its words leave
+      pub on_from_after : (least : ℕ) → least ≤ does_words → (next : ℕ) → IsNodeOf t next → GoesTo p t c node next goes → (s : MarkedEnvironment) →
+          Meets program s → (x : List ℕ) → GoesThrough s (fragment x (to goes_at) (entry next) (words - least)) [] (λ y. y ≡ x)
+      on_from_after least some next of_next g s meets x =
+          more_room s x (to goes_at) (entry next) goes_words (words - least) [] (λ y. y ≡ x) (omega (arith, all_words, some))
+          (goes_leg next of_next g s meets x)
 
       -- what the node does, and on to the next
       pub then_next : (next : ℕ) → IsNodeOf t next → GoesTo p t c node next goes → (s : MarkedEnvironment) → Meets program s →

@@ -11,7 +11,8 @@ use Rattle.c_tree.specs.Exprs as e
 use Rattle.c_tree.specs.Flats as f
 use Rattle.c_tree.specs.LockNames.{Held}
 use Rattle.c_tree.specs.Prices.{node_price, thread_price}
-use Rattle.c_tree.specs.Temporaries.{price_fault}
+use Rattle.c_tree.specs.declared.language.Language.TheVariants.{Plain}
+use Rattle.c_tree.specs.HoldPrices.{price_fault}
 use Rattle.c_tree.specs.WellFormed.{AreFlatStatements}
 use Rattle.lock_discipline.specs.HeldSetsByStep.{assign_steps, steps, steps_of_all, steps_of_arms, thread_steps}
 use Rattle.lock_discipline.proofs.Public.{held_length}
@@ -21,7 +22,7 @@ use Rattle.flow_graph.specs.declared.graph.Part.{Part}
 use Rattle.flow_graph.specs.Nodes.{Action, Eval, Store, Test, Lock, Unlock, End, Node, Graph}
 use Rattle.flow_graph.specs.IdempotentCuts.{IsChosen, Writes}
 use Rattle.flow_graph.specs.Liveness.{NodeAt}
-use Rattle.flow_graph.specs.Lowering.{assign_count, count, statements_count, arms_count, thread_count, thread_nodes, threads_nodes, part, parts}
+use Rattle.flow_graph.specs.Lowering.{table_of, assign_count, count, statements_count, arms_count, thread_count, thread_nodes, threads_nodes, part, parts}
 use Rattle.flow_graph.proofs.Public.{length-thread_nodes, all_at, found_in, lowered_nodes, lowered_threads, ShapedAs, node_shaped}
 use Rattle.thread_code.specs.Plans.{Plan, Thread, IsPlan, IsThread, IsNodeOf, set_before}
 use Rattle.thread_code.specs.Programs.{action_nodes}
@@ -81,7 +82,7 @@ none_found test (y ∷ xs) zero x h g =
     subst (λ z. test z ≡ false) same (none_chosen (test y) y (find test xs) h).0
 none_found test (y ∷ xs) (suc k) x h g = none_found test xs k x (none_chosen (test y) y (find test xs) h).1 g
 
-thread_cheap : (x : f.Flat) (k : ℕ) (t : f.Thread) → price_fault x ≡ None → slice_get x.threads k ≡ Some t → nat_lt MOST_PRICE (thread_price t) ≡ false
+thread_cheap : (x : f.Flat) (k : ℕ) (t : f.Thread) → price_fault Plain x ≡ None → slice_get x.threads k ≡ Some t → nat_lt MOST_PRICE (thread_price t) ≡ false
 unfolding price_fault
 thread_cheap x k t h g = none_found (λ (u : f.Thread). nat_lt MOST_PRICE (thread_price u)) x.threads k t
     (none_mapped (λ (u : f.Thread). u.name.place) (find (λ (u : f.Thread). nat_lt MOST_PRICE (thread_price u)) x.threads) h) g
@@ -92,13 +93,13 @@ not_above n m h = grind arith
 -- ---- The graph
 
 module _ (p : Plan) (plan : IsPlan p) where
-  pub nodes_are : p.graph.nodes ≡ threads_nodes p.flat.threads 0
+  pub nodes_are : p.graph.nodes ≡ threads_nodes p.flat p.flat.threads 0
   nodes_are = ap (λ (g : Graph). g.nodes) plan.lowered ∙ lowered_nodes p.flat
 
   pub threads_are : p.graph.threads ≡ parts p.flat.threads 0
   threads_are = ap (λ (g : Graph). g.threads) plan.lowered ∙ lowered_threads p.flat
 
-  node_there : (node : ℕ) (is : Node) → NodeAt p.graph node is → slice_get (threads_nodes p.flat.threads 0) node ≡ Some is
+  node_there : (node : ℕ) (is : Node) → NodeAt p.graph node is → slice_get (threads_nodes p.flat p.flat.threads 0) node ≡ Some is
   node_there node is at = ap (λ (ns : List Node). slice_get ns node) (sym nodes_are) ∙ at
 
   part_there : (number : ℕ) (q : Part) → slice_get p.graph.threads number ≡ Some q → slice_get (parts p.flat.threads 0) number ≡ Some q
@@ -110,26 +111,27 @@ module _ (p : Plan) (plan : IsPlan p) where
   IsStoring (Eval target value next) = ⊥
   IsStoring (Store variable kind next) = Unit {0}
   IsStoring (Test condition holds fails) = ⊥
-  IsStoring (Lock mutex next) = ⊥
-  IsStoring (Unlock mutex next) = ⊥
+  IsStoring (Lock lock next) = ⊥
+  IsStoring (Unlock lock next) = ⊥
   IsStoring End = ⊥
 
   silent : (n : Node) (l : Location) → n.writes ≡ None → n.writes ≡ Some l → ⊥
   silent n l none some = let both : None ≡ Some l = sym none ∙ some in cc
 
   writes_by : (all : List Node) (n : Node) (a : Action) (l : Location) → ShapedAs all n a → n.writes ≡ Some l → IsStoring a
-  writes_by all n (Eval target value next) l shape is = silent n l shape.writes is
+  writes_by all n (Eval target value next) l shape is = silent n l shape.1.writes is
   writes_by all n (Store variable kind next) l shape is = tt
-  writes_by all n (Test condition holds fails) l shape is = silent n l shape.writes is
-  writes_by all n (Lock mutex next) l shape is = silent n l shape is
-  writes_by all n (Unlock mutex next) l shape is = silent n l shape is
-  writes_by all n End l shape is = silent n l shape is
+  writes_by all n (Test condition holds fails) l shape is = silent n l shape.1.writes is
+  writes_by all n (Lock lock next) l shape is = silent n l shape.1 is
+  writes_by all n (Unlock lock next) l shape is = silent n l shape.1 is
+  writes_by all n End l shape is = silent n l shape.1 is
 
   writes_here : (node : ℕ) (is : Node) → NodeAt p.graph node is → Writes p.graph node → IsStoring is.action
   writes_here node is at w =
       let same : w.is ≡ is = let there = w.at in cc in
       let P : Node → Type 0 = λ z. IsStoring z.action in
-      subst P same (writes_by (threads_nodes p.flat.threads 0) w.is w.is.action w.written (node_shaped p.flat node w.is (node_there node w.is w.at)) w.writes)
+      subst P same (writes_by (threads_nodes p.flat p.flat.threads 0) w.is w.is.action w.written
+      (node_shaped p.flat node w.is (node_there node w.is w.at)) w.writes)
 
   pub chosen_stores : (node : ℕ) (is : Node) → NodeAt p.graph node is → IsChosen p.graph p.boundaries node → IsStoring is.action
   chosen_stores node is at c = ⊎_elim (λ u. absurd (c.free u)) (λ w. writes_here node is at w) (plan.at_writes.before node c.stands)
@@ -150,20 +152,20 @@ module _ (p : Plan) (plan : IsPlan p) where
     locals_are = ap (λ (q : Part). q.locals) part_here
 
     pub node_in : (node : ℕ) (is : Node) → IsNodeOf t node → NodeAt p.graph node is →
-        slice_get (thread_nodes th.text t.part.first) (node - t.part.first) ≡ Some is
+        slice_get (thread_nodes (table_of p.flat th.text) th.text t.part.first) (node - t.part.first) ≡ Some is
     node_in node is own at =
-        sym (node_of_thread p.flat.threads 0 t.number th.text t.part (node - t.part.first) node th.of_text own_part
+        sym (node_of_thread p.flat p.flat.threads 0 t.number th.text t.part (node - t.part.first) node th.of_text own_part
         (omega (arith, own.from_first, own.below_end, end_is)) (omega (arith, own.from_first))) ∙ node_there node is at
 
     pub node_exists : (node : ℕ) → IsNodeOf t node → (is : Node) × NodeAt p.graph node is
     node_exists node own =
         let i = node - t.part.first in
-        let short : i < length (thread_nodes th.text t.part.first) =
-        omega (arith, own.from_first, own.below_end, end_is, length-thread_nodes th.text t.part.first) in
-        let there = found_in (thread_nodes th.text t.part.first) i short in (
+        let short : i < length (thread_nodes (table_of p.flat th.text) th.text t.part.first) =
+        omega (arith, own.from_first, own.below_end, end_is, length-thread_nodes (table_of p.flat th.text) th.text t.part.first) in
+        let there = found_in (thread_nodes (table_of p.flat th.text) th.text t.part.first) i short in (
           there.0,
           ap (λ (ns : List Node). slice_get ns node) nodes_are
-              ∙ node_of_thread p.flat.threads 0 t.number th.text t.part i node th.of_text own_part
+              ∙ node_of_thread p.flat p.flat.threads 0 t.number th.text t.part i node th.of_text own_part
               (omega (arith, own.from_first, own.below_end, end_is)) (omega (arith, own.from_first)) ∙ there.1,
         )
 
@@ -180,26 +182,34 @@ module _ (p : Plan) (plan : IsPlan p) where
     pub sound_node : (node : ℕ) (is : Node) → IsNodeOf t node → NodeAt p.graph node is →
         IsLoweredNode p.flat th.text.locals t.part.first t.part.end plan.formed.shared.variables is
     sound_node node is own at =
-        sound_at p.flat th.text.locals t.part.first t.part.end plan.formed.shared.variables (thread_nodes th.text t.part.first) (node - t.part.first) is
-        (sound_thread p.flat th.text.locals t.part.first t.part.end plan.formed.shared.variables th.text t.part.first
+        sound_at p.flat th.text.locals t.part.first t.part.end plan.formed.shared.variables (thread_nodes (table_of p.flat th.text) th.text t.part.first)
+        (node - t.part.first) is
+        (sound_thread p.flat th.text.locals t.part.first t.part.end plan.formed.shared.variables (table_of p.flat th.text) th.text t.part.first
         (all_at (λ (u : f.Thread). AreFlatStatements p.flat u.locals u.body) p.flat.threads t.number th.text plan.formed.threads th.of_text)
         (omega arith) (omega (arith, end_is))) (node_in node is own at)
 
     -- ---- Prices
 
-    pub cheap : prices (thread_nodes th.text t.part.first) ≤ MOST_PRICE
+    pub cheap : prices (thread_nodes (table_of p.flat th.text) th.text t.part.first) ≤ MOST_PRICE
     cheap = omega (
       arith,
-      price_thread th.text t.part.first,
+      price_thread (table_of p.flat th.text) th.text t.part.first,
       not_above MOST_PRICE (thread_price th.text) (thread_cheap p.flat t.number th.text plan.priced th.of_text),
     )
 
     pub cheap_node : (node : ℕ) (is : Node) → IsNodeOf t node → NodeAt p.graph node is → node_price (action_nodes is.action) ≤ MOST_PRICE
     cheap_node node is own at =
-        omega (arith, cheap, prices_at (thread_nodes th.text t.part.first) (node - t.part.first) is (node_in node is own at))
+        omega (arith, cheap, prices_at (thread_nodes (table_of p.flat th.text) th.text t.part.first) (node - t.part.first) is (node_in node is own at))
 
     pub few_nodes : t.part.end ≤ t.part.first + 682
-    few_nodes = omega (arith, cheap, prices_many (thread_nodes th.text t.part.first), length-thread_nodes th.text t.part.first, end_is)
+    few_nodes =
+        omega (
+          arith,
+          cheap,
+          prices_many (thread_nodes (table_of p.flat th.text) th.text t.part.first),
+          length-thread_nodes (table_of p.flat th.text) th.text t.part.first,
+          end_is,
+        )
 
     -- ---- The thread
 

@@ -98,8 +98,9 @@ module _ (q : Plan) (plan : IsPlan q) where
   pub writes_exist : WriteElements q.graph (map shape_of q.flat.variables)
   writes_exist = record {
     each = λ node is at.
-        let there : slice_get (threads_nodes q.flat.threads 0) node ≡ Some is = ap (λ (ns : List Node). slice_get ns node) (sym (nodes_are q plan)) ∙ at in
-        let w = thread_of_node q.flat.threads 0 node is there in
+        let there : slice_get (threads_nodes q.flat q.flat.threads 0) node ≡ Some is =
+        ap (λ (ns : List Node). slice_get ns node) (sym (nodes_are q plan)) ∙ at in
+        let w = thread_of_node q.flat q.flat.threads 0 node is there in
         let own : slice_get q.graph.threads w.0 ≡ Some w.1 = ap (λ (xs : List Part). slice_get xs w.0) (threads_are q plan) ∙ w.2.is in
         let t = of_number w.0 w.1 own in
         let first : t.0.part.first ≡ w.1.first = ap (λ (z : Part). z.first) t.2 in

@@ -38,8 +38,8 @@ none_pending : (p : Plan) (a : Action) (seen : Seen) (x : List ℕ) → is_store
 none_pending p (Eval target value next) seen x other = tt
 none_pending p (Store variable kind next) seen x other = absurd (true≢false other)
 none_pending p (Test condition holds fails) seen x other = tt
-none_pending p (Lock mutex next) seen x other = tt
-none_pending p (Unlock mutex next) seen x other = tt
+none_pending p (Lock lock next) seen x other = tt
+none_pending p (Unlock lock next) seen x other = tt
 none_pending p End seen x other = tt
 
 same_or_other : (m n : ℕ) → (m ≡ n) ⊎ (m ≢ n)

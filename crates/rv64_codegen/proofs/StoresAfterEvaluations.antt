@@ -18,16 +18,16 @@ owes (Eval (e.ToVariable place variable kind) value next) = true
 owes (Eval (e.ToElement place variable kind index) value next) = true
 owes (Store variable kind next) = false
 owes (Test condition holds fails) = false
-owes (Lock mutex next) = false
-owes (Unlock mutex next) = false
+owes (Lock lock next) = false
+owes (Unlock lock next) = false
 owes End = false
 
 abbrev pub is_store : Action → Bool
 is_store (Eval target value next) = false
 is_store (Store variable kind next) = true
 is_store (Test condition holds fails) = false
-is_store (Lock mutex next) = false
-is_store (Unlock mutex next) = false
+is_store (Lock lock next) = false
+is_store (Unlock lock next) = false
 is_store End = false
 
 pub only_one : (m n : ℕ) → Contains (m ∷ []) n → m ≡ n
@@ -55,8 +55,8 @@ module _ (all : List Standing) where
       by : Tests all condition holds fails s → s.owes ≡ false
       by (chooses place body arms otherwise rest is h k) = ap (λ (z : Standing). z.owes) is
       by (repeats place body rest is h k) = ap (λ (z : Standing). z.owes) is
-  owes_is (Lock mutex next) s d = ap (λ (z : Standing). z.owes) d.is
-  owes_is (Unlock mutex next) s d = ap (λ (z : Standing). z.owes) d.is
+  owes_is (Lock lock next) s d = ap (λ (z : Standing). z.owes) d.is
+  owes_is (Unlock lock next) s d = ap (λ (z : Standing). z.owes) d.is
   owes_is End s d = ap (λ (z : Standing). z.owes) d
 
   -- nothing is owed at the node
@@ -84,17 +84,17 @@ module _ (all : List Standing) where
       by : Tests all condition holds fails s → IsFree next
       by (chooses place body arms otherwise rest is h k) = two_free holds fails next (record { left = _; at = h }) (record { left = _; at = k }) c
       by (repeats place body rest is h k) = two_free holds fails next (record { left = _; at = h }) (record { left = _; at = k }) c
-  free_after (Lock mutex n) s next d none c = one_free n next d.rest d.follows c
-  free_after (Unlock mutex n) s next d none c = one_free n next d.rest d.follows c
+  free_after (Lock lock n) s next d none c = one_free n next d.rest d.follows c
+  free_after (Unlock lock n) s next d none c = one_free n next d.rest d.follows c
   free_after End s next d none (i, l, is) = absurd (omega (arith, l))
 
 pub no_store_after : (x : f.Flat) → IsWellFormed x → (node next : ℕ) (n m : Node) → NodeAt (lowered x) node n → NodeAt (lowered x) next m →
     owes n.action ≡ false → Contains (successors n.action) next → is_store m.action ≡ false
 no_store_after x w node next n m at there none c =
     let all : List Standing = threads_standings x.threads in
-    let here : slice_get (threads_nodes x.threads 0) node ≡ Some n = ap (λ (ns : List Node). slice_get ns node) (sym (lowered_nodes x)) ∙ at in
-    let after : slice_get (threads_nodes x.threads 0) next ≡ Some m = ap (λ (ns : List Node). slice_get ns next) (sym (lowered_nodes x)) ∙ there in
-    let s = standing_of all (threads_nodes x.threads 0) all node n (agrees x w.threads) here in
-    let r = standing_of all (threads_nodes x.threads 0) all next m (agrees x w.threads) after in
+    let here : slice_get (threads_nodes x x.threads 0) node ≡ Some n = ap (λ (ns : List Node). slice_get ns node) (sym (lowered_nodes x)) ∙ at in
+    let after : slice_get (threads_nodes x x.threads 0) next ≡ Some m = ap (λ (ns : List Node). slice_get ns next) (sym (lowered_nodes x)) ∙ there in
+    let s = standing_of all (threads_nodes x x.threads 0) all node n (agrees x w.threads) here in
+    let r = standing_of all (threads_nodes x x.threads 0) all next m (agrees x w.threads) after in
     let free_there : IsFree all next = free_after all n.action s.0 next s.2 none c in
     sym (owes_is all m.action r.0 r.2) ∙ ap (λ (z : Standing). z.owes) (same_Some r.0 (free free_there.left) (sym r.1 ∙ free_there.at))

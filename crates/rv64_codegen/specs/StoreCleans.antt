@@ -45,8 +45,8 @@ module _ (p : Plan) (t : Thread) where
   CleansAsNode node (Eval target value next) items = CleansInBoundaries items
   CleansAsNode node (Store variable kind next) items = CleansStore node kind items
   CleansAsNode node (Test condition holds fails) items = CleansInBoundaries items
-  CleansAsNode node (Lock mutex next) items = CleansInBoundaries items
-  CleansAsNode node (Unlock mutex next) items = CleansInBoundaries items
+  CleansAsNode node (Lock lock next) items = CleansInBoundaries items
+  CleansAsNode node (Unlock lock next) items = CleansInBoundaries items
   CleansAsNode node End items = CleansInBoundaries items
 
   -- the items of the thread: of each of its nodes, in their order, its label and up to the next label its code

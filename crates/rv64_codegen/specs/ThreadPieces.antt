@@ -58,13 +58,13 @@ module _ (p : Plan) (t : Thread) (c : Choices) where
     straight : IsTest (homes p t) condition.expr false (label_of_node holds) does → GoesTo node fails goes →
         IsChoosing node condition holds fails does goes
 
-  -- what it does, and how it goes on
+  -- what it does, and how it goes on; a name without key has its mutex for its lock
   abbrev pub IsDoing : (node : ℕ) → Action → (does goes : List CodeItem) → Type 0
   IsDoing node (Eval target value next) does goes = IsEvaluation (homes p t) target value.expr does × GoesTo node next goes
   IsDoing node (Store variable kind next) does goes = IsStorePiece kind (c.cleans node) does × GoesTo node next goes
   IsDoing node (Test condition holds fails) does goes = IsChoosing node condition holds fails does goes
-  IsDoing node (Lock mutex next) does goes = IsLockPiece (boundary_before next 0) mutex does × GoesTo node next goes
-  IsDoing node (Unlock mutex next) does goes = IsUnlockPiece (boundary_before next 12) mutex does × GoesTo node next goes
+  IsDoing node (Lock lock next) does goes = IsLockPiece (boundary_before next 0) lock.mutex does × GoesTo node next goes
+  IsDoing node (Unlock lock next) does goes = IsUnlockPiece (boundary_before next 12) lock.mutex does × GoesTo node next goes
   IsDoing node End does goes = IsEnd does × (goes ≡ [])
 
   -- the piece of a node, within its price

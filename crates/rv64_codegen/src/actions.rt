@@ -1,6 +1,6 @@
 //! What nodes do, and how they go on.
 ghost use Rattle.std.specs.Prelude.{◌≡◌, ◌==◌, ◌+◌, OnOk};
-ghost use Rattle.c_tree.specs.Exprs.{placed_of, lvalue_of};
+ghost use Rattle.c_tree.specs.Exprs.{placed_of, lvalue_of, lock_name_of};
 ghost use Rattle.flow_graph.specs.Nodes.{Eval, Store, Test, Lock, Unlock, End, action_of};
 ghost use Rattle.node_code.specs.Pieces.{Appends};
 ghost use Rattle.rv64_codegen.specs.links.Threads.{IsOwn, HasAction, DoesAction, DoesAt, GoesToNode};
@@ -8,7 +8,7 @@ ghost use Rattle.rv64_codegen.specs.links.Threads.{IsOwn, HasAction, DoesAction,
 use crate::evaluations::push_evaluation;
 use crate::tests_of_conditions::push_test;
 use crate::thread::ThreadPlan;
-use c_tree::expr::{Lvalue, Placed};
+use c_tree::expr::{LockName, Lvalue, Placed};
 use flow_graph::graph::Action;
 use ido_base::memory::OutOfMemory;
 use ido_ints::Kind;
@@ -130,36 +130,38 @@ fn push_making(
     push_fragment(items, thread, node, next)
 }
 
-/// A mutex is taken.
+/// A lock is taken.
 fn push_taking(
     alloc: Global,
     items: &mut Vec<CodeItem>,
     thread: &ThreadPlan,
     node: usize,
-    mutex: u32,
+    lock: &LockName,
     next: usize,
 ) -> Result<(), OutOfMemory>
-    requires { HasAction thread.now node (Lock mutex next) }
-    ensures { OnOk result (Appends items.old.items items.new.items (DoesAction thread.now node (Lock mutex next))) }
+    requires { HasAction thread.now node (Lock (lock_name_of lock.now) next) }
+    ensures { OnOk result (Appends items.old.items items.new.items (DoesAction thread.now node (Lock (lock_name_of lock.now) next))) }
 {
     let kept = thread.kept(next);
+    let mutex = lock.mutex;
     push_lock(alloc, items, &kept, mutex as u16)?;
     push_fragment(items, thread, node, next)
 }
 
-/// A mutex is given back.
+/// A lock is given back.
 fn push_giving(
     alloc: Global,
     items: &mut Vec<CodeItem>,
     thread: &ThreadPlan,
     node: usize,
-    mutex: u32,
+    lock: &LockName,
     next: usize,
 ) -> Result<(), OutOfMemory>
-    requires { HasAction thread.now node (Unlock mutex next) }
-    ensures { OnOk result (Appends items.old.items items.new.items (DoesAction thread.now node (Unlock mutex next))) }
+    requires { HasAction thread.now node (Unlock (lock_name_of lock.now) next) }
+    ensures { OnOk result (Appends items.old.items items.new.items (DoesAction thread.now node (Unlock (lock_name_of lock.now) next))) }
 {
     let kept = thread.kept(next);
+    let mutex = lock.mutex;
     push_unlock(alloc, items, &kept, mutex as u16)?;
     push_fragment(items, thread, node, next)
 }
@@ -203,8 +205,8 @@ fn push_doing(
             holds,
             fails,
         } => push_choosing(alloc, items, thread, node, condition, holds, fails),
-        Action::Lock { mutex, next } => push_taking(alloc, items, thread, node, mutex, next),
-        Action::Unlock { mutex, next } => push_giving(alloc, items, thread, node, mutex, next),
+        Action::Lock { lock, next } => push_taking(alloc, items, thread, node, lock, next),
+        Action::Unlock { lock, next } => push_giving(alloc, items, thread, node, lock, next),
         Action::End => push_ending(items, thread, node),
     }
 }

@@ -39,8 +39,8 @@ module _ (p : Plan) (t : Thread) (node : ℕ) (seen : Seen) (x y : List ℕ) (li
         value = low_bytes_on x y pending_value kind store.number (same_kept pending_value (of_value here)) old.value;
       }
   pending_again is at (Test condition holds fails) e h = tt
-  pending_again is at (Lock mutex next) e h = tt
-  pending_again is at (Unlock mutex next) e h = tt
+  pending_again is at (Lock lock next) e h = tt
+  pending_again is at (Unlock lock next) e h = tt
   pending_again is at End e h = tt
 
 pub enters_again : EntersAgain

@@ -1,5 +1,5 @@
 -- What the code of each node does, by the node's effect.
-use Rattle.std.specs.Prelude.{◌≡◌, ℕ, pos, List, [], ◌∷◌, map, slice_get, slice_set, Option, Some, None, Bool}
+use Rattle.std.specs.Prelude.{◌≡◌, ℕ, ◌-◌, pos, List, [], ◌∷◌, map, slice_get, slice_set, Option, Some, None, Bool}
 use Rattle.ido_base.specs.Layout.{variable_at}
 use Rattle.ido_ints.specs.declared.kinds.Kind.{Kind}
 use Rattle.ido_ints.specs.Kinds.{bytes_of}
@@ -109,7 +109,9 @@ module _ (p : Plan) (t : Thread) (c : Places) where
       (Mark ∷ boundary_observations (keeping next) m.side (c.after m.node) m.registers) (Asking gives mutex next m.seen (side_after (keeping next) m.side))
   Performs m a.Ends = Passing m (c.core m.node) (c.call m.node) (Mark ∷ []) (λ x. read x roles.call ≡ ends)
 
-  -- after the ECALL of a lock stands a boundary, of an unlock nothing; from there the code leads to the next node
+  -- after the ECALL of a lock stands a boundary, of an unlock nothing; from there the code leads to the next node, within the words that the call, and
+  -- the two that set its registers, leave of the node's
   pub record GoesOnAfter (node next : ℕ) : Type 0 where
     pub on : (m : Entrance) → Meets c.program m.environment → m.node ≡ node → EntersAt m next →
-        Passing m (c.after node) (c.entry next) [] (Enters p t next m.seen m.side)
+        GoesThrough m.environment (record { registers = m.registers; from = c.after node; to = c.entry next; most = c.words m.node - 3 }) []
+        (Enters p t next m.seen m.side)

@@ -6,11 +6,14 @@ use Rattle.ido_base.specs.Layout.{variable_at}
 use Rattle.ido_ints.specs.declared.kinds.Kind.{Kind}
 use Rattle.c_tree.specs.Flats as f
 use Rattle.c_tree.specs.WellFormed.{shape_of, IsWellFormed}
-use Rattle.c_tree.specs.Temporaries.{price_fault}
+use Rattle.c_tree.specs.Prices.{node_price}
+use Rattle.c_tree.specs.declared.language.Language.TheVariants.{Plain}
+use Rattle.c_tree.specs.HoldPrices.{price_fault}
 use Rattle.c_tree.specs.LockNames.{Held}
 use Rattle.c_tree.specs.LockDiscipline.{numbers_below}
 use Rattle.memory_layout.specs.declared.roles.TheConstants.{LOCALS}
 use Rattle.memory_layout.specs.Roles.{pending_address, pending_value}
+use Rattle.boundary_code.specs.Boundaries.{HaveRoom, words_beside}
 use Rattle.lock_discipline.specs.HeldSetsByStep.{AreAllSetsOf}
 use Rattle.flow_graph.specs.declared.graph.Part.{Part}
 use Rattle.flow_graph.specs.Nodes.{Graph}
@@ -113,4 +116,8 @@ pub record IsPlan (p : Plan) : Type 0 where
   pub registers : AreRegisters p.graph p.colours
   pub apart : HasNoClash p.graph p.colours
   -- no thread's price is too high
-  pub priced : price_fault p.flat ≡ None
+  pub priced : price_fault Plain p.flat ≡ None
+  -- a bank of the threads' logs has room for the locks that are held before each node
+  pub room : (t : Thread) (node : ℕ) → HaveRoom p.log (locks_before p t node)
+  -- a node's price pays for a boundary with these locks and 20 registers, and four words beside it
+  pub paid : (t : Thread) (node : ℕ) → words_beside p.log (locks_before p t node) + 24 ≤ node_price 0

@@ -1,5 +1,6 @@
 -- That a program is the code of a thread: all that is said of it above, where no instruction is looked at again.
 use Rattle.std.specs.Prelude.{◌≡◌, ◌≢◌, ◌↔◌, ℕ, ◌+◌, ◌-◌, ◌*◌, ◌≤◌, [], length}
+use Rattle.c_tree.specs.Exprs.{LockName}
 use Rattle.std.specs.Prelude.{map, slice_get, slice_index_or, Contains, Some, false}
 use Rattle.std.specs.List.Sorted.{IsStrictlyIncreasing}
 use Rattle.c_tree.specs.Exprs as e
@@ -28,8 +29,8 @@ abbrev pub action_nodes : Action → ℕ
 action_nodes (Eval target value next) = target_nodes target + nodes_of value.expr
 action_nodes (Store variable kind next) = 0
 action_nodes (Test condition holds fails) = nodes_of condition.expr
-action_nodes (Lock mutex next) = 0
-action_nodes (Unlock mutex next) = 0
+action_nodes (Lock lock next) = 0
+action_nodes (Unlock lock next) = 0
 action_nodes End = 0
 
 -- how many boundaries a node has: one before it, one after it
@@ -41,8 +42,8 @@ abbrev pub mark_of : Places → Action → (node : ℕ) → ℕ
 mark_of c (Eval target value next) node = c.core node
 mark_of c (Store variable kind next) node = c.core node
 mark_of c (Test condition holds fails) node = c.core node
-mark_of c (Lock mutex next) node = c.call node
-mark_of c (Unlock mutex next) node = c.core node
+mark_of c (Lock lock next) node = c.call node
+mark_of c (Unlock lock next) node = c.core node
 mark_of c End node = c.core node
 
 -- from the one address on to the other, by whole words
@@ -55,8 +56,8 @@ abbrev pub IsCallWithin : Places → Action → (node : ℕ) → Type 0
 IsCallWithin c (Eval target value next) node = Unit {0}
 IsCallWithin c (Store variable kind next) node = Unit {0}
 IsCallWithin c (Test condition holds fails) node = Unit {0}
-IsCallWithin c (Lock mutex next) node = IsOn (c.core node) (c.call node) × IsOn (c.call node + 4) (c.after node) × IsOn (c.after node) (c.entry (node + 1))
-IsCallWithin c (Unlock mutex next) node = IsOn (c.core node) (c.call node) × IsOn (c.call node + 4) (c.after node) × IsOn (c.after node) (c.entry (node + 1))
+IsCallWithin c (Lock lock next) node = IsOn (c.core node) (c.call node) × IsOn (c.call node + 4) (c.after node) × IsOn (c.after node) (c.entry (node + 1))
+IsCallWithin c (Unlock lock next) node = IsOn (c.core node) (c.call node) × IsOn (c.call node + 4) (c.after node) × IsOn (c.after node) (c.entry (node + 1))
 IsCallWithin c End node = IsOn (c.core node) (c.call node) × IsOn (c.call node + 4) (c.entry (node + 1))
 
 -- the places of a node lie in its code, in their order and whole words apart
@@ -81,10 +82,10 @@ module _ (p : Plan) (t : Thread) (c : Places) where
   IsCalling (Eval target value next) node = Unit {0}
   IsCalling (Store variable kind next) node = Unit {0}
   IsCalling (Test condition holds fails) node = Unit {0}
-  IsCalling (Lock mutex next) node = IsInstructionAt c.program.start c.program.code (c.call node) Ecall × GoesOnAfter p t c node next ×
+  IsCalling (Lock lock next) node = IsInstructionAt c.program.start c.program.code (c.call node) Ecall × GoesOnAfter p t c node next ×
       ((m : Entrance) → Meets c.program m.environment → m.node ≡ node → EntersAt p t c m next →
       BoundaryCode p t c m next (c.call node + 4) (c.after node) (c.after node))
-  IsCalling (Unlock mutex next) node =
+  IsCalling (Unlock lock next) node =
       IsInstructionAt c.program.start c.program.code (c.call node) Ecall × GoesOnAfter p t c node next × (c.after node ≡ c.call node + 4)
       × IsPlainCall node
   IsCalling End node = IsInstructionAt c.program.start c.program.code (c.call node) Ecall × IsPlainCall node
@@ -114,8 +115,9 @@ module _ (p : Plan) (t : Thread) (c : Places) where
   -- recovery may resume the thread there: after a chosen boundary, and after locks and unlocks that leave it with one
   pub data IsResumeAddress : (address : ℕ) → Type 0 where
     at_chosen : (node : ℕ) → IsNodeOf t node → IsChosen p.graph p.boundaries node → IsResumeAddress (c.core node)
-    past_lock : (node mutex next : ℕ) (is : Node) → IsNodeOf t node → NodeAt p.graph node is → is.action ≡ Lock mutex next → IsResumeAddress (c.after node)
-    past_unlock : (node mutex next : ℕ) (is : Node) → IsNodeOf t node → NodeAt p.graph node is → is.action ≡ Unlock mutex next →
+    past_lock : (node : ℕ) (lock : LockName) (next : ℕ) (is : Node) → IsNodeOf t node → NodeAt p.graph node is → is.action ≡ Lock lock next →
+        IsResumeAddress (c.after node)
+    past_unlock : (node : ℕ) (lock : LockName) (next : ℕ) (is : Node) → IsNodeOf t node → NodeAt p.graph node is → is.action ≡ Unlock lock next →
         locks_before p t next ≢ [] → IsResumeAddress (c.after node)
 
 -- the program does what the nodes of the thread do, one after another in their order

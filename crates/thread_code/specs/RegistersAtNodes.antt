@@ -34,8 +34,8 @@ abbrev pub IsPendingIn : Plan → Action → Seen → (registers : List ℕ) →
 IsPendingIn p (Eval target value next) seen registers = Unit {0}
 IsPendingIn p (Store variable kind next) seen registers = (store : Pending) → seen.pending ≡ Some store → HasPending p store variable kind registers
 IsPendingIn p (Test condition holds fails) seen registers = Unit {0}
-IsPendingIn p (Lock mutex next) seen registers = Unit {0}
-IsPendingIn p (Unlock mutex next) seen registers = Unit {0}
+IsPendingIn p (Lock lock next) seen registers = Unit {0}
+IsPendingIn p (Unlock lock next) seen registers = Unit {0}
 IsPendingIn p End seen registers = Unit {0}
 
 -- a thread whose locals and pending store are these may enter a node's code with these registers, where its log's side in use is this one: it has
@@ -62,6 +62,6 @@ abbrev pub IsAnswered : x.Source → (loads : (address bytes : ℕ) → Option �
 IsAnswered s loads (Eval target value next) = IsAnsweredIn s loads target × x.AreLoaded s loads value.expr
 IsAnswered s loads (Store variable kind next) = Unit {0}
 IsAnswered s loads (Test condition holds fails) = x.AreLoaded s loads condition.expr
-IsAnswered s loads (Lock mutex next) = Unit {0}
-IsAnswered s loads (Unlock mutex next) = Unit {0}
+IsAnswered s loads (Lock lock next) = Unit {0}
+IsAnswered s loads (Unlock lock next) = Unit {0}
 IsAnswered s loads End = Unit {0}

@@ -5,12 +5,12 @@ use Rattle.std.proofs.Common.{false}
 use Rattle.std.specs.Prelude.{◌==◌, ◌&&◌, ◌||◌, nat_le, Contains}
 use Rattle.std.specs.List.{list_any, filter}
 use Rattle.std.proofs.lemmas.Bool.{cond_both, le-leb}
-use Rattle.ido_base.specs.declared.log.Log.TheVariants.{V1}
+use Rattle.ido_base.specs.declared.log.Log.TheVariants.{V1, V2}
 use Rattle.ido_base.specs.declared.log.Log.{Log}
-use Rattle.ido_base.specs.Layout.{in_range, aligned, point_at, slot_at, logs_base, variables_base}
+use Rattle.ido_base.specs.Layout.{bank_slots, line_bytes, log_lines, in_range, aligned, point_at, slot_at, logs_base, variables_base}
 use Rattle.rv64_isa.specs.Rows.{Effect, Continues, Loads, Stores, Cleans, Fences, Calls, read}
 use Rattle.boundary_code.specs.Boundaries.{Boundary, boundary_effects, bank_effects, commit_effects, lines_in_use, is_empty}
-use Rattle.boundary_code.proofs.Public.{by_log, by_mask}
+use Rattle.boundary_code.specs.Boundaries.{HaveRoom, bank_lines, kept_locks, listed_from, slots_kept}
 use Rattle.code_runs.specs.CodeTraces.{MarkedEnvironment, seen_effects}
 use Rattle.hart_runs.specs.HartsOnRuns.{is_access, MayGo}
 use Rattle.thread_runs.specs.CodeFragments.{AreEffectsApart, ReadsVariables}
@@ -26,26 +26,42 @@ second_true true b e = refl
 second_true false b e = e
 
 -- the bytes are a log's
-record AreOfLog (threads address bytes : ℕ) : Type 0 where
+record AreOfLog (log : Log) (threads address bytes : ℕ) : Type 0 where
   from_base : logs_base ≤ address
-  to_end : address + bytes ≤ logs_base + 1024 * threads
+  to_end : address + bytes ≤ logs_base + line_bytes * log_lines log * threads
 
-log_in_range : (threads address bytes : ℕ) → AreOfLog threads address bytes → in_range V1 threads address bytes ≡ true
-log_in_range threads address bytes l =
+log_in_range : (log : Log) (threads address bytes : ℕ) → AreOfLog log threads address bytes → in_range log threads address bytes ≡ true
+log_in_range log threads address bytes l =
     second_true (nat_le variables_base address && nat_le (address + bytes) (variables_base + 65536))
-    (nat_le logs_base address && nat_le (address + bytes) (logs_base + 1024 * threads))
-    (both_true (nat_le logs_base address) (nat_le (address + bytes) (logs_base + 1024 * threads)) (le-leb logs_base address l.from_base)
-    (le-leb (address + bytes) (logs_base + 1024 * threads) l.to_end))
+    (nat_le logs_base address && nat_le (address + bytes) (logs_base + line_bytes * log_lines log * threads))
+    (both_true (nat_le logs_base address) (nat_le (address + bytes) (logs_base + line_bytes * log_lines log * threads)) (le-leb logs_base address l.from_base)
+    (le-leb (address + bytes) (logs_base + line_bytes * log_lines log * threads) l.to_end))
 
-log_access : (threads address : ℕ) → AreOfLog threads address 8 → address % 8 ≡ 0 → is_access V1 threads address 8 ≡ true
-log_access threads address l e =
-    both_true (in_range V1 threads address 8) (aligned address 8) (log_in_range threads address 8 l) (ap (λ (n : ℕ). n == 0) e)
+log_access : (log : Log) (threads address : ℕ) → AreOfLog log threads address 8 → address % 8 ≡ 0 → is_access log threads address 8 ≡ true
+log_access log threads address l e =
+    both_true (in_range log threads address 8) (aligned address 8) (log_in_range log threads address 8 l) (ap (λ (n : ℕ). n == 0) e)
 
-slot_of_log : (threads thread bank slot bytes : ℕ) → thread < threads → bank < 2 → slot < 32 → bytes ≤ 8 → AreOfLog threads (slot_at V1 thread bank slot) bytes
-slot_of_log threads thread bank slot bytes t b s c = record { from_base = omega (arith, t, b, s); to_end = omega (arith, t, b, s, c) }
+slot_of_log : (log : Log) (threads thread bank slot bytes : ℕ) → thread < threads → bank < 2 → slot < bank_slots log → bytes ≤ 8 →
+    AreOfLog log threads (slot_at log thread bank slot) bytes
+slot_of_log V1 threads thread bank slot bytes t b s c = record { from_base = omega (arith, t, b, s); to_end = omega (arith, t, b, s, c) }
+slot_of_log V2 threads thread bank slot bytes t b s c = record { from_base = omega (arith, t, b, s); to_end = omega (arith, t, b, s, c) }
 
-point_of_log : (threads thread bytes : ℕ) → thread < threads → bytes ≤ 8 → AreOfLog threads (point_at V1 thread) bytes
-point_of_log threads thread bytes t c = record { from_base = omega (arith, t); to_end = omega (arith, t, c) }
+slot_aligned : (log : Log) (thread bank slot : ℕ) → slot_at log thread bank slot % 8 ≡ 0
+slot_aligned V1 thread bank slot = omega arith
+slot_aligned V2 thread bank slot = omega arith
+
+point_of_log : (log : Log) (threads thread bytes : ℕ) → thread < threads → bytes ≤ 8 → AreOfLog log threads (point_at log thread) bytes
+point_of_log V1 threads thread bytes t c = record { from_base = omega (arith, t); to_end = omega (arith, t, c) }
+point_of_log V2 threads thread bytes t c = record { from_base = omega (arith, t); to_end = omega (arith, t, c) }
+
+point_aligned : (log : Log) (thread : ℕ) → point_at log thread % 8 ≡ 0
+point_aligned V1 thread = omega arith
+point_aligned V2 thread = omega arith
+
+-- registers have slots
+register_slot : (log : Log) (register : ℕ) → register < 32 → register < bank_slots log
+register_slot V1 register below = below
+register_slot V2 register below = omega (arith, below)
 
 -- ---- Effects on logs
 
@@ -91,93 +107,108 @@ log_apart log threads s (Calls ∷ es) reads h = (tt, log_apart log threads s es
 
 -- ---- Boundaries
 
-module _ (threads thread bank : ℕ) (t : thread < threads) (b : bank < 2) where
-  slot_store : (slot value : ℕ) → slot < 32 → OnLog V1 threads (Stores (slot_at V1 thread bank slot) 8 value)
+module _ (log : Log) (threads thread bank : ℕ) (t : thread < threads) (b : bank < 2) where
+  slot_store : (slot value : ℕ) → slot < bank_slots log → OnLog log threads (Stores (slot_at log thread bank slot) 8 value)
   unfolding OnLog
   slot_store slot value s =
-      let l : AreOfLog threads (slot_at V1 thread bank slot) 8 = slot_of_log threads thread bank slot 8 t b s (omega arith) in
-      (log_access threads (slot_at V1 thread bank slot) l (omega arith), l.from_base)
+      let l : AreOfLog log threads (slot_at log thread bank slot) 8 = slot_of_log log threads thread bank slot 8 t b s (omega arith) in
+      (log_access log threads (slot_at log thread bank slot) l (slot_aligned log thread bank slot), l.from_base)
 
-  stores_on_log : (x rs : List ℕ) → ((r : ℕ) → Contains rs r → r < 32) → AreOnLog V1 threads (map (λ r. Stores (slot_at V1 thread bank r) 8 (read x r)) rs)
+  -- stores to slots of the bank
+  stores_on_log : {A : Type 0} (slot value : A → ℕ) (xs : List A) → ((x : A) → Contains xs x → slot x < bank_slots log) →
+      AreOnLog log threads (map (λ x. Stores (slot_at log thread bank (slot x)) 8 (value x)) xs)
   unfolding AreOnLog
-  stores_on_log x [] h = tt
-  stores_on_log x (r ∷ rs) h = (
-    slot_store r (read x r) (h r (zero, omega arith, refl)),
-    stores_on_log x rs
-        (λ q m. h q (suc m.0, (let l : m.0 < length rs = m.1 in omega (arith, l)), m.2)),
+  stores_on_log slot value [] h = tt
+  stores_on_log slot value (x ∷ xs) h = (
+    slot_store (slot x) (value x) (h x (zero, omega arith, refl)),
+    stores_on_log slot value xs
+        (λ y m. h y (suc m.0, (let l : m.0 < length xs = m.1 in omega (arith, l)), m.2)),
   )
 
   AreLines : List ℕ → Type 0
   AreLines [] = Unit {0}
-  AreLines (line ∷ lines) = (line < 4) × AreLines lines
+  AreLines (line ∷ lines) = (8 * line < bank_slots log) × AreLines lines
 
-  clean_on_log : (line : ℕ) → line < 4 → OnLog V1 threads (Cleans (slot_at V1 thread bank (8 * line)))
+  clean_on_log : (line : ℕ) → 8 * line < bank_slots log → OnLog log threads (Cleans (slot_at log thread bank (8 * line)))
   unfolding OnLog
-  clean_on_log line l = log_in_range threads (slot_at V1 thread bank (8 * line)) 1
-      (slot_of_log threads thread bank (8 * line) 1 t b (omega (arith, l)) (omega arith))
+  clean_on_log line l = log_in_range log threads (slot_at log thread bank (8 * line)) 1
+      (slot_of_log log threads thread bank (8 * line) 1 t b l (omega arith))
 
   cleans_on_log : (f : ℕ → Bool) (lines : List ℕ) → AreLines lines →
-      AreOnLog V1 threads (map (λ line. Cleans (slot_at V1 thread bank (8 * line))) (filter f lines))
+      AreOnLog log threads (map (λ line. Cleans (slot_at log thread bank (8 * line))) (filter f lines))
   unfolding AreOnLog AreLines
   cleans_on_log f [] h = tt
   cleans_on_log f (line ∷ lines) h =
       cond_both (f line) (line ∷ filter f lines) (filter f lines)
-      (λ (ls : List ℕ). AreOnLog V1 threads (map (λ line. Cleans (slot_at V1 thread bank (8 * line))) ls))
+      (λ (ls : List ℕ). AreOnLog log threads (map (λ line. Cleans (slot_at log thread bank (8 * line))) ls))
       (λ _. (clean_on_log line h.0, cleans_on_log f lines h.1)) (λ _. cleans_on_log f lines h.1)
 
-  four_lines : AreLines (0 ∷ 1 ∷ 2 ∷ 3 ∷ [])
-  unfolding AreLines
-  four_lines = (omega arith, (omega arith, (omega arith, (omega arith, tt))))
+all_lines : (log : Log) (threads thread bank : ℕ) (t : thread < threads) (b : bank < 2) → AreLines log threads thread bank t b (bank_lines log)
+unfolding AreLines
+all_lines V1 threads thread bank t b = (omega arith, (omega arith, (omega arith, (omega arith, tt))))
+all_lines V2 threads thread bank t b = (omega arith, (omega arith, (omega arith, (omega arith, (omega arith, (omega arith, tt))))))
 
-commit_on_log : (threads thread point : ℕ) → thread < threads → AreOnLog V1 threads (commit_effects V1 thread point)
+-- the slots that keep locks are the bank's
+listed_below : (slot : ℕ) (locks : List ℕ) (kept : ℕ × ℕ) → Contains (listed_from slot locks) kept → kept.0 < slot + length locks
+listed_below slot [] kept c = absurd (let n : c.0 < 0 = c.1 in omega (arith, n))
+listed_below slot (lock ∷ locks) kept (zero, below, is) = let same : slot ≡ kept.0 = ap (λ (one : ℕ × ℕ). one.0) is in omega (arith, same)
+listed_below slot (lock ∷ locks) kept (suc n, below, is) = let more = listed_below (slot + 1) locks kept (n, omega (arith, below), is) in omega (arith, more)
+
+locks_have_slots : (log : Log) (locks : List ℕ) → HaveRoom log locks → (kept : ℕ × ℕ) → Contains (kept_locks log locks) kept → kept.0 < bank_slots log
+locks_have_slots V1 locks room kept (zero, below, is) = let same : 0 ≡ kept.0 = ap (λ (one : ℕ × ℕ). one.0) is in omega (arith, same)
+locks_have_slots V1 locks room kept (suc n, below, is) = absurd (omega (arith, below))
+locks_have_slots V2 locks room kept (zero, below, is) = let same : 0 ≡ kept.0 = ap (λ (one : ℕ × ℕ). one.0) is in omega (arith, same)
+locks_have_slots V2 locks room kept (suc n, below, is) = let l = listed_below 32 locks kept (n, omega (arith, below), is) in omega (arith, l, room)
+
+commit_on_log : (log : Log) (threads thread point : ℕ) → thread < threads → AreOnLog log threads (commit_effects log thread point)
 unfolding AreOnLog OnLog
-commit_on_log threads thread point t =
-    let l : AreOfLog threads (point_at V1 thread) 8 = point_of_log threads thread 8 t (omega arith) in (
+commit_on_log log threads thread point t =
+    let l : AreOfLog log threads (point_at log thread) 8 = point_of_log log threads thread 8 t (omega arith) in (
       tt,
       (
-        (log_access threads (point_at V1 thread) l (omega arith), l.from_base),
-        (log_in_range threads (point_at V1 thread) 1 (point_of_log threads thread 1 t (omega arith)), (tt, tt)),
+        (log_access log threads (point_at log thread) l (point_aligned log thread), l.from_base),
+        (log_in_range log threads (point_at log thread) 1 (point_of_log log threads thread 1 t (omega arith)), (tt, tt)),
       ),
     )
 
-masks_on_log : (threads : ℕ) (b : Boundary) (side resume : ℕ) (x : List ℕ) → b.thread < threads → ((r : ℕ) → Contains b.live r → r < 32) →
-    AreOnLog V1 threads (boundary_effects (by_mask b) side resume x)
-unfolding AreOnLog
-masks_on_log threads b side resume x t live =
-    cond_both (is_empty b.locks) (commit_effects V1 b.thread 0)
-    (bank_effects (by_mask b) (1 - side) x ++ commit_effects V1 b.thread ((resume + (1 - side)) % 2 ^ 64))
-    (λ (es : List Effect). AreOnLog V1 threads es) (λ _. commit_on_log threads b.thread 0 t)
-    (λ _. both_on_log V1 threads (bank_effects (by_mask b) (1 - side) x) (commit_effects V1 b.thread ((resume + (1 - side)) % 2 ^ 64)) (
-      first _,
-      both_on_log V1 threads (map (λ r. Stores (slot_at V1 b.thread (1 - side) r) 8 (read x r)) b.live)
-          (map (λ line. Cleans (slot_at V1 b.thread (1 - side) (8 * line))) (lines_in_use V1 (0 ∷ b.live)))
-          (stores_on_log threads b.thread (1 - side) t k x b.live live)
-          (cleans_on_log threads b.thread (1 - side) t k (λ line. list_any (λ slot. slot / 8 == line) (0 ∷ b.live)) (0 ∷ 1 ∷ 2 ∷ 3 ∷ [])
-          (four_lines threads b.thread (1 - side) t k)),
-    )
-    (commit_on_log threads b.thread ((resume + (1 - side)) % 2 ^ 64) t))
+boundary_on_log : (threads : ℕ) (b : Boundary) (side resume : ℕ) (x : List ℕ) → b.thread < threads → HaveRoom b.log b.locks →
+    ((r : ℕ) → Contains b.live r → r < 32) → AreOnLog b.log threads (boundary_effects b side resume x)
+boundary_on_log threads b side resume x t room live =
+    cond_both (is_empty b.locks) (commit_effects b.log b.thread 0)
+    (bank_effects b (1 - side) x ++ commit_effects b.log b.thread ((resume + (1 - side)) % 2 ^ 64))
+    (λ (es : List Effect). AreOnLog b.log threads es) (λ _. commit_on_log b.log threads b.thread 0 t)
+    (λ _. both_on_log b.log threads (bank_effects b (1 - side) x) (commit_effects b.log b.thread ((resume + (1 - side)) % 2 ^ 64))
+    (both_on_log b.log threads (locks ++ registers) lines
+    (both_on_log b.log threads locks registers
+    (stores_on_log b.log threads b.thread (1 - side) t k (λ (kept : ℕ × ℕ). kept.0) (λ (kept : ℕ × ℕ). kept.1) (kept_locks b.log b.locks)
+    (locks_have_slots b.log b.locks room))
+    (stores_on_log b.log threads b.thread (1 - side) t k (λ (r : ℕ). r) (λ (r : ℕ). read x r) b.live (λ r c. register_slot b.log r (live r c))))
+    (cleans_on_log b.log threads b.thread (1 - side) t k (λ line. list_any (λ slot. slot / 8 == line) (slots_kept b.log b.locks b.live)) (bank_lines b.log)
+    (all_lines b.log threads b.thread (1 - side) t k)))
+    (commit_on_log b.log threads b.thread ((resume + (1 - side)) % 2 ^ 64) t))
   where
     k : 1 - side < 2
     k = omega arith
 
-    first : (value : ℕ) → OnLog V1 threads (Stores (slot_at V1 b.thread (1 - side) 0) 8 value)
-    first value = slot_store threads b.thread (1 - side) t k 0 value (omega arith)
+    locks : List Effect
+    locks = map (λ (kept : ℕ × ℕ). Stores (slot_at b.log b.thread (1 - side) kept.0) 8 kept.1) (kept_locks b.log b.locks)
 
-boundary_on_log : (threads : ℕ) (b : Boundary) (side resume : ℕ) (x : List ℕ) → b.thread < threads → ((r : ℕ) → Contains b.live r → r < 32) →
-    AreOnLog b.log threads (boundary_effects b side resume x)
-boundary_on_log threads b side resume x t live =
-    by_log (λ b. b.thread < threads → ((r : ℕ) → Contains b.live r → r < 32) → AreOnLog b.log threads (boundary_effects b side resume x))
-    (λ b. masks_on_log threads b side resume x) b t live
+    registers : List Effect
+    registers = map (λ r. Stores (slot_at b.log b.thread (1 - side) r) 8 (read x r)) b.live
+
+    lines : List Effect
+    lines = map (λ line. Cleans (slot_at b.log b.thread (1 - side) (8 * line))) (lines_in_use b.log (slots_kept b.log b.locks b.live))
 
 -- each goes where it may
-pub boundary_may : (log : Log) (threads : ℕ) (b : Boundary) (side resume : ℕ) (x : List ℕ) → b.log ≡ log → b.thread < threads →
+pub boundary_may : (log : Log) (threads : ℕ) (b : Boundary) (side resume : ℕ) (x : List ℕ) → b.log ≡ log → b.thread < threads → HaveRoom b.log b.locks →
     ((r : ℕ) → Contains b.live r → r < 32) → MayGo log threads (seen_effects (boundary_effects b side resume x))
-boundary_may log threads b side resume x is t live =
+boundary_may log threads b side resume x is t room live =
     subst (λ (l : Log). MayGo l threads (seen_effects (boundary_effects b side resume x))) is
-    (log_may b.log threads (boundary_effects b side resume x) (boundary_on_log threads b side resume x t live))
+    (log_may b.log threads (boundary_effects b side resume x) (boundary_on_log threads b side resume x t room live))
 
 -- each effect of a boundary goes to no variable
 pub boundary_apart : (threads : ℕ) (s : MarkedEnvironment) (b : Boundary) (side resume : ℕ) (x : List ℕ) → ReadsVariables s → b.thread < threads →
+    HaveRoom b.log b.locks →
     ((r : ℕ) → Contains b.live r → r < 32) → AreEffectsApart s (boundary_effects b side resume x)
-boundary_apart threads s b side resume x reads t live =
-    log_apart b.log threads s (boundary_effects b side resume x) reads (boundary_on_log threads b side resume x t live)
+boundary_apart threads s b side resume x reads t room live =
+    log_apart b.log threads s (boundary_effects b side resume x) reads (boundary_on_log threads b side resume x t room live)

@@ -3,7 +3,7 @@ use Rattle.std.proofs.Common.{◌-◌, ◌≡◌, ℕ, suc, ◌+◌, ◌*◌, �
 use Rattle.std.specs.Prelude.{filter, ◌==◌, ◌/◌, if◌then◌else◌}
 use Rattle.std.specs.List.{list_any}
 use Rattle.ido_base.specs.declared.log.Log.{Log}
-use Rattle.ido_base.specs.declared.log.Log.TheVariants.{V1}
+use Rattle.ido_base.specs.declared.log.Log.TheVariants.{V1, V2}
 use Rattle.ido_base.specs.Layout.{slot_at}
 use Rattle.rv64_isa.specs.Rows.{Effect, Stores, Cleans, read}
 use Rattle.code_runs.specs.CodeTraces.{seen_effects}
@@ -30,11 +30,12 @@ cleans_each : (address : ℕ → ℕ) (lines : List ℕ) → cleans_in (seen_eff
 cleans_each address [] = omega arith
 cleans_each address (line ∷ lines) = let more = cleans_each address lines in omega (arith, more)
 
--- a bank has four lines at most
-few_lines : (log : Log) → length (bank_lines log) ≤ 4
+-- a bank has six lines at most
+few_lines : (log : Log) → length (bank_lines log) ≤ 6
 few_lines V1 = omega arith
+few_lines V2 = omega arith
 
-bank_cleans : (b : Boundary) (bank : ℕ) (x : List ℕ) → cleans_in (seen_effects (bank_effects b bank x)) ≤ 4
+bank_cleans : (b : Boundary) (bank : ℕ) (x : List ℕ) → cleans_in (seen_effects (bank_effects b bank x)) ≤ 6
 bank_cleans b bank x =
     let at : ℕ → ℕ = slot_at b.log b.thread bank in
     let slots : List ℕ = slots_kept b.log b.locks b.live in
@@ -52,11 +53,11 @@ bank_cleans b bank x =
     both (locks ++ registers) lines in
     omega (arith, zeroth, first, each, short, stored, all, few_lines b.log)
 
-pub few_cleans : (b : Boundary) (side resume : ℕ) (x : List ℕ) → cleans_in (seen_effects (boundary_effects b side resume x)) ≤ 5
+pub few_cleans : (b : Boundary) (side resume : ℕ) (x : List ℕ) → cleans_in (seen_effects (boundary_effects b side resume x)) ≤ 7
 few_cleans b side resume x = by (is_empty b.locks)
   where
     by : (none : Bool) → cleans_in (seen_effects (if none then commit_effects b.log b.thread 0
-        else bank_effects b (1 - side) x ++ commit_effects b.log b.thread ((resume + (1 - side)) % 2 ^ 64))) ≤ 5
+        else bank_effects b (1 - side) x ++ commit_effects b.log b.thread ((resume + (1 - side)) % 2 ^ 64))) ≤ 7
     by true = omega arith
     by false =
         let parts = both (bank_effects b (1 - side) x) (commit_effects b.log b.thread ((resume + (1 - side)) % 2 ^ 64)) in

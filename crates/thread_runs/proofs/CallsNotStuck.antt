@@ -13,7 +13,7 @@ use Rattle.thread_runs.proofs.ThreadsAtCalls.{registers_are, call_there}
 pub locks_are_well : NoneIsStuck → LocksAreWell
 locks_are_well none p t program own code w h s node mutex next seen side effects holder fragment there cause =
     let lock = fragment.of_graph in
-    let calling : IsCalling p t code.places (Lock mutex next) node =
+    let calling : IsCalling p t code.places (Lock lock.lock next) node =
     subst (λ (a : Action). IsCalling p t code.places a node) lock.locks (code.code node lock.is lock.own lock.at).calls in
     let is : lock_asked fragment.on.hart ≡ mutex =
     ap (λ (x : List ℕ). read x 10)
@@ -29,7 +29,7 @@ locks_are_well none p t program own code w h s node mutex next seen side effects
 pub unlocks_are_well : NoneIsStuck → UnlocksAreWell
 unlocks_are_well none p t program own code w h s from mutex next seen side effects fragment held cause =
     let unlock = fragment.of_graph in
-    let calling : IsCalling p t code.places (Unlock mutex next) from =
+    let calling : IsCalling p t code.places (Unlock unlock.lock next) from =
     subst (λ (a : Action). IsCalling p t code.places a from) unlock.unlocks (code.code from unlock.is unlock.own unlock.at).calls in
     let is : lock_asked fragment.on.hart ≡ mutex =
     ap (λ (x : List ℕ). read x 10)

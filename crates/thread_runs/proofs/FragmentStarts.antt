@@ -1,5 +1,5 @@
 -- Where fragments begin that no mark begins.
-use Rattle.std.proofs.Common.{ℕ, zero, ◌<◌, List, [], ◌∷◌, length, refl, arith, sym, subst}
+use Rattle.std.proofs.Common.{ℕ, zero, ◌-◌, ◌<◌, List, [], ◌∷◌, length, refl, arith, sym, subst}
 use Rattle.std.specs.Prelude.{Contains}
 use Rattle.rv64_isa.specs.declared.object.Slot.{Slot}
 use Rattle.rv64_isa.specs.Rows.{Effect}
@@ -33,7 +33,7 @@ module _ (p : Plan) (t : Thread) (c : Places) (program : List (List Slot)) (w : 
     (agrees : Agrees program w h s) where
   -- where the code goes through a fragment, the hart is in it
   pub on_fragment : (stage : Stage) (most from : ℕ) (registers : List ℕ) (effects : List Effect) → IsNodeOf t stage.node →
-      IsInGraph p t c stage.exit stage.node →
+      IsInGraph p t c stage.exit stage.node stage.seen →
       AreEffectsApart s effects → MayGo w.log (length w.harts) (seen_effects effects) → IsRunningAt w h (config registers from) →
       GoesThrough s (record { registers = registers; from = from; to = end_of p t c stage.exit stage.node; most = most }) (seen_effects effects)
       (λ (x : List ℕ). Has p t c stage.exit stage.node stage.seen stage.side x) → IsOnSomeFragment p t c (on_machine program w h s) stage most effects
@@ -68,9 +68,10 @@ arrivals_end p t program own code w h s node seen side effects placed reads is f
     record {
       chosen = λ k. on_fragment p t c program w h s fragment.meets fragment.agrees _ (c.words node) (c.entry node) fragment.registers
           (boundary_effects (keeping p t c node) side (c.core node) fragment.registers) fragment.own tt
-          (boundary_apart (length w.harts) s (keeping p t c node) side (c.core node) fragment.registers reads placed.number
+          (boundary_apart (length w.harts) s (keeping p t c node) side (c.core node) fragment.registers reads placed.number (placed.locks node fragment.own)
           (λ r q. placed.slots node r fragment.own q))
           (boundary_may w.log (length w.harts) (keeping p t c node) side (c.core node) fragment.registers placed.log placed.number
+          (placed.locks node fragment.own)
           (λ r q. placed.slots node r fragment.own q))
           at (of_node.chosen k m refl (record { meets = fragment.meets; own = fragment.own; enters = fragment.has }));
       plain = λ k. record {
@@ -91,22 +92,24 @@ module _ (p : Plan) (t : Thread) (from next : ℕ) (is : Node) (own : IsNodeOf t
   goes_on after program whole code w h s seen side registers placed meets agrees at enters =
       let c : Places = code.places in
       let m : Entrance = record { environment = s; node = from; seen = seen; side = side; registers = registers } in
-      on_fragment p t c program w h s meets agrees (record { exit = Arrives; node = next; seen = seen; side = side }) (c.words from) (c.after from) registers []
+      on_fragment p t c program w h s meets agrees (record { exit = Arrives; node = next; seen = seen; side = side }) (c.words from - 3)
+      (c.after from) registers []
       (placed.closed from next is own found follows) tt tt tt at ((after c (code.code from is own found).calls).on m meets refl enters)
 
 pub locks_go_on : LocksGoOn
-locks_go_on p t from mutex next l =
+locks_go_on p t from locals mutex next l =
     goes_on p t from next l.is l.own l.at
     (subst (λ (a : Action). Contains (successors a) next) (sym l.locks) (contains_first next []))
     (λ c calls. (subst (λ (a : Action). IsCalling p t c a from) l.locks calls).1)
 
 pub unlocks_go_on : UnlocksGoOn
-unlocks_go_on p t from mutex next l =
+unlocks_go_on p t from locals mutex next l =
     goes_on p t from next l.is l.own l.at
     (subst (λ (a : Action). Contains (successors a) next) (sym l.unlocks) (contains_first next []))
     (λ c calls. (subst (λ (a : Action). IsCalling p t c a from) l.unlocks calls).1)
 
 pub took_end : TookEnd
 took_end p t program own code w h s from node seen side effects placed fragment =
-    locks_go_on p t from fragment.of_graph.0 node fragment.of_graph.1 program own code w h s seen side fragment.registers placed fragment.meets fragment.agrees
+    locks_go_on p t from seen.locals fragment.of_graph.0 node fragment.of_graph.1 program own code w h s seen side fragment.registers placed
+    fragment.meets fragment.agrees
     (at_end w h s (seen_effects effects) (config fragment.registers (code.places.after from)) fragment.on) fragment.has

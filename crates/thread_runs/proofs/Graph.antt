@@ -1,10 +1,11 @@
 -- What a node's effect says of its action, and where its mark is.
 use Rattle.std.proofs.Common.{◌≡◌, ℕ, zero, suc, ◌+◌, ◌-◌, ◌≤◌, List, [], ◌∷◌, refl, ap, arith, sym, ◌∙◌, subst, cond, Bool, true, false, Option, Some}
+use Rattle.c_tree.specs.Values.{lock_number}
 use Rattle.std.proofs.Common.{None, eq-eqb, ◌==◌}
-use Rattle.std.specs.Prelude.{slice_get, Contains, ◌||◌}
+use Rattle.std.specs.Prelude.{slice_get, Contains, ◌||◌, ℤ}
 use Rattle.std.specs.List.{list_any}
 use Rattle.ido_ints.specs.Operators.{is_zero}
-use Rattle.c_tree.specs.Exprs.{ToLocal, ToVariable, ToElement}
+use Rattle.c_tree.specs.Exprs.{ToLocal, ToVariable, ToElement, LockName}
 use Rattle.c_tree.specs.Source.{Pending}
 use Rattle.flow_graph.specs.Nodes.{Action, Eval, Store, Test, Lock, Unlock, End, Node, successors}
 use Rattle.flow_graph.specs.Actions as a
@@ -61,8 +62,8 @@ next_follows (Test condition holds fails) seen e next eq by = either (is_zero (a
         (contains_second next holds)
     either false k = subst (λ (x : ℕ). Contains (x ∷ fails ∷ []) next) (sym (same_next holds next (Some (a.Goes holds)) refl e k by))
         (contains_first next (fails ∷ []))
-next_follows (Lock mutex n) seen e next eq by = one_next n next (same_next n next _ refl e eq by)
-next_follows (Unlock mutex n) seen e next eq by = one_next n next (same_next n next _ refl e eq by)
+next_follows (Lock lock n) seen e next eq by = one_next n next (same_next n next _ refl e eq by)
+next_follows (Unlock lock n) seen e next eq by = one_next n next (same_next n next _ refl e eq by)
 next_follows End seen e next eq by = absurd (none_some next (ap next_in eq ∙ by))
 
 -- ---- The action by its effect
@@ -87,16 +88,16 @@ abbrev call_in : Option a.Effect → Call
 call_in None = no_call
 call_in (Some e) = call_by e
 
-abbrev call_of : Action → Call
-call_of (Eval target value next) = no_call
-call_of (Store variable kind next) = no_call
-call_of (Test condition holds fails) = no_call
-call_of (Lock mutex next) = takes mutex next
-call_of (Unlock mutex next) = gives mutex next
-call_of End = ends
+abbrev call_of : (locals : List ℤ) → Action → Call
+call_of ls (Eval target value next) = no_call
+call_of ls (Store variable kind next) = no_call
+call_of ls (Test condition holds fails) = no_call
+call_of ls (Lock lock next) = takes (lock_number ls lock) next
+call_of ls (Unlock lock next) = gives (lock_number ls lock) next
+call_of ls End = ends
 
 -- an action calls as its effect does
-calls_lockstep : (action : Action) (seen : Seen) → call_in (effect_of action seen) ≡ call_of action
+calls_lockstep : (action : Action) (seen : Seen) → call_in (effect_of action seen) ≡ call_of seen.locals action
 calls_lockstep (Eval (ToLocal place local kind) x n) seen = refl
 calls_lockstep (Eval (ToVariable place variable kind) x n) seen = refl
 calls_lockstep (Eval (ToElement place variable kind index) x n) seen = refl
@@ -109,11 +110,11 @@ calls_lockstep (Store variable kind n) seen = pending seen.pending
     pending (Some store) = refl
     pending None = refl
 calls_lockstep (Test condition holds fails) seen = refl
-calls_lockstep (Lock mutex n) seen = refl
-calls_lockstep (Unlock mutex n) seen = refl
+calls_lockstep (Lock lock n) seen = refl
+calls_lockstep (Unlock lock n) seen = refl
 calls_lockstep End seen = refl
 
-call_is : (action : Action) (seen : Seen) (e : a.Effect) → effect_of action seen ≡ Some e → call_of action ≡ call_by e
+call_is : (action : Action) (seen : Seen) (e : a.Effect) → effect_of action seen ≡ Some e → call_of seen.locals action ≡ call_by e
 call_is action seen e eq = sym (calls_lockstep action seen) ∙ ap call_in eq
 
 abbrev mutex_in : Call → ℕ
@@ -134,38 +135,42 @@ number_in (takes mutex next) = 1
 number_in (gives mutex next) = 2
 number_in ends = 3
 
-lock_by : (action : Action) (mutex next : ℕ) → call_of action ≡ takes mutex next → action ≡ Lock mutex next
-lock_by (Eval target value n) mutex next e = absurd (let k : 0 ≡ 1 = ap number_in e in omega (arith, k))
-lock_by (Store variable kind n) mutex next e = absurd (let k : 0 ≡ 1 = ap number_in e in omega (arith, k))
-lock_by (Test condition holds fails) mutex next e = absurd (let k : 0 ≡ 1 = ap number_in e in omega (arith, k))
-lock_by (Lock m n) mutex next e = ap (λ (x : ℕ). Lock x n) (ap mutex_in e) ∙ ap (λ (x : ℕ). Lock mutex x) (ap after_in e)
-lock_by (Unlock m n) mutex next e = absurd (let k : 2 ≡ 1 = ap number_in e in omega (arith, k))
-lock_by End mutex next e = absurd (let k : 3 ≡ 1 = ap number_in e in omega (arith, k))
+lock_by : (ls : List ℤ) (action : Action) (mutex next : ℕ) → call_of ls action ≡ takes mutex next →
+    (lock : LockName) × (action ≡ Lock lock next) × (lock_number ls lock ≡ mutex)
+lock_by ls (Eval target value n) mutex next e = absurd (let k : 0 ≡ 1 = ap number_in e in omega (arith, k))
+lock_by ls (Store variable kind n) mutex next e = absurd (let k : 0 ≡ 1 = ap number_in e in omega (arith, k))
+lock_by ls (Test condition holds fails) mutex next e = absurd (let k : 0 ≡ 1 = ap number_in e in omega (arith, k))
+lock_by ls (Lock lock n) mutex next e = (lock, ap (λ (x : ℕ). Lock lock x) (ap after_in e), ap mutex_in e)
+lock_by ls (Unlock lock n) mutex next e = absurd (let k : 2 ≡ 1 = ap number_in e in omega (arith, k))
+lock_by ls End mutex next e = absurd (let k : 3 ≡ 1 = ap number_in e in omega (arith, k))
 
-unlock_by : (action : Action) (mutex next : ℕ) → call_of action ≡ gives mutex next → action ≡ Unlock mutex next
-unlock_by (Eval target value n) mutex next e = absurd (let k : 0 ≡ 2 = ap number_in e in omega (arith, k))
-unlock_by (Store variable kind n) mutex next e = absurd (let k : 0 ≡ 2 = ap number_in e in omega (arith, k))
-unlock_by (Test condition holds fails) mutex next e = absurd (let k : 0 ≡ 2 = ap number_in e in omega (arith, k))
-unlock_by (Lock m n) mutex next e = absurd (let k : 1 ≡ 2 = ap number_in e in omega (arith, k))
-unlock_by (Unlock m n) mutex next e = ap (λ (x : ℕ). Unlock x n) (ap mutex_in e) ∙ ap (λ (x : ℕ). Unlock mutex x) (ap after_in e)
-unlock_by End mutex next e = absurd (let k : 3 ≡ 2 = ap number_in e in omega (arith, k))
+unlock_by : (ls : List ℤ) (action : Action) (mutex next : ℕ) → call_of ls action ≡ gives mutex next →
+    (lock : LockName) × (action ≡ Unlock lock next) × (lock_number ls lock ≡ mutex)
+unlock_by ls (Eval target value n) mutex next e = absurd (let k : 0 ≡ 2 = ap number_in e in omega (arith, k))
+unlock_by ls (Store variable kind n) mutex next e = absurd (let k : 0 ≡ 2 = ap number_in e in omega (arith, k))
+unlock_by ls (Test condition holds fails) mutex next e = absurd (let k : 0 ≡ 2 = ap number_in e in omega (arith, k))
+unlock_by ls (Lock lock n) mutex next e = absurd (let k : 1 ≡ 2 = ap number_in e in omega (arith, k))
+unlock_by ls (Unlock lock n) mutex next e = (lock, ap (λ (x : ℕ). Unlock lock x) (ap after_in e), ap mutex_in e)
+unlock_by ls End mutex next e = absurd (let k : 3 ≡ 2 = ap number_in e in omega (arith, k))
 
-end_by : (action : Action) → call_of action ≡ ends → action ≡ End
-end_by (Eval target value n) e = absurd (let k : 0 ≡ 3 = ap number_in e in omega (arith, k))
-end_by (Store variable kind n) e = absurd (let k : 0 ≡ 3 = ap number_in e in omega (arith, k))
-end_by (Test condition holds fails) e = absurd (let k : 0 ≡ 3 = ap number_in e in omega (arith, k))
-end_by (Lock m n) e = absurd (let k : 1 ≡ 3 = ap number_in e in omega (arith, k))
-end_by (Unlock m n) e = absurd (let k : 2 ≡ 3 = ap number_in e in omega (arith, k))
-end_by End e = refl
+end_by : (ls : List ℤ) (action : Action) → call_of ls action ≡ ends → action ≡ End
+end_by ls (Eval target value n) e = absurd (let k : 0 ≡ 3 = ap number_in e in omega (arith, k))
+end_by ls (Store variable kind n) e = absurd (let k : 0 ≡ 3 = ap number_in e in omega (arith, k))
+end_by ls (Test condition holds fails) e = absurd (let k : 0 ≡ 3 = ap number_in e in omega (arith, k))
+end_by ls (Lock lock n) e = absurd (let k : 1 ≡ 3 = ap number_in e in omega (arith, k))
+end_by ls (Unlock lock n) e = absurd (let k : 2 ≡ 3 = ap number_in e in omega (arith, k))
+end_by ls End e = refl
 
-pub takes_lock : (action : Action) (seen : Seen) (mutex next : ℕ) → effect_of action seen ≡ Some (a.Takes mutex next) → action ≡ Lock mutex next
-takes_lock action seen mutex next eq = lock_by action mutex next (call_is action seen (a.Takes mutex next) eq)
+pub takes_lock : (action : Action) (seen : Seen) (mutex next : ℕ) → effect_of action seen ≡ Some (a.Takes mutex next) →
+    (lock : LockName) × (action ≡ Lock lock next) × (lock_number seen.locals lock ≡ mutex)
+takes_lock action seen mutex next eq = lock_by seen.locals action mutex next (call_is action seen (a.Takes mutex next) eq)
 
-pub gives_unlock : (action : Action) (seen : Seen) (mutex next : ℕ) → effect_of action seen ≡ Some (a.Gives mutex next) → action ≡ Unlock mutex next
-gives_unlock action seen mutex next eq = unlock_by action mutex next (call_is action seen (a.Gives mutex next) eq)
+pub gives_unlock : (action : Action) (seen : Seen) (mutex next : ℕ) → effect_of action seen ≡ Some (a.Gives mutex next) →
+    (lock : LockName) × (action ≡ Unlock lock next) × (lock_number seen.locals lock ≡ mutex)
+gives_unlock action seen mutex next eq = unlock_by seen.locals action mutex next (call_is action seen (a.Gives mutex next) eq)
 
 pub ends_end : (action : Action) (seen : Seen) → effect_of action seen ≡ Some a.Ends → action ≡ End
-ends_end action seen eq = end_by action (call_is action seen a.Ends eq)
+ends_end action seen eq = end_by seen.locals action (call_is action seen a.Ends eq)
 
 -- ---- Marks
 
@@ -188,8 +193,8 @@ core_mark : (c : Places) (action : Action) (seen : Seen) (node : ℕ) (e : a.Eff
 core_mark c (Eval target value next) seen node e eq n = refl
 core_mark c (Store variable kind next) seen node e eq n = refl
 core_mark c (Test condition holds fails) seen node e eq n = refl
-core_mark c (Lock mutex next) seen node e eq n = absurd (let k : true ≡ false = ap takes_in eq ∙ n in let z : ⊥ = cc in z)
-core_mark c (Unlock mutex next) seen node e eq n = refl
+core_mark c (Lock lock next) seen node e eq n = absurd (let k : true ≡ false = ap takes_in eq ∙ n in let z : ⊥ = cc in z)
+core_mark c (Unlock lock next) seen node e eq n = refl
 core_mark c End seen node e eq n = refl
 
 pub any_at : (marks : List ℕ) (i x : ℕ) → slice_get marks i ≡ Some x → list_any (λ mark. mark == x) marks ≡ true

@@ -14,7 +14,6 @@ mod LockCalls
 mod UnlockAndEndCalls
 mod ResumedThreads
 mod ThreadsAtNodeCode
-mod SuccessorsInThread
 mod PlacedPlans
 mod CallsNotStuck
 mod Worked

@@ -39,13 +39,13 @@ module _ (p : Plan) (t : Thread) (program : List (List Slot)) (own : Program) (c
   abbrev c : Places
   c = code.places
 
-  abbrev lock : IsLockOf p t node mutex next
+  abbrev lock : IsLockOf p t node seen.locals mutex next
   lock = fragment.of_graph
 
   abbrev hart : Hart
   hart = fragment.on.hart
 
-  calling : IsCalling p t c (Lock mutex next) node
+  calling : IsCalling p t c (Lock lock.lock next) node
   calling = subst (λ (a : Action). IsCalling p t c a node) lock.locks (code.code node lock.is lock.own lock.at).calls
 
   abbrev at_call : IsAtCall program w h takes
@@ -112,10 +112,11 @@ module _ (p : Plan) (t : Thread) (program : List (List Slot)) (own : Program) (c
       on = on_fragment p t c program v h s fragment.meets agrees_after
           (record { exit = ways.Took node; node = next; seen = seen; side = side_after (keeping p t c next) side }) (c.words node) (c.call node + 4)
           fragment.registers (boundary_effects (keeping p t c next) side (c.after node) fragment.registers) own_next (mutex, lock)
-          (boundary_apart (length w.harts) s (keeping p t c next) side (c.after node) fragment.registers reads placed.number
+          (boundary_apart (length w.harts) s (keeping p t c next) side (c.after node) fragment.registers reads placed.number (placed.locks next own_next)
           (λ r q. placed.slots next r own_next q))
           (subst (λ (n : ℕ). MayGo v.log n (seen_effects (boundary_effects (keeping p t c next) side (c.after node) fragment.registers))) (sym same_count)
           (boundary_may v.log (length w.harts) (keeping p t c next) side (c.after node) fragment.registers (placed.log ∙ sym same_log) placed.number
+          (placed.locks next own_next)
           (λ r q. placed.slots next r own_next q)))
           after
           (calling.2 (record { environment = s; node = node; seen = seen; side = side; registers = fragment.registers }) fragment.meets refl

@@ -98,7 +98,8 @@ module _ (p : Plan) (t : Thread) (program : List (List Slot)) (own : Program) (c
       GoesThrough s (record { registers = registers; from = c.core node; to = end_of p t c stage.exit stage.node; most = c.words node })
       (Mark ∷ seen_effects effects)
       (λ (x : List ℕ). Has p t c stage.exit stage.node stage.seen stage.side x) →
-      IsNodeOf t stage.node → IsInGraph p t c stage.exit stage.node → AreEffectsApart s effects → MayGo w.log (length w.harts) (seen_effects effects) →
+      IsNodeOf t stage.node → IsInGraph p t c stage.exit stage.node stage.seen → AreEffectsApart s effects →
+      MayGo w.log (length w.harts) (seen_effects effects) →
       ((effect : Effect) → effect_at program h at.at.hart ≡ Some effect → IsMadeBy p t c e effect) → AreSeen p t c node side registers e effects →
       IsAtSomeMark p t c (on_machine program w h s) node seen side registers e
   at_mark e stage effects after eq plain goes own_next graph apart may made are_seen =
@@ -192,15 +193,16 @@ module _ (p : Plan) (t : Thread) (program : List (List Slot)) (own : Program) (c
       (performs (a.Goes next) eq) (follows (a.Goes next) next eq refl) tt tt tt (λ effect k. tt) refl
   begins (a.Takes mutex next) eq may =
       on_fragment p t c program w h s meets agrees (stage_after p t c node seen side (a.Takes mutex next)) (c.words node) (c.core node) registers [] at.own
-      (record { own = at.own; is = is; at = found; locks = takes_lock is.action seen mutex next eq }) tt tt at.at (performs (a.Takes mutex next) eq)
+      (let l = takes_lock is.action seen mutex next eq in record { own = at.own; is = is; at = found; lock = l.0; locks = l.1; number = l.2 }) tt tt at.at
+      (performs (a.Takes mutex next) eq)
   begins (a.Gives mutex next) eq may =
       let of_next : IsNodeOf t next = follows (a.Gives mutex next) next eq refl in
       at_mark (a.Gives mutex next) (stage_after p t c node seen side (a.Gives mutex next))
       (boundary_effects (keeping p t c next) side (c.after node) registers) refl eq refl (performs (a.Gives mutex next) eq) of_next
-      (record { own = at.own; is = is; at = found; unlocks = gives_unlock is.action seen mutex next eq })
-      (boundary_apart (length w.harts) s (keeping p t c next) side (c.after node) registers reads placed.number
+      (let l = gives_unlock is.action seen mutex next eq in record { own = at.own; is = is; at = found; lock = l.0; unlocks = l.1; number = l.2 })
+      (boundary_apart (length w.harts) s (keeping p t c next) side (c.after node) registers reads placed.number (placed.locks next of_next)
       (λ r q. placed.slots next r of_next q))
-      (boundary_may w.log (length w.harts) (keeping p t c next) side (c.after node) registers placed.log placed.number
+      (boundary_may w.log (length w.harts) (keeping p t c next) side (c.after node) registers placed.log placed.number (placed.locks next of_next)
       (λ r q. placed.slots next r of_next q))
       (λ effect k. tt) refl
   begins a.Ends eq may =

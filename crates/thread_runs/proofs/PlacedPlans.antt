@@ -9,7 +9,7 @@ use Rattle.flow_graph.specs.Liveness.{NodeAt}
 use Rattle.flow_graph.specs.Lowering.{lowered}
 use Rattle.thread_code.specs.Plans.{Plan, Thread, IsThread, IsNodeOf, IsKept, of_local, of_address, of_value, IsPlan, home_of_colour}
 use Rattle.thread_runs.specs.Laws.{PlansArePlaced}
-use Rattle.thread_runs.proofs.SuccessorsInThread.{contained, closed_from}
+use Rattle.flow_graph.proofs.Public.{contained, closed_from}
 use Rattle.expr_code.specs.declared.home.Home.{Home}
 use Rattle.expr_code.specs.declared.home.Home.TheVariants.{InRegister}
 use Rattle.expr_code.specs.EvaluationCode.{home_of}
@@ -48,7 +48,7 @@ closed p t plan thread node next is own found goes =
     subst (λ (g : Graph). slice_get g.threads t.number ≡ Some t.part) plan.lowered thread.nodes in
     let from : t.part.first ≤ node = own.from_first in
     let below : node < t.part.end = own.below_end in
-    let all = closed_from p.flat.threads 0 t.number t.part part node is nodes (omega (arith, from)) (omega (arith, below)) in
+    let all = closed_from p.flat p.flat.threads 0 t.number t.part part node is nodes (omega (arith, from)) (omega (arith, below)) in
     let there = contained t.part.first t.part.end (successors is.action) next all goes in
     record { from_first = there.0; below_end = there.1 }
 
@@ -58,5 +58,6 @@ plans_are_placed p t c log threads plan thread kept logs number room = record {
   number = number;
   room = room;
   closed = closed p t plan thread;
+  locks = λ node own. plan.room t node;
   slots = λ node register own has. kept_small p t thread node register ((kept node own register).0 has);
 }

@@ -1,5 +1,6 @@
 -- Threads that recovery resumes.
-use Rattle.std.proofs.Common.{ℕ, List, [], length, sym, subst}
+use Rattle.std.proofs.Common.{ℕ, List, [], length, sym, subst, refl}
+use Rattle.c_tree.specs.Values.{lock_number}
 use Rattle.std.specs.Prelude.{Contains}
 use Rattle.rv64_isa.specs.declared.object.Slot.{Slot}
 use Rattle.rv64_isa.specs.Machine.{World}
@@ -34,16 +35,17 @@ module _ (p : Plan) (t : Thread) (program : List (List Slot)) (own : Program) (c
       AreResumed p t c (node_resumed p t c r) seen side registers →
       IsUnderFragment p t c (on_machine program w h s) (node_resumed p t c r) seen side registers
   goes_on address (at_chosen node of chosen) at r = at_core (record { own = of; at = at; enters = enters node of r })
-  goes_on address (past_lock from mutex next is of found locks) at r =
+  goes_on address (past_lock from lock next is of found locks) at r =
       let goes : Contains (successors is.action) next = subst (λ (a : Action). Contains (successors a) next) (sym locks) (contains_first next []) in
       arrives from of
-      (locks_go_on p t from mutex next
-      (record { own = of; is = is; at = found; locks = locks }) program own code w h s seen side registers placed meets agrees at
+      (locks_go_on p t from seen.locals (lock_number seen.locals lock) next
+      (record { own = of; is = is; at = found; lock = lock; locks = locks; number = refl }) program own code w h s seen side registers placed meets agrees at
       (enters next (follows from next is of found goes) r))
-  goes_on address (past_unlock from mutex next is of found unlocks holds) at r =
+  goes_on address (past_unlock from lock next is of found unlocks holds) at r =
       let goes : Contains (successors is.action) next = subst (λ (a : Action). Contains (successors a) next) (sym unlocks) (contains_first next []) in
       arrives from of
-      (unlocks_go_on p t from mutex next (record { own = of; is = is; at = found; unlocks = unlocks }) program own code w h s seen side registers placed meets
+      (unlocks_go_on p t from seen.locals (lock_number seen.locals lock) next
+      (record { own = of; is = is; at = found; lock = lock; unlocks = unlocks; number = refl }) program own code w h s seen side registers placed meets
       agrees at (enters next (follows from next is of found goes) r))
 
 pub resumed_go_on : ResumedGoOn

@@ -60,8 +60,8 @@ pending_seen : (p : Plan) (action : Action) (seen : Seen) (variables : List (Lis
 pending_seen p (Eval target value next) seen variables x h = tt
 pending_seen p (Store variable kind next) seen variables x h = h
 pending_seen p (Test condition holds fails) seen variables x h = tt
-pending_seen p (Lock mutex next) seen variables x h = tt
-pending_seen p (Unlock mutex next) seen variables x h = tt
+pending_seen p (Lock lock next) seen variables x h = tt
+pending_seen p (Unlock lock next) seen variables x h = tt
 pending_seen p End seen variables x h = tt
 
 enters_seen : (p : Plan) (t : Thread) (node : ℕ) (seen : Seen) (side : ℕ) (x : List ℕ) (variables : List (List ℤ)) → Enters p t node seen side x →
@@ -87,13 +87,22 @@ has_seen p t c (ways.Took from) node seen side x variables h = enters_seen p t n
 has_seen p t c (ways.Gives from mutex) node seen side x variables h = asking_seen p t c _ mutex node seen side x variables h
 has_seen p t c ways.Ends node seen side x variables h = h
 
+graph_seen : (p : Plan) (t : Thread) (c : Places) (exit : ExitPoint) (node : ℕ) (seen : Seen) (variables : List (List ℤ)) →
+    ways.IsInGraph p t c exit node seen → ways.IsInGraph p t c exit node (sees variables seen)
+graph_seen p t c ways.Arrives node seen variables h = h
+graph_seen p t c ways.Keeps node seen variables h = h
+graph_seen p t c (ways.Asks mutex next) node seen variables h = h
+graph_seen p t c (ways.Took from) node seen variables h = h
+graph_seen p t c (ways.Gives from mutex) node seen variables h = h
+graph_seen p t c ways.Ends node seen variables h = h
+
 pub fragments_see_all : FragmentsSeeAll
 fragments_see_all p t c program w h s stage steps effects variables fragment = record {
   meets = fragment.meets;
   agrees = fragment.agrees;
   apart = fragment.apart;
   own = fragment.own;
-  of_graph = fragment.of_graph;
+  of_graph = graph_seen p t c stage.exit stage.node stage.seen variables fragment.of_graph;
   registers = fragment.registers;
   on = fragment.on;
   has = has_seen p t c stage.exit stage.node stage.seen stage.side fragment.registers variables fragment.has;

@@ -33,13 +33,13 @@ module _ (p : Plan) (t : Thread) (program : List (List Slot)) (own : Program) (c
   abbrev c : Places
   c = code.places
 
-  abbrev unlock : IsUnlockOf p t from mutex next
+  abbrev unlock : IsUnlockOf p t from seen.locals mutex next
   unlock = fragment.of_graph
 
   abbrev hart : Hart
   hart = fragment.on.hart
 
-  calling : IsCalling p t c (Unlock mutex next) from
+  calling : IsCalling p t c (Unlock unlock.lock next) from
   calling = subst (λ (a : Action). IsCalling p t c a from) unlock.unlocks (code.code from unlock.is unlock.own unlock.at).calls
 
   abbrev at_call : IsAtCall program w h gives

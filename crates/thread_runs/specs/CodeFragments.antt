@@ -1,5 +1,7 @@
 -- A thread in a fragment: on its way from the mark of one node to that of the next.
-use Rattle.std.specs.Prelude.{◌≡◌, ℕ, suc, ◌+◌, ◌*◌, ◌%◌, ◌^◌, ◌<◌, ◌≤◌, List, [], ◌∷◌, length, map, Contains, Some, true, if◌then◌else◌}
+use Rattle.std.specs.Prelude.{◌≡◌, ℕ, suc, ◌+◌, ◌*◌, ◌%◌, ◌^◌, ◌<◌, ◌≤◌, List, [], ◌∷◌, length, map, Contains, Some, true, if◌then◌else◌, ℤ}
+use Rattle.c_tree.specs.Values.{lock_number}
+use Rattle.c_tree.specs.Exprs.{LockName}
 use Rattle.ido_base.specs.declared.log.Log.{Log}
 use Rattle.ido_base.specs.Layout.{logs_base, variable_at}
 use Rattle.ido_ints.specs.declared.kinds.Kind.{Kind}
@@ -12,7 +14,7 @@ use Rattle.rv64_isa.specs.Rows.{Effect, Continues, Loads, Stores, Cleans, Fences
 use Rattle.rv64_isa.specs.Machine.{World}
 use Rattle.rv64_isa.specs.Schedule.{effect_at}
 use Rattle.memory_layout.specs.Roles as roles
-use Rattle.boundary_code.specs.Boundaries.{boundary_effects, side_after}
+use Rattle.boundary_code.specs.Boundaries.{HaveRoom, boundary_effects, side_after}
 use Rattle.node_code.specs.Pieces.{takes, gives, ends}
 use Rattle.flow_graph.specs.Nodes.{Lock, Unlock, End, Node, successors}
 use Rattle.flow_graph.specs.Actions as a
@@ -21,7 +23,7 @@ use Rattle.code_runs.specs.ComputingRuns.{config}
 use Rattle.code_runs.specs.CodeTraces.{MarkedEnvironment, Meets, Mark, seen_effects, marked}
 use Rattle.hart_runs.specs.HartsOnRuns.{is_access, Agrees, IsRunningAt, IsOnTrace}
 use Rattle.hart_runs.specs.Laws.{IsApart, StoresApart}
-use Rattle.thread_code.specs.Plans.{Plan, Thread, IsNodeOf}
+use Rattle.thread_code.specs.Plans.{Plan, Thread, IsNodeOf, locks_before}
 use Rattle.thread_code.specs.RegistersAtNodes.{Enters}
 use Rattle.thread_code.specs.NodeCodeEffects.{Places, kind_at, seen_after, keeping, Asking}
 
@@ -31,7 +33,7 @@ pub data ExitPoint : Type 0 where
   Arrives : ExitPoint
   -- the node's code, through the boundary before it
   Keeps : ExitPoint
-  -- the ECALL of the node, which takes a mutex
+  -- the ECALL of the node, which takes the lock of that number
   Asks : (mutex next : ℕ) → ExitPoint
   -- where it may be resumed, through the boundary after the lock that it has taken
   Took : (from : ℕ) → ExitPoint
@@ -76,18 +78,22 @@ effects_of Fences = Fences ∷ []
 effects_of Calls = []
 
 module _ (p : Plan) (t : Thread) where
-  -- the thread's lock or unlock, and the node after it
-  pub record IsLockOf (from mutex next : ℕ) : Type 0 where
+  -- the thread's lock or unlock, the node after it, and the number of its lock where locals have these
+  pub record IsLockOf (from : ℕ) (locals : List ℤ) (mutex next : ℕ) : Type 0 where
     pub own : IsNodeOf t from
     pub is : Node
     pub at : NodeAt p.graph from is
-    pub locks : is.action ≡ Lock mutex next
+    pub lock : LockName
+    pub locks : is.action ≡ Lock lock next
+    pub number : lock_number locals lock ≡ mutex
 
-  pub record IsUnlockOf (from mutex next : ℕ) : Type 0 where
+  pub record IsUnlockOf (from : ℕ) (locals : List ℤ) (mutex next : ℕ) : Type 0 where
     pub own : IsNodeOf t from
     pub is : Node
     pub at : NodeAt p.graph from is
-    pub unlocks : is.action ≡ Unlock mutex next
+    pub lock : LockName
+    pub unlocks : is.action ≡ Unlock lock next
+    pub number : lock_number locals lock ≡ mutex
 
   pub record IsEndOf (node : ℕ) : Type 0 where
     pub own : IsNodeOf t node
@@ -115,13 +121,13 @@ module _ (p : Plan) (t : Thread) (c : Places) where
   Has Ends node seen side registers = read registers roles.call ≡ ends
 
   -- what the graph has at the exit point that a thread is on its way to
-  abbrev pub IsInGraph : ExitPoint → (node : ℕ) → Type 0
-  IsInGraph Arrives node = Unit {0}
-  IsInGraph Keeps node = Unit {0}
-  IsInGraph (Asks mutex next) node = IsLockOf p t node mutex next
-  IsInGraph (Took from) node = (mutex : ℕ) × IsLockOf p t from mutex node
-  IsInGraph (Gives from mutex) node = IsUnlockOf p t from mutex node
-  IsInGraph Ends node = IsEndOf p t node
+  abbrev pub IsInGraph : ExitPoint → (node : ℕ) → a.Seen → Type 0
+  IsInGraph Arrives node seen = Unit {0}
+  IsInGraph Keeps node seen = Unit {0}
+  IsInGraph (Asks mutex next) node seen = IsLockOf p t node seen.locals mutex next
+  IsInGraph (Took from) node seen = (mutex : ℕ) × IsLockOf p t from seen.locals mutex node
+  IsInGraph (Gives from mutex) node seen = IsUnlockOf p t from seen.locals mutex node
+  IsInGraph Ends node seen = IsEndOf p t node
 
   -- the hart is in the fragment: so many instructions are ahead, these effects are seen of them, and no mark
   pub record IsOnFragment (r : Running) (stage : Stage) (steps : ℕ) (effects : List Effect) : Type 0 where
@@ -129,7 +135,7 @@ module _ (p : Plan) (t : Thread) (c : Places) where
     pub agrees : Agrees r.program r.world r.hart r.environment
     pub apart : AreEffectsApart r.environment effects
     pub own : IsNodeOf t stage.node
-    pub of_graph : IsInGraph stage.exit stage.node
+    pub of_graph : IsInGraph stage.exit stage.node stage.seen
     pub registers : List ℕ
     pub on : IsOnTrace r.world r.hart r.environment steps (seen_effects effects) (config registers (end_of stage.exit stage.node))
     pub has : Has stage.exit stage.node stage.seen stage.side registers
@@ -195,7 +201,7 @@ module _ (p : Plan) (t : Thread) (c : Places) where
     pub agrees : Agrees r.program r.world r.hart r.environment
     pub apart : AreEffectsApart r.environment effects
     pub own : IsNodeOf t stage.node
-    pub of_graph : IsInGraph stage.exit stage.node
+    pub of_graph : IsInGraph stage.exit stage.node stage.seen
     pub registers : List ℕ
     pub on : IsOnTrace r.world r.hart r.environment (suc steps) (Mark ∷ seen_effects effects) (config registers (end_of stage.exit stage.node))
     pub has : Has stage.exit stage.node stage.seen stage.side registers
@@ -211,6 +217,8 @@ module _ (p : Plan) (t : Thread) (c : Places) where
     pub room : c.program.start + 4 * length c.program.code < 2 ^ 64
     -- the nodes that may follow one of the thread's are the thread's
     pub closed : (node next : ℕ) (is : Node) → IsNodeOf t node → NodeAt p.graph node is → Contains (successors is.action) next → IsNodeOf t next
+    -- a side has room for the locks that are held before its nodes
+    pub locks : (node : ℕ) → IsNodeOf t node → HaveRoom p.log (locks_before p t node)
     -- a side has a slot for each register that is kept
     pub slots : (node register : ℕ) → IsNodeOf t node → Contains (c.live node) register → register < 32
 

@@ -1,5 +1,5 @@
 -- Laws of threads in fragments of their code: what each event does to them.
-use Rattle.std.specs.Prelude.{◌≡◌, ◌≢◌, ◌⊎◌, ℕ, suc, ◌+◌, ◌*◌, ◌^◌, ◌<◌, ◌≤◌, List, [], ◌∷◌, ◌++◌, length, slice_get, slice_set, slice_index_or}
+use Rattle.std.specs.Prelude.{◌≡◌, ◌≢◌, ◌⊎◌, ℕ, suc, ◌+◌, ◌-◌, ◌*◌, ◌^◌, ◌<◌, ◌≤◌, List, [], ◌∷◌, ◌++◌, length, slice_get, slice_set, slice_index_or}
 use Rattle.std.specs.Prelude.{Contains, Option, Some, None, true, false, ℤ}
 use Rattle.ido_base.specs.declared.log.Log.{Log}
 use Rattle.ido_base.specs.declared.event.Event.{Event}
@@ -161,20 +161,22 @@ abbrev pub TookEnd : Type 0
 TookEnd = (p : Plan) (t : Thread) (program : List (List Slot)) (own : Program) (code : IsThreadCode p t own) (w : World) (h : ℕ) (s : MarkedEnvironment)
     (from node : ℕ) (seen : Seen) (side : ℕ) (effects : List Effect) → IsPlaced p t code.places w.log (length w.harts) →
     IsOnFragment p t code.places (on_machine program w h s) (record { exit = Took from; node = node; seen = seen; side = side }) 0 effects →
-    IsOnSomeFragment p t code.places (on_machine program w h s) (record { exit = Arrives; node = node; seen = seen; side = side }) (code.places.words from) []
+    IsOnSomeFragment p t code.places (on_machine program w h s) (record { exit = Arrives; node = node; seen = seen; side = side })
+    (code.places.words from - 3) []
 
 -- after a lock and its boundary, or an unlock, the thread goes to its node: so does one that is resumed there
 abbrev pub GoesOnFrom : (from next : ℕ) → Plan → Thread → Type 0
 GoesOnFrom from next p t = (program : List (List Slot)) (own : Program) (code : IsThreadCode p t own) (w : World) (h : ℕ) (s : MarkedEnvironment)
     (seen : Seen) (side : ℕ) (registers : List ℕ) → IsPlaced p t code.places w.log (length w.harts) → Meets code.places.program s → Agrees program w h s →
     IsRunningAt w h (config registers (code.places.after from)) → Enters p t next seen side registers →
-    IsOnSomeFragment p t code.places (on_machine program w h s) (record { exit = Arrives; node = next; seen = seen; side = side }) (code.places.words from) []
+    IsOnSomeFragment p t code.places (on_machine program w h s) (record { exit = Arrives; node = next; seen = seen; side = side })
+    (code.places.words from - 3) []
 
 abbrev pub LocksGoOn : Type 0
-LocksGoOn = (p : Plan) (t : Thread) (from mutex next : ℕ) → IsLockOf p t from mutex next → GoesOnFrom from next p t
+LocksGoOn = (p : Plan) (t : Thread) (from : ℕ) (locals : List ℤ) (mutex next : ℕ) → IsLockOf p t from locals mutex next → GoesOnFrom from next p t
 
 abbrev pub UnlocksGoOn : Type 0
-UnlocksGoOn = (p : Plan) (t : Thread) (from mutex next : ℕ) → IsUnlockOf p t from mutex next → GoesOnFrom from next p t
+UnlocksGoOn = (p : Plan) (t : Thread) (from : ℕ) (locals : List ℤ) (mutex next : ℕ) → IsUnlockOf p t from locals mutex next → GoesOnFrom from next p t
 
 -- ---- Marks
 
@@ -399,8 +401,8 @@ module _ (p : Plan) (t : Thread) (c : Places) where
   -- the node that a thread goes to from where it is resumed
   abbrev pub node_resumed : {address : ℕ} → IsResumeAddress p t c address → ℕ
   node_resumed (at_chosen node own chosen) = node
-  node_resumed (past_lock from mutex next is own found locks) = next
-  node_resumed (past_unlock from mutex next is own found unlocks holds) = next
+  node_resumed (past_lock from lock next is own found locks) = next
+  node_resumed (past_unlock from lock next is own found unlocks holds) = next
 
   -- registers are what was kept of others, with which the thread could enter the node
   pub record AreResumed (node : ℕ) (seen : Seen) (side : ℕ) (registers : List ℕ) : Type 0 where
@@ -414,7 +416,7 @@ module _ (p : Plan) (t : Thread) (c : Places) where
   pub data IsUnderFragment (r : Running) (node : ℕ) (seen : Seen) (side : ℕ) (registers : List ℕ) : Type 0 where
     at_core : IsAtCore p t c r.world r.hart node seen side registers → IsUnderFragment r node seen side registers
     arrives : (from : ℕ) → IsNodeOf t from →
-        IsOnSomeFragment p t c r (record { exit = Arrives; node = node; seen = seen; side = side }) (c.words from) [] →
+        IsOnSomeFragment p t c r (record { exit = Arrives; node = node; seen = seen; side = side }) (c.words from - 3) [] →
         IsUnderFragment r node seen side registers
 
 -- a hart that recovery resumes goes on from where it is

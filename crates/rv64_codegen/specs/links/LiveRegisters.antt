@@ -35,8 +35,8 @@ abbrev pub is_store : Action → Bool
 is_store (Eval target value next) = false
 is_store (Store variable kind next) = true
 is_store (Test condition holds fails) = false
-is_store (Lock mutex next) = false
-is_store (Unlock mutex next) = false
+is_store (Lock lock next) = false
+is_store (Unlock lock next) = false
 is_store End = false
 
 -- before a store the registers of what it stores are there too

@@ -60,8 +60,8 @@ abbrev pub action_exprs : Action → List e.Placed
 action_exprs (Eval target value next) = assign_exprs target value
 action_exprs (Store variable kind next) = []
 action_exprs (Test condition holds fails) = condition ∷ []
-action_exprs (Lock mutex next) = []
-action_exprs (Unlock mutex next) = []
+action_exprs (Lock lock next) = []
+action_exprs (Unlock lock next) = []
 action_exprs End = []
 
 -- the expressions of all nodes need few enough temporaries
@@ -102,8 +102,8 @@ abbrev pub gives : Action → Bool
 gives (Eval target value next) = false
 gives (Store variable kind next) = false
 gives (Test condition holds fails) = false
-gives (Lock mutex next) = false
-gives (Unlock mutex next) = true
+gives (Lock lock next) = false
+gives (Unlock lock next) = true
 gives End = false
 
 -- the boundary before the node stands there by choice, or there is none
@@ -121,8 +121,8 @@ abbrev pub most_doing : Action → ℕ
 most_doing (Eval target value next) = 16 * action_nodes (Eval target value next) + 18
 most_doing (Store variable kind next) = 3
 most_doing (Test condition holds fails) = 16 * action_nodes (Test condition holds fails) + 11
-most_doing (Lock mutex next) = 59
-most_doing (Unlock mutex next) = 59
+most_doing (Lock lock next) = 96
+most_doing (Unlock lock next) = 96
 most_doing End = 2
 
 -- what the node does, and how it goes on

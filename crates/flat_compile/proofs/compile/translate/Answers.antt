@@ -4,15 +4,17 @@ use Rattle.flat_compile.proofs.Plans.{is_translated, marked, plan_at, plan_is, r
 use Rattle.flat_compile.proofs.compile.translate.Goals as goal
 
 pub emit-requires-clause-plan : goal.emit-requires-clause-plan
-emit-requires-clause-plan c = plan_is c.args.analysis.now c.in_ok-cuts.cuts c.requires c.in_ok-cuts.ensures.cuts c.in_ok-cuts.ensures.places
+emit-requires-clause-plan c =
+    plan_is c.args.log c.args.analysis.now c.in_ok-cuts.cuts c.requires.analysis c.requires.few c.in_ok-cuts.ensures.cuts c.in_ok-cuts.ensures.places
 
 pub emit-requires-clause-shallow : goal.emit-requires-clause-shallow
-emit-requires-clause-shallow c = c.requires.accepted.shallow
+emit-requires-clause-shallow c = c.requires.analysis.accepted.shallow
 
 pub returns-clause-translated : goal.returns-clause-translated
 returns-clause-translated c =
-    let plan = plan_is c.args.analysis.now c.in_ok-cuts.cuts c.requires c.in_ok-cuts.ensures.cuts c.in_ok-cuts.ensures.places in
-    is_translated (plan_at c.args.analysis.now c.in_ok-cuts.cuts) c.in_ok-code.code (record {
+    let plan = plan_is c.args.log c.args.analysis.now c.in_ok-cuts.cuts c.requires.analysis c.requires.few c.in_ok-cuts.ensures.cuts
+    c.in_ok-cuts.ensures.places in
+    is_translated (plan_at c.args.log c.args.analysis.now c.in_ok-cuts.cuts) c.in_ok-code.code (record {
       is = c.in_ok-code.ensures.code;
       cleans = c.in_ok-code.ensures.cleans;
       few_threads = c.in_ok-code.ensures.threads;
@@ -22,15 +24,17 @@ returns-clause-translated c =
       log = c.in_ok-code.ensures.log;
     }) plan
     c.in_ok-object.object c.in_ok-object.marks c.in_ok-cuts.cuts refl c.in_ok-cuts.ensures.minimal c.in_ok-cuts.ensures.fewest c.in_ok-object.ensures.linked
-    c.in_ok-object.ensures.initial c.in_ok-object.ensures.mutexes c.in_ok-object.ensures.log refl
+    c.in_ok-object.ensures.initial c.in_ok-object.ensures.mutexes c.in_ok-object.ensures.log
 
 pub resume_table-requires-clause-plan : goal.resume_table-requires-clause-plan
-resume_table-requires-clause-plan c = plan_is c.args.analysis.now c.in_ok-cuts.cuts c.requires c.in_ok-cuts.ensures.cuts c.in_ok-cuts.ensures.places
+resume_table-requires-clause-plan c =
+    plan_is c.args.log c.args.analysis.now c.in_ok-cuts.cuts c.requires.analysis c.requires.few c.in_ok-cuts.ensures.cuts c.in_ok-cuts.ensures.places
 
 pub resume_table-requires-clause-marked : goal.resume_table-requires-clause-marked
 resume_table-requires-clause-marked c =
-    let plan = plan_is c.args.analysis.now c.in_ok-cuts.cuts c.requires c.in_ok-cuts.ensures.cuts c.in_ok-cuts.ensures.places in
-    marked (plan_at c.args.analysis.now c.in_ok-cuts.cuts) c.in_ok-code.code (record {
+    let plan = plan_is c.args.log c.args.analysis.now c.in_ok-cuts.cuts c.requires.analysis c.requires.few c.in_ok-cuts.ensures.cuts
+    c.in_ok-cuts.ensures.places in
+    marked (plan_at c.args.log c.args.analysis.now c.in_ok-cuts.cuts) c.in_ok-code.code (record {
       is = c.in_ok-code.ensures.code;
       cleans = c.in_ok-code.ensures.cleans;
       few_threads = c.in_ok-code.ensures.threads;
@@ -40,12 +44,13 @@ resume_table-requires-clause-marked c =
       log = c.in_ok-code.ensures.log;
     }) plan
     c.in_ok-object.object c.in_ok-object.marks c.in_ok-cuts.cuts refl c.in_ok-cuts.ensures.minimal c.in_ok-cuts.ensures.fewest c.in_ok-object.ensures.linked
-    c.in_ok-object.ensures.initial c.in_ok-object.ensures.mutexes c.in_ok-object.ensures.log refl
+    c.in_ok-object.ensures.initial c.in_ok-object.ensures.mutexes c.in_ok-object.ensures.log
 
 pub returns-clause-resumes : goal.returns-clause-resumes
 returns-clause-resumes c =
-    let plan = plan_is c.args.analysis.now c.in_ok-cuts.cuts c.requires c.in_ok-cuts.ensures.cuts c.in_ok-cuts.ensures.places in
-    resumable (plan_at c.args.analysis.now c.in_ok-cuts.cuts) c.in_ok-code.code (record {
+    let plan = plan_is c.args.log c.args.analysis.now c.in_ok-cuts.cuts c.requires.analysis c.requires.few c.in_ok-cuts.ensures.cuts
+    c.in_ok-cuts.ensures.places in
+    resumable (plan_at c.args.log c.args.analysis.now c.in_ok-cuts.cuts) c.in_ok-code.code (record {
       is = c.in_ok-code.ensures.code;
       cleans = c.in_ok-code.ensures.cleans;
       few_threads = c.in_ok-code.ensures.threads;
@@ -55,5 +60,5 @@ returns-clause-resumes c =
       log = c.in_ok-code.ensures.log;
     }) plan
     c.in_ok-object.object c.in_ok-object.marks c.in_ok-cuts.cuts refl c.in_ok-cuts.ensures.minimal c.in_ok-cuts.ensures.fewest c.in_ok-object.ensures.linked
-    c.in_ok-object.ensures.initial c.in_ok-object.ensures.mutexes c.in_ok-object.ensures.log refl
+    c.in_ok-object.ensures.initial c.in_ok-object.ensures.mutexes c.in_ok-object.ensures.log
     c.in_ok-resumes.resumes.items c.in_ok-resumes.ensures

@@ -1,4 +1,5 @@
 use Rattle.std.proofs.Common.{ap, sym, ◌∙◌, arith}
+use Rattle.c_tree.specs.Exprs.{lock_name_of}
 use Rattle.ido_base.specs.Locks.{mask_with}
 use Rattle.boundary_code.proofs.Public.{none_with}
 use Rattle.flow_graph.specs.Nodes.{action_of, node_of}
@@ -18,7 +19,9 @@ mask-requires c =
     let is = node_of c.index.result.now in
     record {
       is = c.requires.is;
-      own = unlock_own p (thread_in p c.args.number c.args.part) c.requires.is.plan c.requires.is.thread c.args.node c.in-Unlock.mutex c.in-Unlock.next is
+      own =
+          unlock_own p (thread_in p c.args.number c.args.part) c.requires.is.plan c.requires.is.thread c.args.node (lock_name_of c.in-Unlock.lock.now)
+          c.in-Unlock.next is
           c.requires.own (at_node q c.args.number c.args.part c.args.node c.requires c.index.result.now c.index.ensures) (ap action_of c.in-Unlock.is);
     }
 
@@ -27,14 +30,15 @@ returns-in-Lock c =
     let q = c.args.plan.now in
     let p = plan_of q in
     locks p (thread_in p c.args.number c.args.part) c.args.node (node_of c.index.result.now) c.requires.own
-    (at_node q c.args.number c.args.part c.args.node c.requires c.index.result.now c.index.ensures) c.in-Lock.mutex c.in-Lock.next (ap action_of c.in-Lock.is)
+    (at_node q c.args.number c.args.part c.args.node c.requires c.index.result.now c.index.ensures) (lock_name_of c.in-Lock.lock.now) c.in-Lock.next
+    (ap action_of c.in-Lock.is)
 
 pub returns-then-mask-eq0 : goal.returns-then-mask-eq0
 returns-then-mask-eq0 c =
     let q = c.args.plan.now in
     let p = plan_of q in
     frees p (thread_in p c.args.number c.args.part) c.args.node (node_of c.index.result.now) c.requires.own
-    (at_node q c.args.number c.args.part c.args.node c.requires c.index.result.now c.index.ensures) c.in-Unlock.mutex c.in-Unlock.next
+    (at_node q c.args.number c.args.part c.args.node c.requires c.index.result.now c.index.ensures) (lock_name_of c.in-Unlock.lock.now) c.in-Unlock.next
     (ap action_of c.in-Unlock.is) (none_with _ (sym c.mask.ensures ∙ c.if-mask-eq0.true))
 
 pub returns-else-mask-eq0 : goal.returns-else-mask-eq0
@@ -42,7 +46,7 @@ returns-else-mask-eq0 c =
     let q = c.args.plan.now in
     let p = plan_of q in
     unlocks p (thread_in p c.args.number c.args.part) c.args.node (node_of c.index.result.now) c.requires.own
-    (at_node q c.args.number c.args.part c.args.node c.requires c.index.result.now c.index.ensures) c.in-Unlock.mutex c.in-Unlock.next
+    (at_node q c.args.number c.args.part c.args.node c.requires c.index.result.now c.index.ensures) (lock_name_of c.in-Unlock.lock.now) c.in-Unlock.next
     (ap action_of c.in-Unlock.is) (λ e. c.if-mask-eq0.false (c.mask.ensures ∙ ap mask_with e))
 
 pub returns-in_default : goal.returns-in_default

@@ -1,7 +1,8 @@
 -- What refuses the flat form refuses the text.
 use Rattle.std.proofs.Common.{◌∙◌, ap, subst}
 use Rattle.c_tree.specs.Flats.{flat_of}
-use Rattle.c_tree.specs.Temporaries.{price_fault}
+use Rattle.c_tree.specs.declared.language.Language.TheVariants.{Plain}
+use Rattle.c_tree.specs.HoldPrices.{price_fault}
 use Rattle.c_tree.specs.declared.flat.Flat.{Flat}
 use Rattle.flat_analysis.specs.CompilableForms.{IsAcceptedForm}
 use Rattle.ido_compile.specs.links.FrontEndAnswers.{IsAnalysisAnswer, of_source}
@@ -18,7 +19,7 @@ pub analyse-requires-clause-formed : goal.analyse-requires-clause-formed
 analyse-requires-clause-formed c = c.flattened_is_formed.ensures c.args.text.now (flat_of c.args.flat.now) c.requires
 
 pub analyse-requires-clause-priced : goal.analyse-requires-clause-priced
-analyse-requires-clause-priced c = ap price_fault c.requires.flattened ∙ c.requires.short
+analyse-requires-clause-priced c = ap (price_fault Plain) c.requires.flattened ∙ c.requires.short
 
 pub returns-clause-answer : goal.returns-clause-answer
 returns-clause-answer c =
