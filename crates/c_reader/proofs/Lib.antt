@@ -8,6 +8,7 @@ mod Assignments
 mod Calls
 mod TokenPlaces
 mod SimpleStatements
+mod Arms
 mod Statements
 mod Items
 mod WholePrograms

@@ -1,10 +1,10 @@
 -- Before each node of a thread its set of held mutexes is known.
-use Rattle.std.proofs.Common.{◌≡◌, refl, ℕ, ◌<◌, List, length, map, Some, ap, sym, subst, ◌∙◌, arith}
+use Rattle.std.proofs.Common.{◌≡◌, refl, ℕ, suc, ◌<◌, List, [], ◌∷◌, length, map, Some, ap, sym, subst, ◌∙◌, arith}
 use Rattle.std.specs.Prelude.{slice_get}
-use Rattle.std.proofs.lemmas.Option.{slice_get_within}
+use Rattle.std.proofs.lemmas.Option.{same_Some, slice_get_within}
 use Rattle.c_tree.specs.Flats as f
 use Rattle.c_tree.specs.LockNames.{Held}
-use Rattle.lock_discipline.specs.HeldSetsByStep.{AreAllSetsOf}
+use Rattle.lock_discipline.specs.HeldSetsByStep.{AreAllSetsOf, AreSetsOf}
 use Rattle.rv64_isa.specs.declared.object.Object.{Object}
 use Rattle.rv64_isa.specs.declared.object.Marks.{Marks}
 use Rattle.flow_graph.specs.declared.cuts.Cuts.{Cuts}
@@ -53,19 +53,39 @@ module _ (p : Plan) (plan : IsPlan p) (thread : ℕ) (part : Part) (at : slice_g
     few_steps = omega (arith, few_nodes p plan own is_own);
   }
 
--- a plan with other sets, which are those of its form too
+-- ---- A form has one table of sets
+
+one_list : (xs ys : List Held) → ((n : ℕ) (k : Held) → slice_get xs n ≡ Some k → slice_get ys n ≡ Some k) → length xs ≡ length ys → xs ≡ ys
+one_list [] [] same long = refl
+one_list [] (y ∷ ys) same long = absurd (omega (arith, long))
+one_list (x ∷ xs) [] same long = absurd (omega (arith, long))
+one_list (x ∷ xs) (y ∷ ys) same long =
+    ap (λ (h : Held). h ∷ xs) (same_Some x y (sym (same 0 x refl)))
+    ∙ ap (λ (hs : List Held). y ∷ hs) (one_list xs ys (λ n k there. same (suc n) k there) (omega (arith, long)))
+
+one_table : (xs ys : List (List Held)) → ((n : ℕ) (one other : List Held) → slice_get xs n ≡ Some one → slice_get ys n ≡ Some other → one ≡ other) →
+    length xs ≡ length ys → xs ≡ ys
+one_table [] [] same long = refl
+one_table [] (y ∷ ys) same long = absurd (omega (arith, long))
+one_table (x ∷ xs) [] same long = absurd (omega (arith, long))
+one_table (x ∷ xs) (y ∷ ys) same long =
+    ap (λ (one : List Held). one ∷ xs) (same 0 x y refl refl)
+    ∙ ap (λ (all : List (List Held)). y ∷ all) (one_table xs ys (λ n one other here there. same (suc n) one other here there) (omega (arith, long)))
+
+one_of : (x : f.Flat) (t : f.Thread) (one other : List Held) → AreSetsOf x t one → AreSetsOf x t other → one ≡ other
+one_of x t one other is are =
+    one_list one other (λ n k there. (are.exactly n k).1 ((is.exactly n k).0 there)) (is.each_step ∙ sym are.each_step)
+
+same_sets : (x : f.Flat) (one other : List (List Held)) → AreAllSetsOf x one → AreAllSetsOf x other → one ≡ other
+same_sets x one other is are =
+    one_table one other (λ n sets sets' here there.
+    let t = found_in x.threads n (let l = slice_get_within one n sets here in omega (arith, l, is.each_thread)) in
+    one_of x t.0 sets sets' (is.sets n t.0 sets t.1 here) (are.sets n t.0 sets' t.1 there))
+    (is.each_thread ∙ sym are.each_thread)
+
+-- a plan with other sets, which are those of its form too, is the same one
 with_sets : (p : Plan) (held : List (List Held)) → IsPlan p → AreAllSetsOf p.flat held → IsPlan (record p { held = held })
-with_sets p held plan are = record {
-  formed = plan.formed;
-  lowered = plan.lowered;
-  cuts = plan.cuts;
-  at_writes = plan.at_writes;
-  held = are;
-  live = plan.live;
-  registers = plan.registers;
-  apart = plan.apart;
-  priced = plan.priced;
-}
+with_sets p held plan are = subst (λ (sets : List (List Held)). IsPlan (record p { held = sets })) (same_sets p.flat p.held held plan.held are) plan
 
 pub have_sets : (x : f.Flat) (object : Object) (marks : Marks) (cuts : Cuts) (held : List (List Held)) (parts : List Part) →
     IsTranslated x object marks cuts → AreAllSetsOf x held → parts ≡ (lowered x).threads → HaveSets held parts

@@ -14,7 +14,7 @@ use Rattle.flow_graph.specs.declared.graph.Graph as code
 use Rattle.flow_graph.specs.declared.graph.Node as node
 use Rattle.flow_graph.specs.declared.graph.Part.{Part}
 use Rattle.flow_graph.specs.IdempotentCuts.{Boundaries}
-use Rattle.flow_graph.specs.Lowering.{lowered, part, parts, thread_count, thread_nodes, threads_nodes}
+use Rattle.flow_graph.specs.Lowering.{table_of, lowered, part, parts, thread_count, thread_nodes, threads_nodes}
 use Rattle.flow_graph.specs.Nodes.{Graph, Node, graph_of, node_of}
 use Rattle.flow_graph.proofs.Public.{length-thread_nodes, lowered_threads}
 use Rattle.flat_compile.specs.TranslatedForms.{IsTranslated}
@@ -91,26 +91,28 @@ threads_many x g is =
 
 -- ---- A thread's nodes are in the graph
 
-parts_inside : (ts : List f.Thread) (first number : ℕ) (own : Part) → slice_get (parts ts first) number ≡ Some own →
-    own.end ≤ first + length (threads_nodes ts first)
-parts_inside [] first number own g = absurd (none-some own g)
-parts_inside (t ∷ ts) first zero own g =
+parts_inside : (x : f.Flat) (ts : List f.Thread) (first number : ℕ) (own : Part) → slice_get (parts ts first) number ≡ Some own →
+    own.end ≤ first + length (threads_nodes x ts first)
+parts_inside x [] first number own g = absurd (none-some own g)
+parts_inside x (t ∷ ts) first zero own g =
     let end : first + thread_count t ≡ own.end = ap (λ (y : Part). y.end) (same_Some (part t first) own g) in
-    let back : List Node = threads_nodes ts (first + thread_count t) in
-    let whole : length (thread_nodes t first ++ back) ≡ length (thread_nodes t first) + length back = length-append (thread_nodes t first) back in
-    let many : length (thread_nodes t first) ≡ thread_count t = length-thread_nodes t first in
+    let back : List Node = threads_nodes x ts (first + thread_count t) in
+    let whole : length (thread_nodes (table_of x t) t first ++ back) ≡ length (thread_nodes (table_of x t) t first) + length back =
+    length-append (thread_nodes (table_of x t) t first) back in
+    let many : length (thread_nodes (table_of x t) t first) ≡ thread_count t = length-thread_nodes (table_of x t) t first in
     omega (arith, end, whole, many)
-parts_inside (t ∷ ts) first (suc number) own g =
-    let back : List Node = threads_nodes ts (first + thread_count t) in
-    let later : own.end ≤ first + thread_count t + length back = parts_inside ts (first + thread_count t) number own g in
-    let whole : length (thread_nodes t first ++ back) ≡ length (thread_nodes t first) + length back = length-append (thread_nodes t first) back in
-    let many : length (thread_nodes t first) ≡ thread_count t = length-thread_nodes t first in
+parts_inside x (t ∷ ts) first (suc number) own g =
+    let back : List Node = threads_nodes x ts (first + thread_count t) in
+    let later : own.end ≤ first + thread_count t + length back = parts_inside x ts (first + thread_count t) number own g in
+    let whole : length (thread_nodes (table_of x t) t first ++ back) ≡ length (thread_nodes (table_of x t) t first) + length back =
+    length-append (thread_nodes (table_of x t) t first) back in
+    let many : length (thread_nodes (table_of x t) t first) ≡ thread_count t = length-thread_nodes (table_of x t) t first in
     omega (arith, later, whole, many)
 
 thread_inside : (x : f.Flat) (number : ℕ) (own : Part) → slice_get (lowered x).threads number ≡ Some own → own.end ≤ length (lowered x).nodes
 unfolding lowered
 thread_inside x number own g =
-    let inside : own.end ≤ 0 + length (threads_nodes x.threads 0) = parts_inside x.threads 0 number own g in
+    let inside : own.end ≤ 0 + length (threads_nodes x x.threads 0) = parts_inside x x.threads 0 number own g in
     omega (arith, inside)
 
 pub part_inside : (x : f.Flat) (g : code.Graph) (k : ℕ) (own : Part) → graph_of g ≡ lowered x → k < length g.threads.items →

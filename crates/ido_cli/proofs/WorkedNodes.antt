@@ -1,5 +1,6 @@
 -- What the definitions of nodes' lines compute.
 use Rattle.std.specs.Prelude.{◌≡◌, ℕ, [], ◌∷◌, None, true, false, refl, codes}
+use Rattle.c_tree.specs.Exprs.{LockName}
 use Rattle.std.specs.Fmt.{digits}
 use Rattle.ido_ints.specs.declared.kinds.Kind.TheVariants.{Int}
 use Rattle.c_tree.specs.Flats.{Thread, no_statement}
@@ -11,9 +12,12 @@ use Rattle.ido_cli.specs.Regions.{Straight, least_line, node_line, regions, thre
 abbrev node : (place : ℕ) → Action → Node
 node place action = record { place = record { 0 = place }; action = action; uses = []; assigns = None; reads = []; writes = None }
 
+abbrev m : LockName
+m = record { mutex = 0; key = None }
+
 abbrev graph : Graph
 graph = record {
-  nodes = node 0 (Lock 0 1) ∷ node 3 (Store 0 Int 2) ∷ node 5 (Unlock 0 3) ∷ node 7 End ∷ [];
+  nodes = node 0 (Lock m 1) ∷ node 3 (Store 0 Int 2) ∷ node 5 (Unlock m 3) ∷ node 7 End ∷ [];
   threads = record { first = 0; end = 4; locals = 0 } ∷ [];
 }
 
@@ -36,7 +40,7 @@ lines_of_nodes = refl
 
 abbrev longer : Graph
 longer = record {
-  nodes = node 0 (Lock 0 1) ∷ node 3 (Store 0 Int 2) ∷ node 5 (Store 0 Int 3) ∷ node 7 (Unlock 0 4) ∷ node 9 End ∷ [];
+  nodes = node 0 (Lock m 1) ∷ node 3 (Store 0 Int 2) ∷ node 5 (Store 0 Int 3) ∷ node 7 (Unlock m 4) ∷ node 9 End ∷ [];
   threads = record { first = 0; end = 5; locals = 0 } ∷ [];
 }
 

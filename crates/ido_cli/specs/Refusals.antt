@@ -38,6 +38,7 @@ code_of rule.NotHeld = codes "L3"
 code_of rule.Join = codes "L4"
 code_of rule.EndHeld = codes "L5"
 code_of rule.Frozen = codes "L6"
+code_of rule.Held = codes "K10"
 
 -- the code of a fault of a schedule; its place is one in the schedule's text
 abbrev pub fault_code : s.Fault → List ℕ

@@ -18,16 +18,16 @@ abbrev pub action_name : Action → List ℕ
 action_name (Eval target value next) = codes "eval"
 action_name (Store variable kind next) = codes "store"
 action_name (Test condition holds fails) = codes "test"
-action_name (Lock mutex next) = codes "lock"
-action_name (Unlock mutex next) = codes "unlock"
+action_name (Lock lock next) = codes "lock"
+action_name (Unlock lock next) = codes "unlock"
 action_name End = codes "end"
 
 abbrev pub is_unlock : Action → Bool
 is_unlock (Eval target value next) = false
 is_unlock (Store variable kind next) = false
 is_unlock (Test condition holds fails) = false
-is_unlock (Lock mutex next) = false
-is_unlock (Unlock mutex next) = true
+is_unlock (Lock lock next) = false
+is_unlock (Unlock lock next) = true
 is_unlock End = false
 
 -- a boundary stands before the node by choice: it does before each unlock

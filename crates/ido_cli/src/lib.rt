@@ -32,6 +32,3 @@ mod top;
 
 pub use compiled_image::{Image, read_image};
 pub use top::{alone, ido};
-
-#[cfg(test)]
-mod tests;

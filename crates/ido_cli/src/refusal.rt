@@ -56,6 +56,7 @@ pub fn code_of(rule: Rule) -> &'static str
         Rule::Join => "L4",
         Rule::EndHeld => "L5",
         Rule::Frozen => "L6",
+        Rule::Held => "K10",
     }
 }
 

@@ -18,6 +18,7 @@ use flat_analysis::Analysis;
 use flat_compile::translate;
 use flow_graph::cuts::Cuts;
 use flow_graph::graph::{Action, Graph, Node, Part};
+use ido_base::log::Log;
 use ido_base::memory::OutOfMemory;
 use ido_compile::laws::translations_are_compilations;
 use ido_compile::{CompileError, checked, flatten};
@@ -257,7 +258,7 @@ fn source_regions(alloc: Global, source: &[u8], least: bool) -> Result<Vec<u8>, 
     translations_are_compilations();
     let flat = flatten(alloc, source)?;
     let analysis = checked(alloc, source, &flat)?;
-    let translated = translate(alloc, &analysis)?;
+    let translated = translate(alloc, Log::V1, &analysis)?;
     let stretches = told(alloc, &analysis.graph, least)?;
     let output = regions(alloc, source, &analysis, &translated.cuts, &stretches)?;
     Ok(output)

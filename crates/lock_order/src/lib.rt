@@ -4,8 +4,6 @@
 mod error;
 pub mod laws;
 mod order;
-#[cfg(test)]
-mod tests;
 mod walk;
 
 pub use error::OrderError;

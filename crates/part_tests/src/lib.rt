@@ -13,9 +13,13 @@ mod flows;
 #[cfg(test)]
 mod harts;
 #[cfg(test)]
+mod inlinings;
+#[cfg(test)]
 mod lives;
 #[cfg(test)]
 mod locations;
+#[cfg(test)]
+mod orders;
 #[cfg(test)]
 mod readings;
 #[cfg(test)]
@@ -24,6 +28,8 @@ mod regions;
 mod registers;
 #[cfg(test)]
 mod scripts;
+#[cfg(test)]
+mod second_log;
 #[cfg(test)]
 mod straight;
 #[cfg(test)]

@@ -1,5 +1,5 @@
 //! Cuts of a section that stores, reads and stores again, with their faults worked out by hand.
-use c_tree::expr::{Expr, Lvalue, Placed};
+use c_tree::expr::{Expr, LockName, Lvalue, Placed};
 use flow_graph::cuts::Cuts;
 use flow_graph::graph::{Action, Graph, Node};
 use ido_base::location::Location;
@@ -73,6 +73,7 @@ fn store<'a>(a: Global, written: Location, next: usize) -> Node<'a> {
 /// Lock, store, read, store, unlock, end.
 fn section<'a>(
     a: Global,
+    lock: &'a LockName,
     target: &'a Lvalue,
     value: &'a Placed,
     first: Location,
@@ -80,7 +81,7 @@ fn section<'a>(
     last: Location,
 ) -> Result<Graph<'a>, AllocError> {
     let mut nodes = Vec::new(a);
-    nodes.push(step(a, Action::Lock { mutex: 0, next: 1 }))?;
+    nodes.push(step(a, Action::Lock { lock, next: 1 }))?;
     nodes.push(store(a, first, 2))?;
     let mut reading = step(
         a,
@@ -93,7 +94,7 @@ fn section<'a>(
     reading.reads.push(read)?;
     nodes.push(reading)?;
     nodes.push(store(a, last, 4))?;
-    nodes.push(step(a, Action::Unlock { mutex: 0, next: 5 }))?;
+    nodes.push(step(a, Action::Unlock { lock, next: 5 }))?;
     nodes.push(step(a, Action::End))?;
     Ok(Graph {
         nodes,
@@ -149,8 +150,12 @@ fn cuts_of_a_section(rt: HostRuntime) -> Result<(), Fail> {
     let a = rt.alloc();
     let target = target();
     let value = value();
+    let lock = LockName {
+        mutex: 0,
+        key: None,
+    };
     for ([first, read, last], stands, wanted) in CUTS {
-        let graph = section(a, &target, &value, first, read, last)?;
+        let graph = section(a, &lock, &target, &value, first, read, last)?;
         let found = check(a, &graph, &cuts(a, stands)?).err();
         assert_eq!(rt; found, wanted, "{stands:?}");
     }

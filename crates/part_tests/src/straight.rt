@@ -4,7 +4,7 @@ ghost use Rattle.flow_graph.specs.Nodes.{graph_of};
 ghost use Rattle.region_cutter.specs.FewestCuts.{IsStretch};
 ghost use Rattle.region_cutter.specs.declared.straight.Stretch as spec;
 
-use c_tree::expr::{Expr, Lvalue, Placed};
+use c_tree::expr::{Expr, LockName, Lvalue, Placed};
 use flow_graph::graph::{Action, Graph, Node};
 use ido_base::location::Location;
 use ido_base::memory::OutOfMemory;
@@ -76,12 +76,13 @@ fn assign<'a>(
 /// A lock, these assignments, an unlock, the end.
 fn section<'a>(
     a: Global,
+    lock: &'a LockName,
     target: &'a Lvalue,
     value: &'a Placed,
     assignments: &[(Option<u32>, &[u32])],
 ) -> Result<Graph<'a>, AllocError> {
     let mut nodes = Vec::new(a);
-    nodes.push(step(a, Action::Lock { mutex: 0, next: 1 }))?;
+    nodes.push(step(a, Action::Lock { lock, next: 1 }))?;
     for (written, reads) in assignments {
         assign(a, &mut nodes, target, value, *written, reads)?;
     }
@@ -89,7 +90,7 @@ fn section<'a>(
     nodes.push(step(
         a,
         Action::Unlock {
-            mutex: 0,
+            lock,
             next: unlock + 1,
         },
     ))?;
@@ -166,8 +167,12 @@ fn fewest_boundaries(rt: HostRuntime) -> Result<(), Fail> {
     let a = rt.alloc();
     let target = target();
     let value = value();
+    let lock = LockName {
+        mutex: 0,
+        key: None,
+    };
     for (assignments, wanted) in SECTIONS {
-        let graph = section(a, &target, &value, assignments)?;
+        let graph = section(a, &lock, &target, &value, assignments)?;
         let mut looked = false;
         if let Some(stretch) = first_stretch(a, &graph)? {
             looked = true;
@@ -221,8 +226,13 @@ fn labels_of_straight_code(rt: HostRuntime) -> Result<(), Fail> {
     let a = rt.alloc();
     let target = target();
     let value = value();
+    let lock = LockName {
+        mutex: 0,
+        key: None,
+    };
     let graph = section(
         a,
+        &lock,
         &target,
         &value,
         &[(Some(0), &[1]), (Some(1), &[0]), (Some(0), &[1])],

@@ -1,5 +1,5 @@
 //! Words without a command, a source and a sink that fail, an input at its limit, and runs on threads.
-use super::{alone, ido};
+use ido_cli::{alone, ido};
 use ido_outside::{Gate, MemSink, MemSource, OpenGate, SureSink, SureSource};
 use std::alloc::{AllocError, Global};
 use std::process::Abort;

@@ -1,10 +1,10 @@
-//! The check, called once on a thread that keeps the order and once on one that doesn't.
-use crate::{OrderError, ordered};
+//! The check of the order of locks, called once on a thread that keeps the order and once on one that doesn't.
 use c_tree::expr::LockName;
 use c_tree::flat::{Flat, Statement, Thread};
 use c_tree::program::Mutex;
 use c_tree::tree::Name;
 use ido_base::place::Place;
+use lock_order::{OrderError, ordered};
 use std::alloc::{AllocError, Global};
 use std::test::Fail;
 
