@@ -16,7 +16,7 @@ use Rattle.boundary_code.specs.Boundaries.{bank_lines, kept_locks, slots_kept}
 pub record Record : Type 0 where
   -- 0: nothing is recorded; else a resume address plus the number of a bank
   pub point : ℕ
-  -- the locks held after the boundary, in the order in which recovery takes them
+  -- the locks held after the boundary, in the order in which its bank will have them
   pub locks : List ℕ
   -- the registers that it keeps
   pub live : List ℕ

@@ -157,7 +157,7 @@ abbrev pub numbers_from : (at count : ℕ) → List ℕ
 numbers_from at zero = []
 numbers_from at (suc count) = at ∷ numbers_from (at + 1) count
 
--- the record of a thread: the locks that it held at its durable point, in the order in which recovery takes them
+-- the record of a thread: the locks that it held at its durable point, in the order in which its bank has them
 abbrev pub record_of : Log → List Word → (thread : ℕ) → List ℕ
 record_of log words thread = if durable_point log words thread == 0 then [] else locks_of_bank log words thread
   where
