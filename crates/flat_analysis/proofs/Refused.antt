@@ -28,6 +28,7 @@ by_locks flat (lock_error.Again place name) h = undisciplined (record { rule = r
 by_locks flat (lock_error.NotHeld place name) h = undisciplined (record { rule = rule.NotHeld; place = place; lock = lock_ref_of name }) h refl refl
 by_locks flat (lock_error.Join place name) h = undisciplined (record { rule = rule.Join; place = place; lock = lock_ref_of name }) h refl refl
 by_locks flat (lock_error.EndHeld place name) h = undisciplined (record { rule = rule.EndHeld; place = place; lock = lock_ref_of name }) h refl refl
+by_locks flat (lock_error.Frozen place name) h = undisciplined (record { rule = rule.Frozen; place = place; lock = lock_ref_of name }) h refl refl
 by_locks flat (lock_error.Held place name) h = undisciplined (record { rule = rule.Held; place = place; lock = lock_ref_of name }) h refl refl
 by_locks flat lock_error.Memory h = tt
 

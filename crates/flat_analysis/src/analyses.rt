@@ -59,6 +59,7 @@ fn of_lock(error: LockError<'_>) -> SourceError
         LockError::NotHeld { place, .. } => refusal_by(Rule::NotHeld, place),
         LockError::Join { place, .. } => refusal_by(Rule::Join, place),
         LockError::EndHeld { place, .. } => refusal_by(Rule::EndHeld, place),
+        LockError::Frozen { place, .. } => refusal_by(Rule::Frozen, place),
         LockError::Held { place, .. } => refusal_by(Rule::Held, place),
         LockError::Memory => SourceError::Memory,
     }

@@ -4,17 +4,14 @@ use Rattle.std.proofs.Common.{Option, Some, None, refl, sym, ap, ap₂, ◌∙�
 use Rattle.ido_base.specs.declared.place.Place.{Place}
 use Rattle.c_tree.specs.declared.language.Language.{Language}
 use Rattle.c_tree.specs.declared.rule.Rule.TheVariants as rule
-use Rattle.std.specs.List.{AllByRecursion}
 use Rattle.std.specs.Prelude.{slice_get}
 use Rattle.std.proofs.lemmas.Option.{slice_get-get_or, get_or_from_slice_get}
-use Rattle.ido_ints.specs.declared.kinds.Kind.{Kind}
 use Rattle.c_tree.specs.Exprs as e
 use Rattle.c_tree.specs.Programs.{Variable}
-use Rattle.c_tree.specs.WellFormed.{IsSingle, IsLockName, IsFlatStatement, AreFlatStatements, AreFlatArms}
-use Rattle.c_tree.proofs.Public.{length-plain_names, names_are_plain, plain_number}
+use Rattle.lock_discipline.specs.NamedForms.{AreNamed}
 use Rattle.lock_discipline.specs.links.Flow.{held_after, held_after_all, sets_in, sets_in_all, sets_in_arms}
 use Rattle.c_tree.specs.Flats as f
-use Rattle.c_tree.specs.LockNames.{Held, holds, lock_names, number_in, plain_names}
+use Rattle.c_tree.specs.LockNames.{Held, holds, locks_in, locks_in_all, locks_in_arms, number_in}
 use Rattle.c_tree.specs.LockDiscipline.{Use, expr_uses, assign_uses, is_guarded, AreGuarded, Keeps}
 use Rattle.c_tree.specs.LockDiscipline.{KeepAll, KeepArms, assign, choose, repeat, again, lock, unlock, no_more, then, no_more_arms, arm}
 use Rattle.c_tree.specs.LockDiscipline.{Fault, Walked, After, Broken, and_then, least_difference}
@@ -58,6 +55,14 @@ taken_after false x false y h k e = (refl, refl, cc)
 pub where_after : (b : Bool) (x : Fault) (h k : Held) → cond b (After h) (Broken x) ≡ After k → (b ≡ true) × (h ≡ k)
 where_after true x h k e = (refl, cc)
 where_after false x h k e = absurd (cc)
+
+named_left : (names xs ys : List e.LockName) → AreNamed names (xs ++ ys) → AreNamed names xs
+named_left names [] ys w = tt
+named_left names (x ∷ xs) ys w = (w.0, named_left names xs ys w.1)
+
+named_right : (names xs ys : List e.LockName) → AreNamed names (xs ++ ys) → AreNamed names ys
+named_right names [] ys w = w
+named_right names (x ∷ xs) ys w = named_right names xs ys w.1
 
 module _ (vs : List Variable) (names : List e.LockName) where
   -- ---- The sets speak of as many mutexes all the way
@@ -156,77 +161,77 @@ module _ (language : Language) (vs : List Variable) (names : List e.LockName) wh
         let more = after_walk_arms rest h (left ++ both.0 ∷ []) later k l both.2 in
         (both.0 ∷ more.0, ap later (sym (append_assoc left (both.0 ∷ []) more.0)) ∙ more.1, (made.0, more.2))
 
-  -- ---- Of a well formed form, in which each name is in the table
+  -- ---- Where each lock that is taken has a number, the discipline is kept
 
-  module _ (x : f.Flat) (ks : List Kind) (known : (y : e.LockName) → IsLockName (length x.mutexes) y → number_in names y < length names) where
-    mutual
-      pub after_keeps : (s : f.Statement) (h k : Held) → IsFlatStatement x ks s → length h ≡ length names → walk language vs names h s ≡ After k →
-          Keeps vs names h s k
-      after_keeps (f.Assign place target value) h k w l e =
-          let first = after_both (walk_uses vs names h (assign_uses target value)) (λ _. walk_target vs names h target) k e in
-          let guarded = after_guarded vs names h first.0 (assign_uses target value) first.1 in
-          let free = after_target vs names target h k first.2 in
-          subst (λ y. Keeps vs names h (f.Assign place target value) y) free.1 (assign place target value guarded.0 free.0)
-      after_keeps (f.If place arms otherwise) h k w l e =
-          let walked = after_keep_arms arms h [] (λ left. and_then (walk_all language vs names h otherwise)
-          (λ after. join_all vs names place (left ++ after ∷ []))) k w.1 l e in
-          let rest = after_both (walk_all language vs names h otherwise) _ k walked.1 in
-          let kept = after_keep_all otherwise h rest.0 w.2 l rest.1 in
-          let joined = after_join_all vs names place rest.0 k walked.0 (keep_all_length vs names kept ∙ l) walked.2 rest.2 in
-          subst (λ y. Keeps vs names h (f.If place arms otherwise) y) joined.0 (choose place arms otherwise (walked.3 rest.0 joined.1) kept)
-      after_keeps (f.While place condition body) h k w l e =
-          let tested = after_both (walk_uses vs names h (expr_uses condition.expr)) _ k e in
-          let guarded = after_guarded vs names h tested.0 (expr_uses condition.expr) tested.1 in
-          let rest = after_both (walk_all language vs names h body) _ k tested.2 in
-          let kept = after_keep_all body h rest.0 w.1 l rest.1 in
-          let joined = after_join vs names place h k (rest.0 ∷ []) l (keep_all_length vs names kept ∙ l, tt) rest.2 in
-          subst (λ y. Keeps vs names h (f.While place condition body) y) joined.0
-          (repeat place condition body guarded.0 (subst (λ y. KeepAll vs names h body y) joined.1.0 kept))
-      after_keeps (f.Do place body condition) h k w l e =
-          let rest = after_both (walk_all language vs names h body) _ k e in
-          let kept = after_keep_all body h rest.0 w.0 l rest.1 in
-          let tested = after_both (walk_uses vs names rest.0 (expr_uses condition.expr)) _ k rest.2 in
-          let guarded = after_guarded vs names rest.0 tested.0 (expr_uses condition.expr) tested.1 in
-          let joined = after_join vs names place h k (rest.0 ∷ []) l (keep_all_length vs names kept ∙ l, tt) tested.2 in
-          subst (λ y. Keeps vs names h (f.Do place body condition) y) joined.0
-          (again place body condition (subst (λ y. KeepAll vs names h body y) joined.1.0 kept)
-          (subst (λ y. AreGuarded vs names y (expr_uses condition.expr)) joined.1.0 guarded.0))
-      after_keeps (f.Lock place name) h k w l e =
-          let taken = set h (number_in names name) true in
-          let both = taken_after (holds h (number_in names name)) _ (are_too_many language taken) _ taken k e in
-          let low : number_in names name < length h = omega (arith, known name w, l) in
-          let free : slice_get h (number_in names name) ≡ Some false = slice_get-get_or h (number_in names name) false low ∙ ap Some both.0 in
-          subst (λ y. Keeps vs names h (f.Lock place name) y) both.2 (lock place name free)
-      after_keeps (f.Unlock place name) h k w l e =
-          let both = where_after (holds h (number_in names name)) _ (set h (number_in names name) false) k e in
-          subst (λ y. Keeps vs names h (f.Unlock place name) y) both.1 (unlock place name both.0)
+  mutual
+    pub after_keeps : (s : f.Statement) (h k : Held) → AreNamed names (locks_in s) → length h ≡ length names → walk language vs names h s ≡ After k →
+        Keeps vs names h s k
+    after_keeps (f.Assign place target value) h k w l e =
+        let first = after_both (walk_uses vs names h (assign_uses target value)) (λ _. walk_target vs names h target) k e in
+        let guarded = after_guarded vs names h first.0 (assign_uses target value) first.1 in
+        let free = after_target vs names target h k first.2 in
+        subst (λ y. Keeps vs names h (f.Assign place target value) y) free.1 (assign place target value guarded.0 free.0)
+    after_keeps (f.If place arms otherwise) h k w l e =
+        let walked = after_keep_arms arms h [] (λ left. and_then (walk_all language vs names h otherwise)
+        (λ after. join_all vs names place (left ++ after ∷ []))) k (named_left names (locks_in_arms arms) (locks_in_all otherwise) w) l e in
+        let rest = after_both (walk_all language vs names h otherwise) _ k walked.1 in
+        let kept = after_keep_all otherwise h rest.0 (named_right names (locks_in_arms arms) (locks_in_all otherwise) w) l rest.1 in
+        let joined = after_join_all vs names place rest.0 k walked.0 (keep_all_length vs names kept ∙ l) walked.2 rest.2 in
+        subst (λ y. Keeps vs names h (f.If place arms otherwise) y) joined.0 (choose place arms otherwise (walked.3 rest.0 joined.1) kept)
+    after_keeps (f.While place condition body) h k w l e =
+        let tested = after_both (walk_uses vs names h (expr_uses condition.expr)) _ k e in
+        let guarded = after_guarded vs names h tested.0 (expr_uses condition.expr) tested.1 in
+        let rest = after_both (walk_all language vs names h body) _ k tested.2 in
+        let kept = after_keep_all body h rest.0 w l rest.1 in
+        let joined = after_join vs names place h k (rest.0 ∷ []) l (keep_all_length vs names kept ∙ l, tt) rest.2 in
+        subst (λ y. Keeps vs names h (f.While place condition body) y) joined.0
+        (repeat place condition body guarded.0 (subst (λ y. KeepAll vs names h body y) joined.1.0 kept))
+    after_keeps (f.Do place body condition) h k w l e =
+        let rest = after_both (walk_all language vs names h body) _ k e in
+        let kept = after_keep_all body h rest.0 w l rest.1 in
+        let tested = after_both (walk_uses vs names rest.0 (expr_uses condition.expr)) _ k rest.2 in
+        let guarded = after_guarded vs names rest.0 tested.0 (expr_uses condition.expr) tested.1 in
+        let joined = after_join vs names place h k (rest.0 ∷ []) l (keep_all_length vs names kept ∙ l, tt) tested.2 in
+        subst (λ y. Keeps vs names h (f.Do place body condition) y) joined.0
+        (again place body condition (subst (λ y. KeepAll vs names h body y) joined.1.0 kept)
+        (subst (λ y. AreGuarded vs names y (expr_uses condition.expr)) joined.1.0 guarded.0))
+    after_keeps (f.Lock place name) h k w l e =
+        let taken = set h (number_in names name) true in
+        let both = taken_after (holds h (number_in names name)) _ (are_too_many language taken) _ taken k e in
+        let low : number_in names name < length h = omega (arith, w.0, l) in
+        let free : slice_get h (number_in names name) ≡ Some false = slice_get-get_or h (number_in names name) false low ∙ ap Some both.0 in
+        subst (λ y. Keeps vs names h (f.Lock place name) y) both.2 (lock place name free)
+    after_keeps (f.Unlock place name) h k w l e =
+        let both = where_after (holds h (number_in names name)) _ (set h (number_in names name) false) k e in
+        subst (λ y. Keeps vs names h (f.Unlock place name) y) both.1 (unlock place name both.0)
 
-      pub after_keep_all : (ss : f.Statements) (h k : Held) → AreFlatStatements x ks ss → length h ≡ length names → walk_all language vs names h ss ≡ After k →
-          KeepAll vs names h ss k
-      after_keep_all f.no_statement h k w l e = subst (λ y. KeepAll vs names h f.no_statement y) (cc) no_more
-      after_keep_all (f.statement_and y rest) h k w l e =
-          let both = after_both (walk language vs names h y) _ k e in
-          let kept = after_keeps y h both.0 w.0 l both.1 in
-          then y rest kept (after_keep_all rest both.0 k w.1 (keeps_length vs names kept ∙ l) both.2)
+    pub after_keep_all : (ss : f.Statements) (h k : Held) → AreNamed names (locks_in_all ss) → length h ≡ length names → walk_all language vs names h ss ≡ After k →
+        KeepAll vs names h ss k
+    after_keep_all f.no_statement h k w l e = subst (λ y. KeepAll vs names h f.no_statement y) (cc) no_more
+    after_keep_all (f.statement_and y rest) h k w l e =
+        let both = after_both (walk language vs names h y) _ k e in
+        let kept = after_keeps y h both.0 (named_left names (locks_in y) (locks_in_all rest) w) l both.1 in
+        let more = named_right names (locks_in y) (locks_in_all rest) w in
+        then y rest kept (after_keep_all rest both.0 k more (keeps_length vs names kept ∙ l) both.2)
 
-      after_keep_arms : (arms : f.Arms) (h : Held) (left : List Held) (later : List Held → Walked) (k : Held) → AreFlatArms x ks arms →
-          length h ≡ length names →
-          walk_arms language vs names h left arms later ≡ After k →
-          (ends : List Held) × (later (left ++ ends) ≡ After k) × AllLong (length names) ends
-          × ((after : Held) → AllAre after ends → KeepArms vs names h arms after)
-      after_keep_arms f.no_arm h left later k w l e = ([], ap later (append-nil left) ∙ e, tt, λ after p. no_more_arms)
-      after_keep_arms (f.arm_and condition body rest) h left later k w l e =
-          let tested = after_both (walk_uses vs names h (expr_uses condition.expr)) _ k e in
-          let guarded = after_guarded vs names h tested.0 (expr_uses condition.expr) tested.1 in
-          let both = after_both (walk_all language vs names h body) _ k tested.2 in
-          let kept = after_keep_all body h both.0 w.1 l both.1 in
-          let more = after_keep_arms rest h (left ++ both.0 ∷ []) later k w.2 l both.2 in (
-            both.0 ∷ more.0,
-            ap later (sym (append_assoc left (both.0 ∷ []) more.0)) ∙ more.1,
-            (keep_all_length vs names kept ∙ l, more.2),
-            λ after p.
-                arm condition body rest guarded.0 (subst (λ y. KeepAll vs names h body y) p.0 kept) (more.3 after p.1),
-          )
+    after_keep_arms : (arms : f.Arms) (h : Held) (left : List Held) (later : List Held → Walked) (k : Held) → AreNamed names (locks_in_arms arms) →
+        length h ≡ length names →
+        walk_arms language vs names h left arms later ≡ After k →
+        (ends : List Held) × (later (left ++ ends) ≡ After k) × AllLong (length names) ends
+        × ((after : Held) → AllAre after ends → KeepArms vs names h arms after)
+    after_keep_arms f.no_arm h left later k w l e = ([], ap later (append-nil left) ∙ e, tt, λ after p. no_more_arms)
+    after_keep_arms (f.arm_and condition body rest) h left later k w l e =
+        let tested = after_both (walk_uses vs names h (expr_uses condition.expr)) _ k e in
+        let guarded = after_guarded vs names h tested.0 (expr_uses condition.expr) tested.1 in
+        let both = after_both (walk_all language vs names h body) _ k tested.2 in
+        let kept = after_keep_all body h both.0 (named_left names (locks_in_all body) (locks_in_arms rest) w) l both.1 in
+        let more = after_keep_arms rest h (left ++ both.0 ∷ []) later k (named_right names (locks_in_all body) (locks_in_arms rest) w) l both.2 in (
+          both.0 ∷ more.0,
+          ap later (sym (append_assoc left (both.0 ∷ []) more.0)) ∙ more.1,
+          (keep_all_length vs names kept ∙ l, more.2),
+          λ after p.
+              arm condition body rest guarded.0 (subst (λ y. KeepAll vs names h body y) p.0 kept) (more.3 after p.1),
+        )
 
   -- ---- Where the discipline is kept, the walk comes to its end
 
@@ -299,16 +304,6 @@ module _ (language : Language) (vs : List Variable) (names : List e.LockName) wh
         )
 
 -- ---- Threads
-
--- each name of a well formed form is in the table of its thread
-pub known : (x : f.Flat) (t : f.Thread) → AllByRecursion IsSingle x.mutexes → (y : e.LockName) → IsLockName (length x.mutexes) y →
-    number_in (lock_names x t) y < length (lock_names x t)
-known x t single y w =
-    let count = length x.mutexes in
-    let is : y ≡ record { mutex = y.mutex; key = None } = ap (λ (key : Option e.Placed). let n : e.LockName = record { mutex = y.mutex; key = key } in n) w.1 in
-    let at : number_in (plain_names count) y ≡ y.mutex = ap (number_in (plain_names count)) is ∙ plain_number count y.mutex w.0 in
-    let low : number_in (plain_names count) y < length (plain_names count) = omega (arith, at, w.0, length-plain_names count) in
-    subst (λ (ns : List e.LockName). number_in ns y < length ns) (sym (names_are_plain x t single)) low
 
 -- the fault of a thread, else that of those after it
 abbrev pub fault_or : Walked → Option Fault → Option Fault

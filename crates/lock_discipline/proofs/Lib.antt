@@ -3,6 +3,7 @@ mod Masks
 mod Bits
 mod Sets
 mod FewHeld
+mod FormNames
 mod CheckerCorrectness
 mod PlainSets
 mod HeldLengths
@@ -10,6 +11,7 @@ mod Flows
 mod WalkLaw
 mod Refusals
 mod CheckerByStatement
+mod NamedLocks
 mod Threads
 mod DisciplinedContinuations
 mod SmallSets

@@ -7,19 +7,19 @@ use Rattle.std.proofs.lemmas.List.Elements.{All-nil, All-cons, All-head, All-tai
 use Rattle.c_tree.specs.declared.language.Language.{Language}
 use Rattle.c_tree.specs.Exprs as e
 use Rattle.c_tree.specs.Programs.{Variable}
-use Rattle.c_tree.specs.WellFormed.{IsSingle, AreFlatStatements}
 use Rattle.c_tree.specs.Flats as f
-use Rattle.c_tree.specs.LockNames.{Held, holds, none_held, lock_names, number_in}
+use Rattle.c_tree.specs.LockNames.{Held, holds, none_held, lock_names, locks_in_all, number_in}
 use Rattle.c_tree.specs.LockDiscipline.{numbers_below, expr_uses, KeepAll, IsDisciplined, are_too_many, Fault, Walked, After, Broken, and_then}
 use Rattle.c_tree.specs.LockDiscipline.{walk_uses, join_all, walk, walk_all, walk_arms, walk_end, walk_thread, walk_threads, lock_fault}
 use Rattle.lock_discipline.specs.Discipline.{WalkIsDiscipline}
+use Rattle.lock_discipline.specs.NamedForms.{AreNamed, HasNumbers}
 use Rattle.lock_discipline.specs.HeldSetsByStep.{assign_steps, HoldsFew}
 use Rattle.lock_discipline.specs.links.Flow.{held_after, held_after_all, sets_in, sets_in_all, sets_in_arms, thread_sets}
 use Rattle.lock_discipline.proofs.Sets.{none_held-found, none_held-where_none}
 use Rattle.lock_discipline.proofs.FewHeld.{Few, AllFew, few_append, few_left, few_copies, few_at, few_each, few_none, few_given}
 use Rattle.lock_discipline.proofs.Flows.{held_before, before_held}
 use Rattle.lock_discipline.proofs.CheckerCorrectness.{after_both, after_then, none_after, none_is_after, taken_after, where_after, keep_all_length}
-use Rattle.lock_discipline.proofs.CheckerCorrectness.{after_walk, after_walk_all, after_keep_all, keep_all_after, known, fault_or}
+use Rattle.lock_discipline.proofs.CheckerCorrectness.{after_walk, after_walk_all, after_keep_all, keep_all_after, fault_or}
 
 -- ---- Where the walk comes to its end, too many are held before no step
 
@@ -100,13 +100,13 @@ few_thread language x t k w n h before =
     few_at language (thread_sets names t) n h
     (few_append language (sets_in_all names none t.body) (held_after_all names none t.body ∷ []) few.0 (end, tt)) (before_held x t before)
 
-after_disciplined : (language : Language) (x : f.Flat) (t : f.Thread) (k : Held) → AllByRecursion IsSingle x.mutexes → AreFlatStatements x t.locals t.body →
+after_disciplined : (language : Language) (x : f.Flat) (t : f.Thread) (k : Held) → AreNamed (lock_names x t) (locks_in_all t.body) →
     walk_thread language x.variables (lock_names x t) t ≡ After k → IsDisciplined x t
-after_disciplined language x t k single w e =
+after_disciplined language x t k w e =
     let names = lock_names x t in
     let n = length names in
     let both = after_both (walk_all language x.variables names (none_held n) t.body) (walk_end x.variables names t.closing) k e in
-    let kept = after_keep_all language x.variables names x t.locals (known x t single) t.body (none_held n) both.0 w (length-replicate n false) both.1 in
+    let kept = after_keep_all language x.variables names t.body (none_held n) both.0 w (length-replicate n false) both.1 in
     let ended = none_after (find (λ m. holds both.0 m) (numbers_below n)) _ both.0 k both.2 in
     let is = none_held-where_none n both.0 (keep_all_length x.variables names kept ∙ length-replicate n false) ended.0 in
     subst (λ y. KeepAll x.variables names (none_held n) t.body y) is kept
@@ -126,14 +126,13 @@ none_from : (w : Walked) (rest : Option Fault) → fault_or w rest ≡ None → 
 none_from (After k) rest e = ((k, refl), e)
 none_from (Broken x) rest e = absurd (cc)
 
-all_disciplined : (language : Language) (x : f.Flat) (ts : List f.Thread) → AllByRecursion IsSingle x.mutexes →
-    AllByRecursion (λ (t : f.Thread). AreFlatStatements x t.locals t.body) ts → walk_threads language x ts ≡ None →
+all_disciplined : (language : Language) (x : f.Flat) (ts : List f.Thread) → AllByRecursion (HasNumbers x) ts → walk_threads language x ts ≡ None →
     All (IsDisciplined x) ts × All (HoldsFew language x) ts
-all_disciplined language x [] single w e = (All-nil (IsDisciplined x), All-nil (HoldsFew language x))
-all_disciplined language x (t ∷ ts) single w e =
+all_disciplined language x [] w e = (All-nil (IsDisciplined x), All-nil (HoldsFew language x))
+all_disciplined language x (t ∷ ts) w e =
     let both = none_from (walk_thread language x.variables (lock_names x t) t) (walk_threads language x ts) e in
-    let rest = all_disciplined language x ts single w.1 both.1 in (
-      All-cons (IsDisciplined x) t ts (after_disciplined language x t both.0.0 single w.0 both.0.1) rest.0,
+    let rest = all_disciplined language x ts w.1 both.1 in (
+      All-cons (IsDisciplined x) t ts (after_disciplined language x t both.0.0 w.0.taken both.0.1) rest.0,
       All-cons (HoldsFew language x) t ts (few_thread language x t both.0.0 both.0.1) rest.1,
     )
 
@@ -146,4 +145,4 @@ no_fault language x (t ∷ ts) p few =
 
 pub walk-is_discipline : WalkIsDiscipline
 unfolding lock_fault
-walk-is_discipline language x = (no_fault language x x.threads, λ w. all_disciplined language x x.threads w.single w.threads)
+walk-is_discipline language x = (no_fault language x x.threads, λ w. all_disciplined language x x.threads w)

@@ -13,5 +13,6 @@ fault_of (error.Again place lock) = Some (record { rule = rule.Again; place = pl
 fault_of (error.NotHeld place lock) = Some (record { rule = rule.NotHeld; place = place; lock = lock_ref_of lock })
 fault_of (error.Join place lock) = Some (record { rule = rule.Join; place = place; lock = lock_ref_of lock })
 fault_of (error.EndHeld place lock) = Some (record { rule = rule.EndHeld; place = place; lock = lock_ref_of lock })
+fault_of (error.Frozen place lock) = Some (record { rule = rule.Frozen; place = place; lock = lock_ref_of lock })
 fault_of (error.Held place lock) = Some (record { rule = rule.Held; place = place; lock = lock_ref_of lock })
 fault_of error.Memory = None

@@ -1,9 +1,8 @@
 -- A well formed flat form can be checked.
-use Rattle.std.specs.Prelude.{◌≤◌, length}
-use Rattle.ido_base.specs.declared.limits.TheConstants.{MOST_MUTEXES}
 use Rattle.c_tree.specs.Flats.{Flat}
 use Rattle.c_tree.specs.WellFormed.{IsWellFormed}
+use Rattle.lock_discipline.specs.NamedForms.{HasNames}
 
--- a well formed flat form has no more mutexes than a set of them holds
-abbrev pub HasFewMutexes : Type 0
-HasFewMutexes = (x : Flat) → IsWellFormed x → length x.mutexes ≤ MOST_MUTEXES
+-- of a well formed flat form each thread has a number for every lock that it takes, and no more of them than a set holds
+abbrev pub WellFormedHasNames : Type 0
+WellFormedHasNames = (x : Flat) → IsWellFormed x → HasNames x

@@ -4,7 +4,7 @@ ghost use Rattle.lock_discipline.specs.declared.error.LockError.TheVariants.{Mem
 
 use c_tree::expr::LockRef;
 use ido_base::place::Place;
-use std::alloc::AllocFailed;
+use std::alloc::{AllocError, AllocFailed};
 use thiserror::Error;
 
 /// The first fault of a walk, with its place and one lock, or want of memory.
@@ -25,6 +25,9 @@ pub enum LockError<'a> {
     /// A thread ends and holds the lock.
     #[error("the lock is held at the end")]
     EndHeld { place: Place, lock: LockRef<'a> },
+    /// A local is assigned that the key of a held lock names.
+    #[error("a key of a held lock names the local")]
+    Frozen { place: Place, lock: LockRef<'a> },
     /// A lock is taken, and more are held after it than may be.
     #[error("as many locks are held as may be")]
     Held { place: Place, lock: LockRef<'a> },
@@ -36,6 +39,14 @@ impl<'a, T: Drop> From<AllocFailed<T>> for LockError<'a> {
     ghost from_gives = { λ _ e. e ≡ Memory };
 
     fn from(_: AllocFailed<T>) -> Self {
+        LockError::Memory
+    }
+}
+
+impl<'a> From<AllocError> for LockError<'a> {
+    ghost from_gives = { λ _ e. e ≡ Memory };
+
+    fn from(_: AllocError) -> Self {
         LockError::Memory
     }
 }

@@ -4,23 +4,24 @@ ghost use Rattle.ido_base.specs.declared.limits.TheConstants.{MOST_MUTEXES};
 ghost use Rattle.c_tree.specs.Flats.{flat_of};
 ghost use Rattle.c_tree.specs.LockNames.{count_held};
 ghost use Rattle.c_tree.specs.LockDiscipline.{lock_fault};
-ghost use Rattle.c_tree.specs.WellFormed.{IsWellFormed};
 ghost use Rattle.lock_discipline.specs.Faults.{fault_of};
+ghost use Rattle.lock_discipline.specs.NamedForms.{HasNames};
 ghost use Rattle.lock_discipline.specs.Masks.{mask_of};
 ghost use Rattle.lock_discipline.specs.HeldSetsByStep.{AreAllSetsOf};
 
 use crate::error::LockError;
-use crate::set::MutexSet;
+use crate::set::NameSet;
 use crate::walk::walk_thread;
 use c_tree::flat::Flat;
 use c_tree::language::Language;
+use c_tree::lock_names::lock_names;
 use std::alloc::Global;
 use std::marker::Model;
 
-/// The mutexes that are held before each step of each thread.
+/// The locks that are held before each step of each thread, by its names.
 #[derive(Debug, Drop)]
 pub struct Held {
-    threads: Vec<Vec<MutexSet>>,
+    threads: Vec<Vec<NameSet>>,
 }
 
 impl Model for Held {
@@ -31,8 +32,8 @@ impl Model for Held {
     ghost view = { λ h. map (λ sets. sets.items) h.threads.items };
 }
 
-/// No more than so many mutexes are held in any of the sets.
-fn are_small(sets: &[MutexSet], most: u32) -> bool
+/// No more than so many names are held in any of the sets.
+fn are_small(sets: &[NameSet], most: u32) -> bool
     ensures { IsTrue result ↔ ((step : ℕ) → count_held (slice_index_or sets.now step []) ≤ most) }
 {
     for set in sets {
@@ -59,7 +60,7 @@ impl Held {
         self.threads[thread as usize].len()
     }
 
-    /// The mutexes that are held before the step of this number: bit i is set where mutex i is held.
+    /// The locks that are held before the step of this number: bit i is set where that of the thread's name i is held.
     /// Steps are numbered within a thread, in the order of its text: an assignment of a variable has two, evaluation and store; each
     /// condition is one, that of a `while` before its body and that of a `do` after it; the end is the last.
     pub fn held(&self, thread: u32, step: u32) -> u64
@@ -72,7 +73,7 @@ impl Held {
         set.mask()
     }
 
-    /// No more than so many mutexes are held before any step.
+    /// No more than so many locks are held before any step.
     pub fn are_at_most(&self, most: u32) -> bool
         ensures { IsTrue result ↔ ((thread step : ℕ) → count_held (slice_index_or (slice_index_or self.now thread []) step []) ≤ most) }
     {
@@ -85,23 +86,22 @@ impl Held {
     }
 }
 
-/// Walks through the threads in order, each from its beginning, to the first fault: a variable that is used while
-/// its mutex isn't held, a mutex that is locked while it is held or unlocked while it isn't, one by whose lock more are held
-/// than may be in the language, paths that meet with different mutexes held, or a thread that ends with one held. A well formed flat form has no more than 64
-/// mutexes
-/// (`laws::well_formed_has_few_mutexes`), and none of them is in an array: a lock's name has its mutex's number.
+/// Walks through the threads in order, each from its beginning, to the first fault: a variable that is used while its lock isn't held, a local that is assigned
+/// while the key of a held lock names it, a lock that is taken while it is held or given back while it isn't, one by which more are held than may be in the
+/// language, paths that meet with different locks held, or a thread that ends with one held. Locks go by the names of each thread; of a well formed flat form
+/// every lock that a thread takes has a number, and there are no more than a set holds (`laws::well_formed_has_names`).
 ///
 /// The sets are said by relations of before, statement and after, and not by the walk.
 pub fn check(alloc: Global, language: Language, flat: &Flat) -> Result<Held, LockError<'_>>
-    requires { IsWellFormed (flat_of flat.now) }
+    requires { HasNames (flat_of flat.now) }
     ensures accepts { IfOk result (λ _. lock_fault language (flat_of flat.now) ≡ None) }
     ensures refuses { IfErr result (λ error. IfSome (fault_of error) (λ fault. lock_fault language (flat_of flat.now) ≡ Some fault)) }
     ensures sets { IfOk result (λ held. AreAllSetsOf (flat_of flat.now) held) }
 {
-    let mutexes = flat.mutexes.len() as u32;
     let mut threads = Vec::new(alloc);
     for thread in &flat.threads {
-        threads.push(walk_thread(alloc, language, &flat.variables, mutexes, thread)?)?;
+        let names = lock_names(alloc, &flat.mutexes, &thread.body)?;
+        threads.push(walk_thread(alloc, language, &flat.variables, &names, thread)?)?;
     }
     Ok(Held { threads })
 }

@@ -1,6 +1,6 @@
 //! What holds of the definitions themselves.
 ghost use Rattle.lock_discipline.specs.Discipline.{WalkIsDiscipline};
-ghost use Rattle.lock_discipline.specs.FormLaws.{HasFewMutexes};
+ghost use Rattle.lock_discipline.specs.FormLaws.{WellFormedHasNames};
 ghost use Rattle.lock_discipline.specs.StepContinuations.{HeldIsHeld};
 
 /// The walk finds no fault exactly where each thread keeps the discipline and nowhere holds too many.
@@ -13,7 +13,7 @@ pub fn held_is_held()
     ensures { HeldIsHeld }
 {}
 
-/// A well formed flat form has as few mutexes as `check` requires.
-pub fn well_formed_has_few_mutexes()
-    ensures { HasFewMutexes }
+/// A well formed flat form has the names that `check` requires.
+pub fn well_formed_has_names()
+    ensures { WellFormedHasNames }
 {}

@@ -1,26 +1,24 @@
-//! Sets of mutexes.
+//! Sets of names.
 ghost use Rattle.std.specs.Prelude.{◌≡◌, ◌≤◌, ◌||◌, ℕ, true, false, length, slice_set, find};
 ghost use Rattle.ido_base.specs.declared.limits.TheConstants.{MOST_MUTEXES};
-ghost use Rattle.c_tree.specs.Exprs.{lock_ref_of};
-ghost use Rattle.c_tree.specs.LockNames.{count_held, holds, none_held, number_in, plain_names};
+ghost use Rattle.c_tree.specs.LockNames.{count_held, holds, none_held};
 ghost use Rattle.c_tree.specs.LockDiscipline.{numbers_below};
 ghost use Rattle.lock_discipline.specs.Masks.{mask_of};
 ghost use Rattle.lock_discipline.specs.links.Sets.{differ};
 
-use c_tree::expr::LockRef;
 use std::alloc::AllocError;
 use std::marker::Model;
 
-/// Which of a program's mutexes are held.
+/// Which of a thread's names are held.
 #[derive(Debug, Drop)]
-pub struct MutexSet {
-    /// Bit i is set where mutex i is held.
+pub struct NameSet {
+    /// Bit i is set where name i is held.
     mask: u64,
-    /// How many mutexes there are.
-    mutexes: u32,
+    /// How many names there are.
+    names: u32,
 }
 
-impl Model for MutexSet {
+impl Model for NameSet {
     ghost use Rattle.ido_base.specs.declared.limits.TheConstants.{MOST_MUTEXES};
     ghost use Rattle.std.specs.Prelude.{Bool, List, ◌<◌, ◌≤◌, ◌^◌, length};
     ghost use Rattle.lock_discipline.specs.Masks.{mask_of};
@@ -28,65 +26,54 @@ impl Model for MutexSet {
 
     ghost Value = { List Bool };
 
-    ghost view = { λ s. held_of s.mutexes s.mask };
+    ghost view = { λ s. held_of s.names s.mask };
 
-    ghost invariant = { λ s. (s.mutexes ≤ MOST_MUTEXES) × (s.mask < 2 ^ s.mutexes) };
+    ghost invariant = { λ s. (s.names ≤ MOST_MUTEXES) × (s.mask < 2 ^ s.names) };
 
-    ghost inverse = { λ h. record { mask = mask_of h; mutexes = length h } };
+    ghost inverse = { λ h. record { mask = mask_of h; names = length h } };
 
-    ghost inverse_ok = { λ a h i. record { mask = mask_of-held_of a.mutexes a.mask h.1 i; mutexes = length-held_of a.mutexes a.mask i } };
+    ghost inverse_ok = { λ a h i. record { mask = mask_of-held_of a.names a.mask h.1 i; names = length-held_of a.names a.mask i } };
 }
 
-impl Copy for MutexSet {}
+impl Copy for NameSet {}
 
-impl Clone for MutexSet {
+impl Clone for NameSet {
     fn clone(&self) -> Result<Self, AllocError> {
         Ok(*self)
     }
 }
 
-impl MutexSet {
-    /// No mutex, of so many.
-    pub fn none(mutexes: u32) -> MutexSet
-        requires { mutexes ≤ MOST_MUTEXES }
-        ensures { result ≡ none_held mutexes }
+impl NameSet {
+    /// No name, of so many.
+    pub fn none(names: u32) -> NameSet
+        requires { names ≤ MOST_MUTEXES }
+        ensures { result ≡ none_held names }
     {
-        MutexSet { mask: 0, mutexes }
+        NameSet { mask: 0, names }
     }
 
-    /// No mutex, of as many.
-    pub fn emptied(self) -> MutexSet
+    /// No name, of as many.
+    pub fn emptied(self) -> NameSet
         ensures { result ≡ none_held (length self) }
     {
-        MutexSet {
+        NameSet {
             mask: 0,
-            mutexes: self.mutexes,
+            names: self.names,
         }
     }
 
-    /// The set as a mask: bit i is set where mutex i is held.
+    /// The set as a mask: bit i is set where name i is held.
     pub fn mask(self) -> u64
         ensures { result ≡ mask_of self }
     {
         self.mask
     }
 
-    /// The number of a lock's name among those of so many mutexes; past all of them where it has a key.
-    pub fn number(self, lock: LockRef<'_>) -> u32
-        ensures { let n = number_in (plain_names (length self)) (lock_ref_of lock.entry) in
-            (holds self result ≡ holds self n) × (slice_set self result true ≡ slice_set self n true) × (slice_set self result false ≡ slice_set self n false) }
+    /// The name is held.
+    pub fn holds(self, name: usize) -> bool
+        ensures { result ≡ holds self name }
     {
-        match lock.key {
-            None => lock.mutex,
-            Some(_) => self.mutexes,
-        }
-    }
-
-    /// The mutex is held.
-    pub fn holds(self, mutex: u32) -> bool
-        ensures { result ≡ holds self mutex }
-    {
-        mutex < self.mutexes && self.mask >> mutex & 1 == 1
+        name < self.names as usize && self.mask >> name & 1 == 1
     }
 
     /// How many are held.
@@ -96,46 +83,46 @@ impl MutexSet {
         self.mask.count_ones()
     }
 
-    /// The set with the mutex, where there is such a one.
-    pub fn with(self, mutex: u32) -> MutexSet
-        ensures { result ≡ slice_set self mutex true }
+    /// The set with the name, where there is such a one.
+    pub fn with(self, name: usize) -> NameSet
+        ensures { result ≡ slice_set self name true }
     {
-        if mutex >= self.mutexes {
+        if name >= self.names as usize {
             return self;
         }
-        MutexSet {
-            mask: self.mask | 1 << mutex,
-            mutexes: self.mutexes,
+        NameSet {
+            mask: self.mask | 1 << name,
+            names: self.names,
         }
     }
 
-    /// Without the mutex.
-    pub fn without(self, mutex: u32) -> MutexSet
-        ensures { result ≡ slice_set self mutex false }
+    /// Without the name.
+    pub fn without(self, name: usize) -> NameSet
+        ensures { result ≡ slice_set self name false }
     {
-        if mutex >= self.mutexes {
+        if name >= self.names as usize {
             return self;
         }
-        MutexSet {
-            mask: self.mask & !(1 << mutex),
-            mutexes: self.mutexes,
+        NameSet {
+            mask: self.mask & !(1 << name),
+            names: self.names,
         }
     }
 
-    /// The set with each mutex that one of the two others holds and the other doesn't.
-    pub fn with_differences(self, left: MutexSet, right: MutexSet) -> MutexSet
+    /// The set with each name that one of the two others holds and the other doesn't.
+    pub fn with_differences(self, left: NameSet, right: NameSet) -> NameSet
         requires left { length left ≡ length self }
         requires right { length right ≡ length self }
         ensures long { length result ≡ length self }
         ensures holds { (m : ℕ) → holds result m ≡ (holds self m || differ (holds left m) (holds right m)) }
     {
-        MutexSet {
+        NameSet {
             mask: self.mask | left.mask ^ right.mask,
-            mutexes: self.mutexes,
+            names: self.names,
         }
     }
 
-    /// The least mutex that is held.
+    /// The least name that is held.
     pub fn least(self) -> Option<u32>
         ensures { result ≡ find (λ m. holds self m) (numbers_below (length self)) }
     {

@@ -1,17 +1,20 @@
-//! The variables that a step uses, each under its mutex.
-ghost use Rattle.std.specs.Prelude.{◌≡◌, [], ◌∷◌, length, map, None, MatchResult};
+//! The variables that a step uses, each under its lock, and the local that it assigns.
+ghost use Rattle.std.specs.Prelude.{◌≡◌, ◌&&◌, ◌==◌, [], ◌∷◌, map, None, MatchResult};
+ghost use Rattle.std.specs.List.{list_any};
 ghost use Rattle.std.specs.Option.{option_map};
 ghost use Rattle.c_tree.specs.Programs as program;
 ghost use Rattle.c_tree.specs.Programs.{variable_of};
 ghost use Rattle.c_tree.specs.Exprs.{expr_of, lvalue_of, lock_ref_of, placed_ref_of};
-ghost use Rattle.c_tree.specs.LockNames.{plain_names};
-ghost use Rattle.c_tree.specs.LockDiscipline.{After, variable_guard, name_under, walk_uses, expr_uses, target_uses};
+ghost use Rattle.c_tree.specs.LockNames.{holds};
+ghost use Rattle.c_tree.specs.links.KnownNames.{names_of};
+ghost use Rattle.c_tree.specs.LockDiscipline.{After, freezing, key_locals, variable_guard, name_under, walk_target, walk_uses, expr_uses, target_uses};
 ghost use Rattle.lock_discipline.specs.links.Refusals.{Refuses};
 ghost use Rattle.lock_discipline.specs.links.Uses.{use_of};
 
 use crate::error::LockError;
-use crate::set::MutexSet;
+use crate::set::NameSet;
 use c_tree::expr::{Expr, LockRef, Lvalue, PlacedRef};
+use c_tree::lock_names::{key_reads, number_in};
 use c_tree::program::{Guard, Variable};
 use ido_base::place::Place;
 
@@ -41,19 +44,19 @@ fn name_under<'a>(guard: Guard, index: Option<PlacedRef<'a>>) -> LockRef<'a>
 /// The use of a variable whose name stands at the place, with an index or without one.
 fn check_use<'a>(
     variables: &[Variable],
-    held: MutexSet,
+    names: &[LockRef<'a>],
+    held: NameSet,
     variable: u32,
     place: Place,
     index: Option<PlacedRef<'a>>,
 ) -> Result<(), LockError<'a>>
-    ensures { let w = walk_uses (map variable_of variables.now) (plain_names (length held)) held
+    ensures { let w = walk_uses (map variable_of variables.now) (names_of names.now) held
         (use_of variable place (option_map placed_ref_of index.entry) ∷ []) in
         MatchResult result (λ _. w ≡ After held) (Refuses w) }
 {
     let guard = variable_guard(variables, variable);
     let lock = name_under(guard, index);
-    let number = held.number(lock);
-    if held.holds(number) {
+    if held.holds(number_in(names, lock)) {
         Ok(())
     } else {
         Err(LockError::Unheld { place, lock })
@@ -63,10 +66,11 @@ fn check_use<'a>(
 /// The uses in an expression, from left to right.
 pub fn check_expr<'a>(
     variables: &[Variable],
-    held: MutexSet,
+    names: &[LockRef<'a>],
+    held: NameSet,
     expr: &'a Expr,
 ) -> Result<(), LockError<'a>>
-    ensures { let w = walk_uses (map variable_of variables.now) (plain_names (length held)) held (expr_uses (expr_of expr.now)) in
+    ensures { let w = walk_uses (map variable_of variables.now) (names_of names.now) held (expr_uses (expr_of expr.now)) in
         MatchResult result (λ _. w ≡ After held) (Refuses w) }
 {
     match expr {
@@ -75,7 +79,7 @@ pub fn check_expr<'a>(
             place,
             variable,
             ..
-        } => check_use(variables, held, *variable, *place, None),
+        } => check_use(variables, names, held, *variable, *place, None),
         Expr::Element {
             place,
             variable,
@@ -87,15 +91,15 @@ pub fn check_expr<'a>(
                 place: *index_place,
                 expr: index,
             };
-            check_use(variables, held, *variable, *place, Some(key))?;
-            check_expr(variables, held, index)
+            check_use(variables, names, held, *variable, *place, Some(key))?;
+            check_expr(variables, names, held, index)
         }
         Expr::Unary { operand, .. }
         | Expr::Cast { operand, .. }
-        | Expr::Converted { operand, .. } => check_expr(variables, held, operand),
+        | Expr::Converted { operand, .. } => check_expr(variables, names, held, operand),
         Expr::Binary { left, right, .. } => {
-            check_expr(variables, held, left)?;
-            check_expr(variables, held, right)
+            check_expr(variables, names, held, left)?;
+            check_expr(variables, names, held, right)
         }
         Expr::Conditional {
             condition,
@@ -103,9 +107,9 @@ pub fn check_expr<'a>(
             otherwise,
             ..
         } => {
-            check_expr(variables, held, condition)?;
-            check_expr(variables, held, then)?;
-            check_expr(variables, held, otherwise)
+            check_expr(variables, names, held, condition)?;
+            check_expr(variables, names, held, then)?;
+            check_expr(variables, names, held, otherwise)
         }
     }
 }
@@ -113,10 +117,11 @@ pub fn check_expr<'a>(
 /// The uses in a target.
 pub fn check_target<'a>(
     variables: &[Variable],
-    held: MutexSet,
+    names: &[LockRef<'a>],
+    held: NameSet,
     target: &'a Lvalue,
 ) -> Result<(), LockError<'a>>
-    ensures { let w = walk_uses (map variable_of variables.now) (plain_names (length held)) held (target_uses (lvalue_of target.now)) in
+    ensures { let w = walk_uses (map variable_of variables.now) (names_of names.now) held (target_uses (lvalue_of target.now)) in
         MatchResult result (λ _. w ≡ After held) (Refuses w) }
 {
     match target {
@@ -125,7 +130,7 @@ pub fn check_target<'a>(
             place,
             variable,
             ..
-        } => check_use(variables, held, *variable, *place, None),
+        } => check_use(variables, names, held, *variable, *place, None),
         Lvalue::Element {
             place,
             variable,
@@ -136,8 +141,47 @@ pub fn check_target<'a>(
                 place: index.place,
                 expr: &index.expr,
             };
-            check_use(variables, held, *variable, *place, Some(key))?;
-            check_expr(variables, held, &index.expr)
+            check_use(variables, names, held, *variable, *place, Some(key))?;
+            check_expr(variables, names, held, &index.expr)
         }
+    }
+}
+
+/// The lock of this number is held, and its key reads the local.
+fn freezes(held: NameSet, number: usize, lock: LockRef<'_>, local: u32) -> bool
+    ensures { result ≡ (holds held number && list_any (λ other. other == local) (key_locals (lock_ref_of lock.entry))) }
+{
+    held.holds(number) && key_reads(lock, local)
+}
+
+/// The first held lock whose key reads the local.
+fn freezing<'a>(names: &[LockRef<'a>], held: NameSet, local: u32) -> Option<LockRef<'a>>
+    ensures { option_map lock_ref_of result ≡ freezing (names_of names.now) held local }
+{
+    for (number, name) in names.iter().enumerate() {
+        if freezes(held, number, *name, local) {
+            return Some(*name);
+        }
+    }
+    None
+}
+
+/// The local that is assigned, if one is.
+pub fn check_free<'a>(
+    names: &[LockRef<'a>],
+    held: NameSet,
+    target: &Lvalue,
+) -> Result<(), LockError<'a>>
+    ensures { let w = walk_target [] (names_of names.now) held (lvalue_of target.now) in MatchResult result (λ _. w ≡ After held) (Refuses w) }
+{
+    match target {
+        Lvalue::Local { place, local, .. } => match freezing(names, held, *local) {
+            Some(lock) => Err(LockError::Frozen {
+                place: *place,
+                lock,
+            }),
+            None => Ok(()),
+        },
+        Lvalue::Variable { .. } | Lvalue::Element { .. } => Ok(()),
     }
 }

@@ -21,6 +21,7 @@ of_lock (lock_error.Again place name) = refusal_by rule.Again place
 of_lock (lock_error.NotHeld place name) = refusal_by rule.NotHeld place
 of_lock (lock_error.Join place name) = refusal_by rule.Join place
 of_lock (lock_error.EndHeld place name) = refusal_by rule.EndHeld place
+of_lock (lock_error.Frozen place name) = refusal_by rule.Frozen place
 of_lock (lock_error.Held place name) = refusal_by rule.Held place
 of_lock lock_error.Memory = source.Memory
 

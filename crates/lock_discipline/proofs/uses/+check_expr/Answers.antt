@@ -2,7 +2,7 @@ use Rattle.std.proofs.Common.{◌≡◌, [], ◌∷◌, ◌++◌, Some, length, 
 use Rattle.std.proofs.lemmas.Result.{err_from_is_err_and}
 use Rattle.c_tree.specs.Programs.{variable_of}
 use Rattle.c_tree.specs.Exprs.{Placed, expr_of}
-use Rattle.c_tree.specs.LockNames.{plain_names}
+use Rattle.c_tree.specs.links.KnownNames.{names_of}
 use Rattle.c_tree.specs.LockDiscipline.{expr_uses, walk_uses}
 use Rattle.c_tree.specs.declared.expr.Expr.{Expr}
 use Rattle.lock_discipline.specs.links.Uses.{use_of}
@@ -20,7 +20,7 @@ returns-in_err-check_use-in-Element t c =
     let more = expr_uses (expr_of w.index.value) in
     let all : expr_uses (expr_of c.args.expr.now) ≡ (u ∷ []) ++ more = rw inner (ap (λ (x : Expr). expr_uses (expr_of x)) w.is) in
     let vs = map variable_of c.args.variables.now in
-    let n = plain_names (length c.args.held) in
+    let n = names_of c.args.names.now in
     let h = c.args.held in
     rw (p.1, p.2) (refuses_then (walk_uses vs n h (u ∷ [])) (walk_uses vs n h (expr_uses (expr_of c.args.expr.now))) (λ _. walk_uses vs n h more) _
     (uses_split vs n h (expr_uses (expr_of c.args.expr.now)) (u ∷ []) more all)
@@ -34,7 +34,7 @@ returns-in_err-check_expr-in-Binary t c =
     let all : expr_uses (expr_of c.args.expr.now) ≡ expr_uses (expr_of c.deref-in-Binary.result.now) ++ expr_uses (expr_of w.right.value) =
     rw left (ap (λ (x : Expr). expr_uses (expr_of x)) w.is) in
     rw (p.1, p.2) (refuses_then _ _ _ _ (uses_split (map variable_of c.args.variables.now)
-    (plain_names (length c.args.held)) c.args.held _ _ _ all) c.in_err-check_expr-in-Binary.ensures)
+    (names_of c.args.names.now) c.args.held _ _ _ all) c.in_err-check_expr-in-Binary.ensures)
 
 pub returns-in_ok-check_expr-in-Binary : goal.returns-in_ok-check_expr-in-Binary
 returns-in_ok-check_expr-in-Binary t c =
@@ -44,7 +44,7 @@ returns-in_ok-check_expr-in-Binary t c =
     let all : expr_uses (expr_of c.args.expr.now) ≡ expr_uses (expr_of c.deref-in-Binary.result.now) ++ expr_uses (expr_of c.deref-in-Binary-2.result.now) =
     rw (left, right) (ap (λ (x : Expr). expr_uses (expr_of x)) w.is) in
     matches_as c.check_expr-in-Binary-2.result _ _ (λ _. c.args.held)
-    (uses_split (map variable_of c.args.variables.now) (plain_names (length c.args.held)) c.args.held _ _ _ all
+    (uses_split (map variable_of c.args.variables.now) (names_of c.args.names.now) c.args.held _ _ _ all
     ∙ after_then _ _ c.args.held c.in_ok-check_expr-in-Binary.ensures)
     c.check_expr-in-Binary-2.ensures
 
@@ -57,7 +57,7 @@ returns-in_err-check_expr-in-Conditional t c =
     (expr_of w.otherwise.value) =
     rw condition (ap (λ (x : Expr). expr_uses (expr_of x)) w.is) in
     let vs = map variable_of c.args.variables.now in
-    let n = plain_names (length c.args.held) in
+    let n = names_of c.args.names.now in
     let h = c.args.held in
     rw (p.1, p.2) (refuses_then _ _ _ _ (uses_split vs n h _ _ _ all) (refuses_then _ _ _ _
     (uses_split vs n h _ _ _ refl) c.in_err-check_expr-in-Conditional.ensures))
@@ -72,7 +72,7 @@ returns-in_err-check_expr-in-Conditional-2 t c =
     (expr_of c.deref-in-Conditional-2.result.now)) ++ expr_uses (expr_of w.otherwise.value) =
     rw (condition, chosen) (ap (λ (x : Expr). expr_uses (expr_of x)) w.is) in
     let vs = map variable_of c.args.variables.now in
-    let n = plain_names (length c.args.held) in
+    let n = names_of c.args.names.now in
     let h = c.args.held in
     rw (p.1, p.2) (refuses_then _ _ _ _ (uses_split vs n h _ _ _ all)
     (refuses_as _ _ _ (uses_split vs n h _ _ _ refl
@@ -88,7 +88,7 @@ returns-in_ok-check_expr-in-Conditional-2 t c =
     (expr_of c.deref-in-Conditional-2.result.now)) ++ expr_uses (expr_of c.deref-in-Conditional-3.result.now) =
     rw (condition, chosen, otherwise) (ap (λ (x : Expr). expr_uses (expr_of x)) w.is) in
     let vs = map variable_of c.args.variables.now in
-    let n = plain_names (length c.args.held) in
+    let n = names_of c.args.names.now in
     let h = c.args.held in
     matches_as c.check_expr-in-Conditional-3.result _ _ (λ _. h)
     (uses_split vs n h _ _ _ all ∙ after_then _ _ h (uses_split vs n h _ _ _ refl ∙ after_then _ _ h c.in_ok-check_expr-in-Conditional.ensures

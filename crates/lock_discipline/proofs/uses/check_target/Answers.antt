@@ -2,7 +2,7 @@ use Rattle.std.proofs.Common.{◌≡◌, [], ◌∷◌, ◌++◌, Some, length, 
 use Rattle.std.proofs.lemmas.Result.{err_from_is_err_and}
 use Rattle.c_tree.specs.Programs.{variable_of}
 use Rattle.c_tree.specs.Exprs.{expr_of, placed_of, lvalue_of}
-use Rattle.c_tree.specs.LockNames.{plain_names}
+use Rattle.c_tree.specs.links.KnownNames.{names_of}
 use Rattle.c_tree.specs.LockDiscipline.{expr_uses, target_uses, walk_uses}
 use Rattle.c_tree.specs.declared.expr.Lvalue.{Lvalue}
 use Rattle.lock_discipline.specs.links.Uses.{use_of}
@@ -17,7 +17,7 @@ returns-in_err-check_use-in-Element c =
     let more = expr_uses (expr_of w.index.expr) in
     let all : target_uses (lvalue_of c.args.target.now) ≡ (u ∷ []) ++ more = ap (λ (x : Lvalue). target_uses (lvalue_of x)) w.is in
     let vs = map variable_of c.args.variables.now in
-    let n = plain_names (length c.args.held) in
+    let n = names_of c.args.names.now in
     let h = c.args.held in
     rw (p.1, p.2) (refuses_then (walk_uses vs n h (u ∷ [])) (walk_uses vs n h (target_uses (lvalue_of c.args.target.now))) (λ _. walk_uses vs n h more) _
     (uses_split vs n h (target_uses (lvalue_of c.args.target.now)) (u ∷ []) more all)

@@ -2,7 +2,8 @@ use Rattle.std.proofs.Common.{◌≡◌, None, Some, Bool, true, false, not, con
 use Rattle.std.specs.Option.{option_map}
 use Rattle.c_tree.specs.Exprs.{LockName, lock_ref_of, placed_ref_of}
 use Rattle.c_tree.specs.Programs.{Guard, variable_of}
-use Rattle.c_tree.specs.LockNames.{Held, holds, number_in, plain_names}
+use Rattle.c_tree.specs.LockNames.{Held, holds, number_in}
+use Rattle.c_tree.specs.links.KnownNames.{names_of}
 use Rattle.c_tree.specs.declared.rule.Rule.TheVariants as rule
 use Rattle.c_tree.specs.LockDiscipline.{Fault, Use, Walked, Broken, name_under, guard_name, is_guarded}
 use Rattle.lock_discipline.specs.links.Uses.{use_of}
@@ -18,9 +19,9 @@ returns-then-holds c =
     let fault : Use → Fault = λ w. record { rule = rule.Unheld; place = w.place; lock = guard_name vs w } in
     let name : lock_ref_of c.name_under-lock.result ≡ guard_name vs u =
     c.name_under-lock.ensures ∙ ap (λ (g : Guard). name_under g index) c.variable_guard-guard.ensures in
-    let is : is_guarded vs (plain_names (length h)) h u ≡ true =
-    ap (λ (x : LockName). holds h (number_in (plain_names (length h)) x)) (sym name)
-    ∙ (sym c.number-number.ensures.0 ∙ (sym c.holds.ensures ∙ c.if-holds.true)) in
+    let is : is_guarded vs (names_of c.args.names.now) h u ≡ true =
+    ap (λ (x : LockName). holds h (number_in (names_of c.args.names.now) x)) (sym name)
+    ∙ (ap (holds h) (sym c.number_in.ensures) ∙ (sym c.holds.ensures ∙ c.if-holds.true)) in
     ap (λ (b : Bool). none_or (cond (not b) (Some u) None) fault h) is
 
 pub returns-else-holds : goal.returns-else-holds
@@ -32,8 +33,8 @@ returns-else-holds c =
     let fault : Use → Fault = λ w. record { rule = rule.Unheld; place = w.place; lock = guard_name vs w } in
     let name : lock_ref_of c.name_under-lock.result ≡ guard_name vs u =
     c.name_under-lock.ensures ∙ ap (λ (g : Guard). name_under g index) c.variable_guard-guard.ensures in
-    let is : is_guarded vs (plain_names (length h)) h u ≡ false =
-    ap (λ (x : LockName). holds h (number_in (plain_names (length h)) x)) (sym name)
-    ∙ (sym c.number-number.ensures.0 ∙ (sym c.holds.ensures ∙ c.if-holds.false)) in
+    let is : is_guarded vs (names_of c.args.names.now) h u ≡ false =
+    ap (λ (x : LockName). holds h (number_in (names_of c.args.names.now) x)) (sym name)
+    ∙ (ap (holds h) (sym c.number_in.ensures) ∙ (sym c.holds.ensures ∙ c.if-holds.false)) in
     ap (λ (b : Bool). none_or (cond (not b) (Some u) None) fault h) is
     ∙ ap (λ (x : LockName). let w : Walked = Broken (record { rule = rule.Unheld; place = c.args.place; lock = x }) in w) (sym name)
