@@ -13,7 +13,7 @@ use Rattle.flat_analysis.specs.CompilableForms.{IsAcceptedForm}
 -- no check refuses the form, and each part is what its own analysis answers
 pub record IsAnalysis (a : Analysis) : Type 0 where
   pub accepted : IsAcceptedForm (flat_of a.flat.now)
-  -- the sets of mutexes that are held
+  -- the sets of locks that are held
   pub held : AreAllSetsOf (flat_of a.flat.now) a.held
   pub lowered : graph_of a.graph ≡ lowered (flat_of a.flat.now)
   pub live : AreLive (graph_of a.graph) a.live

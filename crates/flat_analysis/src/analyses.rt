@@ -33,7 +33,7 @@ use std::alloc::Global;
 #[derive(Drop)]
 pub struct Analysis<'a> {
     pub flat: &'a Flat,
-    /// Of each thread the mutexes that are held before each of its nodes.
+    /// Of each thread the locks that are held before each of its nodes.
     pub held: Held,
     pub graph: Graph<'a>,
     /// The locals that are live at the entry of each node.
@@ -65,7 +65,7 @@ fn of_lock(error: LockError<'_>) -> SourceError
     }
 }
 
-/// The mutexes that are held before each step, where the form keeps the lock discipline.
+/// The locks that are held before each step, where the form keeps the lock discipline.
 fn held(alloc: Global, flat: &Flat) -> Result<Held, SourceError>
     requires { IsWellFormed (flat_of flat.now) }
     ensures sets { IfOk result (AreAllSetsOf (flat_of flat.now)) }

@@ -50,7 +50,7 @@ ones_of_mask (b ∷ h) =
 same_or_other : (i m : ℕ) → (i ≡ m) ⊎ (i ≢ m)
 same_or_other i m = grind arith
 
--- ---- One mutex more or less
+-- ---- One name more or less
 
 within : (n w m : ℕ) → m < n → m < length (held_of n w)
 within n w m lt = omega (arith, length-held_of n w)
@@ -97,7 +97,7 @@ held_of_same n v s l e = ap₂ held_of (sym l) e ∙ held_of-mask_of s
 pub mask_below : (n v : ℕ) (s : Held) → length s ≡ n → v ≡ mask_of s → v < 2 ^ n
 mask_below n v s l e = subst (λ x. x < 2 ^ n) (sym e) (subst (λ m. mask_of s < 2 ^ m) l (mask_of-bound s))
 
--- ---- The test of one mutex
+-- ---- The test of one name
 
 bit_same : (a b : Bool) → bit a ≡ bit b → a ≡ b
 bit_same true true e = refl
@@ -139,7 +139,7 @@ differences_hold n s a b m hs ha hb =
     bit_same _ _ (sym (bit_at-held_of n (bit_or s (bit_xor a b)) m (differences_below n s a b hs ha hb)) ∙ bit_at_or s (bit_xor a b) m
     ∙ ap₂ max (bit_at-held_of n s m hs) (bit_at_xor a b m ∙ ap₂ (λ p q. (p + q) % 2) (bit_at-held_of n a m ha) (bit_at-held_of n b m hb)) ∙ bit_joined x y z)
 
--- ---- The least mutex
+-- ---- The least name
 
 below_or_last : (k n : ℕ) → k < suc n → (k < n) ⊎ (n ≡ k)
 below_or_last k n h = grind arith
@@ -191,6 +191,6 @@ pub none_held_of : (n : ℕ) → held_of n 0 ≡ none_held n
 none_held_of zero = refl
 none_held_of (suc n) = ap (λ h. false ∷ h) (none_held_of n)
 
--- two sets of as many mutexes
+-- two sets of as many names
 pub same_count : (n w m v : ℕ) (h k : Held) → held_of n w ≡ h → held_of m v ≡ k → length k ≡ length h → m ≡ n
 same_count n w m v h k p q l = sym (length-held_of m v) ∙ ap length q ∙ l ∙ sym (ap length p) ∙ length-held_of n w

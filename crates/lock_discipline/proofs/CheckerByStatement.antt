@@ -12,20 +12,20 @@ use Rattle.c_tree.specs.declared.language.Language.{Language}
 use Rattle.c_tree.specs.declared.expr.Lvalue.{Lvalue}
 use Rattle.c_tree.specs.declared.flat.Statement as s
 use Rattle.c_tree.specs.declared.flat.Arm as arm
-use Rattle.c_tree.specs.Exprs.{LockName, ToLocal, ToVariable, ToElement, placed_of}
+use Rattle.c_tree.specs.Exprs.{LockName, ToLocal, ToVariable, ToElement}
 use Rattle.c_tree.specs.Exprs.{Lvalue as Target}
-use Rattle.std.specs.Prelude.{slice_index_or, find}
+use Rattle.std.specs.Prelude.{slice_index_or}
 use Rattle.c_tree.specs.Programs.{Variable}
 use Rattle.c_tree.specs.Flats as f
 use Rattle.c_tree.specs.LockNames.{Held, holds}
 use Rattle.c_tree.specs.LockDiscipline.{numbers_below, is_in_some, is_in_all, least_difference, Fault, Walked, After, Broken}
-use Rattle.c_tree.specs.LockDiscipline.{and_then, Use, is_guarded, freezing, assign_uses, walk_target, expr_uses}
+use Rattle.c_tree.specs.LockDiscipline.{and_then, walk_target, expr_uses}
 use Rattle.c_tree.specs.LockDiscipline.{target_uses, walk_uses, join, join_all, walk, walk_all, walk_arms}
 use Rattle.lock_discipline.specs.links.Flow.{held_after, held_after_all, sets_in, sets_in_all, sets_in_arms}
 use Rattle.c_tree.proofs.Public.{flat_rows_of_while as of_while, flat_rows_of_do as of_do, flat_rows_of_if as of_if}
 use Rattle.c_tree.specs.declared.rule.Rule.TheVariants as rule
 use Rattle.lock_discipline.proofs.Sets.{AllLong, AllLong-append, AllAre-right, same_found, same_where_none}
-use Rattle.lock_discipline.proofs.CheckerCorrectness.{none_or, none_is_after, after_then, after_walk, after_walk_all}
+use Rattle.lock_discipline.proofs.CheckerCorrectness.{none_or, after_then, after_walk, after_walk_all}
 use Rattle.lock_discipline.proofs.Refusals.{uses_append}
 
 -- ---- Sets at a join

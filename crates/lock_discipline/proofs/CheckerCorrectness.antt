@@ -65,7 +65,7 @@ named_right names [] ys w = w
 named_right names (x ∷ xs) ys w = named_right names xs ys w.1
 
 module _ (vs : List Variable) (names : List e.LockName) where
-  -- ---- The sets speak of as many mutexes all the way
+  -- ---- The sets speak of as many names all the way
 
   mutual
     pub keeps_length : {h after : Held} {s : f.Statement} → Keeps vs names h s after → length after ≡ length h
@@ -205,7 +205,8 @@ module _ (language : Language) (vs : List Variable) (names : List e.LockName) wh
         let both = where_after (holds h (number_in names name)) _ (set h (number_in names name) false) k e in
         subst (λ y. Keeps vs names h (f.Unlock place name) y) both.1 (unlock place name both.0)
 
-    pub after_keep_all : (ss : f.Statements) (h k : Held) → AreNamed names (locks_in_all ss) → length h ≡ length names → walk_all language vs names h ss ≡ After k →
+    pub after_keep_all : (ss : f.Statements) (h k : Held) → AreNamed names (locks_in_all ss) → length h ≡ length names →
+        walk_all language vs names h ss ≡ After k →
         KeepAll vs names h ss k
     after_keep_all f.no_statement h k w l e = subst (λ y. KeepAll vs names h f.no_statement y) (cc) no_more
     after_keep_all (f.statement_and y rest) h k w l e =

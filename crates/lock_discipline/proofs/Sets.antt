@@ -1,4 +1,4 @@
--- When sets of held mutexes are the same.
+-- When sets of held names are the same.
 use Rattle.std.proofs.Common.{◌≡◌, ℕ, zero, suc, ◌<◌, ◌⊎◌, inl, inr, Bool, true, false, not, cond, ◌&&◌, ◌||◌, List, [], ◌∷◌}
 use Rattle.std.proofs.Common.{◌++◌, length, Option, Some, None, find, refl, sym, ap, ap₂, ◌∙◌, subst, arith, ext_get_or}
 use Rattle.std.specs.List.{list_any, list_all}
@@ -36,7 +36,7 @@ abbrev pub AllAre : Held → List Held → Type 0
 AllAre h [] = Unit {0}
 AllAre h (x ∷ xs) = (x ≡ h) × AllAre h xs
 
--- each set speaks of so many mutexes
+-- each set speaks of so many names
 abbrev pub AllLong : ℕ → List Held → Type 0
 AllLong n [] = Unit {0}
 AllLong n (x ∷ xs) = (length x ≡ n) × AllLong n xs
@@ -122,7 +122,7 @@ all_are n h (x ∷ xs) l ls e =
 pub same_where_none : (n : ℕ) (h : Held) (xs : List Held) → length h ≡ n → AllLong n xs → least_difference n (h ∷ xs) ≡ None → AllAre h xs
 same_where_none n h xs l ls e = all_are n h xs l ls (λ k lt. agree_at h xs k (at_none _ n e k lt))
 
--- ---- No mutex
+-- ---- No name
 
 none_held-holds : (n k : ℕ) → holds (none_held n) k ≡ false
 none_held-holds zero k = refl
@@ -137,7 +137,7 @@ none_held-where_none n h l e =
     ext_get_or false h (none_held n) (l ∙ sym (length-replicate n false))
     (λ k lt. at_none _ n e k (subst (λ m. k < m) l lt) ∙ sym (none_held-holds n k))
 
--- ---- The mutexes in which some set differs from the first
+-- ---- The names in which some set differs from the first
 
 not_and : (a b : Bool) → (not a || not b) ≡ not (a && b)
 not_and true b = refl

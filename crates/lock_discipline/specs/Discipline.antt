@@ -7,7 +7,8 @@ use Rattle.c_tree.specs.LockDiscipline.{IsDisciplined, lock_fault}
 use Rattle.lock_discipline.specs.HeldSetsByStep.{HoldsFew}
 use Rattle.lock_discipline.specs.NamedForms.{HasNames}
 
--- where each thread keeps the discipline and nowhere holds too many the walk finds no fault; where each lock that is taken has a number it finds none only there
+-- where each thread keeps the discipline and nowhere holds too many the walk finds no fault; where each lock that is taken has a number it finds none only
+-- there
 abbrev pub WalkIsDiscipline : Type 0
 WalkIsDiscipline = (l : Language) (x : Flat) → (All (IsDisciplined x) x.threads → All (HoldsFew l x) x.threads → lock_fault l x ≡ None)
     × (HasNames x → lock_fault l x ≡ None → All (IsDisciplined x) x.threads × All (HoldsFew l x) x.threads)

@@ -76,7 +76,7 @@ module _ (vs : List Variable) (names : List e.LockName) where
       in_other_arms : {h k : Held} {n : ℕ} (condition : e.Placed) (body : f.Statements) (rest : f.Arms) → HeldInArms h rest n k →
           HeldInArms h (f.arm_and condition body rest) (suc (steps_of_all body + n)) k
 
--- a thread begins with no mutex held
+-- a thread begins with no lock held
 pub data HeldBefore (x : f.Flat) (t : f.Thread) : (step : ℕ) → Held → Type 0 where
   in_body : {k : Held} {n : ℕ} → HeldInAll x.variables (lock_names x t) (none_held (length (lock_names x t))) t.body n k → HeldBefore x t n k
   at_end : {k : Held} → KeepAll x.variables (lock_names x t) (none_held (length (lock_names x t))) t.body k → HeldBefore x t (steps_of_all t.body) k

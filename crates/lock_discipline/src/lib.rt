@@ -1,4 +1,4 @@
-//! The lock discipline: the first fault of a flat form, or the mutexes that are held before each step.
+//! The lock discipline: the first fault of a flat form, or the locks that are held before each step.
 #![tactic(auto)]
 
 mod error;

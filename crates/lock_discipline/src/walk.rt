@@ -1,4 +1,4 @@
-//! The walk through a thread, with the mutexes that are held before each of its steps.
+//! The walk through a thread, with the locks that are held before each of its steps.
 ghost use Rattle.std.specs.Prelude.{◌≡◌, ◌≤◌, ◌++◌, [], ◌∷◌, None, List, length, map, slice_index_or, MatchResult, IfOk};
 ghost use Rattle.std.specs.List.{All};
 ghost use Rattle.ido_base.specs.declared.limits.TheConstants.{MOST_MUTEXES};
@@ -222,7 +222,7 @@ fn walk_arms<'a>(
     Ok(ends)
 }
 
-/// A thread, which begins and ends with no mutex held: the sets before its steps.
+/// A thread, which begins and ends with no lock held: the sets before its steps.
 pub fn walk_thread<'a>(
     alloc: Global,
     language: Language,
@@ -237,7 +237,15 @@ pub fn walk_thread<'a>(
 {
     let mut sets = Vec::new(alloc);
     let none = NameSet::none(names.len() as u32);
-    let end = walk_statements(alloc, language, variables, names, none, &thread.body, &mut sets)?;
+    let end = walk_statements(
+        alloc,
+        language,
+        variables,
+        names,
+        none,
+        &thread.body,
+        &mut sets,
+    )?;
     if let Some(number) = end.least() {
         return Err(LockError::EndHeld {
             place: thread.closing,

@@ -1,4 +1,4 @@
--- The sets of held mutexes by computation: after a part that keeps the discipline, and before each of its steps.
+-- The sets of held names by computation: after a part that keeps the discipline, and before each of its steps.
 use Rattle.std.specs.Prelude.{true, false, List, [], ◌∷◌, ◌++◌, length, replicate, slice_set}
 use Rattle.c_tree.specs.Exprs as e
 use Rattle.c_tree.specs.Flats as f

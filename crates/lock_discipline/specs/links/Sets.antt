@@ -4,7 +4,7 @@ use Rattle.std.proofs.Common.{refl, ap, ap₂, ◌∙◌, subst, lit<, pow-suc, 
 use native.Mathlib.Nat.{mod-add-div}
 use Rattle.lock_discipline.specs.Masks.{mask_of}
 
--- the lowest bits of a mask, one for each mutex
+-- the lowest bits of a mask, one for each name
 abbrev pub held_of : (mutexes mask : ℕ) → List Bool
 held_of zero mask = []
 held_of (suc n) mask = (mask % 2 == 1) ∷ held_of n (mask / 2)
@@ -13,7 +13,7 @@ held_of (suc n) mask = (mask % 2 == 1) ∷ held_of n (mask / 2)
 abbrev pub differ : Bool → Bool → Bool
 differ a b = if a then not b else b
 
--- ---- A set forgets nothing of a mask that has bits for its mutexes alone
+-- ---- A set forgets nothing of a mask that has bits for its names alone
 
 pub length-held_of : (n w : ℕ) → length (held_of n w) ≡ n
 length-held_of zero w = refl

@@ -1,4 +1,4 @@
-use Rattle.std.proofs.Common.{◌≡◌, ℕ, ◌≤◌, [], get_or, ap, arith, refl, true, false}
+use Rattle.std.proofs.Common.{ℕ, ◌≤◌, [], get_or, ap, arith, refl}
 use borrow.Author.Count.{below_more}
 use Rattle.c_tree.specs.LockNames.{count_held}
 use Rattle.lock_discipline.proofs.SmallSets.{read_there, all_small}

@@ -1,5 +1,5 @@
-use Rattle.std.proofs.Common.{◌≡◌, Option, Some, None, [], sym, ap, ◌∙◌}
-use Rattle.c_tree.specs.Exprs.{LockName, lock_ref_of, lvalue_of}
+use Rattle.std.proofs.Common.{Option, [], sym, ap, ◌∙◌}
+use Rattle.c_tree.specs.Exprs.{LockName, lvalue_of}
 use Rattle.c_tree.specs.declared.expr.Lvalue.{Lvalue}
 use Rattle.c_tree.specs.declared.rule.Rule.TheVariants as rule
 use Rattle.c_tree.specs.LockDiscipline.{Fault, walk_target}

@@ -1,4 +1,4 @@
-use Rattle.std.proofs.Common.{◌≡◌, None, Some, Bool, true, false, not, cond, length, map, sym, ap, ◌∙◌}
+use Rattle.std.proofs.Common.{◌≡◌, None, Some, Bool, true, false, not, cond, map, sym, ap, ◌∙◌}
 use Rattle.std.specs.Option.{option_map}
 use Rattle.c_tree.specs.Exprs.{LockName, lock_ref_of, placed_ref_of}
 use Rattle.c_tree.specs.Programs.{Guard, variable_of}
