@@ -15,11 +15,12 @@ use Rattle.c_tree.specs.Flats as f
 use Rattle.c_tree.specs.Source as m
 use Rattle.c_tree.specs.Source.{source_step, opened_all}
 use Rattle.c_tree.specs.LockNames.{Held, holds, none_held, lock_names, number_in}
-use Rattle.c_tree.specs.LockDiscipline.{Use, expr_uses, target_uses, assign_uses, is_guarded, AreGuarded, IsDisciplined}
-use Rattle.c_tree.proofs.Public.{index_element}
+use Rattle.c_tree.specs.LockDiscipline.{Use, expr_uses, target_uses, assign_uses, is_guarded, AreGuarded, IsDisciplined, IsFree}
+use Rattle.c_tree.proofs.Public.{index_element, held_number_stays}
 use Rattle.source_machine.specs.ElementLocks.{element_lock, found_number}
 use Rattle.source_machine.specs.Mutexes.{lock_ahead, unlock_ahead, first_lock, first_unlock, lock_of, unlock_of, held_by}
-use Rattle.source_machine.specs.Discipline.{KeepList, HoldsNames, ThreadKeeps, StateKeeps, StartKeeps, StepKeeps, RunKeeps, ReachedKeeps, Guards, LooksSame}
+use Rattle.source_machine.specs.Discipline.{KeepList, HaveOneLock, HoldsNames, ThreadKeeps, StateKeeps}
+use Rattle.source_machine.specs.Discipline.{StartKeeps, StepKeeps, RunKeeps, ReachedKeeps, Guards, LooksSame}
 use Rattle.source_machine.proofs.Emission.{set_same, set_other}
 use Rattle.source_machine.proofs.StartStates.{map_found}
 use Rattle.source_machine.proofs.StateRuns.{after_by, step_found, step_missing}
@@ -36,38 +37,57 @@ use Rattle.source_machine.proofs.StepChanges.{takes, gives, IsDisciplinedChange,
 pub looks_same : (x : f.Flat) (s : m.State) (t : ℕ) → LooksSame x s s t
 looks_same x s t = record { own = refl; held = λ k g. refl; ahead = λ k g. refl; guarded = λ v e g. refl }
 
+-- a set speaks of all names
+pub set_long : (x : f.Flat) (t : ℕ) (hs : List (Option ℕ)) (thread : m.Thread) (k : ThreadKeeps x t hs thread) → length k.set ≡ length (lock_names x k.text)
+set_long x t hs thread k =
+    keep_list_length x.variables (lock_names x k.text) thread.left k.set (none_held (length (lock_names x k.text))) k.left
+    ∙ length-replicate (length (lock_names x k.text)) false
+
 -- ---- What a step does
 
-module _ (x : f.Flat) (s : m.State) (t : ℕ) (thread : m.Thread) (there : slice_get s.threads t ≡ Some thread) (text : f.Thread)
-    (its : slice_get x.threads t ≡ Some text) (held : Held) (holding : HoldsNames (lock_names x text) held thread.locals s.holders t)
-    (long : length held ≡ length (lock_names x text)) where
+module _ (x : f.Flat) (s : m.State) (t : ℕ) (thread : m.Thread) (there : slice_get s.threads t ≡ Some thread) (before : ThreadKeeps x t s.holders thread) where
   -- the names of its locks
   abbrev names : List e.LockName
-  names = lock_names x text
+  names = lock_names x before.text
+
+  -- those that it holds
+  abbrev held : Held
+  held = before.set
+
+  long : length held ≡ length names
+  long = set_long x t s.holders thread before
 
   -- nothing held
   abbrev none : Held
   none = none_held (length names)
 
   -- it keeps the discipline from the same set, with the same numbers of locks
-  keeps_as : (to : m.Thread) → HoldsNames names held to.locals s.holders t → KeepList x.variables names held to.left none →
+  abbrev keeps_as : (to : m.Thread) → HoldsNames names held to.locals s.holders t → KeepList x.variables names held to.left none →
       ((p : m.Pending) → to.pending ≡ Some p → Guards x s t p.variable p.element) → ThreadKeeps x t s.holders to
-  keeps_as to holds left pending = record { text = text; its = its; set = held; held = holds; left = left; pending = pending }
+  keeps_as to given left pending = record { text = before.text; its = before.its; set = held; held = given; left = left; pending = pending }
 
   -- a step that changes its thread alone
   abbrev alone : m.Thread → Change
   alone to = record { thread = to; store = None; passed = None }
 
+  -- the same locals
+  stays_so : HaveOneLock names held thread.locals thread.locals
+  stays_so k y g h = refl
+
   still : (step : m.State → Option m.State) (to : m.Thread) → lock_ahead thread ≡ None →
       ((other : m.State) → LooksSame x s other t → step other ≡ Some (m.with_thread other t to)) →
-      ThreadKeeps x t s.holders to → IsDisciplinedChange x s t thread step
-  still step to free each keeps = record {
+      HoldsNames names held to.locals s.holders t → KeepList x.variables names held to.left none →
+      ((p : m.Pending) → to.pending ≡ Some p → Guards x s t p.variable p.element) → HaveOneLock names held thread.locals to.locals →
+      IsDisciplinedChange x s t thread names held step
+  still step to free each given left pending locks = record {
     change = alone to;
-    keeps = keeps;
+    keeps = keeps_as to given left pending;
     owned = λ p h. cc;
     passes = λ p h. cc;
     ahead = λ k h. let no : None ≡ Some k = sym free ∙ h in cc;
     same = each;
+    same_set = λ none. refl;
+    same_locks = λ none. locks;
   }
 
   -- the element of a use
@@ -76,7 +96,7 @@ module _ (x : f.Flat) (s : m.State) (t : ℕ) (thread : m.Thread) (there : slice
 
   -- the element of a use that the set guards is the thread's
   guarded_at : (u : Use) → is_guarded x.variables names held u ≡ true → Guards x s t u.variable (element_of u)
-  guarded_at u g = guards_each names held thread.locals s.holders t holding long s.variables x.variables u g
+  guarded_at u g = guards_each names held thread.locals s.holders t before.held long s.variables x.variables u g
 
   -- it is the same
   same_at : (other : m.State) → LooksSame x s other t → (u : Use) → is_guarded x.variables names held u ≡ true →
@@ -91,10 +111,10 @@ module _ (x : f.Flat) (s : m.State) (t : ℕ) (thread : m.Thread) (there : slice
 
   -- the pending store is to an element whose lock the thread holds
   by_store : (p : m.Pending) → thread.pending ≡ Some p → KeepList x.variables names held thread.left none → HoldsFor p →
-      IsDisciplinedChange x s t thread (λ z. Some (m.with_thread (m.stored z p) t (record thread { pending = None })))
+      IsDisciplinedChange x s t thread names held (λ z. Some (m.with_thread (m.stored z p) t (record thread { pending = None })))
   by_store p is keep guarded = record {
     change = record { thread = record thread { pending = None }; store = Some p; passed = None };
-    keeps = keeps_as (record thread { pending = None }) holding keep (λ q h. cc);
+    keeps = keeps_as (record thread { pending = None }) before.held keep (λ q h. cc);
     owned = λ q h. subst (λ (w : m.Pending). Guards x s t w.variable w.element) (some_is p q h) guarded;
     passes = λ q h. cc;
     ahead = λ k h.
@@ -103,6 +123,8 @@ module _ (x : f.Flat) (s : m.State) (t : ℕ) (thread : m.Thread) (there : slice
         let off : None ≡ Some k = sym no ∙ h in
         cc;
     same = λ other l. refl;
+    same_set = λ free. refl;
+    same_locks = λ free. stays_so;
   }
 
   -- ---- Statements, where no store is pending
@@ -146,6 +168,14 @@ module _ (x : f.Flat) (s : m.State) (t : ℕ) (thread : m.Thread) (there : slice
         (guarded_first x.variables names held u (expr_uses index.expr) (guarded_right x.variables names held (expr_uses placed.expr)
         (target_uses (e.ToElement place variable kind index)) g)))
 
+    -- no lock of the set is another one after an evaluation
+    evaluated_locks : (target : e.Lvalue) (placed : e.Placed) → IsFree names held target →
+        HaveOneLock names held thread.locals (m.evaluated s thread target placed.expr).locals
+    evaluated_locks (e.ToLocal place local kind) placed free k y g h =
+        held_number_stays names held thread.locals local (reduced kind (m.value_in s thread placed.expr).number) k y free g h
+    evaluated_locks (e.ToVariable place variable kind) placed free k y g h = refl
+    evaluated_locks (e.ToElement place variable kind index) placed free k y g h = refl
+
     -- a condition is true in both
     true_same : (other : m.State) → LooksSame x s other t → (condition : e.Placed) → AreGuarded x.variables names held (expr_uses condition.expr) →
         m.is_true other thread condition ≡ m.is_true s thread condition
@@ -169,22 +199,22 @@ module _ (x : f.Flat) (s : m.State) (t : ℕ) (thread : m.Thread) (there : slice
       -- an assignment
       by_assign : (place : Place) (target : e.Lvalue) (placed : e.Placed) → thread.left ≡ f.Assign place target placed ∷ rest →
           KeepList x.variables names held (f.Assign place target placed ∷ rest) none →
-          IsDisciplinedChange x s t thread (λ z. m.statement_step z t thread (f.Assign place target placed) rest)
+          IsDisciplinedChange x s t thread names held (λ z. m.statement_step z t thread (f.Assign place target placed) rest)
       by_assign place target placed first keep =
           let k = keeps_assign x.variables names keep.1 in
           still (λ z. m.statement_step z t thread (f.Assign place target placed) rest) (record (m.evaluated s thread target placed.expr) { left = rest })
           (lock_is (f.Assign place target placed) rest first)
           (λ other l. ap (λ (mo : m.Thread). let o : Option m.State = Some (m.with_thread other t (record mo { left = rest })) in o)
           (evaluated_same other l target placed k.0))
-          (keeps_as (record (m.evaluated s thread target placed.expr) { left = rest })
-          (names_assigned names held thread.locals s.holders t holding s thread target placed.expr refl (keeps_free x.variables names keep.1))
-          (subst (λ (z : Held). KeepList x.variables names z rest none) k.1 keep.2) (evaluated_guarded target placed k.0))
+          (names_assigned names held thread.locals s.holders t before.held s thread target placed.expr refl (keeps_free x.variables names keep.1))
+          (subst (λ (z : Held). KeepList x.variables names z rest none) k.1 keep.2) (evaluated_guarded target placed k.0)
+          (evaluated_locks target placed (keeps_free x.variables names keep.1))
 
       -- an `if`
       by_if : (place : Place) (condition : e.Placed) (body : f.Statements) (arms : f.Arms) (otherwise : f.Statements) →
           thread.left ≡ f.If place (f.arm_and condition body arms) otherwise ∷ rest →
           KeepList x.variables names held (f.If place (f.arm_and condition body arms) otherwise ∷ rest) none →
-          IsDisciplinedChange x s t thread (λ z. m.statement_step z t thread (f.If place (f.arm_and condition body arms) otherwise) rest)
+          IsDisciplinedChange x s t thread names held (λ z. m.statement_step z t thread (f.If place (f.arm_and condition body arms) otherwise) rest)
       by_if place condition body arms otherwise first keep =
           let k = keeps_if x.variables names keep.1 in
           let a = keeps_arm x.variables names k.0 in
@@ -194,10 +224,10 @@ module _ (x : f.Flat) (s : m.State) (t : ℕ) (thread : m.Thread) (there : slice
           (lock_is (f.If place (f.arm_and condition body arms) otherwise) rest first)
           (λ other l. ap (λ (b : Bool). let o : Option m.State = Some (m.with_thread other t (record thread { left = onward b })) in o)
           (true_same other l condition a.0))
-          (keeps_as (record thread { left = onward (m.is_true s thread condition) }) holding
+          before.held
           (keep_append x.variables names (m.tested (m.is_true s thread condition) (opened_all body) (f.If place arms otherwise ∷ [])
           (opened_all otherwise) arms) rest held keep.0 none
-          (keep_tested x.variables names (m.is_true s thread condition) place body arms otherwise held keep.0 a.1 a.2 k.1) keep.2) at_rest)
+          (keep_tested x.variables names (m.is_true s thread condition) place body arms otherwise held keep.0 a.1 a.2 k.1) keep.2) at_rest stays_so
 
       -- what is left of a `while`
       kept_while : (b : Bool) (place : Place) (condition : e.Placed) (body : f.Statements) →
@@ -213,7 +243,7 @@ module _ (x : f.Flat) (s : m.State) (t : ℕ) (thread : m.Thread) (there : slice
       -- a step by a `while` keeps the discipline
       by_while : (place : Place) (condition : e.Placed) (body : f.Statements) → thread.left ≡ f.While place condition body ∷ rest →
           KeepList x.variables names held (f.While place condition body ∷ rest) none →
-          IsDisciplinedChange x s t thread (λ z. m.statement_step z t thread (f.While place condition body) rest)
+          IsDisciplinedChange x s t thread names held (λ z. m.statement_step z t thread (f.While place condition body) rest)
       by_while place condition body first keep =
           let k = keeps_while x.variables names keep.1 in
           let onward : Bool → List f.Statement = λ b. if b then opened_all body ++ (f.While place condition body ∷ rest) else rest in
@@ -221,8 +251,8 @@ module _ (x : f.Flat) (s : m.State) (t : ℕ) (thread : m.Thread) (there : slice
           (lock_is (f.While place condition body) rest first)
           (λ other l. ap (λ (b : Bool). let o : Option m.State = Some (m.with_thread other t (record thread { left = onward b })) in o)
           (true_same other l condition k.0))
-          (keeps_as (record thread { left = onward (m.is_true s thread condition) }) holding
-          (kept_while (m.is_true s thread condition) place condition body keep) at_rest)
+          before.held
+          (kept_while (m.is_true s thread condition) place condition body keep) at_rest stays_so
 
       -- a free mutex is taken
       lock_free : (z : m.State) (place : Place) (name : e.LockName) → slice_get z.holders (lock_number thread.locals name) ≡ Some None →
@@ -241,7 +271,7 @@ module _ (x : f.Flat) (s : m.State) (t : ℕ) (thread : m.Thread) (there : slice
       by_lock : (place : Place) (name : e.LockName) (next : m.State) (o : Option (Option ℕ)) → slice_get s.holders (lock_number thread.locals name) ≡ o →
           thread.left ≡ f.Lock place name ∷ rest → KeepList x.variables names held (f.Lock place name ∷ rest) none →
           m.statement_step s t thread (f.Lock place name) rest ≡ Some next →
-          IsDisciplinedChange x s t thread (λ z. m.statement_step z t thread (f.Lock place name) rest)
+          IsDisciplinedChange x s t thread names held (λ z. m.statement_step z t thread (f.Lock place name) rest)
       by_lock place name next None e first keep h = let no = lock_refused place name None e (λ q. cc) in cc
       by_lock place name next (Some (Some u)) e first keep h = let no = lock_refused place name (Some (Some u)) e (λ q. cc) in cc
       by_lock place name next (Some None) e first keep h =
@@ -252,10 +282,10 @@ module _ (x : f.Flat) (s : m.State) (t : ℕ) (thread : m.Thread) (there : slice
           record {
             change = record { thread = record thread { left = rest }; store = None; passed = Some p };
             keeps = record {
-              text = text;
-              its = its;
+              text = before.text;
+              its = before.its;
               set = slice_set held (number_in names name) true;
-              held = names_taken names held thread.locals s.holders t holding name long k.0 e;
+              held = names_taken names held thread.locals s.holders t before.held name long k.0 e;
               left = subst (λ (z : Held). KeepList x.variables names z rest none) k.1 keep.2;
               pending = λ q g. cc;
             };
@@ -264,12 +294,14 @@ module _ (x : f.Flat) (s : m.State) (t : ℕ) (thread : m.Thread) (there : slice
             ahead = λ j g. let one : lock ≡ j = some_is lock j (sym is ∙ g) in ap
                 (λ (i : ℕ). let w : Passed = record { mutex = i; holder = Some t } in Some w) one;
             same = λ other l. lock_free other place name (l.ahead lock (locks_found s t thread there ∙ is) ∙ e);
+            same_set = λ never. cc;
+            same_locks = λ never k y g h. cc;
           }
 
       -- a mutex is given back
       by_unlock : (place : Place) (name : e.LockName) → thread.left ≡ f.Unlock place name ∷ rest →
           KeepList x.variables names held (f.Unlock place name ∷ rest) none →
-          IsDisciplinedChange x s t thread (λ z. m.statement_step z t thread (f.Unlock place name) rest)
+          IsDisciplinedChange x s t thread names held (λ z. m.statement_step z t thread (f.Unlock place name) rest)
       by_unlock place name first keep =
           let k = keeps_unlock x.variables names keep.1 in
           let lock = lock_number thread.locals name in
@@ -278,23 +310,25 @@ module _ (x : f.Flat) (s : m.State) (t : ℕ) (thread : m.Thread) (there : slice
           record {
             change = record { thread = record thread { left = rest }; store = None; passed = Some p };
             keeps = record {
-              text = text;
-              its = its;
+              text = before.text;
+              its = before.its;
               set = slice_set held (number_in names name) false;
-              held = names_given names held thread.locals s.holders t holding name long k.0;
+              held = names_given names held thread.locals s.holders t before.held name long k.0;
               left = subst (λ (z : Held). KeepList x.variables names z rest none) k.1 keep.2;
               pending = λ q g. cc;
             };
             owned = λ q g. cc;
             passes = λ q g. subst (λ (w : Passed). ChangesMutex s t thread w) (some_is p q g)
-                (gives (unlock_is (f.Unlock place name) rest first) (name_held names held thread.locals s.holders t holding name long k.0) refl);
+                (gives (unlock_is (f.Unlock place name) rest first) (name_held names held thread.locals s.holders t before.held name long k.0) refl);
             ahead = λ j g. let no : None ≡ Some j = sym free ∙ g in cc;
             same = λ other l. refl;
+            same_set = λ never. cc;
+            same_locks = λ never k y g h. cc;
           }
 
       -- each statement
       by_statement : (y : f.Statement) (next : m.State) → thread.left ≡ y ∷ rest → KeepList x.variables names held (y ∷ rest) none →
-          m.statement_step s t thread y rest ≡ Some next → IsDisciplinedChange x s t thread (λ z. m.statement_step z t thread y rest)
+          m.statement_step s t thread y rest ≡ Some next → IsDisciplinedChange x s t thread names held (λ z. m.statement_step z t thread y rest)
       by_statement (f.Assign place target placed) next first keep h = by_assign place target placed first keep
       by_statement (f.If place f.no_arm otherwise) next first keep h = cc
       by_statement (f.If place (f.arm_and condition body arms) otherwise) next first keep h = by_if place condition body arms otherwise first keep
@@ -312,15 +346,15 @@ module _ (x : f.Flat) (s : m.State) (t : ℕ) (thread : m.Thread) (there : slice
     -- the end
     by_end : (next : m.State) (ended : Bool) → thread.left ≡ [] → KeepList x.variables names held thread.left none →
         (let o : Option m.State = if ended then None else Some (m.with_thread s t (record thread { ended = true })) in o ≡ Some next) →
-        IsDisciplinedChange x s t thread (λ z. if ended then None else Some (m.with_thread z t (record thread { ended = true })))
+        IsDisciplinedChange x s t thread names held (λ z. if ended then None else Some (m.with_thread z t (record thread { ended = true })))
     by_end next true over keep h = cc
     by_end next false over keep h = still (λ z. Some (m.with_thread z t (record thread { ended = true }))) (record thread { ended = true }) (end_locks over)
-        (λ other l. refl) (keeps_as (record thread { ended = true }) holding keep at_rest)
+        (λ other l. refl) before.held keep at_rest stays_so
 
     -- what is left to do
     by_left : (next : m.State) (left : List f.Statement) → thread.left ≡ left → KeepList x.variables names held left none →
         KeepList x.variables names held thread.left none → m.left_step s t thread left ≡ Some next →
-        IsDisciplinedChange x s t thread (λ z. m.left_step z t thread left)
+        IsDisciplinedChange x s t thread names held (λ z. m.left_step z t thread left)
     by_left next [] is keep keep_all h = by_end next thread.ended is keep_all h
     by_left next (y ∷ rest) is keep keep_all h = by_statement rest y next is keep h
 
@@ -333,30 +367,23 @@ module _ (x : f.Flat) (s : m.State) (t : ℕ) (thread : m.Thread) (there : slice
 
   -- with a pending store, or without
   by_pending : (next : m.State) (o : Option m.Pending) → thread.pending ≡ o → KeepList x.variables names held thread.left none →
-      ((p : m.Pending) → thread.pending ≡ Some p → HoldsFor p) → pending_by s o ≡ Some next → IsDisciplinedChange x s t thread (λ z. pending_by z o)
+      ((p : m.Pending) → thread.pending ≡ Some p → HoldsFor p) → pending_by s o ≡ Some next → IsDisciplinedChange x s t thread names held (λ z. pending_by z o)
   by_pending next None e left pending h = by_left e next thread.left refl left left h
   by_pending next (Some p) e left pending h = by_store p e left (pending p e)
 
   -- a step of a thread that keeps the discipline
-  by_thread : (next : m.State) → KeepList x.variables names held thread.left none → ((p : m.Pending) → thread.pending ≡ Some p → HoldsFor p) →
-      m.thread_step s t thread ≡ Some next → Stepped x s t next
-  by_thread next left pending h =
-      let d : IsDisciplinedChange x s t thread (λ z. m.thread_step z t thread) = by_pending next thread.pending refl left pending h in
-      record { thread = thread; there = there; does = d; is = some_is next (changed s t d.change) (sym h ∙ d.same s (looks_same x s t)) }
-
--- a set speaks of all names
-pub set_long : (x : f.Flat) (t : ℕ) (hs : List (Option ℕ)) (thread : m.Thread) (k : ThreadKeeps x t hs thread) → length k.set ≡ length (lock_names x k.text)
-set_long x t hs thread k =
-    keep_list_length x.variables (lock_names x k.text) thread.left k.set (none_held (length (lock_names x k.text))) k.left
-    ∙ length-replicate (length (lock_names x k.text)) false
+  by_thread : (next : m.State) → m.thread_step s t thread ≡ Some next → Stepped x s t next
+  by_thread next h =
+      let d : IsDisciplinedChange x s t thread names held (λ z. m.thread_step z t thread) =
+      by_pending next thread.pending refl before.left before.pending h in
+      record { thread = thread; there = there; before = before; does = d; is = some_is next (changed s t d.change) (sym h ∙ d.same s (looks_same x s t)) }
 
 -- the thread of that number
 by_found : (x : f.Flat) (s next : m.State) (t : ℕ) (o : Option m.Thread) → slice_get s.threads t ≡ o → StateKeeps x s → source_step s t ≡ Some next →
     Stepped x s t next
 by_found x s next t None e keeps h = let no = step_missing s t e in cc
 by_found x s next t (Some thread) e keeps h =
-    let k = keeps.each t thread e in
-    by_thread x s t thread e k.text k.its k.set k.held (set_long x t s.holders thread k) next k.left k.pending (sym (step_found s t thread e) ∙ h)
+    by_thread x s t thread e (keeps.each t thread e) next (sym (step_found s t thread e) ∙ h)
 
 -- a step in a state that keeps the discipline
 pub stepped : (x : f.Flat) (s next : m.State) (t : ℕ) → StateKeeps x s → source_step s t ≡ Some next → Stepped x s t next

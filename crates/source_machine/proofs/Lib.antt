@@ -14,6 +14,7 @@ mod Discipline
 mod GuardedAccesses
 mod HeldNames
 mod HeldBeforeContinuations
+mod KeptNames
 mod UniqueRefusals
 mod AppendedScheduleRuns
 mod AppendedLives

@@ -9,6 +9,7 @@ pub use Rattle.source_machine.proofs.GuardedAccesses.{leaves_held, reads_guarded
 pub use Rattle.source_machine.proofs.GuardedValues.{found_same, guarded_first, guarded_left, guarded_rest, guarded_right, held_found, held_there, value_same}
 pub use Rattle.source_machine.proofs.HeldBeforeContinuations.{plain_is_given, set_is_one}
 pub use Rattle.source_machine.proofs.HeldNames.{guards_each, holds_within, keep_list_length, plain_holds}
+pub use Rattle.source_machine.proofs.KeptNames.{leaves_names}
 pub use Rattle.source_machine.proofs.NoLockTransfer.{step_added, steps_dropped}
 pub use Rattle.source_machine.proofs.SectionEndCases.{counted_as, counted_same, ends_same, ends_taken}
 pub use Rattle.source_machine.proofs.StateRuns.{after_by, ends_by, goes_on, runs_by, split_at, step_found, step_missing}

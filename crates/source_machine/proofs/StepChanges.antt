@@ -4,12 +4,14 @@ use Rattle.std.specs.Prelude.{slice_get, slice_index_or, ℤ}
 use Rattle.std.specs.Option.{option_map, unwrap_or}
 use Rattle.std.proofs.lemmas.Option.{unwrap_or-slice_get}
 use Rattle.std.proofs.lemmas.Bool.{cases_eq}
+use Rattle.c_tree.specs.Exprs.{LockName}
+use Rattle.c_tree.specs.LockNames.{Held, lock_names}
 use Rattle.c_tree.specs.Flats as f
 use Rattle.c_tree.specs.Source as m
 use Rattle.c_tree.specs.Source.{source_step}
 use Rattle.source_machine.specs.Mutexes.{locks, unlocks, lock_ahead, unlock_ahead, held_by}
 use Rattle.source_machine.specs.ElementLocks.{found_number}
-use Rattle.source_machine.specs.Discipline.{ThreadKeeps, Guards, LooksSame}
+use Rattle.source_machine.specs.Discipline.{ThreadKeeps, HaveOneLock, Guards, LooksSame}
 use Rattle.source_machine.proofs.Emission.{set_other}
 
 -- one value under `Some`
@@ -43,19 +45,24 @@ pub data ChangesMutex (s : m.State) (t : ℕ) (thread : m.Thread) (p : Passed) :
   gives : unlock_ahead thread ≡ Some p.mutex → slice_get s.holders p.mutex ≡ Some (Some t) → p.holder ≡ None → ChangesMutex s t thread p
 
 -- what a step does that keeps the discipline, from this state and from each that looks the same
-pub record IsDisciplinedChange (x : f.Flat) (s : m.State) (t : ℕ) (thread : m.Thread) (step : m.State → Option m.State) : Type 0 where
+pub record IsDisciplinedChange (x : f.Flat) (s : m.State) (t : ℕ) (thread : m.Thread) (names : List LockName) (h : Held) (step : m.State → Option m.State)
+    : Type 0 where
   pub change : Change
   pub keeps : ThreadKeeps x t (with_passed change.passed s.holders) change.thread
   pub owned : (p : m.Pending) → change.store ≡ Some p → Guards x s t p.variable p.element
   pub passes : (p : Passed) → change.passed ≡ Some p → ChangesMutex s t thread p
   pub ahead : (k : ℕ) → lock_ahead thread ≡ Some k → change.passed ≡ Some (record { mutex = k; holder = Some t })
   pub same : (other : m.State) → LooksSame x s other t → step other ≡ Some (changed other t change)
+  -- where it passes no mutex it leaves the set, and the locks of its names
+  pub same_set : change.passed ≡ None → keeps.set ≡ h
+  pub same_locks : change.passed ≡ None → HaveOneLock names h thread.locals change.thread.locals
 
 -- a step that can be made is one of a thread that is there
 pub record Stepped (x : f.Flat) (s : m.State) (t : ℕ) (next : m.State) : Type 0 where
   pub thread : m.Thread
   pub there : slice_get s.threads t ≡ Some thread
-  pub does : IsDisciplinedChange x s t thread (λ z. m.thread_step z t thread)
+  pub before : ThreadKeeps x t s.holders thread
+  pub does : IsDisciplinedChange x s t thread (lock_names x before.text) before.set (λ z. m.thread_step z t thread)
   pub is : next ≡ changed s t does.change
 
 -- ---- What stays

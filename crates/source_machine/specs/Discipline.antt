@@ -1,5 +1,5 @@
 -- The lock discipline along a run: what the threads hold, and what their steps read and write.
-use Rattle.std.specs.Prelude.{◌≡◌, ◌≢◌, ◌↔◌, ◌⊎◌, ℕ, List, [], ◌∷◌, length, All, slice_get, Option, Some, true, ℤ}
+use Rattle.std.specs.Prelude.{◌≡◌, ◌≢◌, ◌↔◌, ◌⊎◌, ℕ, List, [], ◌∷◌, length, All, slice_get, Option, Some, None, true, ℤ}
 use Rattle.std.specs.List.{AllByRecursion}
 use Rattle.c_tree.specs.Programs.{Variable}
 use Rattle.c_tree.specs.Flats as f
@@ -11,7 +11,7 @@ use Rattle.c_tree.specs.LockNames.{Held, holds, none_held, lock_names}
 use Rattle.c_tree.specs.LockDiscipline.{Keeps, IsDisciplined}
 use Rattle.c_tree.specs.WellFormed.{IsSingle}
 use Rattle.source_machine.specs.ElementLocks.{element_lock, found_number}
-use Rattle.source_machine.specs.Mutexes.{locks, held_by}
+use Rattle.source_machine.specs.Mutexes.{locks, unlocks, held_by}
 
 -- ---- States that keep it
 
@@ -85,6 +85,17 @@ abbrev pub HeldIsGiven : Type 0
 HeldIsGiven = (x : f.Flat) (s : State) (number : ℕ) (text : f.Thread) (thread : m.Thread) (h : Held) → StateKeeps x s → slice_get x.threads number ≡ Some text →
     slice_get s.threads number ≡ Some thread → KeepsLeft x (lock_names x text) h thread.left →
     HoldsNames (lock_names x text) h thread.locals s.holders number
+
+-- each name of the set has one lock, by the one locals and by the other
+abbrev pub HaveOneLock : List LockName → Held → (one other : List ℤ) → Type 0
+HaveOneLock names h one other = (k : ℕ) (x : LockName) → slice_get names k ≡ Some x → holds h k ≡ true → lock_number other x ≡ lock_number one x
+
+-- a step that locks and unlocks nothing leaves the set before what its thread has left, and the lock of each name of it
+abbrev pub LeavesNames : Type 0
+LeavesNames = (x : f.Flat) (s next : State) (number : ℕ) (text : f.Thread) (before after : m.Thread) (h : Held) → StateKeeps x s →
+    source_step s number ≡ Some next → locks s number ≡ None → unlocks s number ≡ None → slice_get x.threads number ≡ Some text →
+    slice_get s.threads number ≡ Some before → slice_get next.threads number ≡ Some after → KeepsLeft x (lock_names x text) h before.left →
+    KeepsLeft x (lock_names x text) h after.left × HaveOneLock (lock_names x text) h before.locals after.locals
 
 -- where no mutex is in an array, the set before what is left is exactly what the holders say of the thread
 abbrev pub PlainIsGiven : Type 0

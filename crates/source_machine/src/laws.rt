@@ -1,6 +1,6 @@
 //! Laws of the source's own steps: nothing is computed here.
 ghost use Rattle.source_machine.specs.AppendedSchedules.{AfterAppended, EndedAppended, RunsAppended};
-ghost use Rattle.source_machine.specs.Discipline.{HeldIsGiven, LeavesHeld, LeavesOthers, PlainIsGiven, ReachedKeeps};
+ghost use Rattle.source_machine.specs.Discipline.{HeldIsGiven, LeavesHeld, LeavesNames, LeavesOthers, PlainIsGiven, ReachedKeeps};
 ghost use Rattle.source_machine.specs.Discipline.{ReadsGuarded, RunKeeps, SetIsOne, StartKeeps, StepKeeps, WritesGuarded};
 ghost use Rattle.source_machine.specs.Lives.{AfterLife, BetweenIsEach, EndedLife, RunsLife};
 ghost use Rattle.source_machine.specs.StepExchanges.{Exchange, Solo, StepAdded, StepsDropped, Swap};
@@ -39,7 +39,8 @@ pub fn lives_append()
 {}
 
 /// States that keep the lock discipline: a form whose threads keep it begins with one, steps lead from one to one, and what the
-/// discipline says that a thread holds is what the holders say.
+/// discipline says that a thread holds is what the holders say. A step that locks and unlocks nothing leaves what its thread holds, by
+/// the same names with the same locks.
 pub fn discipline_is_kept()
     ensures start { StartKeeps }
     ensures step { StepKeeps }
@@ -47,6 +48,7 @@ pub fn discipline_is_kept()
     ensures reached { ReachedKeeps }
     ensures held { HeldIsGiven }
     ensures one { SetIsOne }
+    ensures names { LeavesNames }
     ensures plain { PlainIsGiven }
 {}
 

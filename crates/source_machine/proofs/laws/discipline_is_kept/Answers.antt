@@ -1,5 +1,6 @@
 use Rattle.source_machine.proofs.Discipline.{start_keeps, step_keeps, run_keeps, reached_keeps}
 use Rattle.source_machine.proofs.HeldBeforeContinuations.{held_is_given, plain_is_given, set_is_one}
+use Rattle.source_machine.proofs.KeptNames.{leaves_names}
 use Rattle.source_machine.proofs.laws.discipline_is_kept.Goals as goal
 
 pub returns-clause-start : goal.returns-clause-start
@@ -22,3 +23,6 @@ returns-clause-one c = set_is_one
 
 pub returns-clause-plain : goal.returns-clause-plain
 returns-clause-plain c = plain_is_given
+
+pub returns-clause-names : goal.returns-clause-names
+returns-clause-names c = leaves_names
