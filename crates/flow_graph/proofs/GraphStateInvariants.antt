@@ -1,15 +1,13 @@
 -- What every run of a graph keeps: its edges, what steps leave, and that the source keeps step.
-use Rattle.std.proofs.Common.{◌≡◌, ◌≢◌, ◌⊎◌, inl, inr, ⊎_elim, ◌<◌, ◌≤◌, refl, ℕ, zero, suc, List, [], ◌∷◌, length, map, ◌+◌}
+use Rattle.std.proofs.Common.{◌≡◌, ◌⊎◌, inl, inr, ⊎_elim, ◌<◌, ◌≤◌, refl, ℕ, zero, suc, List, [], ◌∷◌, length, map, ◌+◌}
 use Rattle.flow_graph.proofs.SuccessorsInThread.{closed_from, contained}
-use Rattle.std.proofs.Common.{replicate, ◌∙◌, ap, sym, subst, arith, Option, Some, None, Bool, true, false, slice_set}
+use Rattle.std.proofs.Common.{◌∙◌, ap, sym, subst, arith, Option, Some, None, Bool, true, false, slice_set}
 use Rattle.std.specs.Prelude.{slice_get, is_some, Contains, if◌then◌else◌, ℤ}
 use Rattle.std.specs.List.{AllByRecursion, AllZip}
 use Rattle.std.specs.Option.{option_map}
 use Rattle.std.proofs.lemmas.Bool.{cases_eq}
-use Rattle.std.proofs.lemmas.Bool.Decides.{nat_tests}
 use Rattle.std.proofs.lemmas.Option.{slice_get_within, same_Some}
 use Rattle.ido_base.specs.declared.location.Location.{Location}
-use Rattle.ido_base.specs.Locations.{overlap, same}
 use Rattle.ido_base.specs.declared.limits.TheConstants.{MOST_ELEMENTS}
 use Rattle.ido_ints.specs.Kinds.{Holds}
 use Rattle.ido_ints.specs.Operators.{is_zero}
@@ -30,10 +28,10 @@ use Rattle.flow_graph.specs.Actions as g
 use Rattle.flow_graph.specs.Actions.{Seen, GraphThread, FlowState, Effect, Sets, Owes, Makes, Goes, Takes, Gives, Ends, effect_of}
 use Rattle.flow_graph.specs.Actions.{effect_step, node_step, graph_thread_step, seen_by, graph_start, graph_step, graph_after, graph_runs}
 use Rattle.flow_graph.specs.Lockstep.{Standing, free, threads_standings, GraphThreadMatches, Matches, StepsMatch, IsOwnNode}
-use Rattle.flow_graph.specs.IdempotentCuts.{Boundaries, IsEdge, IsBoundary, BeginsRegion, IsInside, stays, goes_on, ReadsAt, WritesAt, IsWrittenBefore, AreCuts}
-use Rattle.flow_graph.specs.Paths.{Element, expr_elements, target_elements, reads_of, stored_element, write_of, Visit, solo_path}
-use Rattle.flow_graph.specs.Paths.{ReadsElement, WritesElement, IsWithinRegion, IsReachedFlow, Naming, naming_of, no_names, Lies, LiesInOne, LiesInWritten}
-use Rattle.flow_graph.specs.Paths.{IsAtNode, ReadsLie, WritesLie}
+use Rattle.flow_graph.specs.IdempotentCuts.{IsEdge}
+use Rattle.flow_graph.specs.Paths.{Element, expr_elements, target_elements, reads_of, stored_element, write_of}
+use Rattle.flow_graph.specs.Paths.{IsReachedFlow, Naming, naming_of, no_names, LiesInOne, LiesInWritten}
+use Rattle.flow_graph.specs.Paths.{ReadsLie, WritesLie}
 use Rattle.flow_graph.proofs.NodeContinuations.{ActionLeads, chooses, repeats, node_at}
 use Rattle.flow_graph.proofs.Lockstep.{set_same, set_other, found_in, graph_is, lowered_nodes, begins_lockstep, steps_lockstep, lowered_threads}
 use Rattle.flow_graph.proofs.Shapes.{ShapedBy, own_shaped}
@@ -549,16 +547,28 @@ good_after x (t ∷ ts) w s good = good_by x s t ts (graph_step (lowered x) s t)
 pub good_reached : (x : f.Flat) (s : FlowState) → IsWellFormed x → IsReachedFlow x s → Good x s
 good_reached x s w r = subst (Good x) (sym r.is) (good_after x r.schedule w (graph_start (lowered x) x) (good_start x w))
 
+-- what a node reads lies in its locations, and what it writes in its location, by what the keys of the thread's text name
+module _ (x : f.Flat) (w : IsWellFormed x) (s : FlowState) (good : Good x s) (t : ℕ) (text : f.Thread) (its : slice_get x.threads t ≡ Some text) where
+  pub reads_lie_at : (graph_thread : GraphThread) (node : Node) (one : Element) → slice_get s.graph_threads t ≡ Some graph_thread →
+      NodeAt (lowered x) graph_thread.at node → Contains (reads_of node.action (seen_by s graph_thread)) one →
+      LiesInOne (naming_of x text graph_thread.locals) node.reads one
+  reads_lie_at graph_thread node one found at c =
+      let own = (here x w s good t graph_thread found).own in
+      subst (λ (z : f.Thread). LiesInOne (naming_of x z graph_thread.locals) node.reads one) (same_Some own.it text (sym own.found ∙ its))
+      (reads_lie_named x w s good t graph_thread found node one (nodes_at x graph_thread.at node at) c)
+
+  pub writes_lie_at : (graph_thread : GraphThread) (node : Node) (one : Element) → slice_get s.graph_threads t ≡ Some graph_thread →
+      NodeAt (lowered x) graph_thread.at node → write_of node.action (seen_by s graph_thread) ≡ Some one →
+      LiesInWritten (naming_of x text graph_thread.locals) node.writes one
+  writes_lie_at graph_thread node one found at h =
+      let own = (here x w s good t graph_thread found).own in
+      subst (λ (z : f.Thread). LiesInWritten (naming_of x z graph_thread.locals) node.writes one) (same_Some own.it text (sym own.found ∙ its))
+      (writes_lie_named x w s good t graph_thread found node one (nodes_at x graph_thread.at node at) h)
+
 pub reads_lie : ReadsLie
 reads_lie x s thread text graph_thread node read w st its c =
-    let good = good_reached x s w st.reached in
-    let own = (here x w s good thread graph_thread st.found).own in
-    subst (λ (z : f.Thread). LiesInOne (naming_of x z graph_thread.locals) node.reads read) (same_Some own.it text (sym own.found ∙ its))
-    (reads_lie_named x w s good thread graph_thread st.found node read (nodes_at x graph_thread.at node st.at) c)
+    reads_lie_at x w s (good_reached x s w st.reached) thread text its graph_thread node read st.found st.at c
 
 pub writes_lie : WritesLie
 writes_lie x s thread text graph_thread node written w st its h =
-    let good = good_reached x s w st.reached in
-    let own = (here x w s good thread graph_thread st.found).own in
-    subst (λ (z : f.Thread). LiesInWritten (naming_of x z graph_thread.locals) node.writes written) (same_Some own.it text (sym own.found ∙ its))
-    (writes_lie_named x w s good thread graph_thread st.found node written (nodes_at x graph_thread.at node st.at) h)
+    writes_lie_at x w s (good_reached x s w st.reached) thread text its graph_thread node written st.found st.at h

@@ -1,6 +1,6 @@
 -- Keys: two that are held name two elements, each names that of its index, and no assignment that the discipline allows moves one that is held.
 use Rattle.std.proofs.Common.{◌≡◌, ◌<◌, refl, ℕ, zero, suc, ◌+◌, List, [], ◌∷◌, length, sym, ◌∙◌, ap}
-use Rattle.std.proofs.Common.{ap₂, subst, arith, Option, Some, None, Bool, true, false, cond, ◌&&◌, ◌==◌}
+use Rattle.std.proofs.Common.{subst, arith, Option, Some, None, Bool, true, false, cond, ◌&&◌, ◌==◌}
 use Rattle.std.proofs.Common.{slice_set}
 use Rattle.std.specs.Prelude.{slice_get, ℤ, nat_lt}
 use Rattle.std.specs.List.{AllByRecursion}
@@ -12,7 +12,7 @@ use Rattle.ido_base.specs.declared.location.Location.{Location}
 use Rattle.c_tree.specs.Exprs as e
 use Rattle.c_tree.specs.Programs.{Variable, Guard, By, Each}
 use Rattle.c_tree.specs.Values.{value, element_at, key_element, lock_number}
-use Rattle.c_tree.specs.LockNames.{Held, holds, number_in, same_lock, same_key}
+use Rattle.c_tree.specs.LockNames.{Held, holds, number_in, same_key}
 use Rattle.c_tree.specs.LockDiscipline.{variable_guard, name_under, is_guarded, freezing}
 use Rattle.c_tree.specs.WellFormed.{IsGuard, IsVariable}
 use Rattle.c_tree.proofs.Public.{number_found, same_index, held_number_stays}
@@ -146,17 +146,24 @@ stays_by guard to ls x false same = refl
 stays_by guard to ls x true same =
     ap (λ (o : Option ℕ). cond (is_key_of guard x) o None) (stays_keyed to ls x.mutex x.key (same refl))
 
-stays_there : (guard : Guard) (names : List e.LockName) (h : Held) (ls : List ℤ) (local : ℕ) (n : ℤ) (key : ℕ) (o : Option e.LockName) →
-    freezing names h local ≡ None → slice_get names key ≡ o → named_by guard (holds h key) (slice_set ls local n) o ≡ named_by guard (holds h key) ls o
-stays_there guard names h ls local n key None free there = refl
-stays_there guard names h ls local n key (Some x) free there =
-    stays_by guard (slice_set ls local n) ls x (holds h key) (λ held. held_number_stays names h ls local n key x free there held)
+stays_there : (guard : Guard) (names : List e.LockName) (h : Held) (to ls : List ℤ) (key : ℕ) (o : Option e.LockName) →
+    ((x : e.LockName) → slice_get names key ≡ Some x → holds h key ≡ true → lock_number to x ≡ lock_number ls x) → slice_get names key ≡ o →
+    named_by guard (holds h key) to o ≡ named_by guard (holds h key) ls o
+stays_there guard names h to ls key None same there = refl
+stays_there guard names h to ls key (Some x) same there = stays_by guard to ls x (holds h key) (same x there)
+
+-- where each held name has one lock by the one locals and by the other, its key names one element
+pub held_keys_stay : (vs : List Variable) (names : List e.LockName) (h : Held) (to ls : List ℤ) (variable key : ℕ) →
+    ((k : ℕ) (x : e.LockName) → slice_get names k ≡ Some x → holds h k ≡ true → lock_number to x ≡ lock_number ls x) →
+    names_by vs names h to variable key ≡ names_by vs names h ls variable key
+held_keys_stay vs names h to ls variable key same =
+    stays_there (variable_guard vs variable) names h to ls key (slice_get names key) (same key) refl
 
 pub naming_stays : (vs : List Variable) (names : List e.LockName) (h : Held) (ls : List ℤ) (local : ℕ) (n : ℤ) (variable key : ℕ) →
     freezing names h local ≡ None →
     names_by vs names h (slice_set ls local n) variable key ≡ names_by vs names h ls variable key
 naming_stays vs names h ls local n variable key free =
-    stays_there (variable_guard vs variable) names h ls local n key (slice_get names key) free refl
+    held_keys_stay vs names h (slice_set ls local n) ls variable key (λ k x there held. held_number_stays names h ls local n k x free there held)
 
 -- ---- Where one mutex guards each variable
 

@@ -1,6 +1,5 @@
 -- What locations tell of the elements that they have.
 use Rattle.std.proofs.Common.{◌≡◌, ◌≤◌, refl, ℕ, Option, Some, None, Bool, true, false, sym, ap, ◌∙◌, arith, ⊎_elim, inl, inr, ◌⊎◌}
-use Rattle.std.specs.Prelude.{not, nat_eq}
 use Rattle.std.proofs.lemmas.Bool.Decides.{nat_tests}
 use Rattle.ido_base.specs.declared.location.Location.{Location}
 use Rattle.ido_base.specs.Locations.{have_one_key, have_two_keys, overlap, same}
@@ -21,10 +20,10 @@ not_two names variable element None other apart h l = refl
 
 -- one key names one element
 names_one : (names : Naming) (variable one other : ℕ) (j k : Option ℕ) → have_one_key j k ≡ true →
-    ((key : ℕ) → j ≡ Some key → names variable key ≡ Some one) → ((key : ℕ) → k ≡ Some key → names variable key ≡ Some other) → one ≡ other
+    ((key : ℕ) → j ≡ Some key → k ≡ Some key → names variable key ≡ Some one) → ((key : ℕ) → k ≡ Some key → names variable key ≡ Some other) → one ≡ other
 names_one names variable one other (Some a) (Some b) t h l =
     let is : a ≡ b = grind (arith, nat_tests) in
-    let here : names variable a ≡ Some one = h a refl in
+    let here : names variable a ≡ Some one = h a refl (ap Some (sym is)) in
     let there : names variable a ≡ Some other = ap (names variable) is ∙ l b refl in
     cc
 names_one names variable one other (Some a) None t h l = cc
@@ -62,14 +61,19 @@ one_or_key l r true key h = inr refl
 one_or_key l r false key h =
     inl (record { left = grind (arith, nat_tests); right = grind (arith, nat_tests); both = grind (arith, nat_tests) })
 
-pub same_element : (names : Naming) (l r : Location) (one other : Element) → same l r ≡ true → Lies names l one → Lies names r other → one ≡ other
-same_element names l r one other s h k =
+-- of two locations that are the same only a key of both needs to name what is in the one
+pub same_by_key : (names named_by : Naming) (l r : Location) (one other : Element) → same l r ≡ true → Lies named_by l one →
+    ((key : ℕ) → l.key ≡ Some key → r.key ≡ Some key → names one.variable key ≡ Some one.element) → Lies names r other → one ≡ other
+same_by_key names named_by l r one other s h named k =
     let v : one.variable ≡ other.variable = sym h.variable ∙ (one_variable l r s ∙ k.variable) in
     let n : one.element ≡ other.element =
     ⊎_elim
     (λ is. omega (arith, is.left, is.right, is.both, h.from_lo, h.to_hi, k.from_lo, k.to_hi))
     (λ key.
     let there : (j : ℕ) → r.key ≡ Some j → names one.variable j ≡ Some other.element = λ j is. ap (λ (w : ℕ). names w j) v ∙ k.by_key j is in
-    names_one names one.variable one.element other.element l.key r.key key h.by_key there)
+    names_one names one.variable one.element other.element l.key r.key key named there)
     (one_or_key l r (have_one_key l.key r.key) refl s) in
     λ i. record { variable = v i; element = n i }
+
+pub same_element : (names : Naming) (l r : Location) (one other : Element) → same l r ≡ true → Lies names l one → Lies names r other → one ≡ other
+same_element names l r one other s h k = same_by_key names names l r one other s h (λ key is is_too. h.by_key key is) k

@@ -1,5 +1,5 @@
 -- There are as many nodes as are counted.
-use Rattle.std.proofs.Common.{◌≡◌, refl, ℕ, suc, ◌+◌, List, [], ◌∷◌, length, ◌∙◌, ap, ap₂, arith, length-append}
+use Rattle.std.proofs.Common.{◌≡◌, refl, ℕ, suc, ◌+◌, [], ◌∷◌, length, ◌∙◌, ap, ap₂, arith, length-append}
 use Rattle.ido_base.specs.declared.place.Place.{Place}
 use Rattle.c_tree.specs.Exprs as e
 use Rattle.c_tree.specs.Flats as f

@@ -1,41 +1,28 @@
 -- Reads are right: within a region, what is read and is written then or later was written before.
-use Rattle.std.proofs.Common.{◌≡◌, ◌≢◌, ◌⊎◌, inl, inr, ⊎_elim, ◌<◌, ◌≤◌, refl, ℕ, zero, suc, List, [], ◌∷◌, length, map}
-use Rattle.std.proofs.Common.{replicate, ◌∙◌, ap, sym, subst, arith, Option, Some, None, Bool, true, false, slice_set}
-use Rattle.std.specs.Prelude.{slice_get, is_some, Contains, if◌then◌else◌, ℤ}
-use Rattle.std.specs.List.{AllByRecursion, AllZip}
+use Rattle.std.proofs.Common.{◌≡◌, ◌≢◌, inl, inr, ⊎_elim, ◌<◌, ◌≤◌, refl, ℕ, zero, suc, List, [], ◌∷◌, length, map}
+use Rattle.std.proofs.Common.{replicate, ◌∙◌, ap, sym, subst, arith, Option, Some, None, Bool, true, false}
+use Rattle.std.specs.Prelude.{slice_get, Contains}
 use Rattle.std.specs.Option.{option_map}
 use Rattle.std.proofs.lemmas.Bool.{cases_eq}
-use Rattle.std.proofs.lemmas.Bool.Decides.{nat_tests}
-use Rattle.std.proofs.lemmas.Option.{slice_get_within}
 use Rattle.ido_base.specs.declared.location.Location.{Location}
-use Rattle.ido_base.specs.Locations.{overlap, same}
-use Rattle.ido_ints.specs.Kinds.{Holds}
-use Rattle.ido_ints.specs.Operators.{is_zero}
+use Rattle.ido_base.specs.Locations.{same}
 use Rattle.c_tree.specs.Exprs as e
-use Rattle.c_tree.specs.Programs.{Variable}
 use Rattle.c_tree.specs.Flats as f
-use Rattle.c_tree.specs.Source as m
 use Rattle.c_tree.specs.Source.{Pending}
-use Rattle.c_tree.specs.Ranges.{range_of}
-use Rattle.c_tree.specs.WellFormed.{elements_in, IsVariable, IsWellFormed, IsFlatStatement, IsFlatPlaced}
-use Rattle.c_ranges.specs.RunInvariants.{AreNumbersOf, IsStatementLeft, IsThreadOf, IsStateOf}
-use Rattle.c_ranges.proofs.Public.{Pair, zip_found, begins_so, stays_so}
-use Rattle.flow_graph.specs.declared.graph.Part.{Part}
+use Rattle.c_tree.specs.WellFormed.{IsWellFormed}
 use Rattle.flow_graph.specs.Nodes.{Action, Eval, Store, Test, Lock, Unlock, End, Node, Graph, successors}
-use Rattle.flow_graph.specs.Lowering.{lowered, threads_nodes, scalar, elements, expr_reads, target_reads}
+use Rattle.flow_graph.specs.Lowering.{lowered, threads_nodes}
 use Rattle.flow_graph.specs.Liveness.{NodeAt}
-use Rattle.flow_graph.specs.Actions as g
-use Rattle.flow_graph.specs.Actions.{Seen, GraphThread, FlowState, Effect, Sets, Owes, Makes, Goes, Takes, Gives, Ends, effect_of}
-use Rattle.flow_graph.specs.Actions.{effect_step, node_step, graph_thread_step, seen_by, graph_start, graph_step, graph_after, graph_runs}
-use Rattle.flow_graph.specs.Lockstep.{Standing, free, threads_standings, GraphThreadMatches, Matches, StepsMatch}
+use Rattle.flow_graph.specs.Actions.{Seen, GraphThread, FlowState, Effect, Makes, Ends, effect_of}
+use Rattle.flow_graph.specs.Actions.{seen_by, graph_step, graph_after, graph_runs}
+use Rattle.flow_graph.specs.Lockstep.{free}
 use Rattle.flow_graph.specs.IdempotentCuts.{Boundaries, IsEdge, IsBoundary, BeginsRegion, IsInside, stays, goes_on, ReadsAt, WritesAt, IsWrittenBefore, AreCuts}
-use Rattle.flow_graph.specs.Paths.{Element, expr_elements, target_elements, reads_of, stored_element, write_of, Visit, solo_path}
-use Rattle.flow_graph.specs.Paths.{ReadsElement, WritesElement, IsWithinRegion, IsReachedFlow, no_names, Lies, LiesInOne, LiesInWritten, IsAtNode}
-use Rattle.flow_graph.proofs.NodeContinuations.{ActionLeads, chooses, repeats, node_at}
-use Rattle.flow_graph.proofs.Lockstep.{set_same, set_other, found_in, graph_is, lowered_nodes, begins_lockstep, steps_lockstep}
+use Rattle.flow_graph.specs.Paths.{Element, reads_of, stored_element, write_of, Visit, solo_path}
+use Rattle.flow_graph.specs.Paths.{ReadsElement, WritesElement, IsWithinRegion, IsReachedFlow, no_names, Lies, LiesInOne, LiesInWritten}
+use Rattle.flow_graph.proofs.Lockstep.{graph_is}
 use Rattle.flow_graph.proofs.Shapes.{ShapedAs, node_shaped}
 use Rattle.flow_graph.proofs.Locations.{common_overlaps, none_apart, same_element}
-use Rattle.flow_graph.proofs.ElementsInLocations.{contains_none, one_of_both, lies_scalar, lies_element, lies_expr, lies_target}
+use Rattle.flow_graph.proofs.ElementsInLocations.{contains_none}
 use Rattle.flow_graph.proofs.GraphStateInvariants.{reads_lie_here, writes_lie_here, Stepped, stepped, moved, effects_same, goes_by}
 use Rattle.flow_graph.proofs.GraphStateInvariants.{after_is, not_again, Done, Good, nodes_at, good_step, after_by, good_reached}
 

@@ -1,6 +1,6 @@
 -- The nodes of a flat form's graph have the locations that their expressions read, and an evaluation for a variable has its store after it.
 use Rattle.std.proofs.Common.{◌≡◌, ◌≤◌, ◌<◌, ◌-◌, refl, ℕ, zero, suc, ◌+◌, List, [], ◌∷◌, ◌++◌}
-use Rattle.std.proofs.Common.{length, ◌∙◌, ap, ap₂, sym, subst, arith, Some, None, length-append}
+use Rattle.std.proofs.Common.{length, ◌∙◌, ap, sym, subst, arith, Some, None}
 use Rattle.std.specs.Prelude.{slice_get}
 use Rattle.std.specs.List.{AllByRecursion}
 use Rattle.ido_base.specs.declared.place.Place.{Place}
@@ -15,7 +15,7 @@ use Rattle.flow_graph.proofs.Lockstep.{lowered_threads}
 use Rattle.flow_graph.proofs.SuccessorsInThread.{get_first, get_later, parts_begin}
 use Rattle.flow_graph.proofs.NodeCounts.{length-statement_nodes, length-statements_nodes, length-arms_nodes, length-thread_nodes}
 use Rattle.flow_graph.specs.Lowering.{Table, table_of, part, parts, expr_reads, target_reads, elements, scalar}
-use Rattle.flow_graph.specs.Lowering.{test_node, plain_node, assign_nodes, assign_count, count, statements_count}
+use Rattle.flow_graph.specs.Lowering.{test_node, plain_node, assign_nodes, count, statements_count}
 use Rattle.flow_graph.specs.Lowering.{arms_count, thread_count, entry, statement_nodes, statements_nodes, arms_nodes, thread_nodes, threads_nodes}
 
 -- ---- Nodes among others, from a place on

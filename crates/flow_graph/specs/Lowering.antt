@@ -8,7 +8,7 @@ use Rattle.c_tree.specs.Programs.{Variable}
 use Rattle.c_tree.specs.Flats as f
 use Rattle.c_tree.specs.LockNames.{lock_names}
 use Rattle.c_tree.specs.LockDiscipline.{variable_guard, expr_locals, key_locals}
-use Rattle.c_tree.specs.Ranges.{Interval, range_of}
+use Rattle.c_tree.specs.Ranges.{range_of}
 use Rattle.flow_graph.specs.declared.graph.Part.{Part}
 use Rattle.flow_graph.specs.HeldKeys.{key_number}
 use Rattle.flow_graph.specs.Nodes.{Action, Eval, Store, Test, Lock, Unlock, End, Node, Graph}

@@ -23,16 +23,16 @@ use Rattle.recovery_semantics.specs.Configs.{Config, Invariant, attempt_of}
 use Rattle.recovery_semantics.specs.Events.{ConfigStep, steps_locally, stores, synchronises, persists, commits}
 use Rattle.recovery_semantics.specs.Events.{crashes, IsSettled, stepped as one_more, begun, settled_by, steps_begun}
 use Rattle.recovery_semantics.specs.Executions.{first_config, kept_steps}
-use Rattle.recovery_semantics.specs.Laws.{IsKeptBy, HasLocked, HasUnlocked}
+use Rattle.recovery_semantics.specs.Laws.{HasLocked, HasUnlocked}
 use Rattle.recovery_semantics.proofs.Public.{held_same, inner_along, below_max, none_yet, more_empty, LastStep, last_step, first_runs, same_other, path}
 use Rattle.region_attempts.specs.Origins.{Origin}
 use Rattle.region_attempts.specs.GraphStates.{flow_kept, flow_solo, node_of, node_after}
 use Rattle.region_attempts.specs.AttemptsInRegion.{Resumes, begins, past_unlock, StaysInside, HasCome, SettlesThere, RespectsBoundaries}
-use Rattle.region_attempts.specs.Laws.{StartStays, EventsStay, NextResumes, NothingIsWritten}
+use Rattle.region_attempts.specs.Laws.{StartStays, EventsStay, NextResumes, NothingIsWritten, StaysResumed}
 use Rattle.region_attempts.proofs.StepBisimulation.{step_lockstep, IsThere, is_there, moved_there}
 use Rattle.region_attempts.proofs.GraphRuns.{matched_run, appended, inner_runs, OwnStep, own_step, left_by}
 use Rattle.region_attempts.proofs.Nodes.{locking_at, unlocking_at, lock_goes_on, unlock_goes_on}
-use Rattle.region_attempts.proofs.AttemptReads.{kept_matches}
+use Rattle.region_attempts.proofs.GraphConfigs.{kept_matches}
 
 number_there : {k n : ℕ} → Some k ≡ Some n → k ≡ n
 number_there h = cc
@@ -241,8 +241,8 @@ module _ (x : f.Flat) (b : Boundaries) (w : IsWellFormed x) (cuts : AreCuts (low
 
 -- ---- Whatever happens
 
-module _ (x : f.Flat) (b : Boundaries) (w : IsWellFormed x) (cuts : AreCuts (lowered x) b) (o : Origin x) (old : Config) (i : Invariant x old)
-    (schedule : List ℕ) (by : IsKeptBy o.source old.kept schedule) (stays : (u : ℕ) → StaysInside x b (flow_kept x o schedule) old u) where
+module _ (x : f.Flat) (b : Boundaries) (w : IsWellFormed x) (cuts : AreCuts (lowered x) b) (o : Origin x) (old : Config) (schedule : List ℕ)
+    (s : StaysResumed x b o old schedule) where
   abbrev kept : FlowState
   kept = flow_kept x o schedule
 
@@ -252,28 +252,29 @@ module _ (x : f.Flat) (b : Boundaries) (w : IsWellFormed x) (cuts : AreCuts (low
   begun_stays : (next : Config) (t u : ℕ) → next.kept ≡ old.kept → IsAttempted old.attempts next.attempts t (one_more (attempt_of old t)) →
       ¬ (HasCome x b kept old t) → StaysInside x b kept next u
   begun_stays next t u is attempt free = ⊎_elim
-      (λ same. subst (λ (k : ℕ). StaysInside x b kept next k) (sym same) (one_longer x b kept old t (stays t) next i is attempt.own free))
-      (λ n. as_before x b kept old u (stays u) next is (ap (λ (z : Attempt). z.longest) (attempt.others u n)))
+      (λ same. subst (λ (k : ℕ). StaysInside x b kept next k) (sym same) (one_longer x b kept old t (s.inside t) next s.resumed.invariant is attempt.own free))
+      (λ n. as_before x b kept old u (s.inside u) next is (ap (λ (z : Attempt). z.longest) (attempt.others u n)))
       (cases_eq u t)
 
   kept_more : (t n : ℕ) → flow_kept x o (schedule ++ replicate n t) ≡ flow_solo x kept t n
-  kept_more t n = appended x w schedule (replicate n t) o.flow o.source o.matches by.runs
+  kept_more t n = appended x w schedule (replicate n t) o.flow o.source o.matches s.resumed.kept.runs
 
   pub event_stays : (next : Config) (h : ConfigStep old next) → RespectsBoundaries x b kept h → (u : ℕ) →
       StaysInside x b (flow_kept x o (schedule ++ kept_steps h)) next u
   event_stays _ (steps_locally t attempts h) free u = kept_same _ u (begun_stays (begun old t old.memory attempts) t u refl h.attempt free)
   event_stays _ (stores t memory attempts h) free u = kept_same _ u (begun_stays (begun old t memory attempts) t u refl h.attempt free)
-  event_stays _ (synchronises t h) free u = kept_same _ u (as_before x b kept old u (stays u) (begun old t old.memory old.attempts) refl refl)
-  event_stays _ (persists memory h) free u = kept_same _ u (as_before x b kept old u (stays u)
+  event_stays _ (synchronises t h) free u = kept_same _ u (as_before x b kept old u (s.inside u) (begun old t old.memory old.attempts) refl refl)
+  event_stays _ (persists memory h) free u = kept_same _ u (as_before x b kept old u (s.inside u)
       (record { kept = old.kept; uncommitted = old.uncommitted; memory = memory; attempts = old.attempts }) refl refl)
   event_stays _ (commits t attempts h) there u =
-      subst (λ (s : FlowState). StaysInside x b s (settled_by old t attempts) u) (sym (kept_more t (steps_begun old t)))
-      (settles_stays x b w cuts old t i kept (kept_matches x w o old.kept schedule by) attempts h there stays u)
-  event_stays _ (crashes attempts h) free u = kept_same _ u (as_before x b kept old u (stays u)
+      subst (λ (z : FlowState). StaysInside x b z (settled_by old t attempts) u) (sym (kept_more t (steps_begun old t)))
+      (settles_stays x b w cuts old t s.resumed.invariant kept (kept_matches x w o old.kept schedule s.resumed.kept) attempts h there s.inside u)
+  event_stays _ (crashes attempts h) free u = kept_same _ u (as_before x b kept old u (s.inside u)
       (record { kept = old.kept; uncommitted = []; memory = crashed old.memory; attempts = attempts }) refl (h.longest u))
 
 pub events_stay : EventsStay
-events_stay x b o old next schedule w cuts i by h respects stays u = event_stays x b w cuts o old i schedule by stays next h respects u
+events_stay x b o old next schedule w cuts i by h respects stays u =
+    event_stays x b w cuts o old schedule (record { resumed = record { invariant = i; kept = by }; inside = stays }) next h respects u
 
 -- ---- Where steps are kept
 

@@ -20,7 +20,7 @@ use Rattle.region_attempts.specs.Origins.{Origin}
 use Rattle.region_attempts.specs.GraphStates.{flow_kept, flow_now, flow_solo, FollowsEvent}
 use Rattle.region_attempts.specs.Laws.{GraphMatches, GraphFollows, GraphSettles}
 use Rattle.region_attempts.proofs.GraphRuns.{matched_run, appended, one_more, alone, left_by}
-use Rattle.region_attempts.proofs.AttemptReads.{kept_matches}
+use Rattle.region_attempts.proofs.GraphConfigs.{kept_matches}
 
 -- ---- Standing
 

@@ -3,8 +3,10 @@ mod Origins
 mod WholeAttempts
 mod StepBisimulation
 mod GraphRuns
+mod GraphConfigs
 mod Nodes
 mod Region
+mod AttemptNaming
 mod AttemptReads
 mod AttemptsStayInRegion
 mod RegionEndCleans

@@ -12,10 +12,12 @@ use Rattle.flow_graph.specs.IdempotentCuts.{IsBoundary}
 use Rattle.flow_graph.specs.Paths.{Element, Visit, solo_path}
 use Rattle.flow_graph.proofs.Public.{path_runs}
 use Rattle.recovery_semantics.specs.Configs.{attempt_of}
-use Rattle.region_attempts.specs.GraphStates.{flow_kept, node_after}
+use Rattle.region_attempts.specs.GraphStates.{node_after}
 use Rattle.region_attempts.specs.Laws.{InsideIsRegion, WritersStore}
-use Rattle.region_attempts.proofs.Region.{number, made_there, number_is, is_number, free}
-use Rattle.region_attempts.proofs.AttemptReads.{kept_matches, kept_good, node_there, stores_there}
+use Rattle.region_attempts.proofs.GraphConfigs.{graph_config}
+use Rattle.region_attempts.proofs.Region.{number, made_there, number_is, there_at, is_number, free}
+use Rattle.region_attempts.proofs.AttemptNaming.{keeps}
+use Rattle.region_attempts.proofs.AttemptReads.{stores_there}
 
 -- a visit of a path is one of so many, and its graph thread stands in its state
 record IsVisited (t n i : ℕ) (v : Visit) : Type 0 where
@@ -60,34 +62,37 @@ same_number h i = cc
 
 pub inside_is_region : InsideIsRegion
 inside_is_region x b o old schedule t w i by stays begins =
-    let kept = flow_kept x o schedule in
-    let match = kept_matches x w o old.kept schedule by in
+    let c = graph_config x w o old schedule i by in
     let n = (attempt_of old t).longest in
     record {
-      begins = λ first h. begins first.graph_thread.at (stands_there x kept t n 0 first h);
+      begins = λ first h. begins first.graph_thread.at (stands_there x c.flow t n 0 first h);
       inside = λ p one next h k boundary.
-          let low : suc p < n = (visited (lowered x) t n kept (suc p) next k).within in
+          let low : suc p < n = (visited (lowered x) t n c.flow (suc p) next k).within in
           let below : p < n = omega (arith, low) in
-          let from = same_number (stands_there x kept t n p one h) (is_number x w old t i kept match p below) in
-          let to = same_number (stands_there x kept t n (suc p) next k) (is_number x w old t i kept match (suc p) low) in
-          free x w old t i kept match b stays p low (subst (λ (z : ℕ). IsBoundary (lowered x) b (number x w old t i kept match p) z) to
+          let from = same_number (stands_there x c.flow t n p one h) (is_number x c t p below) in
+          let to = same_number (stands_there x c.flow t n (suc p) next k) (is_number x c t (suc p) low) in
+          free x c t b stays p low (subst (λ (z : ℕ). IsBoundary (lowered x) b (number x c t p) z) to
           (subst (λ (z : ℕ). IsBoundary (lowered x) b z next.graph_thread.at) from boundary));
     }
 
 pub writers_store : WritersStore
 writers_store x o old schedule t k v number_of w i by l wr =
-    let kept = flow_kept x o schedule in
-    let match = kept_matches x w o old.kept schedule by in
+    let c = graph_config x w o old schedule i by in
     let one : Element = record { variable = v; element = number_of } in
-    let s = stores_there x w old t i kept match (kept_good x w o schedule) k l one wr in
-    let node = node_there x w old t i kept match (kept_good x w o schedule) k l in
-    let at : NodeAt (lowered x) (number x w old t i kept match k) node =
-    ap (slice_get (lowered x).nodes) (number_is x w old t i kept match k l) ∙ (made_there x w old t i kept match k l).at in
+    let th = there_at x c t 0 (omega (arith, l)) in
+    let own = keeps x c t th.thread th.there in
+    let st = made_there x c t k l in
+    let s = stores_there x c t own.text own.its k l one wr in
+    let at : NodeAt (lowered x) (number x c t k) st.node = ap (slice_get (lowered x).nodes) (number_is x c t k l) ∙ st.at in
     record {
-      node = number x w old t i kept match k;
-      stands = is_number x w old t i kept match k l;
-      stores = cutting.stores node s.stores.variable s.stores.kind s.stores.next at s.stores.is;
-      is = node;
+      text = own.text;
+      its = own.its;
+      graph_thread = st.graph_thread;
+      found = st.found;
+      node = number x c t k;
+      stands = is_number x c t k l;
+      stores = cutting.stores st.node s.stores.variable s.stores.kind s.stores.next at s.stores.is;
+      is = st.node;
       at = at;
       lies = s.lies;
     }

@@ -1,6 +1,7 @@
 -- What crates above may use of this crate's proofs, passed on from one place. Declares nothing.
-pub use Rattle.region_attempts.proofs.AttemptReads.{kept_good, readers_guard, rerun_reads_nothing_overwritten}
+pub use Rattle.region_attempts.proofs.AttemptReads.{readers_guard, rerun_reads_nothing_overwritten}
 pub use Rattle.region_attempts.proofs.ExecutionsStayInRegion.{executions_stay}
+pub use Rattle.region_attempts.proofs.GraphConfigs.{kept_good}
 pub use Rattle.region_attempts.proofs.GraphFollowsSource.{graph_follows, graph_settles, graph_stands}
 pub use Rattle.region_attempts.proofs.GraphRuns.{inner_runs, matched_run, own_step}
 pub use Rattle.region_attempts.proofs.Nodes.{StoresHere, locking_at, owes_at, owing_at, unlocking_at, writing_stores}

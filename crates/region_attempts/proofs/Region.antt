@@ -7,21 +7,20 @@ use Rattle.std.specs.Option.{option_map, unwrap_or}
 use Rattle.ido_base.specs.declared.location.Location.{Location}
 use Rattle.ido_base.specs.Locations.{overlap, same}
 use Rattle.c_tree.specs.Flats as f
-use Rattle.c_tree.specs.WellFormed.{IsWellFormed}
 use Rattle.flow_graph.specs.Nodes.{Action, Lock, Unlock, Node, Graph, successors}
 use Rattle.flow_graph.specs.Lowering.{lowered, threads_nodes}
 use Rattle.flow_graph.specs.Liveness.{NodeAt}
 use Rattle.flow_graph.specs.Actions.{GraphThread, FlowState, Ends, effect_of, seen_by}
-use Rattle.flow_graph.specs.Lockstep.{Matches}
 use Rattle.flow_graph.specs.IdempotentCuts.{Boundaries, IsEdge, IsLock, locks, IsUnlock, unlocks, HasBefore, IsBoundary, BeginsRegion}
 use Rattle.flow_graph.specs.IdempotentCuts.{at_boundary, IsInside, stays, goes_on, ReadsAt, WritesAt, IsWrittenBefore, AreCuts}
 use Rattle.flow_graph.proofs.Public.{ShapedBy, node_shaped, Stepped, stepped, moved, goes_by, after_is, not_again, Done, nodes_at}
 use Rattle.recovery_semantics.specs.Attempts.{solo}
-use Rattle.recovery_semantics.specs.Configs.{Config, Invariant, attempt_of}
+use Rattle.recovery_semantics.specs.Configs.{attempt_of}
 use Rattle.recovery_semantics.proofs.Public.{none_some}
 use Rattle.region_attempts.specs.GraphStates.{flow_solo, node_after}
 use Rattle.region_attempts.specs.AttemptsInRegion.{Resumes, begins, past_unlock, StaysInside}
 use Rattle.region_attempts.proofs.StepBisimulation.{IsThere, is_there}
+use Rattle.region_attempts.proofs.GraphConfigs.{GraphConfig}
 use Rattle.region_attempts.proofs.GraphRuns.{OwnStep, own_step, inner_runs, matched_run}
 use Rattle.region_attempts.proofs.Nodes.{locks_at, ends_only}
 
@@ -67,9 +66,17 @@ unlock_writes_none x k node (unlocks n lock next at is) here =
     let none : n.writes ≡ None = subst (λ (a : Action). ShapedBy shape.0 (threads_nodes x x.threads 0) n a) is shape.1 in
     ap (λ (z : Node). z.writes) (sym same_node) ∙ none
 
+-- what is read at a place of a path is overwritten later on it
+pub record IsOverwritten (g : Graph) (path : List ℕ) (i : ℕ) (read : Location) : Type 0 where
+  pub later : ℕ
+  pub written : Location
+  pub above : i < later
+  pub reads : ReadsAt g path i read
+  pub writes : WritesAt g path later written
+  pub meet : IsTrue (overlap written read)
+
 module _ (x : f.Flat) (b : Boundaries) (cuts : AreCuts (lowered x) b) (first : ℕ) (rest : List ℕ) (inside : IsInside (lowered x) b (first ∷ rest))
-    (i j : ℕ) (read written : Location) (lower : i < j) (reads : ReadsAt (lowered x) (first ∷ rest) i read)
-    (writes : WritesAt (lowered x) (first ∷ rest) j written) (meet : IsTrue (overlap written read)) where
+    (i : ℕ) (read : Location) (o : IsOverwritten (lowered x) (first ∷ rest) i read) where
   abbrev g : Graph
   g = lowered x
 
@@ -77,7 +84,7 @@ module _ (x : f.Flat) (b : Boundaries) (cuts : AreCuts (lowered x) b) (first : �
   Before = IsWrittenBefore g (first ∷ rest) i read
 
   at_begin : BeginsRegion g b first → Before
-  at_begin h = cuts.idempotent first rest h inside i j read written lower reads writes meet
+  at_begin h = cuts.idempotent first rest h inside i o.later read o.written o.above o.reads o.writes o.meet
 
   after_by : (from : ℕ) → IsUnlock g from → (q : ℕ) (l : Location) → q < suc i → WritesAt g (from ∷ first ∷ rest) q l → IsTrue (same l read) → Before
   after_by from u zero l low wr is =
@@ -96,9 +103,10 @@ module _ (x : f.Flat) (b : Boundaries) (cuts : AreCuts (lowered x) b) (first : �
   after : (from : ℕ) → IsUnlock g from → IsEdge g from first → ¬ (HasBefore b first) → Before
   after from u edge free =
       let longer = goes_on from first rest edge (λ p. ⊎_elim (λ h. not_lock g from h.locks u) free p) inside in
-      let before = cuts.idempotent from (first ∷ rest) (at_boundary (cuts.before_unlocks from u)) longer (suc i) (suc j) read written (omega (arith, lower))
-      (record { node = reads.node; is = reads.is; there = reads.there; at = reads.at; reads = reads.reads })
-      (record { node = writes.node; is = writes.is; there = writes.there; at = writes.at; writes = writes.writes }) meet in
+      let before = cuts.idempotent from (first ∷ rest) (at_boundary (cuts.before_unlocks from u)) longer (suc i) (suc o.later) read o.written
+      (let above = o.above in omega (arith, above))
+      (record { node = o.reads.node; is = o.reads.is; there = o.reads.there; at = o.reads.at; reads = o.reads.reads })
+      (record { node = o.writes.node; is = o.writes.is; there = o.writes.there; at = o.writes.at; writes = o.writes.writes }) o.meet in
       after_by from u before.earlier before.written before.before before.writes before.is
 
   -- what is overwritten was written before where a region begins, and after an unlock too
@@ -108,68 +116,69 @@ module _ (x : f.Flat) (b : Boundaries) (cuts : AreCuts (lowered x) b) (first : �
 
 -- ---- The longest attempt
 
-module _ (x : f.Flat) (w : IsWellFormed x) (old : Config) (t : ℕ) (i : Invariant x old) (kept : FlowState) (match : Matches x kept old.kept) where
+module _ (x : f.Flat) (c : GraphConfig x) (t : ℕ) where
   abbrev pub longest : ℕ
-  longest = (attempt_of old t).longest
+  longest = (attempt_of c.config t).longest
 
-  pub own : (k : ℕ) → k < longest → OwnStep x kept t k
+  pub own : (k : ℕ) → k < longest → OwnStep x c.flow t k
   own k l =
-      let tried = i.tried t in
+      let tried = c.invariant.tried t in
       let step = tried.inner k l in
-      own_step x w kept old.kept step.next t k match (inner_runs k longest old.kept t tried.inner (omega (arith, l))) step.is
+      own_step x c.formed c.flow c.config.kept step.next t k c.matches (inner_runs k longest c.config.kept t tried.inner (omega (arith, l))) step.is
 
   -- what the thread does there
-  pub made_there : (k : ℕ) (l : k < longest) → Stepped (lowered x) (flow_solo x kept t k) (own k l).next t
-  made_there k l = stepped (lowered x) (flow_solo x kept t k) (own k l).next t (own k l).is
+  pub made_there : (k : ℕ) (l : k < longest) → Stepped (lowered x) (flow_solo x c.flow t k) (own k l).next t
+  made_there k l = stepped (lowered x) (flow_solo x c.flow t k) (own k l).next t (own k l).is
 
   abbrev pub number : ℕ → ℕ
-  number k = unwrap_or (node_after x kept t k) 0
+  number k = unwrap_or (node_after x c.flow t k) 0
 
-  pub boundary_after_is : (k : ℕ) (l : k < longest) → node_after x kept t k ≡ Some (made_there k l).graph_thread.at
+  pub boundary_after_is : (k : ℕ) (l : k < longest) → node_after x c.flow t k ≡ Some (made_there k l).graph_thread.at
   boundary_after_is k l = ap (option_map (λ (z : GraphThread). z.at)) (made_there k l).found
 
   pub number_is : (k : ℕ) (l : k < longest) → number k ≡ (made_there k l).graph_thread.at
   number_is k l = ap (λ (o : Option ℕ). unwrap_or o 0) (boundary_after_is k l)
 
-  pub is_number : (k : ℕ) → k < longest → node_after x kept t k ≡ Some (number k)
+  pub is_number : (k : ℕ) → k < longest → node_after x c.flow t k ≡ Some (number k)
   is_number k l = boundary_after_is k l ∙ ap Some (sym (number_is k l))
 
-  pub there_at : (k : ℕ) (l : k < longest) → IsThere x (solo old.kept t k) t (made_there k l).graph_thread (made_there k l).node
+  pub there_at : (k : ℕ) (l : k < longest) → IsThere x (solo c.config.kept t k) t (made_there k l).graph_thread (made_there k l).node
   there_at k l =
       let st = made_there k l in
-      is_there x w t (flow_solo x kept t k) (solo old.kept t k) (matched_run x w (replicate k t) kept old.kept match) st.graph_thread st.node st.found st.at
+      is_there x c.formed t (flow_solo x c.flow t k) (solo c.config.kept t k) (matched_run x c.formed (replicate k t) c.flow c.config.kept c.matches)
+      st.graph_thread st.node st.found st.at
 
   ended_once : (k : ℕ) (l : k < longest) (n : suc k < longest) → (made_there (suc k) n).graph_thread ≡ moved (made_there k l).graph_thread Ends →
       (made_there k l).effect ≡ Ends → ⊥
   ended_once k l n is over =
       let a = made_there k l in
-      let c = made_there (suc k) n in
-      let same_at : c.graph_thread.at ≡ a.graph_thread.at = ap (λ (z : GraphThread). z.at) is in
-      let same_node : c.node ≡ a.node = let h = c.at in let j = a.at in let e = ap (slice_get (lowered x).nodes) same_at in cc in
-      let does : effect_of a.node.action (seen_by (flow_solo x kept t (suc k)) c.graph_thread) ≡ Some c.effect =
-      subst (λ (z : Node). effect_of z.action (seen_by (flow_solo x kept t (suc k)) c.graph_thread) ≡ Some c.effect) same_node c.does in
-      let again : c.effect ≡ Ends =
-      ends_only a.node.action (seen_by (flow_solo x kept t k) a.graph_thread) (seen_by (flow_solo x kept t (suc k)) c.graph_thread) c.effect
+      let d = made_there (suc k) n in
+      let same_at : d.graph_thread.at ≡ a.graph_thread.at = ap (λ (z : GraphThread). z.at) is in
+      let same_node : d.node ≡ a.node = let h = d.at in let j = a.at in let e = ap (slice_get (lowered x).nodes) same_at in cc in
+      let does : effect_of a.node.action (seen_by (flow_solo x c.flow t (suc k)) d.graph_thread) ≡ Some d.effect =
+      subst (λ (z : Node). effect_of z.action (seen_by (flow_solo x c.flow t (suc k)) d.graph_thread) ≡ Some d.effect) same_node d.does in
+      let again : d.effect ≡ Ends =
+      ends_only a.node.action (seen_by (flow_solo x c.flow t k) a.graph_thread) (seen_by (flow_solo x c.flow t (suc k)) d.graph_thread) d.effect
       (a.does ∙ ap Some over) does in
-      let ended : c.graph_thread.ended ≡ true = ap (λ (z : GraphThread). z.ended) is in
-      not_again (flow_solo x kept t (suc k)) (own (suc k) n).next t c.graph_thread c.graph_thread.ended ended
-      (subst (Done (flow_solo x kept t (suc k)) (own (suc k) n).next t c.graph_thread) again c.is)
+      let ended : d.graph_thread.ended ≡ true = ap (λ (z : GraphThread). z.ended) is in
+      not_again (flow_solo x c.flow t (suc k)) (own (suc k) n).next t d.graph_thread d.graph_thread.ended ended
+      (subst (Done (flow_solo x c.flow t (suc k)) (own (suc k) n).next t d.graph_thread) again d.is)
 
   pub edge : (k : ℕ) → suc k < longest → IsEdge (lowered x) (number k) (number (suc k))
   edge k n =
       let l : k < longest = omega (arith, n) in
       let a = made_there k l in
-      let c = made_there (suc k) n in
-      let there : slice_get (own k l).next.graph_threads t ≡ Some c.graph_thread =
-      ap (λ (s : FlowState). slice_get s.graph_threads t) (sym (own k l).after) ∙ c.found in
-      let is = after_is (lowered x) (flow_solo x kept t k) (own k l).next t a c.graph_thread there in
-      elim (goes_by a.node.action (seen_by (flow_solo x kept t k) a.graph_thread) a.graph_thread a.effect a.does) [
+      let d = made_there (suc k) n in
+      let there : slice_get (own k l).next.graph_threads t ≡ Some d.graph_thread =
+      ap (λ (s : FlowState). slice_get s.graph_threads t) (sym (own k l).after) ∙ d.found in
+      let is = after_is (lowered x) (flow_solo x c.flow t k) (own k l).next t a d.graph_thread there in
+      elim (goes_by a.node.action (seen_by (flow_solo x c.flow t k) a.graph_thread) a.graph_thread a.effect a.does) [
         | inl goes ↦
-            let to : Contains (successors a.node.action) c.graph_thread.at =
+            let to : Contains (successors a.node.action) d.graph_thread.at =
             subst (λ (z : GraphThread). Contains (successors a.node.action) z.at) (sym is) goes in
-            let found : IsEdge (lowered x) a.graph_thread.at c.graph_thread.at = record { is = a.node; at = a.at; goes = to } in
-            let from_number : IsEdge (lowered x) (number k) c.graph_thread.at =
-            subst (λ (z : ℕ). IsEdge (lowered x) z c.graph_thread.at) (sym (number_is k l)) found in
+            let found : IsEdge (lowered x) a.graph_thread.at d.graph_thread.at = record { is = a.node; at = a.at; goes = to } in
+            let from_number : IsEdge (lowered x) (number k) d.graph_thread.at =
+            subst (λ (z : ℕ). IsEdge (lowered x) z d.graph_thread.at) (sym (number_is k l)) found in
             subst (λ (z : ℕ). IsEdge (lowered x) (number k) z) (sym (number_is (suc k) n)) from_number
         | inr over ↦ absurd (ended_once k l n (is ∙ ap (moved a.graph_thread) over) over)
       ]
@@ -180,10 +189,10 @@ module _ (x : f.Flat) (w : IsWellFormed x) (old : Config) (t : ℕ) (i : Invaria
       let a = made_there k l in
       let here : NodeAt (lowered x) (number k) a.node = ap (slice_get (lowered x).nodes) (number_is k l) ∙ a.at in
       let action : a.node.action ≡ Lock lock next = ap (λ (z : Node). z.action) (one_node (lowered x) (number k) a.node node here at) ∙ is in
-      let step = (i.tried t).inner k l in
-      none_some _ (sym step.locks_none ∙ locks_at x (solo old.kept t k) t a.graph_thread a.node (there_at k l) lock next action)
+      let step = (c.invariant.tried t).inner k l in
+      none_some _ (sym step.locks_none ∙ locks_at x (solo c.config.kept t k) t a.graph_thread a.node (there_at k l) lock next action)
 
-  module _ (b : Boundaries) (stays_in : StaysInside x b kept old t) where
+  module _ (b : Boundaries) (stays_in : StaysInside x b c.flow c.config t) where
     pub free : (k : ℕ) → suc k < longest → ¬ (IsBoundary (lowered x) b (number k) (number (suc k)))
     free k n p = ⊎_elim
         (λ h. no_lock_there k (omega (arith, n)) h.locks)

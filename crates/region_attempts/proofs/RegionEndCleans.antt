@@ -10,7 +10,6 @@ use Rattle.ido_base.specs.declared.location.Shape.{Shape}
 use Rattle.ido_base.specs.declared.location.Location.{Location}
 use Rattle.ido_base.specs.Layout.{line_bytes, variable_at}
 use Rattle.c_tree.specs.Flats as f
-use Rattle.c_tree.specs.WellFormed.{IsWellFormed}
 use Rattle.flow_graph.specs.Nodes.{Action, Lock, Unlock, Node, Graph, successors}
 use Rattle.flow_graph.specs.Lowering.{lowered, threads_nodes}
 use Rattle.flow_graph.specs.Liveness.{NodeAt}
@@ -19,20 +18,22 @@ use Rattle.flow_graph.specs.Lockstep.{Matches}
 use Rattle.flow_graph.specs.IdempotentCuts as cutting
 use Rattle.flow_graph.specs.IdempotentCuts.{Boundaries, IsEdge, HasBefore, IsBoundary, AreCuts}
 use Rattle.flow_graph.specs.OmittedCleans.{StoresInLine, ReachesUncleaned, at_boundary, goes_on}
-use Rattle.flow_graph.specs.Paths.{Element, Lies, no_names}
-use Rattle.flow_graph.proofs.Public.{ShapedBy, node_shaped, node_at, found_in, Good, Stepped, moved, goes_by, nodes_at, at_nodes}
+use Rattle.flow_graph.specs.Paths.{Element, Naming, Lies}
+use Rattle.flow_graph.proofs.Public.{ShapedBy, node_shaped, node_at, found_in, Stepped, moved, goes_by, nodes_at, at_nodes}
 use Rattle.recovery_semantics.specs.Attempts.{solo, WritesAt, PassesMutex}
-use Rattle.recovery_semantics.specs.Configs.{Config, Invariant, attempt_of}
+use Rattle.recovery_semantics.specs.Configs.{attempt_of}
 use Rattle.recovery_semantics.proofs.Public.{none_some}
-use Rattle.region_attempts.specs.GraphStates.{flow_kept, flow_solo, node_after}
+use Rattle.region_attempts.specs.GraphStates.{flow_solo, node_after}
 use Rattle.region_attempts.specs.AttemptsInRegion.{StaysInside, IsBeforeBoundary}
 use Rattle.region_attempts.specs.PendingCleans.{line_of, AreLeftOut, Attempts, Cleans, CleansSince}
 use Rattle.region_attempts.specs.Laws.{StoresAreCleaned}
 use Rattle.region_attempts.proofs.StepBisimulation.{IsThere, is_there, moved_there}
+use Rattle.region_attempts.proofs.GraphConfigs.{GraphConfig, graph_config}
 use Rattle.region_attempts.proofs.GraphRuns.{matched_run}
 use Rattle.region_attempts.proofs.Nodes.{StoresHere, locking_at, unlocking_at, store_goes_on, lock_goes_on, unlock_goes_on}
-use Rattle.region_attempts.proofs.Region.{one_node, decide_true, own, made_there, number, number_is, is_number, edge, no_lock_there, free}
-use Rattle.region_attempts.proofs.AttemptReads.{lies_in, kept_matches, kept_good, node_there, stores_there, Stored, stored_there}
+use Rattle.region_attempts.proofs.Region.{one_node, decide_true, own, made_there, number, number_is, there_at, is_number, edge, no_lock_there, free}
+use Rattle.region_attempts.proofs.AttemptNaming.{keeps}
+use Rattle.region_attempts.proofs.AttemptReads.{lies_in, naming_there, node_there, stores_there, Stored, stored_there}
 use Rattle.region_attempts.proofs.WholeAttempts.{attempts_are_whole}
 
 -- ---- Stores into a line
@@ -63,9 +64,9 @@ module _ (x : f.Flat) (shapes : List Shape) (line number : ℕ) (node : Node) (a
   decide_line = decide_line_by node.writes refl
 
 -- the line of the one element of a location
-line_there : (shapes : List Shape) (l : Location) (one : Element) → l.lo ≡ l.hi → Lies no_names l one →
+line_there : (shapes : List Shape) (names : Naming) (l : Location) (one : Element) → l.lo ≡ l.hi → Lies names l one →
     variable_at shapes l.variable l.lo / line_bytes ≡ line_of shapes one.variable one.element
-line_there shapes l one single h =
+line_there shapes names l one single h =
     let e : l.lo ≡ one.element = omega (arith, single, h.from_lo, h.to_hi) in
     λ i. variable_at shapes (h.variable i) (e i) / line_bytes
 
@@ -75,22 +76,22 @@ lock_writes_none x number lock next node at is =
     let shape = node_shaped x number node (nodes_at x number node at) in
     subst (λ (a : Action). ShapedBy shape.0 (threads_nodes x x.threads 0) node a) is shape.1
 
-module _ (x : f.Flat) (b : Boundaries) (w : IsWellFormed x) (cuts : AreCuts (lowered x) b) (old : Config) (t : ℕ) (i : Invariant x old) (kept : FlowState)
-    (match : Matches x kept old.kept) (good : Good x kept) (stays : StaysInside x b kept old t) (shapes : List Shape) where
+module _ (x : f.Flat) (b : Boundaries) (cuts : AreCuts (lowered x) b) (c : GraphConfig x) (t : ℕ) (stays : StaysInside x b c.flow c.config t)
+    (shapes : List Shape) (text : f.Thread) (its : slice_get x.threads t ≡ Some text) where
   abbrev g : Graph
   g = lowered x
 
   abbrev n : ℕ
-  n = (attempt_of old t).longest
+  n = (attempt_of c.config t).longest
 
   abbrev at : ℕ → ℕ
-  at k = number x w old t i kept match k
+  at k = number x c t k
 
   abbrev node : (k : ℕ) → k < n → Node
-  node k l = node_there x w old t i kept match good k l
+  node k l = node_there x c t text its k l
 
   at_node : (k : ℕ) (l : k < n) → NodeAt g (at k) (node k l)
-  at_node k l = ap (slice_get g.nodes) (number_is x w old t i kept match k l) ∙ (made_there x w old t i kept match k l).at
+  at_node k l = ap (slice_get g.nodes) (number_is x c t k l) ∙ (made_there x c t k l).at
 
   -- ---- The last step
 
@@ -98,55 +99,55 @@ module _ (x : f.Flat) (b : Boundaries) (w : IsWellFormed x) (cuts : AreCuts (low
     low : q < n
     low = omega (arith, is)
 
-    abbrev st : Stepped g (flow_solo x kept t q) (own x w old t i kept match q low).next t
-    st = made_there x w old t i kept match q low
+    abbrev st : Stepped g (flow_solo x c.flow t q) (own x c t q low).next t
+    st = made_there x c t q low
 
     abbrev ahead : GraphThread
     ahead = moved st.graph_thread st.effect
 
-    found : slice_get (flow_solo x kept t n).graph_threads t ≡ Some ahead
-    found = ap (λ (k : ℕ). slice_get (flow_solo x kept t k).graph_threads t) is
-        ∙ (ap (λ (s : FlowState). slice_get s.graph_threads t) (own x w old t i kept match q low).after
-        ∙ moved_there x (flow_solo x kept t q) (own x w old t i kept match q low).next t st)
+    found : slice_get (flow_solo x c.flow t n).graph_threads t ≡ Some ahead
+    found = ap (λ (k : ℕ). slice_get (flow_solo x c.flow t k).graph_threads t) is
+        ∙ (ap (λ (s : FlowState). slice_get s.graph_threads t) (own x c t q low).after
+        ∙ moved_there x (flow_solo x c.flow t q) (own x c t q low).next t st)
 
     edge_last : (st.effect ≡ Ends → ⊥) → IsEdge g (at q) ahead.at
-    edge_last never = elim (goes_by st.node.action (seen_by (flow_solo x kept t q) st.graph_thread) st.graph_thread st.effect st.does) [
+    edge_last never = elim (goes_by st.node.action (seen_by (flow_solo x c.flow t q) st.graph_thread) st.graph_thread st.effect st.does) [
       | inl goes ↦
           let made : IsEdge g st.graph_thread.at ahead.at = record { is = st.node; at = st.at; goes = goes } in
-          subst (λ (z : ℕ). IsEdge g z ahead.at) (sym (number_is x w old t i kept match q low)) made
+          subst (λ (z : ℕ). IsEdge g z ahead.at) (sym (number_is x c t q low)) made
       | inr over ↦ absurd (never over)
     ]
 
     -- at the end it stands where it stood
     same_at : st.effect ≡ Ends → ahead.at ≡ at q
-    same_at over = ap (λ (z : Effect). (moved st.graph_thread z).at) over ∙ sym (number_is x w old t i kept match q low)
+    same_at over = ap (λ (z : Effect). (moved st.graph_thread z).at) over ∙ sym (number_is x c t q low)
 
-    not_over : (k : ℕ) (l : k < n) (one : Element) → WritesAt old.kept t k one.variable one.element → HasBefore b ahead.at → st.effect ≡ Ends → ⊥
+    not_over : (k : ℕ) (l : k < n) (one : Element) → WritesAt c.config.kept t k one.variable one.element → HasBefore b ahead.at → st.effect ≡ Ends → ⊥
     not_over k l one wr before over = ⊎_elim
         (λ e.
         let P : ℕ → Type 0 = λ j. (l : j < n) → StoresHere (node j l).action in
-        let stores : StoresHere (node q low).action = subst P e (λ l'. (stores_there x w old t i kept match good k l' one wr).stores) low in
-        store_goes_on st.node.action (seen_by (flow_solo x kept t q) st.graph_thread) stores (st.does ∙ ap Some over))
-        (λ d. stays.inside q (at q) (omega (arith, d, l, is)) low (is_number x w old t i kept match q low) (subst (HasBefore b) (same_at over) before))
+        let stores : StoresHere (node q low).action = subst P e (λ l'. (stores_there x c t text its k l' one wr).stores) low in
+        store_goes_on st.node.action (seen_by (flow_solo x c.flow t q) st.graph_thread) stores (st.does ∙ ap Some over))
+        (λ d. stays.inside q (at q) (omega (arith, d, l, is)) low (is_number x c t q low) (subst (HasBefore b) (same_at over) before))
         (cases_eq k q)
 
     ends_before : (st.effect ≡ Ends → ⊥) → HasBefore b ahead.at → (line : ℕ) → ReachesUncleaned g b shapes line (at q)
     ends_before never before line = at_boundary (at q) ahead.at (edge_last never) (inr before)
 
     -- the node ahead
-    matches_there : Matches x (flow_solo x kept t n) (solo old.kept t n)
-    matches_there = matched_run x w (replicate n t) kept old.kept match
+    matches_there : Matches x (flow_solo x c.flow t n) (solo c.config.kept t n)
+    matches_there = matched_run x c.formed (replicate n t) c.flow c.config.kept c.matches
 
     node_ahead : (it : Node) × NodeAt g ahead.at it
     node_ahead =
-        let within = slice_get_within (flow_solo x kept t n).graph_threads t ahead found in
-        let there = found_in (solo old.kept t n).threads t (omega (arith, matches_there.count, within)) in
+        let within = slice_get_within (flow_solo x c.flow t n).graph_threads t ahead found in
+        let there = found_in (solo c.config.kept t n).threads t (omega (arith, matches_there.count, within)) in
         let lockstep = matches_there.each t ahead there.0 found there.1 in
-        let it = node_at x ahead.at (record { left = there.0.left; owes = is_some there.0.pending }) w.threads lockstep.stands in
+        let it = node_at x ahead.at (record { left = there.0.left; owes = is_some there.0.pending }) c.formed.threads lockstep.stands in
         (it.0, at_nodes x ahead.at it.0 it.1)
 
-    there_ahead : IsThere x (solo old.kept t n) t ahead node_ahead.0
-    there_ahead = is_there x w t (flow_solo x kept t n) (solo old.kept t n) matches_there ahead node_ahead.0 found node_ahead.1
+    there_ahead : IsThere x (solo c.config.kept t n) t ahead node_ahead.0
+    there_ahead = is_there x c.formed t (flow_solo x c.flow t n) (solo c.config.kept t n) matches_there ahead node_ahead.0 found node_ahead.1
 
     same_node : st.effect ≡ Ends → st.node ≡ node_ahead.0
     same_node over =
@@ -155,39 +156,39 @@ module _ (x : f.Flat) (b : Boundaries) (w : IsWellFormed x) (cuts : AreCuts (low
 
     ends_lock : (lock : LockName) (next : ℕ) → node_ahead.0.action ≡ Lock lock next → (line : ℕ) → ReachesUncleaned g b shapes line (at q)
     ends_lock lock next action line =
-        let never : st.effect ≡ Ends → ⊥ = λ over. lock_goes_on st.node.action lock next (seen_by (flow_solo x kept t q) st.graph_thread)
+        let never : st.effect ≡ Ends → ⊥ = λ over. lock_goes_on st.node.action lock next (seen_by (flow_solo x c.flow t q) st.graph_thread)
         (ap (λ (z : Node). z.action) (same_node over) ∙ action) (st.does ∙ ap Some over) in
         let after = cuts.past_locks ahead.at (cutting.locks node_ahead.0 lock next node_ahead.1 action) in
         let goes : Contains (successors node_ahead.0.action) next = subst (λ (a : Action). Contains (successors a) next) (sym action) (0, omega arith, refl) in
         let none = lock_writes_none x ahead.at lock next node_ahead.0 node_ahead.1 action in
         ⊎_elim
         (λ before. ends_before never before line)
-        (λ no. goes_on (at q) ahead.at (edge_last never) (λ p. ⊎_elim (λ h. no_lock_there x w old t i kept match q low h.locks) no p)
+        (λ no. goes_on (at q) ahead.at (edge_last never) (λ p. ⊎_elim (λ h. no_lock_there x c t q low h.locks) no p)
         (λ s. none_some s.written (sym none ∙ same_writes x shapes line ahead.at node_ahead.0 node_ahead.1 s))
         (at_boundary ahead.at next (record { is = node_ahead.0; at = node_ahead.1; goes = goes }) (inl after)))
         (decide_true (slice_get b.before ahead.at))
 
     ends_unlock : (lock : LockName) (next : ℕ) → node_ahead.0.action ≡ Unlock lock next → (line : ℕ) → ReachesUncleaned g b shapes line (at q)
     ends_unlock lock next action line = ends_before
-        (λ over. unlock_goes_on st.node.action lock next (seen_by (flow_solo x kept t q) st.graph_thread)
+        (λ over. unlock_goes_on st.node.action lock next (seen_by (flow_solo x c.flow t q) st.graph_thread)
         (ap (λ (z : Node). z.action) (same_node over) ∙ action) (st.does ∙ ap Some over))
         (cuts.before_unlocks ahead.at (cutting.unlocks node_ahead.0 lock next node_ahead.1 action)) line
 
     -- from the last step of an attempt a boundary is reached
-    ends_there : (k : ℕ) (l : k < n) (one : Element) → WritesAt old.kept t k one.variable one.element → (attempt_of old t).done ≡ n →
-        IsBeforeBoundary x b kept old t → (line : ℕ) → ReachesUncleaned g b shapes line (at q)
+    ends_there : (k : ℕ) (l : k < n) (one : Element) → WritesAt c.config.kept t k one.variable one.element → (attempt_of c.config t).done ≡ n →
+        IsBeforeBoundary x b c.flow c.config t → (line : ℕ) → ReachesUncleaned g b shapes line (at q)
     ends_there k l one wr whole stands line = ⊎_elim
         (λ come.
         let after : Some ahead.at ≡ Some come.node =
-        sym (ap (option_map (λ (z : GraphThread). z.at)) found) ∙ (ap (λ (j : ℕ). node_after x kept t j) (sym whole) ∙ come.at) in
+        sym (ap (option_map (λ (z : GraphThread). z.at)) found) ∙ (ap (λ (j : ℕ). node_after x c.flow t j) (sym whole) ∙ come.at) in
         let same_number : come.node ≡ ahead.at = cc in
         let before : HasBefore b ahead.at = subst (HasBefore b) same_number come.stands in
         ends_before (not_over k l one wr before) before line)
         (λ p.
-        let pass : PassesMutex (solo old.kept t n) t p.0 = subst (λ (j : ℕ). PassesMutex (solo old.kept t j) t p.0) whole p.1 in
+        let pass : PassesMutex (solo c.config.kept t n) t p.0 = subst (λ (j : ℕ). PassesMutex (solo c.config.kept t j) t p.0) whole p.1 in
         ⊎_elim
-        (λ h. let a = locking_at x (solo old.kept t n) t ahead node_ahead.0 there_ahead p.0 h in ends_lock a.0 a.1 a.2 line)
-        (λ h. let a = unlocking_at x (solo old.kept t n) t ahead node_ahead.0 there_ahead p.0 h in ends_unlock a.0 a.1 a.2 line)
+        (λ h. let a = locking_at x (solo c.config.kept t n) t ahead node_ahead.0 there_ahead p.0 h in ends_lock a.0 a.1 a.2 line)
+        (λ h. let a = unlocking_at x (solo c.config.kept t n) t ahead node_ahead.0 there_ahead p.0 h in ends_unlock a.0 a.1 a.2 line)
         pass)
         stands
 
@@ -210,30 +211,31 @@ module _ (x : f.Flat) (b : Boundaries) (w : IsWellFormed x) (cuts : AreCuts (low
         ⊎_elim
         (λ s. inr (record { later = suc k; above = omega arith; within = next; stores = s }))
         (λ none. ⊎_elim
-        (λ r. inl (goes_on (at k) (at (suc k)) (edge x w old t i kept match k next) (free x w old t i kept match b stays k next) none r))
+        (λ r. inl (goes_on (at k) (at (suc k)) (edge x c t k next) (free x c t b stays k next) none r))
         (λ s. let above = s.above in inr (record { later = s.later; above = omega (arith, above); within = s.within; stores = s.stores }))
         (reaches line last gap (suc k) (omega (arith, e))))
         (decide_line x shapes line (at (suc k)) (node (suc k) next) (at_node (suc k) next))
 
     module _ (left_out : List Bool) (left : AreLeftOut x b shapes left_out) (last : (line : ℕ) → ReachesUncleaned g b shapes line (at q)) where
       abbrev attempts : Attempts
-      attempts = record { flat = x; kept = kept; config = old; shapes = shapes; left_out = left_out }
+      attempts = record { flat = x; kept = c.flow; config = c.config; shapes = shapes; left_out = left_out }
 
       abbrev Cleaned : (first variable element : ℕ) → Type 0
       Cleaned first variable element = CleansSince attempts t first n (line_of shapes variable element)
 
       -- an element that is stored there has the line
-      line_is : (line k : ℕ) (l : k < n) (s : StoresInLine g shapes line (at k)) (one : Element) → Lies no_names s.written one →
+      line_is : (line k : ℕ) (l : k < n) (s : StoresInLine g shapes line (at k)) (names : Naming) (one : Element) → Lies names s.written one →
           line_of shapes one.variable one.element ≡ line
-      line_is line k l s one lies = sym (line_there shapes s.written one s.single lies) ∙ s.in_line
+      line_is line k l s names one lies = sym (line_there shapes names s.written one s.single lies) ∙ s.in_line
 
-      lies_there : (line k : ℕ) (l : k < n) (s : StoresInLine g shapes line (at k)) (one : Element) → WritesAt old.kept t k one.variable one.element →
-          Lies no_names s.written one
+      lies_there : (line k : ℕ) (l : k < n) (s : StoresInLine g shapes line (at k)) (one : Element) → WritesAt c.config.kept t k one.variable one.element →
+          Lies (naming_there x c t text its k l) s.written one
       lies_there line k l s one wr =
-          let stores = stores_there x w old t i kept match good k l one wr in
-          lies_in (node k l).writes s.written one stores.lies (same_writes x shapes line (at k) (node k l) (at_node k l) s)
+          let stores = stores_there x c t text its k l one wr in
+          lies_in (naming_there x c t text its k l) (node k l).writes s.written one stores.lies
+          (same_writes x shapes line (at k) (node k l) (at_node k l) s)
 
-      here : (k : ℕ) (l : k < n) (one : Element) → slice_get left_out (at k) ≢ Some true → WritesAt old.kept t k one.variable one.element →
+      here : (k : ℕ) (l : k < n) (one : Element) → slice_get left_out (at k) ≢ Some true → WritesAt c.config.kept t k one.variable one.element →
           Cleaned k one.variable one.element
       here k l one kept_clean wr = record {
         last = k;
@@ -241,7 +243,7 @@ module _ (x : f.Flat) (b : Boundaries) (w : IsWellFormed x) (cuts : AreCuts (low
         within = l;
         at = record {
           node = at k;
-          at = is_number x w old t i kept match k l;
+          at = is_number x c t k l;
           variable = one.variable;
           element = one.element;
           stores = wr;
@@ -251,10 +253,11 @@ module _ (x : f.Flat) (b : Boundaries) (w : IsWellFormed x) (cuts : AreCuts (low
       }
 
       from_later : (k line : ℕ) (next : IsLater line k) (one : Element) → line_of shapes one.variable one.element ≡ line →
-          (stored : Stored x w old t i kept match good next.later next.stores.written) → Cleaned next.later stored.one.variable stored.one.element →
+          (stored : Stored x c t text its next.later next.within next.stores.written) → Cleaned next.later stored.one.variable stored.one.element →
           Cleaned k one.variable one.element
       from_later k line next one is_line stored more =
-          let same_line = line_is line next.later next.within next.stores stored.one stored.lies ∙ sym is_line in
+          let same_line = line_is line next.later next.within next.stores (naming_there x c t text its next.later next.within) stored.one
+          stored.lies ∙ sym is_line in
           let above = next.above in
           let low_more = more.since in
           record {
@@ -264,38 +267,39 @@ module _ (x : f.Flat) (b : Boundaries) (w : IsWellFormed x) (cuts : AreCuts (low
             at = subst (λ (z : ℕ). Cleans attempts t more.last z) same_line more.at;
           }
 
-      since : (fuel k : ℕ) (l : k < n) (one : Element) → n ≤ k + fuel → WritesAt old.kept t k one.variable one.element →
+      since : (fuel k : ℕ) (l : k < n) (one : Element) → n ≤ k + fuel → WritesAt c.config.kept t k one.variable one.element →
           Cleaned k one.variable one.element
       since zero k l one room wr = absurd (omega (arith, l, room))
       since (suc fuel) k l one room wr = ⊎_elim
           (λ yes.
-          let c = left (at k) yes in
+          let d = left (at k) yes in
           ⊎_elim
-          (λ r. absurd (c.later r))
+          (λ r. absurd (d.later r))
           (λ next.
           let above = next.above in
-          let stored = stored_there x w old t i kept match good next.later next.within next.stores.written
-          (same_writes x shapes c.line (at next.later) (node next.later next.within) (at_node next.later next.within) next.stores) in
-          from_later k c.line next one (line_is c.line k l c.stores one (lies_there c.line k l c.stores one wr)) stored
+          let stored = stored_there x c t text its next.later next.within next.stores.written
+          (same_writes x shapes d.line (at next.later) (node next.later next.within) (at_node next.later next.within) next.stores) in
+          from_later k d.line next one (line_is d.line k l d.stores (naming_there x c t text its k l) one (lies_there d.line k l d.stores one wr)) stored
           (since fuel next.later next.within stored.one (omega (arith, room, above)) stored.at))
-          (reaches c.line (last c.line) (q - k) k (omega (arith, l, is))))
+          (reaches d.line (last d.line) (q - k) k (omega (arith, l, is))))
           (λ kept_clean. here k l one kept_clean wr)
           (decide_true (slice_get left_out (at k)))
 
-  cleaned_by : (left_out : List Bool) → AreLeftOut x b shapes left_out → (attempt_of old t).done ≡ n → IsBeforeBoundary x b kept old t →
-      (total : ℕ) → n ≡ total → (k : ℕ) (l : k < n) (one : Element) → WritesAt old.kept t k one.variable one.element →
-      CleansSince (record { flat = x; kept = kept; config = old; shapes = shapes; left_out = left_out }) t k n (line_of shapes one.variable one.element)
+  cleaned_by : (left_out : List Bool) → AreLeftOut x b shapes left_out → (attempt_of c.config t).done ≡ n → IsBeforeBoundary x b c.flow c.config t →
+      (total : ℕ) → n ≡ total → (k : ℕ) (l : k < n) (one : Element) → WritesAt c.config.kept t k one.variable one.element →
+      CleansSince (record { flat = x; kept = c.flow; config = c.config; shapes = shapes; left_out = left_out }) t k n (line_of shapes one.variable one.element)
   cleaned_by left_out left whole stands zero e k l one wr = absurd (omega (arith, l, e))
   cleaned_by left_out left whole stands (suc q) e k l one wr =
       since q e left_out left (ends_there q e k l one wr whole stands) n k l one (omega arith) wr
 
 pub stores_are_cleaned : StoresAreCleaned
 stores_are_cleaned x b shapes left_out o old schedule t k v e w cuts left i by stays stands below wr =
-    let kept = flow_kept x o schedule in
-    let whole = attempts_are_whole x b kept old t i stays stands in
+    let c = graph_config x w o old schedule i by in
+    let whole = attempts_are_whole x b c.flow old t i stays stands in
     let one : Element = record { variable = v; element = e } in
     let l : k < (attempt_of old t).longest = omega (arith, below, whole) in
-    let a : Attempts = record { flat = x; kept = kept; config = old; shapes = shapes; left_out = left_out } in
+    let th = there_at x c t 0 (omega (arith, l)) in
+    let own = keeps x c t th.thread th.there in
+    let a : Attempts = record { flat = x; kept = c.flow; config = old; shapes = shapes; left_out = left_out } in
     subst (λ (n : ℕ). CleansSince a t k n (line_of shapes v e)) (sym whole)
-    (cleaned_by x b w cuts old t i kept (kept_matches x w o old.kept schedule by) (kept_good x w o schedule) stays shapes left_out left whole stands
-    (attempt_of old t).longest refl k l one wr)
+    (cleaned_by x b cuts c t stays shapes own.text own.its left_out left whole stands (attempt_of old t).longest refl k l one wr)

@@ -87,7 +87,7 @@ is_there x w t a s h graph_thread node here at =
     record { thread = there.0; there = there.1; match = match; does = subst P same_node found.2 }
 
 -- the thread has the mutexes for what its action reads by name
-guarded_by : (x : f.Flat) (names : List e.LockName) (all : List Standing) (h after : Held) (a : Action) (left : List f.Statement) (owes : Bool) →
+pub guarded_by : (x : f.Flat) (names : List e.LockName) (all : List Standing) (h after : Held) (a : Action) (left : List f.Statement) (owes : Bool) →
     ActionLeads all a (record { left = left; owes = owes }) → KeepList x.variables names h left after → AreGuarded x.variables names h (action_uses a)
 guarded_by x names all h after (Eval target value next) left owes d k =
     let is : left ≡ f.Assign d.place target value ∷ d.rest = ap (λ (z : Standing). z.left) d.is in

@@ -12,7 +12,7 @@ use Rattle.flow_graph.specs.Liveness.{NodeAt}
 use Rattle.flow_graph.specs.Actions.{GraphThread, FlowState, graph_start, seen_by}
 use Rattle.flow_graph.specs.Lockstep.{Matches}
 use Rattle.flow_graph.specs.IdempotentCuts.{Boundaries, IsEdge, IsStoreNode, IsUnlock, BeginsRegion, AreCuts}
-use Rattle.flow_graph.specs.Paths.{Element, element, reads_of, solo_path, IsWithinRegion, LiesInWritten, no_names}
+use Rattle.flow_graph.specs.Paths.{Element, element, naming_of, reads_of, solo_path, IsWithinRegion, LiesInWritten}
 use Rattle.recovery_semantics.specs.ElementHistories.{Memory, AreStable, history_at, live_number, number_at}
 use Rattle.recovery_semantics.specs.Attempts.{Writes, WritesAt, solo}
 use Rattle.recovery_semantics.specs.Configs.{Config, Invariant, now, attempt_of}
@@ -136,14 +136,18 @@ abbrev pub GraphSettles : Type 0
 GraphSettles = (x : f.Flat) (o : Origin x) (m : Config) (schedule : List ℕ) (thread : ℕ) → IsWellFormed x → Invariant x m → IsKeptBy o.source m.kept schedule →
     GraphThreadsSettle x o m schedule thread (flow_kept x o (schedule ++ replicate (steps_begun m thread) thread))
 
--- an element is stored to at a node that stores, in the location that the node writes
+-- an element is stored to at a node that stores, in the location that the node writes, by what the thread's keys name there
 pub record StoresAt (x : f.Flat) (kept : FlowState) (thread steps variable number : ℕ) : Type 0 where
+  pub text : f.Thread
+  pub its : slice_get x.threads thread ≡ Some text
+  pub graph_thread : GraphThread
+  pub found : slice_get (flow_solo x kept thread steps).graph_threads thread ≡ Some graph_thread
   pub node : ℕ
   pub stands : node_after x kept thread steps ≡ Some node
   pub stores : IsStoreNode (lowered x) node
   pub is : Node
   pub at : NodeAt (lowered x) node is
-  pub lies : LiesInWritten no_names is.writes (element variable number)
+  pub lies : LiesInWritten (naming_of x text graph_thread.locals) is.writes (element variable number)
 
 abbrev pub WritersStore : Type 0
 WritersStore = (x : f.Flat) (o : Origin x) (m : Config) (schedule : List ℕ) (thread steps variable number : ℕ) → IsWellFormed x → Invariant x m →

@@ -1,8 +1,7 @@
 -- One life more, and which threads stand between sections.
-use Rattle.std.proofs.Common.{◌≡◌, refl, inl, inr, ℕ, zero, suc, ◌+◌, ◌<◌, List, [], ◌∷◌, ◌++◌, length, sym, subst, arith, Bool, true, false, ◌&&◌}
+use Rattle.std.proofs.Common.{◌≡◌, refl, inl, inr, ℕ, zero, suc, ◌+◌, [], ◌∷◌, ◌++◌, subst, arith, Bool, true, false, ◌&&◌}
 use Rattle.std.specs.Prelude.{if◌then◌else◌}
 use Rattle.std.proofs.lemmas.Bool.{and_parts, cases_lt}
-use Rattle.c_tree.specs.Flats as f
 use Rattle.c_tree.specs.Source.{State, is_between, after_from, runs_from, ended_from}
 use Rattle.source_machine.specs.Lives.{restart, are_between, ends_life, after_lives, runs_lives, ended_lives, end_lives, begun_after}
 use Rattle.source_machine.specs.Lives.{BetweenIsEach, AfterLife, RunsLife, EndedLife}

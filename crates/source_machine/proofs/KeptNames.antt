@@ -1,12 +1,12 @@
 -- A step that locks and unlocks nothing leaves the set of its thread, and the locks of the set's names.
-use Rattle.std.proofs.Common.{◌≡◌, refl, ℕ, List, sym, ◌∙◌, ap, subst, length, Option, Some, None, slice_set}
-use Rattle.std.specs.Prelude.{slice_get, ℤ}
+use Rattle.std.proofs.Common.{◌≡◌, refl, ℕ, sym, ◌∙◌, ap, subst, length, Option, Some, None}
+use Rattle.std.specs.Prelude.{slice_get}
 use Rattle.std.proofs.lemmas.Option.{slice_get_within}
 use Rattle.c_tree.specs.Flats as f
 use Rattle.c_tree.specs.Source as m
 use Rattle.c_tree.specs.LockNames.{Held, none_held, lock_names}
 use Rattle.source_machine.specs.Mutexes.{lock_ahead, unlock_ahead}
-use Rattle.source_machine.specs.Discipline.{KeepsLeft, ThreadKeeps, HaveOneLock, LeavesNames}
+use Rattle.source_machine.specs.Discipline.{KeepsLeft, HaveOneLock, LeavesNames}
 use Rattle.source_machine.proofs.Emission.{set_same}
 use Rattle.source_machine.proofs.StepChanges.{some_is, Passed, ChangesMutex, takes, gives, locks_found, unlocks_found}
 use Rattle.source_machine.proofs.Discipline.{stepped}

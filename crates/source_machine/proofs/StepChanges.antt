@@ -9,7 +9,7 @@ use Rattle.c_tree.specs.LockNames.{Held, lock_names}
 use Rattle.c_tree.specs.Flats as f
 use Rattle.c_tree.specs.Source as m
 use Rattle.c_tree.specs.Source.{source_step}
-use Rattle.source_machine.specs.Mutexes.{locks, unlocks, lock_ahead, unlock_ahead, held_by}
+use Rattle.source_machine.specs.Mutexes.{locks, unlocks, lock_ahead, unlock_ahead}
 use Rattle.source_machine.specs.ElementLocks.{found_number}
 use Rattle.source_machine.specs.Discipline.{ThreadKeeps, HaveOneLock, Guards, LooksSame}
 use Rattle.source_machine.proofs.Emission.{set_other}

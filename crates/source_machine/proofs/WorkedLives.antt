@@ -1,6 +1,6 @@
 -- Worked rows: lives of `mutex m; persistent(m) int x; thread t { lock(m); x = x + 1; unlock(m); }`.
-use Rattle.std.proofs.Common.{◌≡◌, refl, ℕ, List, [], ◌∷◌, None, Some, true, false, ℤ}
-use Rattle.std.specs.Prelude.{pos, codes, Option}
+use Rattle.std.proofs.Common.{◌≡◌, refl, ℕ, List, [], ◌∷◌, None, Some, true, false}
+use Rattle.std.specs.Prelude.{pos, codes}
 use Rattle.ido_base.specs.declared.place.Place.{Place}
 use Rattle.ido_ints.specs.declared.kinds.Kind.TheVariants as kind
 use Rattle.ido_ints.specs.declared.operators.Binary.TheVariants as b
@@ -10,7 +10,7 @@ use Rattle.c_tree.specs.Exprs as e
 use Rattle.c_tree.specs.Programs.{By}
 use Rattle.c_tree.specs.Flats as f
 use Rattle.c_tree.specs.Source.{State, start, source_step, after_from}
-use Rattle.source_machine.specs.Lives.{restart, ends_life, after_lives, runs_lives, ended_lives, begun_after}
+use Rattle.source_machine.specs.Lives.{restart, after_lives, runs_lives, ended_lives}
 
 abbrev at : ℕ → Place
 at place = record { 0 = place }
