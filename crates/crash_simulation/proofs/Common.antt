@@ -121,7 +121,7 @@ pub use Rattle.region_attempts.specs.PendingCleans.{line_of, CleansSince}
 pub use Rattle.region_attempts.proofs.Public.{is_there, owes_at, own_step, attempts_are_whole, graph_stands, graph_follows, one_node, IsThere, StoresHere}
 pub use Rattle.region_attempts.proofs.Public.{owing_at, locking_at, unlocking_at, rerun_reads_nothing_overwritten, readers_guard, stores_are_cleaned}
 pub use Rattle.region_attempts.proofs.Public.{writing_stores, free_at_boundaries, start_free, start_origin, executions_stay, kept_good, step_lockstep}
-pub use Rattle.region_attempts.proofs.Public.{matched_run, inner_runs, graph_settles}
+pub use Rattle.region_attempts.proofs.Public.{matched_after, inner_runs, graph_settles}
 pub use Rattle.code_runs.specs.CodeTraces.{Program, MarkedEnvironment, Meets, Trace, seen_effects, Mark, marked}
 pub use Rattle.code_runs.specs.ComputingRuns.{LocalConfig, config}
 pub use Rattle.log_states.specs.Laws.{recorded_by, IsRecoverable}

@@ -6,7 +6,7 @@ use Rattle.crash_simulation.proofs.Common.{Matches, no_attempt, Attempt, IsAttem
 use Rattle.crash_simulation.proofs.Common.{steps_begun, IsSettled, commits, settled_by, then, HasUnlocked, LastUnlocks, IsKeptBy, HasLocked, none_left}
 use Rattle.crash_simulation.proofs.Common.{same_other, inner_along, writes_at_same, none_of_other, others_left, rest_after, path, last_after, last_alone}
 use Rattle.crash_simulation.proofs.Common.{last_stays, unlocked_is_last, SettlesThere, flow_solo, node_after, GraphThreadsSettle, own_step, graph_follows}
-use Rattle.crash_simulation.proofs.Common.{step_lockstep, matched_run, inner_runs, graph_settles, Record, ExitPoint, Code, Describes, others_describe}
+use Rattle.crash_simulation.proofs.Common.{step_lockstep, matched_after, inner_runs, graph_settles, Record, ExitPoint, Code, Describes, others_describe}
 use Rattle.crash_simulation.proofs.Common.{AbstractRun, kept_of, now_of, System, IsSystem, flat_of, ThreadGhost, on_fragment, InPhase, ThreadInv, IsBounded}
 use Rattle.crash_simulation.proofs.Common.{ExitInv, committed, InFragment, record_kept}
 use Rattle.source_machine.proofs.Public.{solo as solo_law}
@@ -172,8 +172,8 @@ module _ (y : System) (s : IsSystem y) (b : AbstractRun y) where
           let one = own_step x w (kept_of y committed_run) K' (inner' k below).next u k match' (inner_runs k longest K' u inner' runs) (inner' k below).is in
           let two = own_step x w (kept_of y b) old.kept (inner k below).next u k match (inner_runs k longest old.kept u inner runs) (inner k below).is in
           ap (λ (z : FlowState). slice_get z.graph_threads u) one.after
-          ∙ (step_lockstep x w u (flow_solo x (kept_of y committed_run) u k) (flow_solo x (kept_of y b) u k) (solo K' u k) (solo old.kept u k)
-          (matched_run x w (replicate k u) (kept_of y committed_run) K' match') (matched_run x w (replicate k u) (kept_of y b) old.kept match)
+          ∙ (step_lockstep x w u (matched_after x w (replicate k u) (kept_of y committed_run) K' match')
+          (matched_after x w (replicate k u) (kept_of y b) old.kept match)
           (run_keeps x K' (replicate k u) keeps') (source_path k runs) one.next two.next (graph_threads_along k runs) one.is two.is
           ∙ ap (λ (z : FlowState). slice_get z.graph_threads u) (sym two.after))
 

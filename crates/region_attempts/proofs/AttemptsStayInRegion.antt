@@ -30,7 +30,7 @@ use Rattle.region_attempts.specs.GraphStates.{flow_kept, flow_solo, node_of, nod
 use Rattle.region_attempts.specs.AttemptsInRegion.{Resumes, begins, past_unlock, StaysInside, HasCome, SettlesThere, RespectsBoundaries}
 use Rattle.region_attempts.specs.Laws.{StartStays, EventsStay, NextResumes, NothingIsWritten, StaysResumed}
 use Rattle.region_attempts.proofs.StepBisimulation.{step_lockstep, IsThere, is_there, moved_there}
-use Rattle.region_attempts.proofs.GraphRuns.{matched_run, appended, inner_runs, OwnStep, own_step, left_by}
+use Rattle.region_attempts.proofs.GraphRuns.{matched_after, matched_run, appended, inner_runs, OwnStep, own_step, left_by}
 use Rattle.region_attempts.proofs.Nodes.{locking_at, unlocking_at, lock_goes_on, unlock_goes_on}
 use Rattle.region_attempts.proofs.GraphConfigs.{kept_matches}
 
@@ -126,9 +126,9 @@ module _ (x : f.Flat) (b : Boundaries) (w : IsWellFormed x) (cuts : AreCuts (low
         let one = own_step x w kept' K' (inner' k below).next u k match' (inner_runs k longest K' u inner' runs) (inner' k below).is in
         let two = own_step x w kept K (inner k below).next u k match (inner_runs k longest K u inner runs) (inner k below).is in
         ap (λ (s : FlowState). slice_get s.graph_threads u) one.after
-        ∙ (step_lockstep x w u (flow_solo x kept' u k) (flow_solo x kept u k) (solo K' u k) (solo K u k) (matched_run x w (replicate k u) kept' K' match')
-        (matched_run x w (replicate k u) kept K match) (run_keeps x K' (replicate k u) keeps') (path x old t i u k n runs) one.next two.next
-        (graph_threads_along k runs) one.is two.is ∙ ap (λ (s : FlowState). slice_get s.graph_threads u) (sym two.after))
+        ∙ (step_lockstep x w u (matched_after x w (replicate k u) kept' K' match') (matched_after x w (replicate k u) kept K match)
+        (run_keeps x K' (replicate k u) keeps') (path x old t i u k n runs) one.next two.next (graph_threads_along k runs) one.is two.is
+        ∙ ap (λ (s : FlowState). slice_get s.graph_threads u) (sym two.after))
 
     abbrev number_of : Option GraphThread → Option ℕ
     number_of o = option_map (λ (z : GraphThread). z.at) o

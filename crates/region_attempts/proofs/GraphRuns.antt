@@ -19,7 +19,7 @@ use Rattle.recovery_semantics.specs.Attempts.{solo, IsInner}
 use Rattle.recovery_semantics.proofs.Public.{inner_rest, counted_own, counted_other, alone_no_hands, last_first, more_empty, none_of_other, prefix_runs}
 use Rattle.recovery_semantics.proofs.Public.{last_step, prefix_hands}
 use Rattle.region_attempts.specs.GraphStates.{flow_solo}
-use Rattle.region_attempts.proofs.StepBisimulation.{others_stay, step_lockstep}
+use Rattle.region_attempts.proofs.StepBisimulation.{MatchedState, others_stay, step_lockstep}
 
 -- ---- Runs of both
 
@@ -36,6 +36,10 @@ module _ (x : f.Flat) (w : IsWellFormed x) where
   pub matched_run : (ts : List ℕ) (a : FlowState) (s : m.State) → Matches x a s → Matches x (graph_after (lowered x) a ts) (m.after_from s ts)
   matched_run [] a s h = h
   matched_run (t ∷ ts) a s h = matched_by a s ts h (graph_step (lowered x) a t) (source_step s t) (steps_lockstep x a s t w h) (matched_run ts)
+
+  -- as one state of both
+  abbrev pub matched_after : (ts : List ℕ) (a : FlowState) (s : m.State) → Matches x a s → MatchedState x
+  matched_after ts a s h = record { flow = graph_after (lowered x) a ts; source = m.after_from s ts; matches = matched_run ts a s h }
 
   appended_by : (us vs : List ℕ) (a : FlowState) (o : Option FlowState) (p : Option m.State) → StepsMatch x o p → runs_by us p ≡ true →
       ((next : FlowState) (after : m.State) → Matches x next after → m.runs_from after us ≡ true →
@@ -129,8 +133,8 @@ module _ (x : f.Flat) (w : IsWellFormed x) (kept : FlowState) (K : m.State) (mat
       let last = last_step K t n own in
       let step = own_step x w kept K last.next t n match s.runs last.is in
       ap (λ (z : FlowState). slice_get z.graph_threads t) more.after
-      ∙ (step_lockstep x w t (graph_after (lowered x) kept us) (flow_solo x kept t n) (m.after_from K us) (solo K t n) (matched_run x w us kept K match)
-      (matched_run x w (replicate n t) kept K match) (run_keeps x K us keeps) s.same more.next step.next h more.is step.is
+      ∙ (step_lockstep x w t (matched_after x w us kept K match) (matched_after x w (replicate n t) kept K match) (run_keeps x K us keeps) s.same
+      more.next step.next h more.is step.is
       ∙ (ap (λ (z : FlowState). slice_get z.graph_threads t) (sym step.after)
       ∙ ap (λ (k : ℕ). slice_get (flow_solo x kept t k).graph_threads t) (sym (counted_own t us))))
 

@@ -151,29 +151,36 @@ others_stay x s next t u n h =
     ap (λ (ws : List GraphThread). slice_get ws u) (graph_threads_after s next t st.graph_thread st.effect st.is)
     ∙ set_other s.graph_threads t u (moved st.graph_thread st.effect) n
 
-module _ (x : f.Flat) (w : IsWellFormed x) (t : ℕ) (a b : FlowState) (sa sb : m.State) (ma : Matches x a sa) (mb : Matches x b sb)
-    (keeps : StateKeeps x sa) (same : IsSameTo x sa sb t) where
-  same_seen : (ls : List ℤ) (us : List Use) (here : AreGuardedHere x sa t ls us) (u : Use) → is_guarded x.variables here.names here.set u ≡ true →
-      found_number a.variables u.variable (index_element ls b.variables u.index) ≡ found_number b.variables u.variable (index_element ls b.variables u.index)
+-- a state of the graph and the source's that it matches
+pub record MatchedState (x : f.Flat) : Type 0 where
+  pub flow : FlowState
+  pub source : m.State
+  pub matches : Matches x flow source
+
+module _ (x : f.Flat) (w : IsWellFormed x) (t : ℕ) (a b : MatchedState x) (keeps : StateKeeps x a.source) (same : IsSameTo x a.source b.source t) where
+  same_seen : (ls : List ℤ) (us : List Use) (here : AreGuardedHere x a.source t ls us) (u : Use) → is_guarded x.variables here.names here.set u ≡ true →
+      found_number a.flow.variables u.variable (index_element ls b.flow.variables u.index)
+      ≡ found_number b.flow.variables u.variable (index_element ls b.flow.variables u.index)
   same_seen ls us here u h =
-      let n : ℕ = index_element ls b.variables u.index in
-      ap (λ (vs : List (List ℤ)). found_number vs u.variable n) ma.variables
-      ∙ (same.guarded u.variable n (here.each u b.variables h) ∙ ap (λ (vs : List (List ℤ)). found_number vs u.variable n) (sym mb.variables))
+      let n : ℕ = index_element ls b.flow.variables u.index in
+      ap (λ (vs : List (List ℤ)). found_number vs u.variable n) a.matches.variables
+      ∙ (same.guarded u.variable n (here.each u b.flow.variables h) ∙ ap (λ (vs : List (List ℤ)). found_number vs u.variable n) (sym b.matches.variables))
 
   -- a step does the same to the thread's own graph thread in two states in which that is the same
-  pub step_lockstep : (na nb : FlowState) → slice_get a.graph_threads t ≡ slice_get b.graph_threads t → graph_step (lowered x) a t ≡ Some na →
-      graph_step (lowered x) b t ≡ Some nb → slice_get na.graph_threads t ≡ slice_get nb.graph_threads t
+  pub step_lockstep : (na nb : FlowState) → slice_get a.flow.graph_threads t ≡ slice_get b.flow.graph_threads t → graph_step (lowered x) a.flow t ≡ Some na →
+      graph_step (lowered x) b.flow t ≡ Some nb → slice_get na.graph_threads t ≡ slice_get nb.graph_threads t
   step_lockstep na nb here ha hb =
-      let p = stepped (lowered x) a na t ha in
-      let q = stepped (lowered x) b nb t hb in
+      let p = stepped (lowered x) a.flow na t ha in
+      let q = stepped (lowered x) b.flow nb t hb in
       let same_graph_thread : p.graph_thread ≡ q.graph_thread = let g = p.found in let h = q.found in cc in
       let same_node : p.node ≡ q.node =
       let g = p.at in let h = q.at in let i = ap (λ (z : GraphThread). slice_get (lowered x).nodes z.at) same_graph_thread in cc in
-      let guarded = guarded_at x sa t keeps p.graph_thread p.node (is_there x w t a sa ma p.graph_thread p.node p.found p.at) in
-      let first : effect_of p.node.action (seen_by a p.graph_thread) ≡ effect_of p.node.action (seen_by b p.graph_thread) =
-      effect_same x.variables guarded.names guarded.set p.graph_thread.locals p.graph_thread.pending b.variables a.variables
+      let guarded = guarded_at x a.source t keeps p.graph_thread p.node (is_there x w t a.flow a.source a.matches p.graph_thread p.node p.found p.at) in
+      let first : effect_of p.node.action (seen_by a.flow p.graph_thread) ≡ effect_of p.node.action (seen_by b.flow p.graph_thread) =
+      effect_same x.variables guarded.names guarded.set p.graph_thread.locals p.graph_thread.pending b.flow.variables a.flow.variables
       (same_seen p.graph_thread.locals (action_uses p.node.action) guarded) p.node.action guarded.guarded in
-      let second : effect_of p.node.action (seen_by b p.graph_thread) ≡ effect_of q.node.action (seen_by b q.graph_thread) =
-      ap₂ (λ (n : Node) (z : GraphThread). effect_of n.action (seen_by b z)) same_node same_graph_thread in
+      let second : effect_of p.node.action (seen_by b.flow p.graph_thread) ≡ effect_of q.node.action (seen_by b.flow q.graph_thread) =
+      ap₂ (λ (n : Node) (z : GraphThread). effect_of n.action (seen_by b.flow z)) same_node same_graph_thread in
       let effects : q.effect ≡ p.effect = effects_same p.effect q.effect (sym p.does ∙ (first ∙ (second ∙ q.does))) in
-      moved_there x a na t p ∙ (ap₂ (λ (z : GraphThread) (y : Effect). Some (moved z y)) same_graph_thread (sym effects) ∙ sym (moved_there x b nb t q))
+      moved_there x a.flow na t p
+      ∙ (ap₂ (λ (z : GraphThread) (y : Effect). Some (moved z y)) same_graph_thread (sym effects) ∙ sym (moved_there x b.flow nb t q))
