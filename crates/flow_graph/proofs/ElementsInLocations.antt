@@ -71,7 +71,10 @@ one_of_both naming es fs ls ms one h k c =
     ⊎_elim (λ l. one_left naming ls ms one (h l)) (λ r. one_right naming ls ms one (k r)) (Contains-append_cases es fs one c)
 
 pub lies_scalar : (naming : Naming) (variable : ℕ) → Lies naming (scalar variable) (element variable 0)
-lies_scalar naming variable = record { variable = refl; from_lo = omega arith; to_hi = omega arith; by_key = λ key h. cc }
+lies_scalar naming variable = record {
+  within = record { variable = refl; from_lo = omega arith; to_hi = omega arith };
+  by_key = λ key h. cc;
+}
 
 -- ---- Expressions
 
@@ -99,9 +102,11 @@ module _ (vs : List Variable) (ks : List Kind) (ls : List ℤ) (ns : List (List 
       let count : elements_of vs variable ≡ elements_in d.it.length = elements_is vs variable d.it d.found d.array in
       let most = bounded variable d.it d.found in
       record {
-        variable = refl;
-        from_lo = low_le _ _ named.from_zero range.from_low;
-        to_hi = le_high _ _ named.from_zero range.to_high (omega (arith, named.below, count, most));
+        within = record {
+          variable = refl;
+          from_lo = low_le _ _ named.from_zero range.from_low;
+          to_hi = le_high _ _ named.from_zero range.to_high (omega (arith, named.below, count, most));
+        };
         by_key = λ key h. key_names vs names ls ns variable (at_index place index) key h;
       }
 

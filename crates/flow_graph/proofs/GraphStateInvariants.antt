@@ -361,20 +361,6 @@ module _ (x : f.Flat) (w : IsWellFormed x) (s : FlowState) (good : Good x s) (t 
         lies = plain_lies (length x.mutexes) x.variables (lock_names x text) graph_thread.locals h.location one w.shared.variables h.lies;
       }
 
-  pub owes_plain : (p : Pending) → graph_thread.pending ≡ Some p → OwesThere x no_names graph_thread.at p
-  owes_plain p is =
-      let o = good.owes t text graph_thread p found here.own.found is in
-      record {
-        node = o.node;
-        here = o.here;
-        lies = record {
-          location = o.lies.location;
-          of = o.lies.of;
-          lies = plain_lies (length x.mutexes) x.variables (lock_names x text) graph_thread.locals o.lies.location (stored_element p)
-              w.shared.variables o.lies.lies;
-        };
-      }
-
   -- ---- The store that is pending after a step
 
   abbrev Owing : Effect → Type 0

@@ -192,9 +192,7 @@ pub plain_lies : (count : ℕ) (vs : List Variable) (names : List e.LockName) (l
     AllByRecursion (IsVariable count) vs →
     Lies (names_in vs names ls) l one → Lies no_names l one
 plain_lies count vs names ls l one formed h = record {
-  variable = h.variable;
-  from_lo = h.from_lo;
-  to_hi = h.to_hi;
+  within = h.within;
   by_key = λ key is. let none = plain_names_none count vs names ls one.variable key formed in let some = h.by_key key is in cc;
 }
 

@@ -3,7 +3,7 @@ use Rattle.std.proofs.Common.{◌≡◌, ◌≤◌, refl, ℕ, Option, Some, Non
 use Rattle.std.proofs.lemmas.Bool.Decides.{nat_tests}
 use Rattle.ido_base.specs.declared.location.Location.{Location}
 use Rattle.ido_base.specs.Locations.{have_one_key, have_two_keys, overlap, same}
-use Rattle.flow_graph.specs.Paths.{Element, Naming, AreApart, no_names, Lies}
+use Rattle.flow_graph.specs.Paths.{Element, Naming, AreApart, no_names, IsInRange, Lies}
 
 -- ---- Keys
 
@@ -31,20 +31,11 @@ names_one names variable one other None k t h l = cc
 
 -- ---- Locations
 
--- what lies in a location without key lies there whatever keys name
-pub lies_named : (names : Naming) (l : Location) (one : Element) → Lies no_names l one → Lies names l one
-lies_named names l one h = record {
-  variable = h.variable;
-  from_lo = h.from_lo;
-  to_hi = h.to_hi;
-  by_key = λ key is. let none = h.by_key key is in cc;
-}
-
 pub common_overlaps : (names : Naming) (l r : Location) (one : Element) → AreApart names → Lies names l one → Lies names r one → overlap l r ≡ true
 common_overlaps names l r one apart h k =
-    let v : l.variable ≡ r.variable = h.variable ∙ sym k.variable in
-    let a : l.lo ≤ r.hi = omega (arith, h.from_lo, k.to_hi) in
-    let b : r.lo ≤ l.hi = omega (arith, k.from_lo, h.to_hi) in
+    let v : l.variable ≡ r.variable = h.within.variable ∙ sym k.within.variable in
+    let a : l.lo ≤ r.hi = omega (arith, h.within.from_lo, k.within.to_hi) in
+    let b : r.lo ≤ l.hi = omega (arith, k.within.from_lo, h.within.to_hi) in
     let keys : have_two_keys l.key r.key ≡ false = not_two names one.variable one.element l.key r.key apart h.by_key k.by_key in
     grind (arith, nat_tests)
 
@@ -62,13 +53,13 @@ one_or_key l r false key h =
     inl (record { left = grind (arith, nat_tests); right = grind (arith, nat_tests); both = grind (arith, nat_tests) })
 
 -- of two locations that are the same only a key of both needs to name what is in the one
-pub same_by_key : (names named_by : Naming) (l r : Location) (one other : Element) → same l r ≡ true → Lies named_by l one →
+pub same_by_key : (names : Naming) (l r : Location) (one other : Element) → same l r ≡ true → IsInRange l one →
     ((key : ℕ) → l.key ≡ Some key → r.key ≡ Some key → names one.variable key ≡ Some one.element) → Lies names r other → one ≡ other
-same_by_key names named_by l r one other s h named k =
-    let v : one.variable ≡ other.variable = sym h.variable ∙ (one_variable l r s ∙ k.variable) in
+same_by_key names l r one other s h named k =
+    let v : one.variable ≡ other.variable = sym h.variable ∙ (one_variable l r s ∙ k.within.variable) in
     let n : one.element ≡ other.element =
     ⊎_elim
-    (λ is. omega (arith, is.left, is.right, is.both, h.from_lo, h.to_hi, k.from_lo, k.to_hi))
+    (λ is. omega (arith, is.left, is.right, is.both, h.from_lo, h.to_hi, k.within.from_lo, k.within.to_hi))
     (λ key.
     let there : (j : ℕ) → r.key ≡ Some j → names one.variable j ≡ Some other.element = λ j is. ap (λ (w : ℕ). names w j) v ∙ k.by_key j is in
     names_one names one.variable one.element other.element l.key r.key key named there)
@@ -76,4 +67,4 @@ same_by_key names named_by l r one other s h named k =
     λ i. record { variable = v i; element = n i }
 
 pub same_element : (names : Naming) (l r : Location) (one other : Element) → same l r ≡ true → Lies names l one → Lies names r other → one ≡ other
-same_element names l r one other s h k = same_by_key names names l r one other s h (λ key is is_too. h.by_key key is) k
+same_element names l r one other s h k = same_by_key names l r one other s h.within (λ key is is_too. h.by_key key is) k

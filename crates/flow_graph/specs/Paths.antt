@@ -125,11 +125,15 @@ AreApart names = (variable one other element : ℕ) → names variable one ≡ S
 abbrev pub no_names : Naming
 no_names variable key = None
 
--- the location has the element: it is of its range, and the one that its key names, where it has one
-pub record Lies (names : Naming) (l : Location) (one : Element) : Type 0 where
+-- the element is of the location's range
+pub record IsInRange (l : Location) (one : Element) : Type 0 where
   pub variable : l.variable ≡ one.variable
   pub from_lo : l.lo ≤ one.element
   pub to_hi : one.element ≤ l.hi
+
+-- the location has the element: it is of its range, and the one that its key names, where it has one
+pub record Lies (names : Naming) (l : Location) (one : Element) : Type 0 where
+  pub within : IsInRange l one
   pub by_key : (key : ℕ) → l.key ≡ Some key → names one.variable key ≡ Some one.element
 
 pub record LiesInOne (names : Naming) (ls : List Location) (one : Element) : Type 0 where

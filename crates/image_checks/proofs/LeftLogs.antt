@@ -36,8 +36,8 @@ use Rattle.flow_graph.specs.IdempotentCuts.{stores}
 use Rattle.flow_graph.specs.Liveness.{NodeAt}
 use Rattle.flow_graph.specs.Lowering.{lowered, threads_nodes}
 use Rattle.flow_graph.specs.Nodes.{Action, Eval, Store, Test, Lock, Unlock, End, Graph, Node}
-use Rattle.flow_graph.specs.Paths.{LiesInWritten, stored_element, no_names}
-use Rattle.flow_graph.proofs.Public.{ShapedAs, found_in, node_shaped, nodes_at, owes_plain}
+use Rattle.flow_graph.specs.Paths.{LiesInWritten, naming_of, stored_element}
+use Rattle.flow_graph.proofs.Public.{ShapedAs, found_in, node_shaped, nodes_at}
 use Rattle.log_states.specs.LogInvariant.{LogInv}
 use Rattle.log_states.specs.Logs.{Record, IsRecord, IsRecorded, nothing_recorded, slots_of, value_of}
 use Rattle.log_states.specs.Machines.{config_of}
@@ -220,9 +220,6 @@ module _ (y : System) (s : IsSystem y) (w : World) (stands : Simulates y s w) (f
             let owed = owes_here (flat_of y) s.plan.formed kept good.source t.number good.matches i.graph_thread i.there is flat_there
             (record { variable = variable; kind = kind; next = next; is = does }) in
             let store : Pending = owed.0 in
-            let owes = owes_plain (flat_of y) s.plan.formed kept good t.number i.graph_thread i.there store owed.1 in
-            let lies : LiesInWritten no_names is.writes (stored_element store) =
-            subst (λ (z : Node). LiesInWritten no_names z.writes (stored_element store)) (same_Some owes.node is (sym owes.here ∙ here)) owes.lies in
             let pending : HasPending y.plan store variable kind r.registers =
             subst (λ (a : Action). IsPendingIn y.plan a (seen_by kept i.graph_thread) r.registers) does (i.enters.pending is there) store owed.1 in
             let c = kept_there pending_address ((code.is.kept at i.own pending_address).1 (of_address (stores is variable kind next there does))) in
@@ -231,15 +228,19 @@ module _ (y : System) (s : IsSystem y) (w : World) (stands : Simulates y s w) (f
             let match = good.matches.each t.number i.graph_thread source.0 i.there source.1 in
             let own = zip_found (λ (u : f.Thread) (z : m.Thread). IsThreadOf (flat_of y) u.locals z) (flat_of y).threads good.source.threads t.number source.0
             good.formed.threads source.1 in
+            let owes = good.owes t.number own.it i.graph_thread store i.there own.found owed.1 in
+            let names = naming_of (flat_of y) own.it i.graph_thread.locals in
+            let lies : LiesInWritten names is.writes (stored_element store) =
+            subst (λ (z : Node). LiesInWritten names z.writes (stored_element store)) (same_Some owes.node is (sym owes.here ∙ here)) owes.lies in
             let ranged = own.related.pending store (sym match.pending ∙ owed.1) in
             let location = lies.location in
-            let variable_is : store.variable ≡ location.variable = sym lies.lies.variable in
+            let variable_is : store.variable ≡ location.variable = sym lies.lies.within.variable in
             subst (λ (o : Option Location). HasAddress (flat_of y).variables logs n (bank_of r.point) o) (sym lies.of) (record {
               there = subst (λ (k : ℕ). k < length (flat_of y).variables) variable_is
                   (slice_get_within (flat_of y).variables store.variable ranged.it ranged.found);
               element = store.element;
-              from = lies.lies.from_lo;
-              to = lies.lies.to_hi;
+              from = lies.lies.within.from_lo;
+              to = lies.lies.within.to_hi;
               is = register_there pending_address i.point c ∙ pending.address
                   ∙ ap (λ (k : ℕ). variable_at (map shape_of (flat_of y).variables) k store.element) variable_is;
             })

@@ -38,6 +38,7 @@ use Rattle.flow_graph.specs.Lowering.{parts}
 use Rattle.flow_graph.specs.Nodes.{Graph}
 use Rattle.flow_graph.specs.declared.graph.Part.{Part}
 use Rattle.flow_graph.proofs.Public.{lowered_threads}
+use Rattle.flow_graph.specs.Paths.{naming_of}
 use Rattle.region_attempts.specs.Origins.{Origin, IsPendingAt}
 use Rattle.region_cutter.specs.LocksAtBoundaries.{ChosenAreLocked}
 use Rattle.variable_words.specs.Variables.{durable_variables, number_of_byte, variables_from}
@@ -395,14 +396,15 @@ module _ (locked : ChosenAreLocked) (y : System) (s : IsSystem y) (words : List 
           subst (λ (z : m.Thread). IsThreadOf x t.locals z) same
           (subst (λ (u : f.Thread). IsThreadOf x u.locals (of i below).thread) text (of i below).formed)
 
-  pending_there : (n : ℕ) (g : GraphThread) (store : Pending) → slice_get kept.graph_threads n ≡ Some g → g.pending ≡ Some store →
-      IsPendingAt x g.at store
-  pending_there n g store there is =
+  pending_there : (n : ℕ) (text : f.Thread) (g : GraphThread) (store : Pending) → slice_get kept.graph_threads n ≡ Some g →
+      slice_get x.threads n ≡ Some text → g.pending ≡ Some store → IsPendingAt x (naming_of x text g.locals) g.at store
+  pending_there n text g store there its is =
       let l = slice_get_within kept.graph_threads n g there in
       let c = count_of graph_thread 0 count in
       let below : n < count = omega (arith, l, c) in
       let same : (of n below).graph_thread ≡ g = same_Some _ g (sym (graph_thread_there n below) ∙ there) in
-      subst (λ (z : GraphThread). z.pending ≡ Some store → IsPendingAt x z.at store) same ((of n below).stored store) is
+      subst (λ (z : GraphThread). z.pending ≡ Some store → IsPendingAt x (naming_of x text z.locals) z.at store) same
+      ((of n below).stored (naming_of x text (of n below).graph_thread.locals) store) is
 
   own_there : (n : ℕ) (g : GraphThread) → slice_get kept.graph_threads n ≡ Some g → IsOwnNode x n g.at
   own_there n g there =

@@ -36,6 +36,7 @@ use Rattle.flow_graph.specs.Lockstep.{GraphThreadMatches, Standing, IsOwnNode}
 use Rattle.flow_graph.specs.Lowering.{lowered}
 use Rattle.flow_graph.specs.Nodes.{Action, Eval, Store, Test, Lock, Unlock, End, Graph, Node}
 use Rattle.flow_graph.proofs.Public.{ActionLeads, Tests, all_at, begins_lockstep, chooses, nodes_at, repeats, good_start}
+use Rattle.flow_graph.specs.Paths.{Naming}
 use Rattle.region_attempts.specs.Origins.{IsPendingAt}
 use Rattle.region_cutter.specs.LocksAtBoundaries.{ChosenAreLocked}
 use Rattle.log_states.specs.Logs.{Record, side_of, IsKeepable, IsRecord, IsDurable, IsRecorded, HasLog, nothing_recorded, slot_in, slots_of, value_of, kept_in}
@@ -106,8 +107,8 @@ pub record IsSaid (p : Plan) (code : Code p) (words : List ℕ) : Type 0 where
   pub long : length set ≡ length p.flat.mutexes
   pub left : KeepsLeft p.flat (lock_names p.flat code.of.text) set thread.left
   pub pending : (q : Pending) → thread.pending ≡ Some q → holds set (element_lock p.flat.variables q.variable q.element) ≡ true
-  -- its node writes where its pending store goes
-  pub stored : (q : Pending) → graph_thread.pending ≡ Some q → IsPendingAt p.flat graph_thread.at q
+  -- its node writes where its pending store goes, whatever keys name: the location has none
+  pub stored : (names : Naming) (q : Pending) → graph_thread.pending ≡ Some q → IsPendingAt p.flat names graph_thread.at q
   pub locks : record_of p.log (map word_of words) code.thread.number ≡ locks_held set
   pub entry : Record
   pub is_record : IsRecord p.log entry
@@ -162,7 +163,7 @@ module _ (locked : ChosenAreLocked) (p : Plan) (plan : IsPlan p) (code : Code p)
           (none_held (length (names p plan t code.of)))) (names_long p plan t code.of)
           (keep_opened_all x.variables (names p plan t code.of) (sets p plan t code.of).disciplined);
       pending = λ q some. absurd (none-some q some);
-      stored = λ q some. absurd (none-some q some);
+      stored = λ names q some. absurd (none-some q some);
       locks =
           record_none p.log ws n none
           ∙ sym (no_locks_from 0 (length x.mutexes));
@@ -248,7 +249,7 @@ module _ (locked : ChosenAreLocked) (p : Plan) (plan : IsPlan p) (code : Code p)
       owes : is_some pending ≡ st.owes
       ranged : (q : Pending) → pending ≡ Some q → IsStoreInRange x.variables q
       guarded : (q : Pending) → pending ≡ Some q → holds set (element_lock x.variables q.variable q.element) ≡ true
-      stored : (q : Pending) → pending ≡ Some q → IsPendingAt x node q
+      stored : (names : Naming) (q : Pending) → pending ≡ Some q → IsPendingAt x names node q
       enters : (seen : Seen) → seen.pending ≡ pending → IsPendingIn p is.action seen registers
 
     nothing_owed : st.owes ≡ false → ((seen : Seen) → IsPendingIn p is.action seen registers) → Owed
@@ -257,7 +258,7 @@ module _ (locked : ChosenAreLocked) (p : Plan) (plan : IsPlan p) (code : Code p)
       owes = sym free;
       ranged = λ q e. absurd (none-some q e);
       guarded = λ q e. absurd (none-some q e);
-      stored = λ q e. absurd (none-some q e);
+      stored = λ names q e. absurd (none-some q e);
       enters = λ seen e. enters seen;
     }
 
@@ -305,16 +306,14 @@ module _ (locked : ChosenAreLocked) (p : Plan) (plan : IsPlan p) (code : Code p)
         ranged = λ q e. subst (λ (z : Pending). IsStoreInRange x.variables z) (same_Some store q e) ranged;
         guarded = λ q e. subst (λ (z : Pending). holds set (element_lock x.variables z.variable z.element) ≡ true) (same_Some store q e)
             (resumed_store_locked locked p plan code node _ g.own g.resumes variable kind next store.element does owing);
-        stored = λ q e. subst (λ (z : Pending). IsPendingAt x node z) (same_Some store q e) (record {
+        stored = λ names q e. subst (λ (z : Pending). IsPendingAt x names node z) (same_Some store q e) (record {
           node = is;
           is = lowered_is p plan t code.of node g.own;
           lies = record {
             location = stores.location;
             of = stores.writes;
             lies = record {
-              variable = stores.variable_is;
-              from_lo = at_element.from;
-              to_hi = at_element.to;
+              within = record { variable = stores.variable_is; from_lo = at_element.from; to_hi = at_element.to };
               by_key = λ key keyed. absurd (none-some key (sym stores.no_key ∙ keyed));
             };
           };

@@ -209,12 +209,7 @@ module _ (x : f.Flat) (c : GraphConfig x) (t : ℕ) (thread : m.Thread) (there :
 
     pub lies_along : (location : Location) (one : Element) → ((key : ℕ) → location.key ≡ Some key → holds set key ≡ true) →
         Lies (naming_of x keeps.text graph_thread.locals) location one → Lies naming location one
-    lies_along location one held h = record {
-      variable = h.variable;
-      from_lo = h.from_lo;
-      to_hi = h.to_hi;
-      by_key = λ key is. named_along one key (held key is) (h.by_key key is);
-    }
+    lies_along location one held h = record { within = h.within; by_key = λ key is. named_along one key (held key is) (h.by_key key is) }
 
     guarded_along : AreGuarded x.variables names set (action_uses node.action)
     guarded_along = guarded_by x names (threads_standings x.threads) set _ node.action th.thread.left (is_some th.thread.pending) th.does

@@ -308,7 +308,7 @@ module _ (x : f.Flat) (b : Boundaries) (cuts : AreCuts (lowered x) b) (c : Graph
         let node_q = one_node (lowered x) (number_there q) (node_of_step q low_q) wr.is (at_node q low_q) at_q in
         let stored = stored_there x c t text its q low_q written (ap (λ (z : Node). z.writes) node_q ∙ wr.writes) in
         let P : Element → Type 0 = λ z. attempts.WritesAt c.config.kept t q z.variable z.element in
-        subst P (same_by_key one_naming (naming_there x c t text its q low_q) written read.location stored.one one is stored.lies
+        subst P (same_by_key one_naming written read.location stored.one one is stored.lies.within
         (λ key of_written of_read. named_along x c t thread there q (omega (arith, low_q)) (made_there x c t q low_q).graph_thread
         (made_there x c t q low_q).node (there_at x c t q low_q) stored.one key (key_of_read key of_read) (stored.lies.by_key key of_written))
         read_lies) stored.at

@@ -12,8 +12,7 @@ use Rattle.source_machine.proofs.Public.{start_keeps}
 use Rattle.flow_graph.specs.Lowering.{lowered}
 use Rattle.flow_graph.specs.Actions.{graph_start, graph_after}
 use Rattle.flow_graph.specs.Lockstep.{Matches}
-use Rattle.flow_graph.specs.Paths.{naming_of, stored_element}
-use Rattle.flow_graph.proofs.Public.{Good, lies_named, owes_plain, at_nodes, begins_lockstep, good_after, good_start, nodes_at}
+use Rattle.flow_graph.proofs.Public.{Good, at_nodes, begins_lockstep, good_after, good_start, nodes_at}
 use Rattle.recovery_semantics.specs.ElementHistories.{AreStable}
 use Rattle.recovery_semantics.proofs.Public.{between_is_stable, executions_resume}
 use Rattle.region_attempts.specs.Origins.{Origin}
@@ -33,16 +32,8 @@ begins_good x o = record {
   matches = o.matches;
   formed = o.formed;
   owes = λ t text graph_thread p there its is.
-      let stored = o.pending t graph_thread p there is in
-      record {
-        node = stored.node;
-        here = nodes_at x graph_thread.at stored.node stored.is;
-        lies = record {
-          location = stored.lies.location;
-          of = stored.lies.of;
-          lies = lies_named (naming_of x text graph_thread.locals) stored.lies.location (stored_element p) stored.lies.lies;
-        };
-      };
+      let stored = o.pending t text graph_thread p there its is in
+      record { node = stored.node; here = nodes_at x graph_thread.at stored.node stored.is; lies = stored.lies };
 }
 
 abbrev pub start_origin : (x : f.Flat) → IsWellFormed x → All (IsDisciplined x) x.threads → Origin x
@@ -54,8 +45,8 @@ start_origin x w disciplined = record {
   formed = begins_so x w;
   holders = λ mutex t held. absurd (all_free _ mutex t held);
   own = (good_start x w).own;
-  pending = λ t graph_thread p there is.
-      let owed = owes_plain x w (graph_start (lowered x) x) (good_start x w) t graph_thread there p is in
+  pending = λ t text graph_thread p there its is.
+      let owed = (good_start x w).owes t text graph_thread p there its is in
       record { node = owed.node; is = at_nodes x graph_thread.at owed.node owed.here; lies = owed.lies };
 }
 
@@ -98,8 +89,8 @@ module _ (x : f.Flat) (o : Origin x) (schedule : List ℕ) (w : IsWellFormed x) 
         };
         holders = λ mutex t held. absurd (all_free _ mutex t held);
         own = (good_start x w).own;
-        pending = λ t graph_thread p there is.
-            let owed = owes_plain x w (graph_start (lowered x) x) (good_start x w) t graph_thread there p is in
+        pending = λ t text graph_thread p there its is.
+            let owed = (good_start x w).owes t text graph_thread p there its is in
             record { node = owed.node; is = at_nodes x graph_thread.at owed.node owed.here; lies = owed.lies };
       }
 

@@ -18,7 +18,7 @@ use Rattle.flow_graph.specs.Lockstep.{Matches}
 use Rattle.flow_graph.specs.IdempotentCuts as cutting
 use Rattle.flow_graph.specs.IdempotentCuts.{Boundaries, IsEdge, HasBefore, IsBoundary, AreCuts}
 use Rattle.flow_graph.specs.OmittedCleans.{StoresInLine, ReachesUncleaned, at_boundary, goes_on}
-use Rattle.flow_graph.specs.Paths.{Element, Naming, Lies}
+use Rattle.flow_graph.specs.Paths.{Element, IsInRange}
 use Rattle.flow_graph.proofs.Public.{ShapedBy, node_shaped, node_at, found_in, Stepped, moved, goes_by, nodes_at, at_nodes}
 use Rattle.recovery_semantics.specs.Attempts.{solo, WritesAt, PassesMutex}
 use Rattle.recovery_semantics.specs.Configs.{attempt_of}
@@ -64,9 +64,9 @@ module _ (x : f.Flat) (shapes : List Shape) (line number : ℕ) (node : Node) (a
   decide_line = decide_line_by node.writes refl
 
 -- the line of the one element of a location
-line_there : (shapes : List Shape) (names : Naming) (l : Location) (one : Element) → l.lo ≡ l.hi → Lies names l one →
+line_there : (shapes : List Shape) (l : Location) (one : Element) → l.lo ≡ l.hi → IsInRange l one →
     variable_at shapes l.variable l.lo / line_bytes ≡ line_of shapes one.variable one.element
-line_there shapes names l one single h =
+line_there shapes l one single h =
     let e : l.lo ≡ one.element = omega (arith, single, h.from_lo, h.to_hi) in
     λ i. variable_at shapes (h.variable i) (e i) / line_bytes
 
@@ -224,16 +224,16 @@ module _ (x : f.Flat) (b : Boundaries) (cuts : AreCuts (lowered x) b) (c : Graph
       Cleaned first variable element = CleansSince attempts t first n (line_of shapes variable element)
 
       -- an element that is stored there has the line
-      line_is : (line k : ℕ) (l : k < n) (s : StoresInLine g shapes line (at k)) (names : Naming) (one : Element) → Lies names s.written one →
+      line_is : (line k : ℕ) (l : k < n) (s : StoresInLine g shapes line (at k)) (one : Element) → IsInRange s.written one →
           line_of shapes one.variable one.element ≡ line
-      line_is line k l s names one lies = sym (line_there shapes names s.written one s.single lies) ∙ s.in_line
+      line_is line k l s one lies = sym (line_there shapes s.written one s.single lies) ∙ s.in_line
 
       lies_there : (line k : ℕ) (l : k < n) (s : StoresInLine g shapes line (at k)) (one : Element) → WritesAt c.config.kept t k one.variable one.element →
-          Lies (naming_there x c t text its k l) s.written one
+          IsInRange s.written one
       lies_there line k l s one wr =
           let stores = stores_there x c t text its k l one wr in
-          lies_in (naming_there x c t text its k l) (node k l).writes s.written one stores.lies
-          (same_writes x shapes line (at k) (node k l) (at_node k l) s)
+          (lies_in (naming_there x c t text its k l) (node k l).writes s.written one stores.lies
+          (same_writes x shapes line (at k) (node k l) (at_node k l) s)).within
 
       here : (k : ℕ) (l : k < n) (one : Element) → slice_get left_out (at k) ≢ Some true → WritesAt c.config.kept t k one.variable one.element →
           Cleaned k one.variable one.element
@@ -256,8 +256,7 @@ module _ (x : f.Flat) (b : Boundaries) (cuts : AreCuts (lowered x) b) (c : Graph
           (stored : Stored x c t text its next.later next.within next.stores.written) → Cleaned next.later stored.one.variable stored.one.element →
           Cleaned k one.variable one.element
       from_later k line next one is_line stored more =
-          let same_line = line_is line next.later next.within next.stores (naming_there x c t text its next.later next.within) stored.one
-          stored.lies ∙ sym is_line in
+          let same_line = line_is line next.later next.within next.stores stored.one stored.lies.within ∙ sym is_line in
           let above = next.above in
           let low_more = more.since in
           record {
@@ -279,7 +278,7 @@ module _ (x : f.Flat) (b : Boundaries) (cuts : AreCuts (lowered x) b) (c : Graph
           let above = next.above in
           let stored = stored_there x c t text its next.later next.within next.stores.written
           (same_writes x shapes d.line (at next.later) (node next.later next.within) (at_node next.later next.within) next.stores) in
-          from_later k d.line next one (line_is d.line k l d.stores (naming_there x c t text its k l) one (lies_there d.line k l d.stores one wr)) stored
+          from_later k d.line next one (line_is d.line k l d.stores one (lies_there d.line k l d.stores one wr)) stored
           (since fuel next.later next.within stored.one (omega (arith, room, above)) stored.at))
           (reaches d.line (last d.line) (q - k) k (omega (arith, l, is))))
           (λ kept_clean. here k l one kept_clean wr)
