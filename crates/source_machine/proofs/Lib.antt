@@ -6,6 +6,7 @@ mod SectionEndCases
 mod NodeSteps
 mod StateRuns
 mod StartStates
+mod RestartedStates
 mod StepsKeepOthers
 mod GuardedValues
 mod DisciplinedContinuations

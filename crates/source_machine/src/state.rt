@@ -28,13 +28,14 @@ impl<'a> SourceState<'a> {
     ghost use Rattle.c_tree.specs.Flats.{flat_of};
     ghost use Rattle.c_tree.specs.Source.{State, start, is_between};
     ghost use Rattle.source_machine.specs.Runs.{IsAfter, Ran};
-    ghost use Rattle.source_machine.specs.links.States.{RepresentsState, threads_in};
+    ghost use Rattle.source_machine.specs.links.States.{RepresentsState, threads_in, IsRunOf, KeepsRun, AreBetween, Restarts};
 
     /// The state before any step: initial numbers, mutexes free, whole bodies.
     /// It asks nothing of the form: an element or a local that isn't there is 0 and is never written, and an expression that reads
     /// a number by another kind than it was written by has the value that `value` gives.
     pub fn start(alloc: Global, flat: &'a Flat) -> Result<SourceState<'a>, OutOfMemory>
-        ensures { IfOk result (λ state. RepresentsState state (start (flat_of flat.now)) (λ _. 0)) }
+        ensures stands { IfOk result (λ state. RepresentsState state (start (flat_of flat.now)) (λ _. 0)) }
+        ensures run { IfOk result (λ state. IsRunOf state (flat_of flat.now)) }
     {
         let variables = Variables::new(alloc, &flat.variables)?;
         let holders = locks::free(alloc, flat.mutexes.len())?;
@@ -63,6 +64,7 @@ impl<'a> SourceState<'a> {
     pub fn step(&mut self, thread: u32) -> Stepped
         requires exists { thread < threads_in self.old }
         ensures after { (s : State) (ended : ℕ → ℕ) → RepresentsState self.old s ended → IsAfter self.new result s ended thread }
+        ensures run { KeepsRun self.old self.new }
         ensures threads { threads_in self.new ≡ threads_in self.old }
     {
         let it = &mut self.threads[thread as usize];
@@ -78,6 +80,7 @@ impl<'a> SourceState<'a> {
     /// Makes the steps of a schedule up to the first that can't be made.
     pub fn run(&mut self, schedule: &[u32]) -> Result<(), Refused>
         ensures ran { (s : State) (ended : ℕ → ℕ) → RepresentsState self.old s ended → Ran self.new result s ended schedule.now }
+        ensures run { KeepsRun self.old self.new }
         ensures threads { threads_in self.new ≡ threads_in self.old }
     {
         for (i, thread) in schedule.iter().enumerate() {
@@ -105,6 +108,20 @@ impl<'a> SourceState<'a> {
             }
         }
         Ok(())
+    }
+
+    /// Begins another life on the variables that this one has left: threads have whole bodies and no locals again. Sections that have
+    /// ended stay counted. Every thread stands between sections, so that nothing of a section is lost.
+    pub fn restart(&mut self)
+        requires between { AreBetween self.old }
+        ensures anew { Restarts self.old self.new }
+        ensures run { KeepsRun self.old self.new }
+        ensures threads { threads_in self.new ≡ threads_in self.old }
+    {
+        self.holders.fill(None);
+        for thread in 0..self.threads.len() {
+            self.threads[thread].restart();
+        }
     }
 
     /// The numbers of all elements of all variables, in order of declaration.

@@ -3,7 +3,7 @@ ghost use Rattle.std.specs.Prelude.{◌≡◌, ℕ, ◌+◌, [], IfOk};
 ghost use Rattle.c_tree.specs.Flats.{thread_of};
 ghost use Rattle.source_machine.specs.Sections.{AreCounted};
 ghost use Rattle.source_machine.specs.links.SectionEnds.{ends};
-ghost use Rattle.source_machine.specs.links.Threads.{IsStarted, StepIsMade, hand};
+ghost use Rattle.source_machine.specs.links.Threads.{IsStarted, IsCodeOfThread, StartsAnew, StepIsMade, code_of, hand};
 
 use crate::answers::Stepped;
 use crate::assignment::{Pending, assign};
@@ -19,6 +19,8 @@ use std::alloc::Global;
 #[derive(Drop)]
 pub(crate) struct ThreadState<'a> {
     nodes: Vec<Node<'a>>,
+    // where its code begins
+    start: usize,
     at: usize,
     locals: Vec<i128>,
     pending: Option<Pending>,
@@ -28,17 +30,30 @@ pub(crate) struct ThreadState<'a> {
 impl<'a> ThreadState<'a> {
     /// A thread at its start.
     pub(crate) fn start(alloc: Global, thread: &'a Thread) -> Result<ThreadState<'a>, OutOfMemory>
-        ensures { IfOk result (λ started. IsStarted started (thread_of thread.now)) }
+        ensures started { IfOk result (λ started. IsStarted started (thread_of thread.now)) }
+        ensures code { IfOk result (λ started. IsCodeOfThread (code_of started) (thread_of thread.now)) }
     {
         let Code { nodes, start } = code::compile(alloc, &thread.body)?;
         let locals = vec![in alloc; 0; thread.locals.len()]?;
         Ok(ThreadState {
             nodes,
+            start,
             at: start,
             locals,
             pending: None,
             ended: false,
         })
+    }
+
+    /// Goes to its start again, wherever it stands.
+    pub(crate) fn restart(&mut self)
+        ensures started { StartsAnew (code_of self.old) self.new }
+        ensures code { code_of self.new ≡ code_of self.old }
+    {
+        self.at = self.start;
+        self.locals.fill(0);
+        self.pending = None;
+        self.ended = false;
     }
 
     /// Makes a step, if there is one now. Keys of locks are evaluated over no variables.
@@ -53,6 +68,7 @@ impl<'a> ThreadState<'a> {
         requires { none.now ≡ [] }
         ensures made { StepIsMade number (hand self.old variables.old holders.old) (hand self.new variables.new holders.new) result }
         ensures sections { (ended : ℕ → ℕ) → AreCounted sections.old ended → AreCounted sections.new (λ k. ended k + ends holders.old holders.new k) }
+        ensures code { code_of self.new ≡ code_of self.old }
     {
         if let Some(pending) = self.pending {
             self.pending = None;

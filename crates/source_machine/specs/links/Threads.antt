@@ -1,11 +1,12 @@
 -- What a thread in the code represents, and what a step of it is.
-use Rattle.std.specs.Prelude.{◌≡◌, ℕ, List, slice_set, Option, Some, None, ℤ}
+use Rattle.std.specs.Prelude.{◌≡◌, ℕ, List, length, slice_set, Option, Some, None, ℤ}
 use Rattle.std.specs.Option.{option_map}
 use Rattle.c_tree.specs.Flats as f
 use Rattle.c_tree.specs.Source as m
 use Rattle.source_machine.specs.Answers.{answer_of}
 use Rattle.source_machine.specs.Assignments.{pending_of}
 use Rattle.source_machine.specs.links.Codes.{Lefts, At, IsCode}
+use Rattle.source_machine.specs.declared.code.Node.{Node}
 use Rattle.source_machine.specs.declared.answers.Stepped.{Stepped}
 use Rattle.source_machine.specs.declared.thread.ThreadState.{ThreadState}
 
@@ -26,6 +27,31 @@ pub record IsStarted (thread : ThreadState) (source : f.Thread) : Type 0 where
   pub left : List f.Statement
   pub code : HasStatementsLeft thread left
   pub is : model_of thread left ≡ m.thread_start source
+
+-- ---- What no step of a thread changes
+
+pub record ThreadCode : Type 0 where
+  pub nodes : List Node
+  -- where they begin
+  pub start : ℕ
+  -- how many locals there are
+  pub locals : ℕ
+
+abbrev pub code_of : ThreadState → ThreadCode
+code_of thread = record { nodes = thread.nodes.items; start = thread.start; locals = length thread.locals.items }
+
+-- the code is that of the source's thread
+pub record IsCodeOfThread (code : ThreadCode) (source : f.Thread) : Type 0 where
+  pub lefts : Lefts
+  pub nodes : IsCode code.nodes lefts
+  pub start : At lefts code.start (m.opened_all source.body)
+  pub locals : code.locals ≡ length source.locals
+
+-- the thread is at its start, whichever source has its code
+abbrev pub StartsAnew : ThreadCode → ThreadState → Type 0
+StartsAnew code thread = (source : f.Thread) → IsCodeOfThread code source → IsStarted thread source
+
+-- ---- States by their parts
 
 abbrev pub state_in : (variables : List (List ℤ)) → (holders : List (Option ℕ)) → List m.Thread → m.State
 state_in variables holders threads = record { variables = variables; holders = holders; threads = threads }

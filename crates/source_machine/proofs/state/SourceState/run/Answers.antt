@@ -43,6 +43,7 @@ returns-in-Ended-clause-ran c = λ s ended st.
 pub loop-i-preserved : goal.loop-i-preserved
 loop-i-preserved c = record {
   threads = c.in-Did.ensures.threads ∙ c.loop-i.invariant.threads;
+  run = λ x r. c.in-Did.ensures.run x (c.loop-i.invariant.run x r);
   going = λ s ended st.
       let xs = c.args.schedule.now in
       let i = c.loop-i.i in

@@ -4,7 +4,7 @@ use Rattle.std.proofs.lemmas.List.{length-append}
 use Rattle.c_tree.specs.Programs.{variable_of}
 use Rattle.c_tree.specs.declared.program.Variable.{Variable}
 use Rattle.c_tree.specs.declared.flat.Thread.{Thread}
-use Rattle.source_machine.proofs.StartStates.{one_started, starts}
+use Rattle.source_machine.proofs.StartStates.{one_started, starts, starts_run}
 use Rattle.source_machine.proofs.state.SourceState.start.Goals as goal
 
 pub invariant_of-result : goal.invariant_of-result
@@ -21,8 +21,23 @@ invariant_of-result c = record {
   empty = c.none.ensures;
 }
 
-pub returns : goal.returns
-returns c =
+pub returns-clause-run : goal.returns-clause-run
+returns-clause-run c =
+    let flat = c.args.flat.now in
+    let mutexes : c.len.result ≡ length flat.mutexes.items = omega (arith, c.len.ensures, flat.mutexes.ok.0) in
+    let size : length c.loop-thread.threads.items ≡ length flat.threads.items =
+    omega (
+      arith,
+      c.loop-thread.invariant.count,
+      c.loop-thread-test.false,
+      c.loop-thread.auto.thread-index-end,
+      ap length c.deref-thread-items.ensures.value,
+    ) in
+    let none : Option ℕ = None in
+    starts_run _ flat (c.in_ok-holders.ensures ∙ ap (λ n. replicate n none) mutexes) size c.loop-thread.invariant.started
+
+pub returns-clause-stands : goal.returns-clause-stands
+returns-clause-stands c =
     let flat = c.args.flat.now in
     let variables = c.in_ok-variables.ensures ∙ ap (λ (xs : List Variable). map (λ (v : Variable). (variable_of v).initial) xs) c.deref.ensures.value in
     let mutexes : c.len.result ≡ length flat.mutexes.items = omega (arith, c.len.ensures, flat.mutexes.ok.0) in
@@ -54,5 +69,6 @@ loop-thread-preserved c =
     record {
       count = size;
       started = one_started c.loop-thread.threads.items c.push.new.self.items flat.threads.items c.loop-thread.thread-index c.in_ok-start.field-0
-          c.thread-item.result c.loop-thread.invariant.count e within is c.in_ok-start.ensures c.loop-thread.invariant.started;
+          c.thread-item.result c.loop-thread.invariant.count e within is (c.in_ok-start.ensures.started, c.in_ok-start.ensures.code)
+          c.loop-thread.invariant.started;
     }
