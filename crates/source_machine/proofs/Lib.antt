@@ -7,6 +7,7 @@ mod NodeSteps
 mod StateRuns
 mod StartStates
 mod RestartedStates
+mod FreeThreads
 mod StepsKeepOthers
 mod GuardedValues
 mod DisciplinedContinuations

@@ -1,17 +1,15 @@
 -- The state from which a life goes on after another.
-use Rattle.std.proofs.Common.{◌≡◌, refl, ℕ, zero, suc, ◌+◌, ◌<◌, List, [], ◌∷◌, length, map, sym, ◌∙◌, ap, subst, Some, None, Option, slice_set, arith, ⊎_elim, replicate}
+use Rattle.std.proofs.Common.{◌≡◌, refl, ℕ, zero, suc, ◌+◌, ◌<◌, List, [], ◌∷◌, length, sym, ◌∙◌, ap, subst, Some, None, slice_set, arith, ⊎_elim, replicate}
 use Rattle.std.specs.Prelude.{slice_get}
-use Rattle.std.proofs.lemmas.Bool.{cases_eq, cases_lt}
+use Rattle.std.proofs.lemmas.Bool.{cases_eq}
 use Rattle.std.proofs.lemmas.Option.{slice_get_within}
 use Rattle.std.proofs.lemmas.List.{length-map, length-set, length-replicate}
-use Rattle.c_tree.specs.Flats as f
 use Rattle.c_tree.specs.Source as m
-use Rattle.source_machine.specs.Lives.{restart}
 use Rattle.source_machine.specs.declared.thread.ThreadState.{ThreadState}
 use Rattle.source_machine.specs.declared.state.SourceState.{SourceState}
 use Rattle.source_machine.specs.Sections.{AreCounted}
 use Rattle.source_machine.specs.links.Threads.{IsCodeOfThread, StartsAnew, ThreadCode, code_of}
-use Rattle.source_machine.specs.links.States.{IsRunOf, KeepsRun, RepresentsState, Restarts}
+use Rattle.source_machine.specs.links.States.{KeepsRun, Restarts}
 use Rattle.source_machine.proofs.Emission.{set_same, set_other}
 use Rattle.source_machine.proofs.StartStates.{map_found}
 

@@ -4,6 +4,7 @@ ghost use Rattle.std.specs.Bool.{OnTrue, OnFalse};
 ghost use Rattle.ido_base.specs.Locks.{is_held_by, holds_none};
 ghost use Rattle.source_machine.specs.Sections.{AreCounted};
 ghost use Rattle.source_machine.specs.links.SectionEnds.{ends, is_one};
+ghost use Rattle.source_machine.specs.links.Holders.{hold_none, is_among};
 
 use ido_base::locks::is_held_by;
 use ido_base::memory::OutOfMemory;
@@ -23,6 +24,28 @@ pub fn holds_none(holders: &[Option<u32>], thread: u32) -> bool
 {
     for holder in holders {
         if is_held_by(thread, *holder) {
+            return false;
+        }
+    }
+    true
+}
+
+/// The holder is one of so many threads.
+fn is_among(threads: usize, holder: Option<u32>) -> bool
+    ensures { result ≡ is_among threads holder }
+{
+    match holder {
+        Some(thread) => (thread as usize) < threads,
+        None => false,
+    }
+}
+
+/// None of so many threads holds a mutex.
+pub fn hold_none(holders: &[Option<u32>], threads: usize) -> bool
+    ensures { result ≡ hold_none holders.now threads }
+{
+    for holder in holders {
+        if is_among(threads, *holder) {
             return false;
         }
     }

@@ -24,9 +24,10 @@ pub struct SourceState<'a> {
 }
 
 impl<'a> SourceState<'a> {
-    ghost use Rattle.std.specs.Prelude.{◌≡◌, ◌+◌, ◌^◌, ◌-◌, ◌<◌, ℕ, min, flat_map, IfOk};
+    ghost use Rattle.std.specs.Prelude.{◌≡◌, ◌↔◌, ◌+◌, ◌^◌, ◌-◌, ◌<◌, ℕ, min, flat_map, length, IfOk, IsTrue};
     ghost use Rattle.c_tree.specs.Flats.{flat_of};
     ghost use Rattle.c_tree.specs.Source.{State, start, is_between};
+    ghost use Rattle.source_machine.specs.Lives.{are_between};
     ghost use Rattle.source_machine.specs.Runs.{IsAfter, Ran};
     ghost use Rattle.source_machine.specs.links.States.{RepresentsState, threads_in, IsRunOf, KeepsRun, AreBetween, Restarts};
 
@@ -108,6 +109,14 @@ impl<'a> SourceState<'a> {
             }
         }
         Ok(())
+    }
+
+    /// Every thread stands between sections, so that another life may begin.
+    pub fn can_restart(&self) -> bool
+        ensures between { (s : State) (ended : ℕ → ℕ) → RepresentsState self.now s ended → result ≡ are_between s (length s.threads) }
+        ensures may { IsTrue result ↔ AreBetween self.now }
+    {
+        locks::hold_none(&self.holders, self.threads.len())
     }
 
     /// Begins another life on the variables that this one has left: threads have whole bodies and no locals again. Sections that have

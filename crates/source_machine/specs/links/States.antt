@@ -1,12 +1,12 @@
 -- What a state in the code represents.
-use Rattle.std.specs.Prelude.{◌≡◌, ℕ, ◌<◌, List, length, slice_get, Some, true}
-use Rattle.ido_base.specs.Locks.{holds_none}
+use Rattle.std.specs.Prelude.{◌≡◌, ℕ, List, length, slice_get, Some, true}
 use Rattle.c_tree.specs.Flats as f
 use Rattle.c_tree.specs.Source as m
 use Rattle.source_machine.specs.declared.thread.ThreadState.{ThreadState}
 use Rattle.source_machine.specs.declared.state.SourceState.{SourceState}
 use Rattle.source_machine.specs.Lives.{restart}
 use Rattle.source_machine.specs.Sections.{AreCounted}
+use Rattle.source_machine.specs.links.Holders.{hold_none}
 use Rattle.source_machine.specs.links.Threads.{HasStatementsLeft, IsCodeOfThread, code_of, model_of}
 
 abbrev pub threads_in : SourceState → ℕ
@@ -40,10 +40,11 @@ pub record IsRunOf (state : SourceState) (x : f.Flat) : Type 0 where
 abbrev pub KeepsRun : (before after : SourceState) → Type 0
 KeepsRun before after = (x : f.Flat) → IsRunOf before x → IsRunOf after x
 
--- each thread holds no mutex
+-- no thread holds a mutex
 abbrev pub AreBetween : SourceState → Type 0
-AreBetween state = (thread : ℕ) → thread < threads_in state → holds_none state.holders.items thread ≡ true
+AreBetween state = hold_none state.holders.items (threads_in state) ≡ true
 
 -- the state is that in which the next life begins, and as many sections have ended
 abbrev pub Restarts : (before after : SourceState) → Type 0
-Restarts before after = (x : f.Flat) (s : m.State) (ended : ℕ → ℕ) → IsRunOf before x → RepresentsState before s ended → RepresentsState after (restart x s) ended
+Restarts before after =
+    (x : f.Flat) (s : m.State) (ended : ℕ → ℕ) → IsRunOf before x → RepresentsState before s ended → RepresentsState after (restart x s) ended

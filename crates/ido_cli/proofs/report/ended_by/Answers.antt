@@ -13,7 +13,7 @@ ended-requires c =
       arith,
       c.requires.few,
       c.run-whole.ensures.threads,
-      c.in_ok-state.ensures.count,
+      c.in_ok-state.ensures.stands.count,
       length-map (flat_of c.args.flat.now).threads m.thread_start,
       length-map c.args.flat.now.threads.items thread_of,
     )
@@ -22,7 +22,7 @@ pub returns : goal.returns
 returns c =
     let start = m.start (flat_of c.args.flat.now) in
     let schedule = c.args.schedule.now in
-    let was = c.run-whole.ensures.ran start (λ thread. 0) c.in_ok-state.ensures in
+    let was = c.run-whole.ensures.ran start (λ thread. 0) c.in_ok-state.ensures.stands in
     IfOk-weaker c.ended.result _ _
     (λ sections is.
     is (m.after_from start schedule) (λ thread. 0 + m.ended_from start schedule thread) was.stands

@@ -11,7 +11,7 @@ use Rattle.image_checks.proofs.schedules.schedule_of.Goals as goal
 pub returns-in-Err-clause-fault : goal.returns-in-Err-clause-fault
 returns-in-Err-clause-fault c =
     let begin = start (flat_of c.args.flat.now) in
-    let ran = c.in-Err.ensures.ran begin (λ thread. 0) c.in_ok-state.ensures in
+    let ran = c.in-Err.ensures.ran begin (λ thread. 0) c.in_ok-state.ensures.stands in
     let steps = c.in_ok-prefix.prefix.steps.items in
     source_fault (flat_of c.args.flat.now) (map run_of c.args.runs.now) steps c.in_ok-prefix.prefix.fault c.in-Err.refused c.in_ok-prefix.ensures
     (subst (λ (ts : List ℕ). IsRefusedSchedule c.in-Err.refused begin ts) c.deref.ensures.value ran.refused)
@@ -21,7 +21,7 @@ returns-in-Some-clause-fault c =
     let begin = start (flat_of c.args.flat.now) in
     let runs = map run_of c.args.runs.now in
     let steps = c.in_ok-prefix.prefix.steps.items in
-    let ran = c.in_default.ensures.ran begin (λ thread. 0) c.in_ok-state.ensures in
+    let ran = c.in_default.ensures.ran begin (λ thread. 0) c.in_ok-state.ensures.stands in
     let made : runs_from begin steps ≡ true = sym (ran.ok ∙ ap (runs_from begin) c.deref.ensures.value) in
     form_fault (flat_of c.args.flat.now) runs steps c.in-Some.step (subst (IsPrefix runs steps) c.in-Some.is c.in_ok-prefix.ensures) made
 
@@ -31,7 +31,7 @@ schedule c =
     let begin = start (flat_of c.args.flat.now) in
     let runs = map run_of c.args.runs.now in
     let steps = c.in_ok-prefix.prefix.steps.items in
-    let ran = c.in_default.ensures.ran begin (λ thread. 0) c.in_ok-state.ensures in
+    let ran = c.in_default.ensures.ran begin (λ thread. 0) c.in_ok-state.ensures.stands in
     let made : runs_from begin steps ≡ true = sym (ran.ok ∙ ap (runs_from begin) c.deref.ensures.value) in
     record { formed = subst (IsPrefix runs steps) c.in-None.is c.in_ok-prefix.ensures; made = made }
 

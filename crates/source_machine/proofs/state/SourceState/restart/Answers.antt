@@ -1,6 +1,5 @@
 use Rattle.std.proofs.Common.{◌≡◌, ◌∙◌, ℕ, Option, None, length, ap, subst, arith}
 use Rattle.std.proofs.lemmas.List.{length-replicate}
-use Rattle.source_machine.specs.declared.thread.ThreadState.{ThreadState}
 use Rattle.source_machine.proofs.RestartedStates.{Restarted, all_restarted, run_kept}
 use Rattle.source_machine.proofs.state.SourceState.restart.Goals as goal
 

@@ -1,4 +1,4 @@
-use Rattle.std.proofs.Common.{◌≡◌, ℕ, Option, None, length, replicate}
+use Rattle.std.proofs.Common.{◌≡◌, None, length, replicate}
 use Rattle.source_machine.proofs.RestartedStates.{KeepCode, Restarted}
 use Rattle.source_machine.proofs.state.SourceState.restart.Given as goal
 
