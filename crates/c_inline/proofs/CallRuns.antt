@@ -220,28 +220,34 @@ left_by o = elim o [ Some x ↦ x.left | None ↦ [] ]
 abbrev pub local_by : (local : ℕ) → Option m.Thread → ℤ
 local_by local o = elim o [ Some x ↦ slice_index_or x.locals local (pos 0) | None ↦ pos 0 ]
 
+-- the thread has statements left before the rest, and they don't assign the local
+record HasRestAhead (s : m.State) (thread local : ℕ) (rest : List f.Statement) : Type 0 where
+  first : List f.Statement
+  left : left_of s thread ≡ first ++ rest
+  unused : LeftUses assigned first local → ⊥
+
 -- what has been done so far, from the one state to the other
 record Kept (s next : m.State) (thread local : ℕ) (rest : List f.Statement) : Type 0 where
-  more : List f.Statement
-  left : left_of next thread ≡ more ++ rest
-  unused : LeftUses assigned more local → ⊥
+  ahead : HasRestAhead next thread local rest
   kept : local_of next thread local ≡ local_of s thread local
 
-module _ (s next : m.State) (u t local : ℕ) (first rest : List f.Statement) (h : left_of s t ≡ first ++ rest) (n : left_of s t ≡ rest → ⊥)
-    (unused : LeftUses assigned first local → ⊥) where
+module _ (s next : m.State) (u t local : ℕ) (rest : List f.Statement) (a : HasRestAhead s t local rest) (n : left_of s t ≡ rest → ⊥) where
   kept_own : Goes s next u → t ≡ u → Kept s next t local rest
   kept_own g same =
       let before : slice_get s.threads t ≡ Some g.before = ap (slice_get s.threads) same ∙ g.found in
       let after : slice_get next.threads t ≡ Some g.after = ap (slice_get next.threads) same ∙ ap (λ ts. slice_get ts u) g.is
       ∙ get_set_same s.threads u g.after (slice_get_within s.threads u g.before g.found) in
       let left : g.before.left ≡ left_of s t = sym (ap left_by before) in
-      let k = g.keeps local first rest (left ∙ h) (λ z. n (sym left ∙ z)) unused in
-      record { more = k.0; left = ap left_by after ∙ k.1; unused = k.2; kept = ap (local_by local) after ∙ (k.3 ∙ sym (ap (local_by local) before)) }
+      let k = g.keeps local a.first rest (left ∙ a.left) (λ z. n (sym left ∙ z)) a.unused in
+      record {
+        ahead = record { first = k.0; left = ap left_by after ∙ k.1; unused = k.2 };
+        kept = ap (local_by local) after ∙ (k.3 ∙ sym (ap (local_by local) before));
+      }
 
   kept_other : Goes s next u → (t ≡ u → ⊥) → Kept s next t local rest
   kept_other g other =
       let same : slice_get next.threads t ≡ slice_get s.threads t = ap (λ ts. slice_get ts t) g.is ∙ get_set_other s.threads u t g.after other in
-      record { more = first; left = ap left_by same ∙ h; unused = unused; kept = ap (local_by local) same }
+      record { ahead = record { first = a.first; left = ap left_by same ∙ a.left; unused = a.unused }; kept = ap (local_by local) same }
 
   kept_step : source_step s u ≡ Some next → Kept s next t local rest
   kept_step made = let g = goes s next u made in ⊎_elim (kept_own g) (kept_other g) (cases_eq t u)
@@ -256,27 +262,26 @@ after_by ts s o = elim o [
 
 module _ (t local : ℕ) (rest : List f.Statement) where
   abbrev RunKeeps : m.State → List ℕ → Type 0
-  RunKeeps s ts = (first : List f.Statement) → left_of s t ≡ first ++ rest → IsBefore s ts t rest → (LeftUses assigned first local → ⊥) → IsKept s
-      (m.after_from s ts) t local rest
+  RunKeeps s ts = HasRestAhead s t local rest → IsBefore s ts t rest → IsKept s (m.after_from s ts) t local rest
 
   kept_by : (s : m.State) (u : ℕ) (ts : List ℕ) (o : Option m.State) → source_step s u ≡ o → ((next : m.State) → RunKeeps next ts) →
-      (first : List f.Statement) → left_of s t ≡ first ++ rest → IsBefore s (u ∷ ts) t rest → (LeftUses assigned first local → ⊥) → IsKept s
-      (after_by ts s o) t local rest
-  kept_by s u ts None made more first h before unused = record { first = first; left = h; kept = refl }
-  kept_by s u ts (Some next) made more first h before unused =
-      let k = kept_step s next u t local first rest h (before [] ts u refl) unused made in
-      let r = more next k.more k.left
+      HasRestAhead s t local rest → IsBefore s (u ∷ ts) t rest → IsKept s (after_by ts s o) t local rest
+  kept_by s u ts None made more a before = record { first = a.first; left = a.left; kept = refl }
+  kept_by s u ts (Some next) made more a before =
+      let k = kept_step s next u t local rest a (before [] ts u refl) made in
+      let r = more next k.ahead
       (λ earlier later v is. subst (λ (o : Option m.State). left_of (after_by earlier s o) t ≡ rest → ⊥) made
-      (before (u ∷ earlier) later v (ap (λ us. u ∷ us) is))) k.unused in
+      (before (u ∷ earlier) later v (ap (λ us. u ∷ us) is))) in
       record { first = r.first; left = r.left; kept = r.kept ∙ k.kept }
 
   run_keeps : (s : m.State) (ts : List ℕ) → RunKeeps s ts
-  run_keeps s [] first h before unused = record { first = first; left = h; kept = refl }
-  run_keeps s (u ∷ ts) first h before unused = kept_by s u ts (source_step s u) refl (λ next. run_keeps next ts) first h before unused
+  run_keeps s [] a before = record { first = a.first; left = a.left; kept = refl }
+  run_keeps s (u ∷ ts) a before = kept_by s u ts (source_step s u) refl (λ next. run_keeps next ts) a before
 
 pub unassigned_kept : (s : m.State) (schedule : List ℕ) (thread local : ℕ) (first rest : List f.Statement) → left_of s thread ≡ first ++ rest →
     IsBefore s schedule thread rest → ¬ (LeftUses assigned first local) → IsKept s (m.after_from s schedule) thread local rest
-unassigned_kept s schedule thread local first rest h before unused = run_keeps thread local rest s schedule first h before unused
+unassigned_kept s schedule thread local first rest h before unused =
+    run_keeps thread local rest s schedule (record { first = first; left = h; unused = unused }) before
 
 none_assigned : (xs : List e.Placed) (l : ℕ) → ListUses assigned xs l → ⊥
 none_assigned [] l h = h

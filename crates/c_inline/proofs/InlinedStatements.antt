@@ -23,6 +23,7 @@ use Rattle.c_tree.specs.declared.program.Statement.{Statement}
 use Rattle.c_tree.specs.declared.program.Arm as from
 use Rattle.c_tree.proofs.Public.{flat_rows_of_while as of_while, flat_rows_of_do as of_do, flat_rows_of_if as of_if}
 use Rattle.c_inline.specs.declared.build.Begun.{Begun}
+use Rattle.c_inline.specs.CallLaws.{Site, call_made}
 use Rattle.c_inline.specs.links.Weights as v
 use Rattle.c_inline.specs.links.KnownWeights.{Low, IsUnknown}
 use Rattle.c_inline.specs.links.InlinedBodies.{AreSized, IsTaken, whole, after, following_of, body_of, rest_of, begun_made, begun_if_any}
@@ -314,15 +315,14 @@ module _ (functions : List Function) where
       let a = ap (λ (xs : List Statement). statements_work (map p.function_of functions) (p.statements_of xs)) taken.0 in
       omega (arith, a)
 
-  module _ (bs bs' : List Begun) (b b' : Begun) (inner : Option Begun) (x : Statement) (ks ks' : List Kind) (old new : f.Statements)
-      (taken : IsTaken functions b (Some x) b') (more : List Begun) (kept : more ≡ bs ++ b' ∷ []) (rest : bs' ≡ and_any more inner) where
-    left : bs' ≡ and_any (bs ++ b' ∷ []) inner
-    left = rest ∙ ap (λ (l : List Begun). and_any l inner) kept
-
-    pub step_made : after old (i.statement (map p.function_of functions) (whole (map p.function_of functions)) b'.by ks (p.statement_of x))
+  -- the next statement of a body is taken, and what is left of the body waits, before a body that the statement begins
+  module _ (bs bs' : List Begun) (b b' : Begun) (inner : Option Begun) (x : Statement) (taken : IsTaken functions b (Some x) b')
+      (waits : bs' ≡ and_any (bs ++ b' ∷ []) inner) where
+    pub step_made : (ks ks' : List Kind) (old new : f.Statements) →
+        after old (i.statement (map p.function_of functions) (whole (map p.function_of functions)) b'.by ks (p.statement_of x))
         ≡ after new (begun_if_any functions inner ks') →
         after old (all_made functions (bs ++ b ∷ []) ks) ≡ after new (all_made functions bs' ks')
-    step_made h =
+    step_made ks ks' old new h =
         let B = whole (map p.function_of functions) in
         let s : ℕ → i.Made f.Statements = λ n. i.statement (map p.function_of functions) B n ks (p.statement_of x) in
         let k : after old (s b.by) ≡ after new (begun_if_any functions inner ks') = ap (λ (n : ℕ). after old (s n)) (sym taken.1) ∙ h in
@@ -332,13 +332,13 @@ module _ (functions : List Function) where
         ∙ ap (after new) (ap (λ (m : i.Made f.Statements). let r : i.Made f.Statements =
         record { made = i.statements_and (begun_if_any functions inner ks').made m.made; kinds = m.kinds } in r)
         (sym (all_made_more functions bs b' (begun_if_any functions inner ks').kinds)) ∙ sym (any_made (bs ++ b' ∷ []) inner ks')
-        ∙ ap (λ (l : List Begun). all_made functions l ks') (sym left))
+        ∙ ap (λ (l : List Begun). all_made functions l ks') (sym waits))
 
     pub step_work : work_if_any functions inner
         < v.statement_weight v.size 2 (map p.function_of functions) (function_work (map p.function_of functions)) (p.statement_of x) →
         all_work functions bs' < all_work functions (bs ++ b ∷ [])
     step_work h =
-        let a = ap (all_work functions) left in
+        let a = ap (all_work functions) waits in
         omega (arith, a, h, any_work (bs ++ b' ∷ []) inner, all_work_more functions bs b', all_work_more functions bs b, taken_work b b' x taken)
 
   module _ (bs : List Begun) (b : Begun) (ks : List Kind) (old new : f.Statements) (taken : rest_of functions b ≡ []) where
@@ -358,6 +358,11 @@ module _ (functions : List Function) where
     done_work = omega (arith, all_work_more functions bs b)
 
 -- ---- Calls
+
+-- as the code has it
+abbrev pub site_of : Place → (function : ℕ) → List placed.Placed → Option targets.Lvalue → Site
+site_of place function arguments target =
+    record { place = place; name = place; function = function; arguments = map e.placed_of arguments; result = option_map e.lvalue_of target }
 
 made_none : (m : f.Statements) → made_statements v.size m ≡ 0 → m ≡ f.no_statement
 made_none f.no_statement h = refl
@@ -384,9 +389,11 @@ module _ (fs : List p.Function) (sizes : List (Option ℕ)) (sized : AreSized fs
   pub low_all : (g : ℕ) → g < length fs → Low fs (length fs) g
   low_all g l = let k = sized.known g l in low_more fs _ (length fs) g (found_most v.size fs sizes sized.right) (sized.right.low g k.0 k.1)
 
-  module _ (n : ℕ) (ks : List Kind) (place name : Place) (g : ℕ) (arguments : List e.Placed) (target : Option e.Lvalue) where
+  module _ (n : ℕ) (ks : List Kind) (site : Site) where
+    open site use {place, name, function as g, arguments, result as target}
+
     weighs : min (v.called_weight v.size 0 fs (v.known_weight sizes) g arguments target) (2 ^ 64 - 1)
-        ≡ min (made_statements v.size (i.statement fs (whole fs) n ks (p.Call place name g arguments target)).made) (2 ^ 64 - 1)
+        ≡ min (made_statements v.size (call_made fs (length fs) n ks site).made) (2 ^ 64 - 1)
     weighs =
         near_called v.size 0 fs (v.known_weight sizes) (v.function_weight v.size 0 fs (length fs)) (2 ^ 64 - 1) g arguments target
         (near_known v.size fs sizes sized.right g (all_known g))
@@ -396,7 +403,7 @@ module _ (fs : List p.Function) (sizes : List (Option ℕ)) (sized : AreSized fs
 
     -- nothing is left of the call
     pub call_none : min (v.called_weight v.size 0 fs (v.known_weight sizes) g arguments target) (2 ^ 64 - 1) ≡ 0 →
-        i.statement fs (whole fs) n ks (p.Call place name g arguments target) ≡ record { made = f.no_statement; kinds = ks }
+        call_made fs (length fs) n ks site ≡ record { made = f.no_statement; kinds = ks }
     call_none h = at (slice_get fs g) (made_none _ (omega (arith, weighs, h)))
       where
         at : (o : Option p.Function) →
@@ -412,7 +419,7 @@ module _ (fs : List p.Function) (sizes : List (Option ℕ)) (sized : AreSized fs
         at (Some x) e = ap (λ (m : f.Statements). let r : i.Made f.Statements = record { made = m; kinds = i.kinds_after m ks (whole fs g ks).kinds } in r) e
         at None e = refl
 
-    pub call_past : length fs ≤ g → i.statement fs (whole fs) n ks (p.Call place name g arguments target) ≡ record { made = f.no_statement; kinds = ks }
+    pub call_past : length fs ≤ g → call_made fs (length fs) n ks site ≡ record { made = f.no_statement; kinds = ks }
     call_past le =
         ap (λ (o : Option p.Function). elim o as (λ _. i.Made f.Statements) [
           | Some x ↦ i.called fs (whole fs) place n ks x (whole fs g ks) arguments target
@@ -422,7 +429,7 @@ module _ (fs : List p.Function) (sizes : List (Option ℕ)) (sized : AreSized fs
     -- what is made of a call: its parameters, its body and its result
     pub call_some : (x : p.Function) → slice_get fs g ≡ Some x →
         (min (v.called_weight v.size 0 fs (v.known_weight sizes) g arguments target) (2 ^ 64 - 1) ≡ 0 → ⊥) →
-        i.statement fs (whole fs) n ks (p.Call place name g arguments target)
+        call_made fs (length fs) n ks site
         ≡ (let m = i.statements fs (whole fs) (length ks) (ks ++ x.locals) x.body in
         record {
           made =
@@ -436,8 +443,7 @@ module _ (fs : List p.Function) (sizes : List (Option ℕ)) (sized : AreSized fs
           | Some y ↦ i.called fs (whole fs) place n ks y (whole fs g ks) arguments target
           | None ↦ record { made = f.no_statement; kinds = ks }
         ] in
-        let c : i.statement fs (whole fs) n ks (p.Call place name g arguments target)
-        ≡ i.called fs (whole fs) place n ks x (whole fs g ks) arguments target = ap call k in
+        let c : call_made fs (length fs) n ks site ≡ i.called fs (whole fs) place n ks x (whole fs g ks) arguments target = ap call k in
         let some : made_statements v.size (i.called fs (whole fs) place n ks x (whole fs g ks) arguments target).made ≡ 0 → ⊥ =
         λ z. h (let y = ap (λ (m : i.Made f.Statements). made_statements v.size m.made) c in omega (arith, weighs, y, z)) in
         let kept = kinds_kept (i.called fs (whole fs) place n ks x (whole fs g ks) arguments target).made ks (whole fs g ks).kinds some in
@@ -455,8 +461,9 @@ module _ (fs : List p.Function) (sizes : List (Option ℕ)) (sized : AreSized fs
 
 -- the body of a call is begun, and what stands before it is made
 module _ (functions : List Function) (sizes : List (Option ℕ)) (sized : AreSized (map p.function_of functions) sizes)
-    (n g : ℕ) (ks : List Kind) (place : Place) (arguments : List e.Placed) (target : Option e.Lvalue) (x : Function) (following : Option flat.Statement)
-    (exists : slice_get functions g ≡ Some x) where
+    (n : ℕ) (ks : List Kind) (site : Site) (x : Function) (following : Option flat.Statement) (exists : slice_get functions site.function ≡ Some x) where
+  open site use {place, function as g, arguments, result as target}
+
   mapped : slice_get (map p.function_of functions) g ≡ Some (p.function_of x)
   mapped = slice_get-map p.function_of functions g ∙ ap (option_map p.function_of) exists
 
@@ -464,7 +471,7 @@ module _ (functions : List Function) (sizes : List (Option ℕ)) (sized : AreSiz
       (min (v.called_weight v.size 0 (map p.function_of functions) (v.known_weight sizes) g arguments target) (2 ^ 64 - 1) ≡ 0 → ⊥) →
       new ≡ i.statements_and old (i.passed place (length ks) x.locals.items (map (i.shifted_placed n) arguments)) →
       following_of following ≡ i.assigned place (length ks) (option_map p.returned_of x.result) (option_map (i.shifted_target n) target) →
-      after old (i.statement (map p.function_of functions) (whole (map p.function_of functions)) n ks (p.Call place place g arguments target))
+      after old (call_made (map p.function_of functions) (length (map p.function_of functions)) n ks site)
       ≡ after new (begun_made functions (record { function = g; done = 0; by = length ks; following = following }) (ks ++ x.locals.items))
   call_begun_there old new some h k =
       let fs : List p.Function = map p.function_of functions in
@@ -472,7 +479,7 @@ module _ (functions : List Function) (sizes : List (Option ℕ)) (sized : AreSiz
       let m = made x.body.items in
       let passing = i.passed place (length ks) x.locals.items (map (i.shifted_placed n) arguments) in
       let result = i.assigned place (length ks) (option_map p.returned_of x.result) (option_map (i.shifted_target n) target) in
-      ap (after old) (call_some fs sizes sized n ks place place g arguments target (p.function_of x) mapped some)
+      ap (after old) (call_some fs sizes sized n ks site (p.function_of x) mapped some)
       ∙ ap (λ (y : f.Statements). let r : i.Made f.Statements = record { made = y; kinds = m.kinds } in r)
       (sym (and_assoc old passing (i.statements_and m.made result)))
       ∙ ap₂ (λ (y z : f.Statements). let r : i.Made f.Statements = record { made = i.statements_and y (i.statements_and m.made z); kinds = m.kinds } in
@@ -485,7 +492,7 @@ module _ (functions : List Function) (sizes : List (Option ℕ)) (sized : AreSiz
       (min (v.called_weight v.size 0 (map p.function_of functions) (v.known_weight sizes) g arguments target) (2 ^ 64 - 1) ≡ 0 → ⊥) →
       new ≡ i.statements_and old (i.passed place first x.locals.items (map (i.shifted_placed n) arguments)) →
       following_of following ≡ i.assigned place first (option_map p.returned_of x.result) (option_map (i.shifted_target n) target) →
-      after old (i.statement (map p.function_of functions) (whole (map p.function_of functions)) n ks (p.Call place place g arguments target))
+      after old (call_made (map p.function_of functions) (length (map p.function_of functions)) n ks site)
       ≡ after new (begun_made functions (record { function = g; done = 0; by = first; following = following }) kinds)
   call_begun first kinds old new first_is kinds_is some h k =
       call_begun_there old new some

@@ -201,9 +201,9 @@ make_step-returns-in_ok-inner-in-Some-clause-made t c =
     on_ok_weaker c.push_begun.result
     (λ (rest : c.push_begun.new.waiting.items ≡ and_any c.push.new.self.items inner).
     step_made c.args.bodies.functions.now c.args.waiting.now.items c.push_begun.new.waiting.items c.args.begun c.next.new.begun inner c.in-Some.statement.now
+    c.in-Some.ensures (rest ∙ ap (λ (bs : List Begun). and_any bs inner) c.in_ok-push-in-Some.ensures.items)
     c.args.kinds.now.items c.make_or_begin.new.kinds.items
-    (f.statements_of c.args.made.now.items) (f.statements_of c.make_or_begin.new.made.items) c.in-Some.ensures c.push.new.self.items
-    c.in_ok-push-in-Some.ensures.items rest c.in_ok-inner-in-Some.ensures.made)
+    (f.statements_of c.args.made.now.items) (f.statements_of c.make_or_begin.new.made.items) c.in_ok-inner-in-Some.ensures.made)
     c.push_begun.ensures
 
 pub make_step-returns-in_ok-inner-in-Some-clause-work : goal.make_step-returns-in_ok-inner-in-Some-clause-work
@@ -212,9 +212,8 @@ make_step-returns-in_ok-inner-in-Some-clause-work t c =
     on_ok_weaker c.push_begun.result
     (λ (rest : c.push_begun.new.waiting.items ≡ and_any c.push.new.self.items inner).
     step_work c.args.bodies.functions.now c.args.waiting.now.items c.push_begun.new.waiting.items c.args.begun c.next.new.begun inner c.in-Some.statement.now
-    c.args.kinds.now.items c.make_or_begin.new.kinds.items
-    (f.statements_of c.args.made.now.items) (f.statements_of c.make_or_begin.new.made.items) c.in-Some.ensures c.push.new.self.items
-    c.in_ok-push-in-Some.ensures.items rest c.in_ok-inner-in-Some.ensures.work)
+    c.in-Some.ensures (rest ∙ ap (λ (bs : List Begun). and_any bs inner) c.in_ok-push-in-Some.ensures.items)
+    c.in_ok-inner-in-Some.ensures.work)
     c.push_begun.ensures
 
 pub make_step-returns-in-None-clause-made : goal.make_step-returns-in-None-clause-made

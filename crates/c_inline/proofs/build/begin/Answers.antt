@@ -1,29 +1,28 @@
 use Rattle.std.proofs.Common.{◌≡◌, ◌∙◌, ◌++◌, List, [], length, map, Some, refl, ap, arith}
 use Rattle.std.specs.Prelude.{slice_get}
-use Rattle.std.specs.Option.{option_map}
 use Rattle.std.proofs.lemmas.List.{length-map}
 use Rattle.std.proofs.lemmas.Option.{slice_get_read}
 use Rattle.ido_ints.specs.declared.kinds.Kind.{Kind}
-use Rattle.c_tree.specs.Exprs.{placed_of, lvalue_of}
+use Rattle.c_tree.specs.Exprs.{placed_of}
 use Rattle.c_tree.specs.Programs.{function_of}
 use Rattle.c_tree.specs.Flats as f
 use Rattle.c_tree.specs.Inlining as i
 use Rattle.c_inline.specs.links.InlinedBodies.{after}
-use Rattle.c_inline.proofs.InlinedStatements.{call_none, call_past, call_begun, call_work}
+use Rattle.c_inline.proofs.InlinedStatements.{site_of, call_none, call_past, call_begun, call_work}
 use Rattle.c_inline.proofs.build.begin.Goals as goal
 
 pub returns-then-call_weight-eq0-clause-made : goal.returns-then-call_weight-eq0-clause-made
 returns-then-call_weight-eq0-clause-made c =
     ap (after (f.statements_of c.args.made.now.items))
-    (call_none (map function_of c.args.bodies.functions.now) c.args.bodies.sizes.now c.requires c.args.by c.args.kinds.now.items c.args.place c.args.place
-    c.args.function (map placed_of c.args.arguments.now) (option_map lvalue_of c.args.target.now)
+    (call_none (map function_of c.args.bodies.functions.now) c.args.bodies.sizes.now c.requires c.args.by c.args.kinds.now.items
+    (site_of c.args.place c.args.function c.args.arguments.now c.args.target.now)
     (omega (arith, c.call_weight.ensures, c.if-call_weight-eq0.true)))
 
 pub returns-in_default-clause-made : goal.returns-in_default-clause-made
 returns-in_default-clause-made c =
     ap (after (f.statements_of c.args.made.now.items))
-    (call_past (map function_of c.args.bodies.functions.now) c.args.bodies.sizes.now c.requires c.args.by c.args.kinds.now.items c.args.place c.args.place
-    c.args.function (map placed_of c.args.arguments.now) (option_map lvalue_of c.args.target.now)
+    (call_past (map function_of c.args.bodies.functions.now) c.args.bodies.sizes.now c.requires c.args.by c.args.kinds.now.items
+    (site_of c.args.place c.args.function c.args.arguments.now c.args.target.now)
     (omega (arith, c.in_default.ensures.lookup.3, length-map c.args.bodies.functions.now function_of)))
 
 pub returns-clause-made : goal.returns-clause-made
@@ -33,8 +32,8 @@ returns-clause-made c =
     let arguments = map (i.shifted_placed c.args.by) (map placed_of c.args.arguments.now) in
     let h = c.in-Some.ensures.lookup in
     let exists : slice_get functions c.args.function ≡ Some called = slice_get_read functions (length functions) c.args.function called refl h.3.0 h.1 in
-    call_begun functions c.args.bodies.sizes.now c.requires c.args.by c.args.function c.args.kinds.now.items c.args.place (map placed_of c.args.arguments.now)
-    (option_map lvalue_of c.args.target.now) called c.in_ok-following.following exists
+    call_begun functions c.args.bodies.sizes.now c.requires c.args.by c.args.kinds.now.items
+    (site_of c.args.place c.args.function c.args.arguments.now c.args.target.now) called c.in_ok-following.following exists
     c.in_ok-first.first c.extend_from_slice.new.self.items (f.statements_of c.args.made.now.items) (f.statements_of c.pass.new.made.items)
     (c.in_ok-first.ensures ∙ ap length c.deref.ensures.value)
     (c.in_ok-extend_from_slice.ensures.items ∙ ap (λ (ks : List Kind). c.args.kinds.now.items ++ ks) c.deref-3.ensures.value)
@@ -49,5 +48,5 @@ returns-clause-work c =
     let called = c.in-Some.called.now in
     let h = c.in-Some.ensures.lookup in
     let exists : slice_get functions c.args.function ≡ Some called = slice_get_read functions (length functions) c.args.function called refl h.3.0 h.1 in
-    call_work functions c.args.bodies.sizes.now c.requires 0 c.args.function [] c.args.place (map placed_of c.args.arguments.now)
-    (option_map lvalue_of c.args.target.now) called c.in_ok-following.following exists c.in_ok-first.first
+    call_work functions c.args.bodies.sizes.now c.requires 0 [] (site_of c.args.place c.args.function c.args.arguments.now c.args.target.now) called
+    c.in_ok-following.following exists c.in_ok-first.first
