@@ -85,10 +85,9 @@ nothing_more before lefts next rest size at = record {
   entered = at;
 }
 
-pub node_more : (before after : List Node) (lefts : Lefts) (n : Node) (position : ℕ) (left : List f.Statement) → length lefts ≡ length before →
-    IsPushed before after n position →
-    ((all : Lefts) → LeftsGrow lefts all → DoesNode all n left) → Extends before after lefts position left
-node_more before after lefts n position left size p does =
+pub node_more : {before after : List Node} (lefts : Lefts) {n : Node} {position : ℕ} (left : List f.Statement) → length lefts ≡ length before →
+    IsPushed before after n position → ((all : Lefts) → LeftsGrow lefts all → DoesNode all n left) → Extends before after lefts position left
+node_more {before = before} {after = after} lefts {n = n} {position = position} left size p does =
     let all : Lefts = lefts ++ left ∷ [] in
     let grown : LeftsGrow lefts all = λ k l h. get_prefix lefts (left ∷ []) k l h in
     record {
@@ -106,9 +105,9 @@ node_more before after lefts n position left size p does =
       entered = subst (λ (k : ℕ). At all k left) (size ∙ sym p.at) (get_end lefts left);
     }
 
-pub both : (before mid after : List Node) (lefts : Lefts) (one two : ℕ) (l m : List f.Statement) (x : Extends before mid lefts one l) →
+pub both : {before mid after : List Node} {lefts : Lefts} {one two : ℕ} {l m : List f.Statement} (x : Extends before mid lefts one l) →
     Extends mid after x.all two m → Extends before after lefts two m
-both before mid after lefts one two l m x y = record {
+both {mid = mid} x y = record {
   all = y.all;
   grown = λ k there h. y.grown k there (x.grown k there h);
   count = y.count;
@@ -125,64 +124,28 @@ both before mid after lefts one two l m x y = record {
   entered = y.entered;
 }
 
--- a node in place of one that was put there for the time being
-pub patched : (before mid after final : List Node) (lefts : Lefts) (held n : Node) (position entry inner : ℕ) (l there left : List f.Statement) →
-    length lefts ≡ length before → IsPushed before mid held position →
-    (y : Extends mid after (lefts ++ l ∷ []) inner there) → final ≡ slice_set after position n → DoesNode y.all n l → At y.all entry left →
-    Extends before final lefts entry left
-patched before mid after final lefts held n position entry inner l there left size p y is does at =
-    let long : length mid ≡ length before + 1 = ap length p.nodes ∙ length-append before (held ∷ []) in
-    let sized : length final ≡ length after = ap length is ∙ length-set after position n in
-    let here : At y.all position l = y.grown position l (subst (λ (k : ℕ). At (lefts ++ l ∷ []) k l) (size ∙ sym p.at) (get_end lefts l)) in
-    record {
-      all = y.all;
-      grown = λ k m h. y.grown k m (get_prefix lefts (l ∷ []) k m h);
-      count = y.count ∙ sym sized;
-      longer = omega (arith, y.longer, long, sized);
-      kept = λ k h.
-          ap (λ ns. slice_get ns k) is ∙ (set_other after position k n (omega (arith, p.at))
-          ∙ (y.kept k (omega (arith, long)) ∙ (ap (λ ns. slice_get ns k) p.nodes ∙ get_same before (held ∷ []) k h)));
-      each = λ k m o h g a. ⊎_elim
-          (λ same.
-          let found = set_same after position n (omega (arith, y.longer, long, p.at)) in
-          let at_position : slice_get (slice_set after position n) position ≡ Some m = ap (slice_get (slice_set after position n)) (sym same)
-          ∙ (sym (ap (λ ns. slice_get ns k) is) ∙ g) in
-          let is_node : n ≡ m = cc in
-          let is_left : l ≡ o = once y.all position l o here (ap (slice_get y.all) (sym same) ∙ a) in
-          let P : Node → Type 0 = λ x. DoesNode y.all x o in
-          let Q : List f.Statement → Type 0 = λ x. DoesNode y.all n x in
-          subst P is_node (subst Q is_left does))
-          (λ other.
-          y.each k m o (omega (arith, long, p.at, other)) (sym (ap (λ ns. slice_get ns k) is ∙ set_other after position k n other) ∙ g) a)
-          (cases_eq k position);
-      entered = at;
-    }
-
 -- ---- What is emitted
 
 pub emits_none : (before : List Node) (next : ℕ) → Emits before before [] next next
 emits_none before next = record { each = λ lefts rest size at. nothing_more before lefts next rest size at }
 
-pub emits_node : (before after : List Node) (n : Node) (position : ℕ) (does : List f.Statement) (next : ℕ) → IsPushed before after n position →
+pub emits_node : {before after : List Node} {n : Node} {position : ℕ} (does : List f.Statement) (next : ℕ) → IsPushed before after n position →
     ((all : Lefts) (rest : List f.Statement) → At all next rest → DoesNode all n (does ++ rest)) → Emits before after does next position
-emits_node before after n position does next p d = record {
-  each = λ lefts rest size at. node_more before after lefts n position (does ++ rest) size p
-      (λ all g. d all rest (g next rest at));
-}
+emits_node does next p d = record { each = λ lefts rest size at. node_more lefts (does ++ rest) size p (λ all g. d all rest (g next rest at)) }
 
-pub emits_then : (before mid after : List Node) (later first : List f.Statement) (next one two : ℕ) → Emits before mid later next one →
+pub emits_then : {before mid after : List Node} {later first : List f.Statement} {next one two : ℕ} → Emits before mid later next one →
     Emits mid after first one two → Emits before after (first ++ later) next two
-emits_then before mid after later first next one two e k = record {
+emits_then {before = before} {after = after} {later = later} {first = first} {two = two} e k = record {
   each = λ lefts rest size at.
       let x = e.each lefts rest size at in
       let y = k.each x.all (later ++ rest) x.count x.entered in
       let P : List f.Statement → Type 0 = λ l. Extends before after lefts two l in
-      subst P (sym (append_assoc first later rest)) (both before mid after lefts one two (later ++ rest) (first ++ (later ++ rest)) x y);
+      subst P (sym (append_assoc first later rest)) (both x y);
 }
 
-pub emits_longer : (before after : List Node) (does : List f.Statement) (next entry : ℕ) → Emits before after does next entry → next < length before →
+pub emits_longer : {before after : List Node} {does : List f.Statement} {next entry : ℕ} → Emits before after does next entry → next < length before →
     length before ≤ length after
-emits_longer before after does next entry e h =
+emits_longer {before = before} {next = next} e h =
     let empty : List f.Statement = [] in
     let lefts : Lefts = replicate (length before) empty in
     let size = length-replicate (length before) empty in
@@ -190,20 +153,18 @@ emits_longer before after does next entry e h =
 
 -- ---- Of an `if`
 
-pub emits_never : (before after : List Node) (place : Place) (otherwise : f.Statements) (next position : ℕ) → IsPushed before after node.Never position →
-    Emits before after (f.If place f.no_arm otherwise ∷ []) next position
-emits_never before after place otherwise next position p = emits_node before after node.Never position (f.If place f.no_arm otherwise ∷ []) next p
+pub emits_never : {before after : List Node} (place : Place) (otherwise : f.Statements) (next : ℕ) {position : ℕ} →
+    IsPushed before after node.Never position → Emits before after (f.If place f.no_arm otherwise ∷ []) next position
+emits_never place otherwise next p = emits_node (f.If place f.no_arm otherwise ∷ []) next p
     (λ all rest at. record { place = place; otherwise = otherwise; rest = rest; is = refl })
 
-pub emits_test : (before mid after : List Node) (condition : Bor code.Placed) (body : f.Statements) (holds fails next entry : ℕ) →
+pub emits_test : {before mid after : List Node} (condition : Bor code.Placed) (body : f.Statements) {holds fails next entry : ℕ} →
     Emits before mid (opened_all body) next holds → IsPushed mid after (node.Test condition holds fails) entry →
     EmitsTest before after (record { condition = placed_of condition.now; body = body }) fails next entry
-emits_test before mid after condition body holds fails next entry e p = record {
+emits_test condition body {holds = holds} {fails = fails} e p = record {
   each = λ lefts place arms otherwise rest size at failing.
       let x = e.each lefts rest size at in
-      let left : List f.Statement = f.If place (f.arm_and (placed_of condition.now) body arms) otherwise ∷ rest in
-      both before mid after lefts holds entry (opened_all body ++ rest) left x
-      (node_more mid after x.all (node.Test condition holds fails) entry left x.count p
+      both x (node_more x.all (f.If place (f.arm_and (placed_of condition.now) body arms) otherwise ∷ rest) x.count p
       (λ all g. chooses place body arms otherwise rest (g holds _ x.entered) (g fails _ (x.grown fails _ failing)) refl));
 }
 
@@ -213,44 +174,50 @@ no_arms before last next = record {
       (opened_all otherwise ++ rest) size there;
 }
 
-pub emits_arm : (before mid after : List Node) (condition : Placed) (body : f.Statements) (arms : f.Arms) (last fails next entry : ℕ) →
+pub emits_arm : {before mid after : List Node} (condition : Placed) (body : f.Statements) {arms : f.Arms} {last fails next entry : ℕ} →
     EmitsArms before mid arms last next fails → EmitsTest mid after (record { condition = condition; body = body }) fails next entry →
     EmitsArms before after (f.arm_and condition body arms) last next entry
-emits_arm before mid after condition body arms last fails next entry e k = record {
+emits_arm condition body {arms = arms} {next = next} e k = record {
   each = λ lefts place otherwise rest size at there.
       let x = e.each lefts place otherwise rest size at there in
-      both before mid after lefts fails entry (else_part place arms otherwise ++ rest) (f.If place (f.arm_and condition body arms) otherwise ∷ rest) x
-      (k.each x.all place arms otherwise rest x.count (x.grown next rest at) x.entered);
+      both x (k.each x.all place arms otherwise rest x.count (x.grown next rest at) x.entered);
 }
 
-emits_after : (before mid after : List Node) (place : Place) (arms : f.Arms) (otherwise : f.Statements) (last next entry : ℕ) →
+emits_after : {before mid after : List Node} (place : Place) (arms : f.Arms) (otherwise : f.Statements) {last next entry : ℕ} →
     Emits before mid (opened_all otherwise) next last → EmitsArms mid after arms last next entry →
     Emits before after (else_part place arms otherwise) next entry
-emits_after before mid after place arms otherwise last next entry e k = record {
+emits_after place arms otherwise {next = next} e k = record {
   each = λ lefts rest size at.
       let x = e.each lefts rest size at in
-      both before mid after lefts last entry (opened_all otherwise ++ rest) (else_part place arms otherwise ++ rest) x
-      (k.each x.all place otherwise rest x.count (x.grown next rest at) x.entered);
+      both x (k.each x.all place otherwise rest x.count (x.grown next rest at) x.entered);
 }
 
-pub emits_if : (before mid after : List Node) (place : Place) (arms : List arm.Arm) (otherwise : f.Statements) (last next entry : ℕ) → 0 < length arms →
+pub emits_if : {before mid after : List Node} (place : Place) (arms : List arm.Arm) (otherwise : f.Statements) {last next entry : ℕ} → 0 < length arms →
     Emits before mid (opened_all otherwise) next last → EmitsArms mid after (f.arms_list_of arms) last next entry →
     Emits before after (f.If place (f.arms_list_of arms) otherwise ∷ []) next entry
-emits_if before mid after place [] otherwise last next entry h e k = absurd (omega arith)
-emits_if before mid after place (x ∷ xs) otherwise last next entry h e k =
-    emits_after before mid after place (f.arms_list_of (x ∷ xs)) otherwise last next entry e k
+emits_if place [] otherwise h e k = absurd (omega arith)
+emits_if place (x ∷ xs) otherwise h e k = emits_after place (f.arms_list_of (x ∷ xs)) otherwise e k
 
-pub emits_if_none : (before after : List Node) (place : Place) (arms : List arm.Arm) (otherwise : f.Statements) (next position : ℕ) → length arms ≡ 0 →
-    IsPushed before after node.Never position → Emits before after (f.If place (f.arms_list_of arms) otherwise ∷ []) next position
-emits_if_none before after place [] otherwise next position h p = emits_never before after place otherwise next position p
-emits_if_none before after place (x ∷ xs) otherwise next position h p = absurd (omega arith)
+pub emits_if_none : {before after : List Node} (place : Place) (arms : List arm.Arm) (otherwise : f.Statements) (next : ℕ) {position : ℕ} →
+    length arms ≡ 0 → IsPushed before after node.Never position → Emits before after (f.If place (f.arms_list_of arms) otherwise ∷ []) next position
+emits_if_none place [] otherwise next h p = emits_never place otherwise next p
+emits_if_none place (x ∷ xs) otherwise next h p = absurd (omega arith)
 
 -- ---- Of a loop
 
-module _ (before mid after final : List Node) (condition : Bor code.Placed) (body : f.Statements) (next test begin : ℕ)
-    (p : IsPushed before mid node.Never test) (e : Emits mid after (opened_all body) test begin)
-    (is : final ≡ slice_set after test (node.Test condition begin next)) (lefts : Lefts) (place : Place) (rest : List f.Statement)
-    (size : length lefts ≡ length before) (at : At lefts next rest) where
+-- a node is kept for the test, then the body is emitted, which leads to that node, and then the test is put there
+pub record LoopCode (before final : List Node) (condition : Bor code.Placed) (body : f.Statements) (next test begin : ℕ) : Type 0 where
+  pub mid : List Node
+  pub after : List Node
+  pub pushed : IsPushed before mid node.Never test
+  pub emits : Emits mid after (opened_all body) test begin
+  pub is : final ≡ slice_set after test (node.Test condition begin next)
+
+module _ {before final : List Node} {condition : Bor code.Placed} {body : f.Statements} {next test begin : ℕ}
+    (loop : LoopCode before final condition body next test begin)
+    (lefts : Lefts) (place : Place) (rest : List f.Statement) (size : length lefts ≡ length before) (at : At lefts next rest) where
+  open loop use {mid, after, pushed as p, emits as e, is}
+
   abbrev again : List f.Statement
   again = f.While place (placed_of condition.now) body ∷ rest
 
@@ -266,30 +233,53 @@ module _ (before mid after final : List Node) (condition : Bor code.Placed) (bod
   body_of : Extends mid after more begin (opened_all body ++ again)
   body_of = e.each more again sized at_test
 
-  pub from_test : Extends before final lefts test again
-  from_test =
+  -- the test in place of the node that was kept for it
+  patched : (entry : ℕ) (left : List f.Statement) → At body_of.all entry left → Extends before final lefts entry left
+  patched entry left there =
+      let n = node.Test condition begin next in
       let y = body_of in
-      patched before mid after final lefts node.Never (node.Test condition begin next) test test begin again (opened_all body ++ again) again size p y is
-      (repeats place body rest y.entered (y.grown next rest (get_prefix lefts (again ∷ []) next rest at)) refl) (y.grown test again at_test)
+      let long : length mid ≡ length before + 1 = ap length p.nodes ∙ length-append before (node.Never ∷ []) in
+      let same_length : length final ≡ length after = ap length is ∙ length-set after test n in
+      let here : At y.all test again = y.grown test again at_test in
+      let does : DoesNode y.all n again = repeats place body rest y.entered (y.grown next rest (get_prefix lefts (again ∷ []) next rest at)) refl in
+      record {
+        all = y.all;
+        grown = λ k m h. y.grown k m (get_prefix lefts (again ∷ []) k m h);
+        count = y.count ∙ sym same_length;
+        longer = omega (arith, y.longer, long, same_length);
+        kept = λ k h.
+            ap (λ ns. slice_get ns k) is ∙ (set_other after test k n (omega (arith, p.at))
+            ∙ (y.kept k (omega (arith, long)) ∙ (ap (λ ns. slice_get ns k) p.nodes ∙ get_same before (node.Never ∷ []) k h)));
+        each = λ k m o h g a. ⊎_elim
+            (λ same.
+            let found = set_same after test n (omega (arith, y.longer, long, p.at)) in
+            let at_position : slice_get (slice_set after test n) test ≡ Some m = ap (slice_get (slice_set after test n)) (sym same)
+            ∙ (sym (ap (λ ns. slice_get ns k) is) ∙ g) in
+            let is_node : n ≡ m = cc in
+            let is_left : again ≡ o = once y.all test again o here (ap (slice_get y.all) (sym same) ∙ a) in
+            let P : Node → Type 0 = λ x. DoesNode y.all x o in
+            let Q : List f.Statement → Type 0 = λ x. DoesNode y.all n x in
+            subst P is_node (subst Q is_left does))
+            (λ other. y.each k m o (omega (arith, long, p.at, other)) (sym (ap (λ ns. slice_get ns k) is ∙ set_other after test k n other) ∙ g) a)
+            (cases_eq k test);
+        entered = there;
+      }
+
+  pub from_test : Extends before final lefts test again
+  from_test = patched test again (body_of.grown test again at_test)
 
   pub from_body : Extends before final lefts begin (opened_all body ++ again)
-  from_body =
-      let y = body_of in
-      patched before mid after final lefts node.Never (node.Test condition begin next) test begin begin again (opened_all body ++ again)
-      (opened_all body ++ again) size p y is
-      (repeats place body rest y.entered (y.grown next rest (get_prefix lefts (again ∷ []) next rest at)) refl) y.entered
+  from_body = patched begin (opened_all body ++ again) body_of.entered
 
-pub emits_loop : (before mid after final : List Node) (condition : Bor code.Placed) (body : f.Statements) (next test begin : ℕ) →
-    IsPushed before mid node.Never test → Emits mid after (opened_all body) test begin →
-    final ≡ slice_set after test (node.Test condition begin next) → EmitsLoop before final (placed_of condition.now) body next
-    (record { test = test; body = begin })
-emits_loop before mid after final condition body next test begin p e is = record {
-  tests = λ place. record { each = λ lefts rest size at. from_test before mid after final condition body next test begin p e is lefts place rest size at };
+pub emits_loop : {before final : List Node} (condition : Bor code.Placed) (body : f.Statements) (next test begin : ℕ) →
+    LoopCode before final condition body next test begin → EmitsLoop before final (placed_of condition.now) body next (record { test = test; body = begin })
+emits_loop {before = before} {final = final} condition body next test begin loop = record {
+  tests = λ place. record { each = λ lefts rest size at. from_test loop lefts place rest size at };
   begins = λ place. record {
     each = λ lefts rest size at.
         let P : List f.Statement → Type 0 = λ l. Extends before final lefts begin l in
         subst P (sym (append_assoc (opened_all body) (f.While place (placed_of condition.now) body ∷ []) rest))
-        (from_body before mid after final condition body next test begin p e is lefts place rest size at);
+        (from_body loop lefts place rest size at);
   };
 }
 
@@ -299,14 +289,14 @@ pub ok_node : {Y : Type 0} (r : Result ℕ Y) (before after : List Node) (n : No
     IfOk r (λ position. IsPushed before after n position) →
     ((all : Lefts) (rest : List f.Statement) → At all next rest → DoesNode all n (does ++ rest)) → IfOk r (λ entry. Emits before after does next entry)
 ok_node r before after n does next h d = IfOk-weaker r (λ position. IsPushed before after n position) (λ entry. Emits before after does next entry)
-    (λ position p. emits_node before after n position does next p d) h
+    (λ position p. emits_node does next p d) h
 
 pub ok_never : {Y : Type 0} (r : Result ℕ Y) (before after : List Node) (place : Place) (arms : List arm.Arm) (otherwise : f.Statements) (next : ℕ) →
     length arms ≡ 0 → IfOk r (λ position. IsPushed before after node.Never position) →
     IfOk r (λ entry. Emits before after (f.If place (f.arms_list_of arms) otherwise ∷ []) next entry)
 ok_never r before after place arms otherwise next e h = IfOk-weaker r (λ position. IsPushed before after node.Never position)
     (λ entry. Emits before after (f.If place (f.arms_list_of arms) otherwise ∷ []) next entry)
-    (λ position p. emits_if_none before after place arms otherwise next position e p) h
+    (λ position p. emits_if_none place arms otherwise next e p) h
 
 pub ok_if : {Y : Type 0} (r : Result ℕ Y) (before mid after : List Node) (place : Place) (arms : List arm.Arm) (otherwise : f.Statements) (last next : ℕ) →
     0 < length arms → Emits before mid (opened_all otherwise) next last →
@@ -315,7 +305,7 @@ pub ok_if : {Y : Type 0} (r : Result ℕ Y) (before mid after : List Node) (plac
 ok_if r before mid after place arms otherwise last next some e h =
     IfOk-weaker r (λ entry. EmitsArms mid after (f.arms_list_of arms) last next entry)
     (λ entry. Emits before after (f.If place (f.arms_list_of arms) otherwise ∷ []) next entry)
-    (λ entry k. emits_if before mid after place arms otherwise last next entry some e k) h
+    (λ entry k. emits_if place arms otherwise some e k) h
 
 pub ok_test : {Y : Type 0} (r : Result ℕ Y) (before mid after : List Node) (condition : Bor code.Placed) (body : f.Statements) (holds fails next : ℕ) →
     Emits before mid (opened_all body) next holds → IfOk r (λ position. IsPushed mid after (node.Test condition holds fails) position) →
@@ -323,7 +313,7 @@ pub ok_test : {Y : Type 0} (r : Result ℕ Y) (before mid after : List Node) (co
 ok_test r before mid after condition body holds fails next e h =
     IfOk-weaker r (λ position. IsPushed mid after (node.Test condition holds fails) position)
     (λ entry. EmitsTest before after (record { condition = placed_of condition.now; body = body }) fails next entry)
-    (λ entry p. emits_test before mid after condition body holds fails next entry e p) h
+    (λ entry p. emits_test condition body e p) h
 
 -- ---- From the end of a list
 
@@ -332,29 +322,29 @@ all_none before xs next =
     let P : List s.Statement → Type 0 = λ ys. Emits before before (opened_all (f.statements_of ys)) next next in
     subst P (sym (drop_all (length xs) xs (omega arith))) (emits_none before next)
 
-pub all_more : (before mid after : List Node) (xs : List s.Statement) (i : ℕ) (x : s.Statement) (next one two : ℕ) → 0 < i → i ≤ length xs →
+pub all_more : {before mid after : List Node} (xs : List s.Statement) (i : ℕ) (x : s.Statement) {next one two : ℕ} → 0 < i → i ≤ length xs →
     x ≡ get_or xs (i - 1) x → Emits before mid (opened_all (f.statements_of (drop i xs))) next one →
     Emits mid after (opened (f.statement_of x)) one two → Emits before after (opened_all (f.statements_of (drop (i - 1) xs))) next two
-all_more before mid after xs i x next one two some within is e k =
+all_more {before = before} {after = after} xs i x {next = next} {two = two} some within is e k =
     let P : List s.Statement → Type 0 = λ ys. Emits before after (opened_all (f.statements_of ys)) next two in
     let cut : drop (i - 1) xs ≡ x ∷ drop i xs = drop_more xs (i - 1) x (omega arith)
     ∙ (ap (λ y. y ∷ drop (i - 1 + 1) xs) (sym is) ∙ ap (λ n. x ∷ drop n xs) (omega arith)) in
-    subst P (sym cut) (emits_then before mid after (opened_all (f.statements_of (drop i xs))) (opened (f.statement_of x)) next one two e k)
+    subst P (sym cut) (emits_then e k)
 
 pub arms_none : (before : List Node) (xs : List arm.Arm) (last next : ℕ) → EmitsArms before before (f.arms_list_of (drop (length xs) xs)) last next last
 arms_none before xs last next =
     let P : List arm.Arm → Type 0 = λ ys. EmitsArms before before (f.arms_list_of ys) last next last in
     subst P (sym (drop_all (length xs) xs (omega arith))) (no_arms before last next)
 
-pub arms_more : (before mid after : List Node) (xs : List arm.Arm) (i : ℕ) (x : arm.Arm) (last next one two : ℕ) → 0 < i → i ≤ length xs →
+pub arms_more : {before mid after : List Node} (xs : List arm.Arm) (i : ℕ) (x : arm.Arm) {last next one two : ℕ} → 0 < i → i ≤ length xs →
     x ≡ get_or xs (i - 1) x → EmitsArms before mid (f.arms_list_of (drop i xs)) last next one →
     EmitsTest mid after (record { condition = placed_of x.condition; body = f.statements_of x.body.items }) one next two →
     EmitsArms before after (f.arms_list_of (drop (i - 1) xs)) last next two
-arms_more before mid after xs i x last next one two some within is e k =
+arms_more {before = before} {after = after} xs i x {last = last} {next = next} {two = two} some within is e k =
     let P : List arm.Arm → Type 0 = λ ys. EmitsArms before after (f.arms_list_of ys) last next two in
     let cut : drop (i - 1) xs ≡ x ∷ drop i xs = drop_more xs (i - 1) x (omega arith)
     ∙ (ap (λ y. y ∷ drop (i - 1 + 1) xs) (sym is) ∙ ap (λ n. x ∷ drop n xs) (omega arith)) in
-    subst P (sym cut) (emits_arm before mid after (placed_of x.condition) (f.statements_of x.body.items) (f.arms_list_of (drop i xs)) last one next two e k)
+    subst P (sym cut) (emits_arm (placed_of x.condition) (f.statements_of x.body.items) e k)
 
 -- ---- A whole body
 

@@ -24,7 +24,7 @@ use Rattle.source_machine.proofs.DisciplinedContinuations.{keeps_unlock}
 use Rattle.source_machine.proofs.StepChanges.{some_is, unlocks_found}
 use Rattle.source_machine.proofs.Discipline.{stepped, step_keeps, set_long}
 use Rattle.source_machine.proofs.GuardedAccesses.{leaves_others, leaves_held}
-use Rattle.source_machine.proofs.StepSwaps.{swap, locked}
+use Rattle.source_machine.proofs.StepSwaps.{StepPair, swapped, locked}
 
 -- ---- Runs
 
@@ -273,11 +273,12 @@ locks_same s z t h = ap (λ (o : Option m.Thread). let r : Option ℕ = elim o [
 pub unlocks_same : (s z : m.State) (t : ℕ) → slice_get z.threads t ≡ slice_get s.threads t → unlocks z t ≡ unlocks s t
 unlocks_same s z t h = ap (λ (o : Option m.Thread). let r : Option ℕ = elim o [ Some found ↦ unlock_ahead found | None ↦ None ] in r) h
 
-module _ (x : f.Flat) (s one two last : m.State) (u t : ℕ) (us : List ℕ) (keeps : StateKeeps x s) (n : t ≢ u) (g : source_step s u ≡ Some one)
-    (h : source_step one t ≡ Some two)
+module _ {x : f.Flat} {s two : m.State} {u t : ℕ} (pair : StepPair x s two u t) (last : m.State) (us : List ℕ)
     (more : LeadsAlong two us last) (a : Apart s (u ∷ t ∷ us)) where
+  open pair use {between as one, keeps, distinct as n, first as g, second as h}
+
   abbrev made : (first : m.State) × (source_step s t ≡ Some first) × (source_step first u ≡ Some two)
-  made = swap x s one two u t keeps n g h (λ k e l. (a.0 k e one g).0 n l)
+  made = swapped pair
 
   abbrev first : m.State
   first = made.0
@@ -365,8 +366,10 @@ module _ (x : f.Flat) (t : ℕ) where
       let fewer : steps_of t us ≡ suc n = ap (λ (b : Bool). count_by b (steps_of t us)) (sym e) ∙ c in
       let later = more g.0 (step_keeps x s g.0 u keeps g.1) g.2 (a.1 g.0 g.1) fewer in
       let one = same_more s g.0 u us (t ∷ without_first t us) last g.1 later in
-      let two = first_swapped x s g.0 later.run.0 last u t (without_first t us) keeps (λ k. unequal_is u t e (sym k)) g.1 later.run.1 later.run.2
-      (one.apart a) in
+      let n : t ≢ u = λ k. unequal_is u t e (sym k) in
+      let pair : StepPair x s later.run.0 u t =
+      record { between = g.0; keeps = keeps; distinct = n; first = g.1; second = later.run.1; free = λ k l z. ((one.apart a).0 k l g.0 g.1).0 n z } in
+      let two = first_swapped pair last (without_first t us) later.run.2 (one.apart a) in
       let is : t ∷ u ∷ without_first t us ≡ t ∷ without_first t (u ∷ us) = ap (λ (b : Bool). t ∷ rest_by b u us (without_first t us)) (sym e) in
       subst (λ (vs : List ℕ). Same s (u ∷ us) vs last) is (same_both s (u ∷ us) (u ∷ t ∷ without_first t us) (t ∷ u ∷ without_first t us) last one two)
 

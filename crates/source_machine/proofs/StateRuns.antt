@@ -79,13 +79,21 @@ answer_by s t o = elim o [
   | None ↦ Ended
 ]
 
-module _ (before after : SourceState) (s : m.State) (ended : ℕ → ℕ) (n : ℕ) (it it' : ThreadState) (answer : Stepped) (st : RepresentsState before s ended)
-    (here : slice_get before.threads.items n ≡ Some it)
-    (set : after.threads.items ≡ slice_set before.threads.items n it')
-    (makes : (left : List f.Statement) (threads : List m.Thread) → HasStatementsLeft it left →
-    IsMade n (hand it before.variables before.holders.items) (hand it' after.variables after.holders.items) answer threads left)
-    (counts : (ended : ℕ → ℕ) → AreCounted before.sections.items ended →
-    AreCounted after.sections.items (λ k. ended k + ends before.holders.items after.holders.items k)) where
+-- the thread of that number is replaced by one that has made the step, and the sections that it ends are counted
+pub record ReplacesThread (before after : SourceState) (n : ℕ) (answer : Stepped) : Type 0 where
+  pub old : ThreadState
+  pub new : ThreadState
+  pub here : slice_get before.threads.items n ≡ Some old
+  pub set : after.threads.items ≡ slice_set before.threads.items n new
+  pub makes : (left : List f.Statement) (threads : List m.Thread) → HasStatementsLeft old left →
+      IsMade n (hand old before.variables before.holders.items) (hand new after.variables after.holders.items) answer threads left
+  pub counts : (ended : ℕ → ℕ) → AreCounted before.sections.items ended →
+      AreCounted after.sections.items (λ k. ended k + ends before.holders.items after.holders.items k)
+
+module _ (before after : SourceState) (s : m.State) (ended : ℕ → ℕ) (n : ℕ) (answer : Stepped) (st : RepresentsState before s ended)
+    (step : ReplacesThread before after n answer) where
+  open step use {old as it, new as it', here, set, makes, counts}
+
   within : n < length before.threads.items
   within = slice_get_within before.threads.items n it here
 

@@ -190,9 +190,18 @@ module _ (x : f.Flat) (s next : m.State) (t u : ℕ) (keeps : StateKeeps x s) (n
 
 -- ---- The swap
 
-module _ (x : f.Flat) (s between after : m.State) (one other : ℕ) (keeps : StateKeeps x s) (n : other ≢ one) (h : source_step s one ≡ Some between)
-    (g : source_step between other ≡ Some after)
-    (free : (k : ℕ) → unlocks s one ≡ Some k → locks between other ≢ Some k) where
+-- a step of one thread, and then a step of another one, which doesn't lock what the first step unlocks
+pub record StepPair (x : f.Flat) (s after : m.State) (one other : ℕ) : Type 0 where
+  pub between : m.State
+  pub keeps : StateKeeps x s
+  pub distinct : other ≢ one
+  pub first : source_step s one ≡ Some between
+  pub second : source_step between other ≡ Some after
+  pub free : (k : ℕ) → unlocks s one ≡ Some k → locks between other ≢ Some k
+
+module _ {x : f.Flat} {s after : m.State} {one other : ℕ} (pair : StepPair x s after one other) where
+  open pair use {between, keeps, distinct as n, first as h, second as g, free}
+
   abbrev p : Stepped x s one between
   p = stepped x s between one keeps h
 
@@ -262,4 +271,5 @@ module _ (x : f.Flat) (s between after : m.State) (one other : ℕ) (keeps : Sta
   swapped = (first, first_is, second_is ∙ ap Some same_end)
 
 pub swap : Swap
-swap x s between after one other keeps n h g free = swapped x s between after one other keeps n h g free
+swap x s between after one other keeps n h g free =
+    swapped (record { between = between; keeps = keeps; distinct = n; first = h; second = g; free = free })

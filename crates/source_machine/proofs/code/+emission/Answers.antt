@@ -95,24 +95,23 @@ emit_all-loop-i-init t c = all_none c.args.nodes.now.items c.args.statements.now
 
 pub emit_all-loop-i-preserved : goal.emit_all-loop-i-preserved
 emit_all-loop-i-preserved t c =
-    all_more c.args.nodes.now.items c.loop-i.nodes.items c.emit.new.nodes.items c.args.statements.now c.loop-i.i c.index-statements-i.result c.args.next
-    c.loop-i.entry c.in_ok-entry.entry (omega arith) (omega arith) c.index-statements-i.is c.loop-i.invariant c.in_ok-entry.ensures
+    all_more c.args.statements.now c.loop-i.i c.index-statements-i.result (omega arith) (omega arith) c.index-statements-i.is c.loop-i.invariant
+    c.in_ok-entry.ensures
 
 pub emit_arms-loop-i-init : goal.emit_arms-loop-i-init
 emit_arms-loop-i-init t c = arms_none c.args.nodes.now.items c.args.arms.now c.args.last c.args.next
 
 pub emit_arms-loop-i-preserved : goal.emit_arms-loop-i-preserved
 emit_arms-loop-i-preserved t c =
-    arms_more c.args.nodes.now.items c.loop-i.nodes.items c.emit_arm.new.nodes.items c.args.arms.now c.loop-i.i c.index-arms-i.result c.args.last c.args.next
-    c.loop-i.entry c.in_ok-entry.entry (omega arith) (omega arith) c.index-arms-i.is c.loop-i.invariant c.in_ok-entry.ensures
+    arms_more c.args.arms.now c.loop-i.i c.index-arms-i.result (omega arith) (omega arith) c.index-arms-i.is c.loop-i.invariant c.in_ok-entry.ensures
 
 pub emit_loop-index_mut-requires : goal.emit_loop-index_mut-requires
 emit_loop-index_mut-requires t c =
     let p = c.in_ok-test.ensures in
     let e = c.in_ok-holds.ensures in
-    let long = emits_longer _ _ _ _ _ e (omega (arith, p.at, ap length p.nodes, length-append c.args.nodes.now.items (node.Never ∷ []))) in
+    let long = emits_longer e (omega (arith, p.at, ap length p.nodes, length-append c.args.nodes.now.items (node.Never ∷ []))) in
     omega (arith, long, p.at, ap length p.nodes, length-append c.args.nodes.now.items (node.Never ∷ []), c.emit_all.new.nodes.ok.0)
 
 pub emit_loop-returns : goal.emit_loop-returns
-emit_loop-returns t c = emits_loop _ _ _ _ c.args.condition
-    (f.statements_of c.args.body.now) c.args.next c.in_ok-test.test c.in_ok-holds.holds c.in_ok-test.ensures c.in_ok-holds.ensures refl
+emit_loop-returns t c = emits_loop c.args.condition (f.statements_of c.args.body.now) c.args.next c.in_ok-test.test c.in_ok-holds.holds
+    (record { mid = _; after = _; pushed = c.in_ok-test.ensures; emits = c.in_ok-holds.ensures; is = refl })
