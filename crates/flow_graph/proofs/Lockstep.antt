@@ -58,10 +58,13 @@ state_of variables holders threads = record { variables = variables; holders = h
 abbrev flow_of : List (List ℤ) → List (Option ℕ) → List GraphThread → FlowState
 flow_of variables holders graph_threads = record { variables = variables; holders = holders; graph_threads = graph_threads }
 
-module _ (x : f.Flat) (graph_threads : List GraphThread) (threads : List m.Thread) (count : length graph_threads ≡ length threads)
-    (each : (t : ℕ) (graph_thread : GraphThread) (thread : m.Thread) → slice_get graph_threads t ≡ Some graph_thread → slice_get threads t ≡ Some thread →
-    GraphThreadMatches x graph_thread thread)
-    (t : ℕ) (before : GraphThread) (old : m.Thread) (here : slice_get graph_threads t ≡ Some before) (there : slice_get threads t ≡ Some old) where
+-- in states that match, a graph thread and its thread
+module _ (x : f.Flat) {flow : FlowState} {source : m.State} (match : Matches x flow source) (t : ℕ) (before : GraphThread) (old : m.Thread)
+    (here : slice_get flow.graph_threads t ≡ Some before) (there : slice_get source.threads t ≡ Some old) where
+  open match use {count, each}
+  open flow use {graph_threads, variables as vs, holders as hs}
+  open source use {threads}
+
   one_changes : (vs : List (List ℤ)) (hs : List (Option ℕ)) (graph_thread : GraphThread) (thread : m.Thread) → GraphThreadMatches x graph_thread thread →
       Matches x (flow_of vs hs (slice_set graph_threads t graph_thread)) (state_of vs hs (slice_set threads t thread))
   one_changes vs hs graph_thread thread w = record {
@@ -81,113 +84,109 @@ module _ (x : f.Flat) (graph_threads : List GraphThread) (threads : List m.Threa
         (cases_eq k t);
   }
 
-  module _ (vs : List (List ℤ)) (hs : List (Option ℕ)) where
-    abbrev flow_now : FlowState
-    flow_now = flow_of vs hs graph_threads
+  abbrev source_now : m.State
+  source_now = state_of vs hs threads
 
-    abbrev source_now : m.State
-    source_now = state_of vs hs threads
+  abbrev all : List Standing
+  all = threads_standings x.threads
 
-    abbrev all : List Standing
-    all = threads_standings x.threads
+  abbrev graph_thread_at : (at : ℕ) → List ℤ → Option Pending → Bool → GraphThread
+  graph_thread_at at ls p ended = record { at = at; locals = ls; pending = p; ended = ended }
 
-    abbrev graph_thread_at : (at : ℕ) → List ℤ → Option Pending → Bool → GraphThread
-    graph_thread_at at ls p ended = record { at = at; locals = ls; pending = p; ended = ended }
+  abbrev thread_with : List f.Statement → List ℤ → Option Pending → Bool → m.Thread
+  thread_with left ls p ended = record { left = left; locals = ls; pending = p; ended = ended }
 
-    abbrev thread_with : List f.Statement → List ℤ → Option Pending → Bool → m.Thread
-    thread_with left ls p ended = record { left = left; locals = ls; pending = p; ended = ended }
+  abbrev ParseLockstep : Option FlowState → Option m.State → Type 0
+  ParseLockstep a b = StepsMatch x a b
 
-    abbrev ParseLockstep : Option FlowState → Option m.State → Type 0
-    ParseLockstep a b = StepsMatch x a b
+  -- the graph's step by an action, in lockstep with that of a thread with these statements left
+  abbrev ActionLockstep : Action → (at : ℕ) → List ℤ → Option Pending → Bool → List f.Statement → Type 0
+  ActionLockstep a at ls p ended left =
+      ParseLockstep (g.effect_step flow t (graph_thread_at at ls p ended) (g.effect_of a (g.seen_by flow (graph_thread_at at ls p ended))))
+      (m.thread_step source_now t (thread_with left ls p ended))
 
-    -- the graph's step by an action, in lockstep with that of a thread with these statements left
-    abbrev ActionLockstep : Action → (at : ℕ) → List ℤ → Option Pending → Bool → List f.Statement → Type 0
-    ActionLockstep a at ls p ended left =
-        ParseLockstep (g.effect_step flow_now t (graph_thread_at at ls p ended) (g.effect_of a (g.seen_by flow_now (graph_thread_at at ls p ended))))
-        (m.thread_step source_now t (thread_with left ls p ended))
+  moved : (at : ℕ) (left : List f.Statement) (ls : List ℤ) (p : Option Pending) (ended : Bool) → At all at (record { left = left; owes = is_some p }) →
+      GraphThreadMatches x (graph_thread_at at ls p ended) (thread_with left ls p ended)
+  moved at left ls p ended a = record { locals = refl; pending = refl; ended = refl; stands = a }
 
-    moved : (at : ℕ) (left : List f.Statement) (ls : List ℤ) (p : Option Pending) (ended : Bool) → At all at (record { left = left; owes = is_some p }) →
-        GraphThreadMatches x (graph_thread_at at ls p ended) (thread_with left ls p ended)
-    moved at left ls p ended a = record { locals = refl; pending = refl; ended = refl; stands = a }
+  evals : (target : e.Lvalue) (value : e.Placed) (next at : ℕ) (ls : List ℤ) (ended : Bool) (place : Place) (rest : List f.Statement) →
+      At all next (after_eval target rest) → ActionLockstep (Eval target value next) at ls None ended (f.Assign place target value ∷ rest)
+  evals (e.ToLocal name local kind) value next at ls ended place rest a = one_changes vs hs _ _ (moved next rest _ None ended a)
+  evals (e.ToVariable name variable kind) value next at ls ended place rest a = one_changes vs hs _ _ (moved next rest ls (Some _) ended a)
+  evals (e.ToElement name variable kind index) value next at ls ended place rest a = one_changes vs hs _ _ (moved next rest ls (Some _) ended a)
 
-    evals : (target : e.Lvalue) (value : e.Placed) (next at : ℕ) (ls : List ℤ) (ended : Bool) (place : Place) (rest : List f.Statement) →
-        At all next (after_eval target rest) → ActionLockstep (Eval target value next) at ls None ended (f.Assign place target value ∷ rest)
-    evals (e.ToLocal name local kind) value next at ls ended place rest a = one_changes vs hs _ _ (moved next rest _ None ended a)
-    evals (e.ToVariable name variable kind) value next at ls ended place rest a = one_changes vs hs _ _ (moved next rest ls (Some _) ended a)
-    evals (e.ToElement name variable kind index) value next at ls ended place rest a = one_changes vs hs _ _ (moved next rest ls (Some _) ended a)
+  after_test : (zero_value : Bool) (holds fails : ℕ) (place : Place) (body : f.Statements) (arms : f.Arms) (otherwise : f.Statements)
+      (rest : List f.Statement) →
+      At all holds (free (opened_all body ++ rest)) → At all fails (free (after_arms place arms otherwise ++ rest)) →
+      At all (if zero_value then fails else holds)
+      (free (m.tested (not zero_value) (opened_all body) (f.If place arms otherwise ∷ []) (opened_all otherwise) arms ++ rest))
+  after_test true holds fails place body f.no_arm otherwise rest a b = b
+  after_test true holds fails place body (f.arm_and condition inner arms) otherwise rest a b = b
+  after_test false holds fails place body f.no_arm otherwise rest a b = a
+  after_test false holds fails place body (f.arm_and condition inner arms) otherwise rest a b = a
 
-    after_test : (zero_value : Bool) (holds fails : ℕ) (place : Place) (body : f.Statements) (arms : f.Arms) (otherwise : f.Statements)
-        (rest : List f.Statement) →
-        At all holds (free (opened_all body ++ rest)) → At all fails (free (after_arms place arms otherwise ++ rest)) →
-        At all (if zero_value then fails else holds)
-        (free (m.tested (not zero_value) (opened_all body) (f.If place arms otherwise ∷ []) (opened_all otherwise) arms ++ rest))
-    after_test true holds fails place body f.no_arm otherwise rest a b = b
-    after_test true holds fails place body (f.arm_and condition inner arms) otherwise rest a b = b
-    after_test false holds fails place body f.no_arm otherwise rest a b = a
-    after_test false holds fails place body (f.arm_and condition inner arms) otherwise rest a b = a
+  after_loop : (zero_value : Bool) (holds fails : ℕ) (again rest : List f.Statement) → At all holds (free again) → At all fails (free rest) →
+      At all (if zero_value then fails else holds) (free (if not zero_value then again else rest))
+  after_loop true holds fails again rest a b = b
+  after_loop false holds fails again rest a b = a
 
-    after_loop : (zero_value : Bool) (holds fails : ℕ) (again rest : List f.Statement) → At all holds (free again) → At all fails (free rest) →
-        At all (if zero_value then fails else holds) (free (if not zero_value then again else rest))
-    after_loop true holds fails again rest a b = b
-    after_loop false holds fails again rest a b = a
+  takes : (o : Option (Option ℕ)) (number next at : ℕ) (ls : List ℤ) (ended : Bool) (rest : List f.Statement) → At all next (free rest) →
+      ParseLockstep
+      (elim o [ Some None ↦ Some (g.with_graph_thread (g.with_holder flow number (Some t)) t (graph_thread_at next ls None ended)) | _ ↦ None ])
+      (elim o [ Some None ↦ Some (m.with_thread (m.with_holder source_now number (Some t)) t (thread_with rest ls None ended)) | _ ↦ None ])
+  takes None number next at ls ended rest a = tt
+  takes (Some (Some other)) number next at ls ended rest a = tt
+  takes (Some None) number next at ls ended rest a = one_changes vs (slice_set hs number (Some t)) _ _ (moved next rest ls None ended a)
 
-    takes : (o : Option (Option ℕ)) (number next at : ℕ) (ls : List ℤ) (ended : Bool) (rest : List f.Statement) → At all next (free rest) →
-        ParseLockstep
-        (elim o [ Some None ↦ Some (g.with_graph_thread (g.with_holder flow_now number (Some t)) t (graph_thread_at next ls None ended)) | _ ↦ None ])
-        (elim o [ Some None ↦ Some (m.with_thread (m.with_holder source_now number (Some t)) t (thread_with rest ls None ended)) | _ ↦ None ])
-    takes None number next at ls ended rest a = tt
-    takes (Some (Some other)) number next at ls ended rest a = tt
-    takes (Some None) number next at ls ended rest a = one_changes vs (slice_set hs number (Some t)) _ _ (moved next rest ls None ended a)
+  ends : (at : ℕ) (ls : List ℤ) (ended : Bool) → At all at (free []) → ActionLockstep End at ls None ended []
+  ends at ls true a = tt
+  ends at ls false a = one_changes vs hs _ _ (moved at [] ls None true a)
 
-    ends : (at : ℕ) (ls : List ℤ) (ended : Bool) → At all at (free []) → ActionLockstep End at ls None ended []
-    ends at ls true a = tt
-    ends at ls false a = one_changes vs hs _ _ (moved at [] ls None true a)
+  not_owing : (p : Pending) (left rest : List f.Statement) → (let s : Standing = record { left = left; owes = true } in s ≡ free rest) → ⊥
+  not_owing p left rest h = let b : true ≡ false = ap (λ (s : Standing). s.owes) h in cc
 
-    not_owing : (p : Pending) (left rest : List f.Statement) → (let s : Standing = record { left = left; owes = true } in s ≡ free rest) → ⊥
-    not_owing p left rest h = let b : true ≡ false = ap (λ (s : Standing). s.owes) h in cc
-
-    step_by : (a : Action) (at : ℕ) (ls : List ℤ) (p : Option Pending) (ended : Bool) (left : List f.Statement) →
-        At all at (record { left = left; owes = is_some p }) → ActionLeads all a (record { left = left; owes = is_some p }) →
-        ActionLockstep a at ls p ended left
-    step_by (Eval target value next) at ls (Some p) ended left s d = absurd (not_owing p left _ d.is)
-    step_by (Eval target value next) at ls None ended left s d =
-        let P : List f.Statement → Type 0 = λ l. ActionLockstep (Eval target value next) at ls None ended l in
-        subst P (sym (ap (λ (z : Standing). z.left) d.is)) (evals target value next at ls ended d.place d.rest d.follows)
-    step_by (Store variable kind next) at ls (Some p) ended left s d =
-        let P : List f.Statement → Type 0 = λ l. ActionLockstep (Store variable kind next) at ls (Some p) ended l in
-        subst P (sym (ap (λ (z : Standing). z.left) d.is)) (one_changes _ hs _ _ (moved next d.rest ls None ended d.follows))
-    step_by (Store variable kind next) at ls None ended left s d = let b : false ≡ true = ap (λ (z : Standing). z.owes) d.is in cc
-    step_by (Test condition holds fails) at ls (Some p) ended left s d = elim d [
-      | chooses place body arms otherwise rest is h k ↦ absurd (not_owing p left _ is)
-      | repeats place body rest is h k ↦ absurd (not_owing p left _ is)
-    ]
-    step_by (Test condition holds fails) at ls None ended left s d =
-        let P : List f.Statement → Type 0 = λ l. ActionLockstep (Test condition holds fails) at ls None ended l in
-        let z : Bool = is_zero (g.number_in (g.seen_by flow_now (graph_thread_at at ls None ended)) condition.expr) in
-        elim d [
-          | chooses place body arms otherwise rest is h k ↦
-              subst P (sym (ap (λ (z : Standing). z.left) is))
-              (one_changes vs hs _ _ (moved _ _ ls None ended (after_test z holds fails place body arms otherwise rest h k)))
-          | repeats place body rest is h k ↦
-              subst P (sym (ap (λ (z : Standing). z.left) is))
-              (one_changes vs hs _ _ (moved _ _ ls None ended (after_loop z holds fails (opened_all body ++ (f.While place condition body ∷ rest)) rest h k)))
-        ]
-    step_by (Lock lock next) at ls (Some p) ended left s d = absurd (not_owing p left _ d.is)
-    step_by (Lock lock next) at ls None ended left s d =
-        let P : List f.Statement → Type 0 = λ l. ActionLockstep (Lock lock next) at ls None ended l in
-        let number = lock_number ls lock in
-        subst P (sym (ap (λ (z : Standing). z.left) d.is)) (takes (slice_get hs number) number next at ls ended d.rest d.follows)
-    step_by (Unlock lock next) at ls (Some p) ended left s d = absurd (not_owing p left _ d.is)
-    step_by (Unlock lock next) at ls None ended left s d =
-        let P : List f.Statement → Type 0 = λ l. ActionLockstep (Unlock lock next) at ls None ended l in
-        subst P (sym (ap (λ (z : Standing). z.left) d.is))
-        (one_changes vs (slice_set hs (lock_number ls lock) None) _ _ (moved next d.rest ls None ended d.follows))
-    step_by End at ls (Some p) ended left s d = absurd (not_owing p left _ d)
-    step_by End at ls None ended left s d =
-        let none : left ≡ [] = ap (λ (z : Standing). z.left) d in
-        let P : List f.Statement → Type 0 = λ l. ActionLockstep End at ls None ended l in
-        let Q : List f.Statement → Type 0 = λ l. At all at (free l) in
-        subst P (sym none) (ends at ls ended (subst Q none s))
+  step_by : (a : Action) (at : ℕ) (ls : List ℤ) (p : Option Pending) (ended : Bool) (left : List f.Statement) →
+      At all at (record { left = left; owes = is_some p }) → ActionLeads all a (record { left = left; owes = is_some p }) →
+      ActionLockstep a at ls p ended left
+  step_by (Eval target value next) at ls (Some p) ended left s d = absurd (not_owing p left _ d.is)
+  step_by (Eval target value next) at ls None ended left s d =
+      let P : List f.Statement → Type 0 = λ l. ActionLockstep (Eval target value next) at ls None ended l in
+      subst P (sym (ap (λ (z : Standing). z.left) d.is)) (evals target value next at ls ended d.place d.rest d.follows)
+  step_by (Store variable kind next) at ls (Some p) ended left s d =
+      let P : List f.Statement → Type 0 = λ l. ActionLockstep (Store variable kind next) at ls (Some p) ended l in
+      subst P (sym (ap (λ (z : Standing). z.left) d.is)) (one_changes _ hs _ _ (moved next d.rest ls None ended d.follows))
+  step_by (Store variable kind next) at ls None ended left s d = let b : false ≡ true = ap (λ (z : Standing). z.owes) d.is in cc
+  step_by (Test condition holds fails) at ls (Some p) ended left s d = elim d [
+    | chooses place body arms otherwise rest is h k ↦ absurd (not_owing p left _ is)
+    | repeats place body rest is h k ↦ absurd (not_owing p left _ is)
+  ]
+  step_by (Test condition holds fails) at ls None ended left s d =
+      let P : List f.Statement → Type 0 = λ l. ActionLockstep (Test condition holds fails) at ls None ended l in
+      let z : Bool = is_zero (g.number_in (g.seen_by flow (graph_thread_at at ls None ended)) condition.expr) in
+      elim d [
+        | chooses place body arms otherwise rest is h k ↦
+            subst P (sym (ap (λ (z : Standing). z.left) is))
+            (one_changes vs hs _ _ (moved _ _ ls None ended (after_test z holds fails place body arms otherwise rest h k)))
+        | repeats place body rest is h k ↦
+            subst P (sym (ap (λ (z : Standing). z.left) is))
+            (one_changes vs hs _ _ (moved _ _ ls None ended (after_loop z holds fails (opened_all body ++ (f.While place condition body ∷ rest)) rest h k)))
+      ]
+  step_by (Lock lock next) at ls (Some p) ended left s d = absurd (not_owing p left _ d.is)
+  step_by (Lock lock next) at ls None ended left s d =
+      let P : List f.Statement → Type 0 = λ l. ActionLockstep (Lock lock next) at ls None ended l in
+      let number = lock_number ls lock in
+      subst P (sym (ap (λ (z : Standing). z.left) d.is)) (takes (slice_get hs number) number next at ls ended d.rest d.follows)
+  step_by (Unlock lock next) at ls (Some p) ended left s d = absurd (not_owing p left _ d.is)
+  step_by (Unlock lock next) at ls None ended left s d =
+      let P : List f.Statement → Type 0 = λ l. ActionLockstep (Unlock lock next) at ls None ended l in
+      subst P (sym (ap (λ (z : Standing). z.left) d.is))
+      (one_changes vs (slice_set hs (lock_number ls lock) None) _ _ (moved next d.rest ls None ended d.follows))
+  step_by End at ls (Some p) ended left s d = absurd (not_owing p left _ d)
+  step_by End at ls None ended left s d =
+      let none : left ≡ [] = ap (λ (z : Standing). z.left) d in
+      let P : List f.Statement → Type 0 = λ l. ActionLockstep End at ls None ended l in
+      let Q : List f.Statement → Type 0 = λ l. At all at (free l) in
+      subst P (sym none) (ends at ls ended (subst Q none s))
 
 -- ---- A step
 
@@ -248,9 +247,8 @@ steps_lockstep x flow source t w h =
           let D : Option Pending → Type 0 = λ p. ActionLeads (threads_standings x.threads) node.0.action (record { left = thread.left; owes = is_some p }) in
           let A : Option Pending → Type 0 = λ p. At (threads_standings x.threads) graph_thread.at (record { left = thread.left; owes = is_some p }) in
           subst P (sym at_node) (subst Q (sym stepping)
-          (step_by x flow.graph_threads source.threads h.count h.each t graph_thread thread here there.1 flow.variables flow.holders node.0.action
-          graph_thread.at graph_thread.locals
-          graph_thread.pending graph_thread.ended thread.left (subst A (sym match.pending) match.stands) (subst D (sym match.pending) node.2)))
+          (step_by x h t graph_thread thread here there.1 node.0.action graph_thread.at graph_thread.locals graph_thread.pending graph_thread.ended thread.left
+          (subst A (sym match.pending) match.stands) (subst D (sym match.pending) node.2)))
     ]
 
 -- ---- The start
