@@ -102,9 +102,8 @@ word_set_other (y ∷ words) (suc i) (suc j) x n = word_set_other words i j x (�
 
 -- ---- A store
 
-module _ (spots : List Spot) (words : List Word) (i j : ℕ) (kind : Kind) (number : ℕ) (n : ℤ) (apart : AreSpotsApart spots (length words))
-    (a : IsAtSpot spots i j kind number)
-    (holds : Holds kind n) where
+module _ {spots : List Spot} (words : List Word) {i j : ℕ} {kind : Kind} {number : ℕ} (n : ℤ) (apart : AreSpotsApart spots (length words))
+    (a : IsAtSpot spots i j kind number) (holds : Holds kind n) where
   abbrev old : Word
   old = word_at words (number / 8)
 
@@ -157,7 +156,7 @@ module _ (spots : List Spot) (words : List Word) (i j : ℕ) (kind : Kind) (numb
   stored = record { size = sizes_same spots words after; own = own; others = others }
 
 pub memory_stored : MemoryStored
-memory_stored spots words v e kind number n apart a holds = stored spots words v e kind number n apart a holds
+memory_stored spots words v e kind number n apart a holds = stored words n apart a holds
 
 -- ---- A load, and a store elsewhere
 
