@@ -64,12 +64,21 @@ ended_one : (s : g.FlowState) (k : ℕ) (o : Option g.FlowState) → ended_by s 
 ended_one s k None = sym (ends_same s.holders s.holders k refl)
 ended_one s k (Some next) = add-zero (g.ends_section s next k)
 
-module _ (before after : FlowState) (n : ℕ) (it it' : GraphThread) (answer : Stepped) (here : slice_get before.graph_threads.items n ≡ Some it)
-    (same : after.graph ≡ before.graph) (set : after.graph_threads.items ≡ slice_set before.graph_threads.items n it')
-    (makes : (graph_threads : List g.GraphThread) → IsMade (graph_of before.graph.now) n (hand (graph_thread_of it) before.variables before.holders.items)
-    (hand (graph_thread_of it') after.variables after.holders.items) answer graph_threads)
-    (counts : (ended : ℕ → ℕ) → AreCounted before.sections.items ended →
-    AreCounted after.sections.items (λ k. ended k + ends before.holders.items after.holders.items k)) where
+-- the graph thread of that number is replaced by one that has made the step, and the sections that it ends are counted
+pub record ReplacesThread (before after : FlowState) (n : ℕ) (answer : Stepped) : Type 0 where
+  pub old : GraphThread
+  pub new : GraphThread
+  pub here : slice_get before.graph_threads.items n ≡ Some old
+  pub same : after.graph ≡ before.graph
+  pub set : after.graph_threads.items ≡ slice_set before.graph_threads.items n new
+  pub makes : (graph_threads : List g.GraphThread) → IsMade (graph_of before.graph.now) n (hand (graph_thread_of old) before.variables before.holders.items)
+      (hand (graph_thread_of new) after.variables after.holders.items) answer graph_threads
+  pub counts : (ended : ℕ → ℕ) → AreCounted before.sections.items ended →
+      AreCounted after.sections.items (λ k. ended k + ends before.holders.items after.holders.items k)
+
+module _ (before after : FlowState) (n : ℕ) (answer : Stepped) (step : ReplacesThread before after n answer) where
+  open step use {old as it, new as it', here, same, set, makes, counts}
+
   abbrev graph : Graph
   graph = graph_of before.graph.now
 

@@ -23,18 +23,27 @@ returns-clause-after c = λ g s ended at.
     with_items_is before.holders c.step.new.holders (omega (arith, c.step.auto.holders, ap length held, before.holders.ok.0)) in
     let counted' : (with_items before.sections c.step.new.sections).items ≡ c.step.new.sections =
     with_items_is before.sections c.step.new.sections (omega (arith, c.step.auto.sections, ap length counted, before.sections.ok.0)) in
-    after_any before _ c.args.thread c.index_mut-graph_thread.result.now c.step.new.self c.step.result here refl refl
-    (λ graph_threads.
-    let made = c.step.ensures.made graph_threads in
-    let P : List (Option ℕ) → Type 0 =
-    λ hs. IsMade graph c.args.thread (old hs) (hand (graph_thread_of c.step.new.self) c.step.new.variables c.step.new.holders) c.step.result graph_threads in
-    let Q : List (Option ℕ) → Type 0 =
-    λ hs. IsMade graph c.args.thread (old before.holders.items) (hand (graph_thread_of c.step.new.self) c.step.new.variables hs) c.step.result graph_threads in
-    subst Q (sym held') (subst P held made))
-    (λ e h.
-    let A : List ℕ → Type 0 = λ ss. AreCounted ss e in
-    let B : List ℕ → Type 0 = λ ss. AreCounted ss (λ k. e k + ends c.deref_mut.result.now c.step.new.holders k) in
-    let C : List (Option ℕ) → Type 0 = λ hs. AreCounted (with_items before.sections c.step.new.sections).items (λ k. e k + ends hs c.step.new.holders k) in
-    let D : List (Option ℕ) → Type 0 = λ hs. AreCounted (with_items before.sections c.step.new.sections).items (λ k. e k + ends before.holders.items hs k) in
-    subst D (sym held') (subst C held (subst B (sym counted') (c.step.ensures.sections e (subst A (sym counted) h)))))
-    g s ended at
+    after_any before _ c.args.thread c.step.result (record {
+      old = c.index_mut-graph_thread.result.now;
+      new = c.step.new.self;
+      here = here;
+      same = refl;
+      set = refl;
+      makes = λ graph_threads.
+          let made = c.step.ensures.made graph_threads in
+          let P : List (Option ℕ) → Type 0 =
+          λ hs. IsMade graph c.args.thread (old hs) (hand (graph_thread_of c.step.new.self) c.step.new.variables c.step.new.holders) c.step.result
+          graph_threads in
+          let Q : List (Option ℕ) → Type 0 =
+          λ hs. IsMade graph c.args.thread (old before.holders.items) (hand (graph_thread_of c.step.new.self) c.step.new.variables hs) c.step.result
+          graph_threads in
+          subst Q (sym held') (subst P held made);
+      counts = λ e h.
+          let A : List ℕ → Type 0 = λ ss. AreCounted ss e in
+          let B : List ℕ → Type 0 = λ ss. AreCounted ss (λ k. e k + ends c.deref_mut.result.now c.step.new.holders k) in
+          let C : List (Option ℕ) → Type 0 =
+          λ hs. AreCounted (with_items before.sections c.step.new.sections).items (λ k. e k + ends hs c.step.new.holders k) in
+          let D : List (Option ℕ) → Type 0 =
+          λ hs. AreCounted (with_items before.sections c.step.new.sections).items (λ k. e k + ends before.holders.items hs k) in
+          subst D (sym held') (subst C held (subst B (sym counted') (c.step.ensures.sections e (subst A (sym counted) h))));
+    }) g s ended at
