@@ -29,7 +29,7 @@ mod registers;
 #[cfg(test)]
 mod scripts;
 #[cfg(test)]
-mod second_log;
+mod steps;
 #[cfg(test)]
 mod straight;
 #[cfg(test)]

@@ -1,15 +1,12 @@
 //! Cuts of a section that stores, reads and stores again, with their faults worked out by hand.
-use c_tree::expr::{Expr, LockName, Lvalue, Placed};
+use crate::steps::{step, store, target, value};
+use c_tree::expr::{LockName, Lvalue, Placed};
 use flow_graph::cuts::Cuts;
 use flow_graph::graph::{Action, Graph, Node};
 use ido_base::location::Location;
-use ido_base::place::Place;
-use ido_ints::Kind;
 use region_checker::{CheckError, check};
 use std::alloc::{AllocError, Global};
 use std::test::Fail;
-
-const KIND: Kind = Kind::Int;
 
 /// A variable that is no array.
 const SCALAR: Location = Location {
@@ -34,41 +31,6 @@ const ELEMENT: Location = Location {
     hi: 3,
     key: None,
 };
-
-fn value() -> Placed {
-    Placed {
-        place: Place(0),
-        expr: Expr::Variable {
-            place: Place(0),
-            variable: 0,
-            kind: KIND,
-        },
-    }
-}
-
-fn step(a: Global, action: Action<'_>) -> Node<'_> {
-    Node {
-        place: Place(0),
-        action,
-        uses: Vec::new(a),
-        assigns: None,
-        reads: Vec::new(a),
-        writes: None,
-    }
-}
-
-fn store<'a>(a: Global, written: Location, next: usize) -> Node<'a> {
-    let mut node = step(
-        a,
-        Action::Store {
-            variable: written.variable,
-            kind: KIND,
-            next,
-        },
-    );
-    node.writes = Some(written);
-    node
-}
 
 /// Lock, store, read, store, unlock, end.
 fn section<'a>(
@@ -108,14 +70,6 @@ fn cuts(a: Global, [lock, last, unlock]: [bool; 3]) -> Result<Cuts, AllocError> 
         before: Vec::from_array(a, [false, false, false, last, unlock, false])?,
         after_lock: Vec::from_array(a, [lock])?,
     })
-}
-
-fn target() -> Lvalue {
-    Lvalue::Local {
-        place: Place(0),
-        local: 0,
-        kind: KIND,
-    }
 }
 
 /// The elements that the section stores first, reads, and stores last; which of the boundaries stand; and what is said of them.

@@ -4,18 +4,15 @@ ghost use Rattle.flow_graph.specs.Nodes.{graph_of};
 ghost use Rattle.region_cutter.specs.FewestCuts.{IsStretch};
 ghost use Rattle.region_cutter.specs.declared.straight.Stretch as spec;
 
-use c_tree::expr::{Expr, LockName, Lvalue, Placed};
+use crate::steps::{step, store, target, value};
+use c_tree::expr::{LockName, Lvalue, Placed};
 use flow_graph::graph::{Action, Graph, Node};
 use ido_base::location::Location;
 use ido_base::memory::OutOfMemory;
-use ido_base::place::Place;
-use ido_ints::Kind;
 use region_checker::{LabelError, Least, check_labels};
 use region_cutter::{Stretch, cut, fewest, stretches};
 use std::alloc::{AllocError, Global};
 use std::test::Fail;
-
-const KIND: Kind = Kind::Int;
 
 fn scalar(variable: u32) -> Location {
     Location {
@@ -23,17 +20,6 @@ fn scalar(variable: u32) -> Location {
         lo: 0,
         hi: 0,
         key: None,
-    }
-}
-
-fn step(a: Global, action: Action<'_>) -> Node<'_> {
-    Node {
-        place: Place(0),
-        action,
-        uses: Vec::new(a),
-        assigns: None,
-        reads: Vec::new(a),
-        writes: None,
     }
 }
 
@@ -59,16 +45,7 @@ fn assign<'a>(
     }
     nodes.push(reading)?;
     if let Some(variable) = written {
-        let mut store = step(
-            a,
-            Action::Store {
-                variable,
-                kind: KIND,
-                next: nodes.len() + 1,
-            },
-        );
-        store.writes = Some(scalar(variable));
-        nodes.push(store)?;
+        nodes.push(store(a, scalar(variable), nodes.len() + 1))?;
     }
     Ok(())
 }
@@ -99,25 +76,6 @@ fn section<'a>(
         nodes,
         threads: Vec::new(a),
     })
-}
-
-fn target() -> Lvalue {
-    Lvalue::Local {
-        place: Place(0),
-        local: 0,
-        kind: KIND,
-    }
-}
-
-fn value() -> Placed {
-    Placed {
-        place: Place(0),
-        expr: Expr::Variable {
-            place: Place(0),
-            variable: 0,
-            kind: KIND,
-        },
-    }
 }
 
 /// What is assigned to which variable, and before which nodes the fewest boundaries stand.
@@ -151,6 +109,7 @@ const SECTIONS: [(&[(Option<u32>, &[u32])], &[usize]); 6] = [
         &[5],
     ),
 ];
+
 /// The first stretch of the graph.
 fn first_stretch(a: Global, graph: &Graph) -> Result<Option<Stretch>, OutOfMemory>
     ensures { IfOk result (λ found. (s : spec.Stretch) → found ≡ Some s → IsStretch (graph_of graph.now) s.first s.past) }

@@ -5,7 +5,7 @@ use Rattle.ido_base.specs.declared.log.Log.{Log}
 use Rattle.ido_base.specs.declared.log.Log.TheVariants.{V1, V2}
 use Rattle.c_tree.specs.LockNames.{Held, count_held}
 use Rattle.flat_compile.specs.TranslatedForms.{AreFewHeld}
-use Rattle.part_tests.proofs.second_log.translated.Goals as goal
+use Rattle.log_rows.proofs.tests.translated.Goals as goal
 
 few_for : (log : Log) (sets : List (List Held)) → ((thread step : ℕ) → count_held (slice_index_or (slice_index_or sets thread []) step []) ≤ 11) →
     AreFewHeld log sets
