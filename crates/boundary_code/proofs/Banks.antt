@@ -3,8 +3,7 @@ use Rattle.std.proofs.Common.{◌≡◌, ◌≢◌, ℕ, ◌+◌, ◌-◌, ◌*�
 use Rattle.std.proofs.Common.{refl, ap, sym, ◌∙◌, arith, Bool, true, false, ◌==◌, lit<, if◌then◌else◌}
 use Rattle.std.specs.Prelude.{slice_set, filter}
 use Rattle.std.specs.List.{list_all, list_any}
-use Rattle.std.proofs.lemmas.Bool.{and_parts}
-use Rattle.std.proofs.lemmas.List.{get_or-set_other}
+use Rattle.std.proofs.lemmas.Bool.{and_parts, eqb-false}
 use Rattle.std.proofs.lemmas.Bool.Decides.{nat_tests}
 use Rattle.ido_base.specs.declared.limits.TheConstants.{MOST_THREADS}
 use Rattle.ido_base.specs.Layout.{log_of, bank_bytes, slot_at}
@@ -23,7 +22,7 @@ use Rattle.boundary_code.specs.Boundaries.{lines_in_use, bank_lines, listed_from
 use Rattle.boundary_code.specs.links.InstructionLists.{KeptCode, keep_slots, keep_locks, clean_lines, bank_part}
 use Rattle.operator_code.proofs.Public.{RunsFrom, stop, go, store, clean, along, constant_runs, read_same, read_other, length-changed, small_immediate}
 use Rattle.operator_code.proofs.Public.{add_small, displaced_small}
-use Rattle.boundary_code.proofs.Registers.{Ready, ready, ready_still, flip, bank_immediate, base_small, log_small, not_temporary}
+use Rattle.boundary_code.proofs.Registers.{Ready, ready, ready_still, flip, bank_immediate, base_small, not_temporary}
 
 -- ---- Slots
 
@@ -134,13 +133,6 @@ cleans_run log thread bank x y (line ∷ lines) pc t b few h =
 
 -- ---- Locks in slots of their own
 
-base_row : (y : List ℕ) (log offset pc : ℕ) → read y 31 ≡ log → read y 3 ≡ offset → log + offset < 2 ^ 64 →
-    row (Op Add 30 31 3) y pc ≡ Continues (slice_set y 30 (log + offset)) (next pc)
-unfolding row
-base_row y log offset pc e f s = ap (λ (n : ℕ). Continues (slice_set y 30 (result_of Add n (read y 3))) (next pc)) e ∙
-    ap (λ (n : ℕ). Continues (slice_set y 30 (result_of Add log n)) (next pc)) f ∙
-    ap (λ (n : ℕ). Continues (slice_set y 30 n) (next pc)) (add_small log offset s)
-
 -- the stores of these slots
 abbrev pub stores_of : (log : Log) (thread bank : ℕ) → List (ℕ × ℕ) → List Effect
 stores_of log thread bank kept = map (λ (one : ℕ × ℕ). Stores (slot_at log thread bank one.0) 8 one.1) kept
@@ -155,51 +147,42 @@ locks_run log thread bank x slot (number ∷ numbers) (code ∷ codes) t b few g
     let one = gives.0 in
     let z : List ℕ = registers_after code y pc in
     let pc2 : ℕ = pc + 4 * length code in
-    let base : ℕ = log_of log thread + bank_bytes log * bank in
-    let w : List ℕ = slice_set z 30 base in
-    let count : length z ≡ 32 = one.count y pc h.count h.zero_is in
-    let offset : read z 3 ≡ bank_bytes log * bank =
-    one.others y pc 3 h.count h.zero_is (λ e. let n : ⊥ = omega (arith, e) in n) (λ e. let n : ⊥ = omega (arith, e) in n)
-    (λ e. let n : ⊥ = omega (arith, e) in n) (λ e. let n : ⊥ = omega (arith, e) in n) ∙ h.offset in
-    let logged : read z 31 ≡ log_of log thread =
-    one.others y pc 31 h.count h.zero_is (λ e. let n : ⊥ = omega (arith, e) in n) (λ e. let n : ⊥ = omega (arith, e) in n)
-    (λ e. let n : ⊥ = omega (arith, e) in n) (λ e. let n : ⊥ = omega (arith, e) in n) ∙ h.logged in
-    let zeroth : read z 0 ≡ 0 =
-    one.others y pc 0 h.count h.zero_is (λ e. let n : ⊥ = omega (arith, e) in n) (λ e. let n : ⊥ = omega (arith, e) in n)
-    (λ e. let n : ⊥ = omega (arith, e) in n) (λ e. let n : ⊥ = omega (arith, e) in n) ∙ h.zero_is in
-    let ready_again : Ready log thread bank x w = record {
-      count = length-changed z 30 base count;
-      zero_is = read_other z 30 0 base refl ∙ zeroth;
-      offset = read_other z 30 3 base refl ∙ offset;
-      logged = read_other z 30 31 base refl ∙ logged;
-      base = read_same z 30 base count (lit< tt);
-      others = λ r s n. get_or-set_other z 30 r base 0 (not_temporary r 30 refl s) ∙
-          one.others y pc r h.count h.zero_is (not_temporary r 5 refl s) (not_temporary r 6 refl s) (not_temporary r 7 refl s) (not_temporary r 30 refl s) ∙
-          h.others r s n;
+    let other : (r : ℕ) → r ≢ 5 → r ≢ 6 → r ≢ 7 → r ≢ 30 → read z r ≡ read y r = λ r. one.others y pc r h.count h.zero_is in
+    let summed : read y 30 ≡ read y 31 + read y 3 = omega (arith, h.base, h.logged, h.offset) in
+    let still : Ready log thread bank x z = record {
+      count = one.count y pc h.count h.zero_is;
+      zero_is = other 0 (eqb-false 0 5 refl) (eqb-false 0 6 refl) (eqb-false 0 7 refl) (eqb-false 0 30 refl) ∙ h.zero_is;
+      offset = other 3 (eqb-false 3 5 refl) (eqb-false 3 6 refl) (eqb-false 3 7 refl) (eqb-false 3 30 refl) ∙ h.offset;
+      logged = other 31 (eqb-false 31 5 refl) (eqb-false 31 6 refl) (eqb-false 31 7 refl) (eqb-false 31 30 refl) ∙ h.logged;
+      base = one.base y pc h.count h.zero_is summed ∙ h.base;
+      others = λ r s n.
+          other r (not_temporary r 5 refl s) (not_temporary r 6 refl s) (not_temporary r 7 refl s) (not_temporary r 30 refl s) ∙ h.others r s n;
     } in
-    let value : read w 5 ≡ number = read_other z 30 5 base refl ∙ one.number_is y pc h.count h.zero_is in
     let below : slot < 48 = omega (arith, few) in
-    let more = locks_run log thread bank x (slot + 1) numbers codes t b (omega (arith, few)) gives.1 w (pc2 + 4 + 4) ready_again in
+    let more = locks_run log thread bank x (slot + 1) numbers codes t b (omega (arith, few)) gives.1 z (pc2 + 4) still in
     let rest : List Effect = stores_of log thread bank (listed_from (slot + 1) numbers) in
-    let store_row : row (Store Sd 5 30 (64 + 8 * slot)) w (pc2 + 4) ≡ Stores (slot_at log thread bank slot) 8 number =
-    slot_row log thread bank x w 5 slot (64 + 8 * slot) (pc2 + 4) (slot_address log thread bank slot t b below) ready_again ∙
-    ap (λ (n : ℕ). Stores (slot_at log thread bank slot) 8 n) value in
+    let store_row : row (Store Sd 5 30 (64 + 8 * slot)) z pc2 ≡ Stores (slot_at log thread bank slot) 8 number =
+    slot_row log thread bank x z 5 slot (64 + 8 * slot) pc2 (slot_address log thread bank slot t b below) still ∙
+    ap (λ (n : ℕ). Stores (slot_at log thread bank slot) 8 n) (one.number_is y pc h.count h.zero_is) in
     let first : RunsFrom code y pc [] z = record { sees = one.unseen y pc h.count h.zero_is; leaves = refl } in
-    let second : RunsFrom (Op Add 30 31 3 ∷ Store Sd 5 30 (64 + 8 * slot) ∷ keep_locks (slot + 1) codes) z pc2
+    let second : RunsFrom (Store Sd 5 30 (64 + 8 * slot) ∷ keep_locks (slot + 1) codes) z pc2
     (Stores (slot_at log thread bank slot) 8 number ∷ rest) more.left =
-    go (Op Add 30 31 3) (Store Sd 5 30 (64 + 8 * slot) ∷ keep_locks (slot + 1) codes) z w pc2 (Stores (slot_at log thread bank slot) 8 number ∷ rest)
-    more.left
-    (base_row z (log_of log thread) (bank_bytes log * bank) pc2 logged offset (omega (arith, base_small log thread bank t b)))
-    (store (Store Sd 5 30 (64 + 8 * slot)) (keep_locks (slot + 1) codes) w (pc2 + 4) (slot_at log thread bank slot) 8 number rest more.left store_row
-    more.runs) in
+    store (Store Sd 5 30 (64 + 8 * slot)) (keep_locks (slot + 1) codes) z pc2 (slot_at log thread bank slot) 8 number rest more.left store_row more.runs in
     record {
       left = more.left;
-      runs = along code (Op Add 30 31 3 ∷ Store Sd 5 30 (64 + 8 * slot) ∷ keep_locks (slot + 1) codes) y z more.left pc []
+      runs = along code (Store Sd 5 30 (64 + 8 * slot) ∷ keep_locks (slot + 1) codes) y z more.left pc []
           (Stores (slot_at log thread bank slot) 8 number ∷ rest) first second;
       ready = more.ready;
     }
 
 -- ---- The part
+
+base_row : (y : List ℕ) (log offset pc : ℕ) → read y 31 ≡ log → read y 3 ≡ offset → log + offset < 2 ^ 64 →
+    row (Op Add 30 31 3) y pc ≡ Continues (slice_set y 30 (log + offset)) (next pc)
+unfolding row
+base_row y log offset pc e f s = ap (λ (n : ℕ). Continues (slice_set y 30 (result_of Add n (read y 3))) (next pc)) e ∙
+    ap (λ (n : ℕ). Continues (slice_set y 30 (result_of Add log n)) (next pc)) f ∙
+    ap (λ (n : ℕ). Continues (slice_set y 30 n) (next pc)) (add_small log offset s)
 
 flip_row : (log : Log) (x : List ℕ) (bank pc : ℕ) → IsOnSide log bank x →
     row (OpImmediate Xori 3 3 (bank_bytes log)) x pc ≡ Continues (slice_set x 3 (bank_bytes log * (1 - bank))) (next pc)

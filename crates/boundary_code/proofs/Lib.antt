@@ -1,5 +1,4 @@
 pub mod Public
-mod BoundariesByLog
 mod EmptyLists
 mod Registers
 mod Banks

@@ -61,11 +61,11 @@ list_code = boundary_list V2 (Lui 31 0x2_0000 ∷ [])
 
 seen_of_list : effects list_code zeros 0x1_0000 ≡
     Stores 0x2000_0440 8 2 ∷ Stores 0x2000_0540 8 5 ∷ Stores 0x2000_0548 8 9 ∷ Stores 0x2000_0480 8 0 ∷
-    Cleans 0x2000_0440 ∷ Cleans 0x2000_0480 ∷ Cleans 0x2000_0540 ∷ Fences ∷ Stores 0x2000_0000 8 0x1_0069 ∷ Cleans 0x2000_0000 ∷ Fences ∷ []
+    Cleans 0x2000_0440 ∷ Cleans 0x2000_0480 ∷ Cleans 0x2000_0540 ∷ Fences ∷ Stores 0x2000_0000 8 0x1_0061 ∷ Cleans 0x2000_0000 ∷ Fences ∷ []
 unfolding list_code lock_numbers zeros row result_of
 seen_of_list = refl
 
-listed_as_defined : boundary_effects listing 0 0x1_0068 zeros ≡ effects list_code zeros 0x1_0000
+listed_as_defined : boundary_effects listing 0 0x1_0060 zeros ≡ effects list_code zeros 0x1_0000
 unfolding listing list_code lock_numbers zeros row result_of
 listed_as_defined = refl
 

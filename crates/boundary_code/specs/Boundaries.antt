@@ -54,7 +54,7 @@ HaveRoom V2 locks = length locks ≤ 16
 -- how many words a boundary's code has at most, beside one for each live register, where one instruction gives each lock's number
 abbrev pub words_beside : Log → (locks : List ℕ) → ℕ
 words_beside V1 locks = 35
-words_beside V2 locks = 39 + 3 * length locks
+words_beside V2 locks = 39 + 2 * length locks
 
 -- the slots of a bank that a boundary writes
 abbrev pub slots_kept : Log → (locks live : List ℕ) → List ℕ
@@ -113,11 +113,14 @@ pub record KeepsRegisters (log : Log) (code : List Instr) : Type 0 where
 
 -- ---- Numbers of locks
 
--- code that leaves the number of a lock in x5. It writes no registers but x5, x6, x7 and x30, and memory sees nothing of it
+-- code that leaves the number of a lock in x5. It writes no registers but x5, x6, x7 and x30, and memory sees nothing of it. Where x30 has the sum of x31
+-- and x3, it has it again in the end: code that needs it for something else adds them once more
 pub record GivesNumber (number : ℕ) (code : List Instr) : Type 0 where
   pub unseen : (x : List ℕ) (pc : ℕ) → length x ≡ 32 → read x 0 ≡ 0 → effects code x pc ≡ []
   pub count : (x : List ℕ) (pc : ℕ) → length x ≡ 32 → read x 0 ≡ 0 → length (registers_after code x pc) ≡ 32
   pub number_is : (x : List ℕ) (pc : ℕ) → length x ≡ 32 → read x 0 ≡ 0 → read (registers_after code x pc) 5 ≡ number
+  pub base : (x : List ℕ) (pc : ℕ) → length x ≡ 32 → read x 0 ≡ 0 → read x 30 ≡ read x 31 + read x 3 →
+      read (registers_after code x pc) 30 ≡ read x 30
   pub others : (x : List ℕ) (pc r : ℕ) → length x ≡ 32 → read x 0 ≡ 0 → r ≢ 5 → r ≢ 6 → r ≢ 7 → r ≢ 30 →
       read (registers_after code x pc) r ≡ read x r
 

@@ -106,7 +106,6 @@ fn emit_locks(code: &mut Vec<Instr>, locks: &[Vec<Instr>]) -> Result<(), OutOfMe
     let mut slot = FIRST_BANK as u16 + SLOT_BYTES as u16 * u16::from(FIRST_LOCK);
     for lock in locks {
         code.extend_from_slice(lock)?;
-        code.push(add(BANK, LOG, BANK_OFFSET))?;
         code.push(sd(LOCK, slot, BANK))?;
         slot += SLOT_BYTES as u16;
     }
@@ -271,11 +270,12 @@ pub fn boundary(
 }
 
 /// The code of a boundary where a bank lists the held locks: of each lock in the list's order there are instructions that leave
-/// its number in x5, write only x5, x6, x7 and x30 and touch no memory. The other bank gets how many locks are held after it, their numbers and the
-/// live registers, its lines in use are cleaned, and a FENCE makes them durable, with what was cleaned before; then the point gets the
-/// address that lies `resume` bytes after the boundary's end, and the bank, is cleaned, and a FENCE makes it durable.
-/// No locks end a section: no bank is written and the point gets 0. It leaves all registers but x3 and the temporaries as they
-/// were; x3 has the offset of the bank written, and without locks the same as before.
+/// its number in x5 and touch no memory; they write only x5, x6, x7 and x30, and x30 has the sum of x31 and x3 again in the end. The
+/// other bank gets how many locks are held after it, their numbers and the live registers, its lines in use are cleaned, and a FENCE
+/// makes them durable, with what was cleaned before; then the point gets the address that lies `resume` bytes after the boundary's
+/// end, and the bank, is cleaned, and a FENCE makes it durable. No locks end a section: no bank is written and the point gets 0. It
+/// leaves all registers but x3 and the temporaries as they were; x3 has the offset of the bank written, and without locks the same
+/// as before.
 pub fn boundary_list(
     alloc: Global,
     thread: u32,
@@ -289,7 +289,7 @@ pub fn boundary_list(
     requires low { negsuc 262143 ≤ℤ resume }
     requires high { resume ≤ℤ pos 262144 }
     ensures short { (most : ℕ) → AreShort most (lists_of locks.now) →
-        IfOk result (λ code. length code.items ≤ length live.now + 39 + (most + 2) * length locks.now) }
+        IfOk result (λ code. length code.items ≤ length live.now + 39 + (most + 1) * length locks.now) }
     ensures effects { (numbers : List ℕ) → GiveNumbers numbers (lists_of locks.now) → IfOk result (λ code.
         HasEffects (record { log = V2; thread = thread; locks = numbers; live = live.now; resume = resume }) code.items) }
     ensures offset { (numbers : List ℕ) → GiveNumbers numbers (lists_of locks.now) → IfOk result (λ code. HasOffset V2 numbers code.items) }

@@ -10,7 +10,7 @@ use Rattle.ido_base.specs.Locks.{locks_from, locks_in}
 use Rattle.rv64_isa.specs.declared.instr.Instr.{Instr}
 use Rattle.rv64_isa.specs.Rows.{read}
 use Rattle.operator_code.specs.StraightLineCode.{IsConstant}
-use Rattle.operator_code.proofs.Public.{read_same, length-changed}
+use Rattle.operator_code.proofs.Public.{read_same, read_other, length-changed}
 use Rattle.boundary_code.specs.Boundaries.{GivesNumber, GiveNumbers}
 use Rattle.boundary_code.specs.links.InstructionLists.{AreShort, lists_of}
 use Rattle.node_code.specs.links.BoundaryCode.{number_code}
@@ -25,6 +25,7 @@ gives_number mutex small =
       unseen = is.unseen;
       count = λ x pc count zero_is. ap (λ (y : List ℕ). length y) (is.changes x pc count zero_is) ∙ length-changed x 5 mutex count;
       number_is = λ x pc count zero_is. ap (λ (y : List ℕ). read y 5) (is.changes x pc count zero_is) ∙ read_same x 5 mutex count (lit< tt);
+      base = λ x pc count zero_is sum. ap (λ (y : List ℕ). read y 30) (is.changes x pc count zero_is) ∙ read_other x 5 30 mutex refl;
       others = λ x pc r count zero_is other not_6 not_7 not_30.
           ap (λ (y : List ℕ). read y r) (is.changes x pc count zero_is) ∙ get_or-set_other x 5 r mutex 0 other;
     }

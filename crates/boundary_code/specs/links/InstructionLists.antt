@@ -26,7 +26,7 @@ keep_slots (r ∷ rs) = Store Sd r 30 (64 + 8 * r) ∷ keep_slots rs
 -- each lock's number gets a slot, from this one on
 abbrev pub keep_locks : (slot : ℕ) → (codes : List (List Instr)) → List Instr
 keep_locks slot [] = []
-keep_locks slot (code ∷ codes) = code ++ Op Add 30 31 3 ∷ Store Sd 5 30 (64 + 8 * slot) ∷ keep_locks (slot + 1) codes
+keep_locks slot (code ∷ codes) = code ++ Store Sd 5 30 (64 + 8 * slot) ∷ keep_locks (slot + 1) codes
 
 abbrev pub clean_lines : (lines : List ℕ) → List Instr
 clean_lines [] = []

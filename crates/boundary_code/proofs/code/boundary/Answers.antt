@@ -1,4 +1,4 @@
-use Rattle.std.proofs.Common.{◌≡◌, ◌≢◌, ◌≤◌, ◌<◌, ◌+◌, ◌^◌, length, ℕ, List, [], true, false, refl, subst, sym, ◌∙◌, eq-eqb, rules, arith}
+use Rattle.std.proofs.Common.{◌≡◌, ◌≢◌, ◌≤◌, ◌<◌, ◌+◌, ◌^◌, length, ℕ, List, [], true, false, subst, sym, ◌∙◌, eq-eqb, rules, arith}
 use Rattle.std.specs.Int.{cast_signed, cast_unsigned, w32}
 use Rattle.std.proofs.lemmas.Int.{to_z-of_z}
 use Rattle.std.proofs.lemmas.Bool.{ne_eqb}
@@ -12,7 +12,7 @@ use Rattle.rv64_isa.specs.Signed.{twos_complement}
 use Rattle.operator_code.specs.StraightLineCode.{IsConstant}
 use Rattle.boundary_code.specs.Boundaries.{Boundary, is_empty}
 use Rattle.boundary_code.specs.links.InstructionLists.{boundary_list, last_list}
-use Rattle.boundary_code.proofs.BoundariesByPieces.{Parts, IsMade, by_mask_made, last_made}
+use Rattle.boundary_code.proofs.BoundariesByPieces.{Parts, by_mask_made, last_made}
 use Rattle.boundary_code.proofs.EmptyLists.{empty_where}
 use Rattle.boundary_code.proofs.Lengths.{boundary_short, last_short}
 use Rattle.boundary_code.proofs.code.boundary.Goals as goal

@@ -1,4 +1,4 @@
-use Rattle.std.proofs.Common.{◌≡◌, ◌<◌, ◌+◌, ◌-◌, ◌++◌, ◌∷◌, ℕ, suc, List, [], ap, sym, ◌∙◌, append_assoc, arith}
+use Rattle.std.proofs.Common.{◌≡◌, ◌<◌, ◌+◌, ◌-◌, ◌++◌, ◌∷◌, ℕ, suc, List, [], ap, ◌∙◌, append_assoc, arith}
 use Rattle.rv64_isa.specs.Machine.{numbers_from}
 use Rattle.boundary_code.proofs.code.slots_in_use.Goals as goal
 
