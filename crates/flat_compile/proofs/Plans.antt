@@ -8,6 +8,7 @@ use Rattle.std.proofs.lemmas.Option.{none-some, same_Some}
 use Rattle.ido_base.specs.declared.log.Log.{Log}
 use Rattle.ido_base.specs.declared.log.Log.TheVariants.{V1, V2}
 use Rattle.ido_base.specs.declared.limits.TheConstants.{MOST_THREADS, MOST_CODE_WORDS}
+use Rattle.c_tree.specs.declared.language.TheConstants.{MOST_HELD}
 use Rattle.c_tree.specs.Flats.{flat_of}
 use Rattle.c_tree.specs.LockNames.{Held, count_held}
 use Rattle.c_tree.specs.Prices.{node_price}
@@ -61,7 +62,7 @@ room_for : (log : Log) (sets : List (List Held)) → AreFewHeld log sets → (th
 room_for V1 sets few thread step = tt
 room_for V2 sets few thread step =
     let set : Held = slice_index_or (slice_index_or sets thread []) step [] in
-    let most : count_held set ≤ 11 = few thread step in
+    let most : count_held set ≤ MOST_HELD = few thread step in
     omega (arith, most, count_is 0 set)
 
 -- a node's price pays for each set
@@ -70,7 +71,7 @@ paid_for : (log : Log) (sets : List (List Held)) → AreFewHeld log sets → (th
 paid_for V1 sets few thread step = omega arith
 paid_for V2 sets few thread step =
     let set : Held = slice_index_or (slice_index_or sets thread []) step [] in
-    let most : count_held set ≤ 11 = few thread step in
+    let most : count_held set ≤ MOST_HELD = few thread step in
     omega (arith, most, count_is 0 set)
 
 abbrev pub plan_at : Log → Analysis → Cuts → Plan

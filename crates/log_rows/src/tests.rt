@@ -3,6 +3,7 @@ ghost use Rattle.std.specs.Prelude.{◌≡◌, ◌≤◌, length, IfOk};
 ghost use Rattle.ido_base.specs.declared.limits.TheConstants.{MOST_SOURCE_BYTES};
 ghost use Rattle.hart_core.specs.Objects.{IsWithinLimits};
 
+use c_tree::language::MOST_HELD;
 use flat_compile::{Translated, translate};
 use ido_base::event::{Event, Reply};
 use ido_base::log::Log;
@@ -21,9 +22,6 @@ const BOTH: u64 = 0x2_0000_0001;
 /// Events that a life takes.
 const ROOM: u64 = 2000;
 
-/// The most locks that a node's price pays for in a list.
-const MOST_PAID: u32 = 11;
-
 /// The text, compiled, where its threads log so.
 fn translated(alloc: Global, log: Log, text: &[u8]) -> Result<Translated, Fail>
     requires { length text.now ≤ MOST_SOURCE_BYTES }
@@ -32,7 +30,7 @@ fn translated(alloc: Global, log: Log, text: &[u8]) -> Result<Translated, Fail>
 {
     let flat = flatten(alloc, text)?;
     let analysis = checked(alloc, text, &flat)?;
-    if analysis.held.are_at_most(MOST_PAID) {
+    if analysis.held.are_at_most(MOST_HELD) {
         let made = translate(alloc, log, &analysis)?;
         return Ok(made);
     }
