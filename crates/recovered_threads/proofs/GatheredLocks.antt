@@ -28,7 +28,7 @@ same_lists [] (y ∷ ys) count same = absurd (let z : ⊥ = omega (arith, count)
 same_lists (x ∷ xs) [] count same = absurd (let z : ⊥ = omega (arith, count) in z)
 same_lists (x ∷ xs) (y ∷ ys) count same = ap₂ ◌∷◌ (same 0 x y refl refl) (same_lists xs ys (omega (arith, count)) (λ k a b. same (suc k) a b))
 
-module _ (p : Plan) (codes : Codes p) (kept : FlowState) (w : World) (records : ℕ → Record) (plan : IsPlan p) (orderly : IsOrderly p kept)
+module _ {p : Plan} (codes : Codes p) {kept : FlowState} {w : World} {records : ℕ → Record} (plan : IsPlan p) (orderly : IsOrderly p kept)
     (describe : AllDescribe p codes kept records) (gathering : AreGathering w records) (none : (g : ℕ) → ¬ (IsInPhase w g Take))
     (count : length w.harts ≡ length p.graph.threads) where
   -- a thread's locks are those of its record
@@ -61,7 +61,7 @@ module _ (p : Plan) (codes : Codes p) (kept : FlowState) (w : World) (records : 
 
 pub gathered_are_kept : GatheredAreKept
 gathered_are_kept p codes kept w records plan orderly describe gathering none harts locks =
-    same_lists w.holders kept.holders locks (same_holder p codes kept w records plan orderly describe gathering none harts)
+    same_lists w.holders kept.holders locks (same_holder codes plan orderly describe gathering none harts)
 
 pub ready_as_kept : ReadyAsKept
 ready_as_kept p code kept w r plan orderly describes ready count lock = (

@@ -109,9 +109,8 @@ no_pending_in p (Lock lock next) s graph_thread x none = tt
 no_pending_in p (Unlock lock next) s graph_thread x none = tt
 no_pending_in p End s graph_thread x none = tt
 
-module _ (p : Plan) (code : Code p) (s : FlowState) (graph_thread : GraphThread) (from : ℕ) (lock : e.LockName) (is : Node) (plan : IsPlan p)
-    (orderly : IsOrderly p s)
-    (there : slice_get s.graph_threads code.thread.number ≡ Some graph_thread) (at : NodeAt p.graph from is)
+module _ {p : Plan} (code : Code p) {s : FlowState} {graph_thread : GraphThread} (from : ℕ) {lock : e.LockName} {is : Node} (plan : IsPlan p)
+    (orderly : IsOrderly p s) (there : slice_get s.graph_threads code.thread.number ≡ Some graph_thread) (at : NodeAt p.graph from is)
     (unlocks : is.action ≡ Unlock lock graph_thread.at) where
   node_is : slice_get (threads_nodes p.flat p.flat.threads 0) from ≡ Some is
   node_is = ap (λ (ns : List Node). slice_get ns from) (sym (ap (λ (g : Graph). g.nodes) plan.lowered ∙ lowered_nodes p.flat)) ∙ at
@@ -148,4 +147,4 @@ module _ (p : Plan) (code : Code p) (s : FlowState) (graph_thread : GraphThread)
 
 pub unlocks_enter : UnlocksEnter
 unlocks_enter p code s graph_thread from mutex side is x plan orderly there at unlocks enters =
-    enters_after p code s graph_thread from mutex is plan orderly there at unlocks side x enters
+    enters_after code from plan orderly there at unlocks side x enters

@@ -29,9 +29,8 @@ resumed_there p code node address own (at_chosen chosen) = c.at_chosen node own 
 resumed_there p code node address own (past_lock from lock is from_own at locks) = c.past_lock from lock node is from_own at locks
 resumed_there p code node address own (past_unlock from lock is from_own at unlocks holds) = c.past_unlock from lock node is from_own at unlocks holds
 
-module _ (program : List (List Slot)) (p : Plan) (code : Code p) (kept : FlowState) (w : World) (r : Record) (logs : p.log ≡ w.log)
-    (told : IsInside p code kept r)
-    (ready : IsRecoveredHart w code.thread.number r) (i : runs.IsInPhase w code.thread.number Resume) where
+module _ (program : List (List Slot)) {p : Plan} (code : Code p) {kept : FlowState} {w : World} {r : Record} (logs : p.log ≡ w.log)
+    (told : IsInside p code kept r) (ready : IsRecoveredHart w code.thread.number r) (i : runs.IsInPhase w code.thread.number Resume) where
   abbrev h : ℕ
   h = code.thread.number
 
@@ -82,4 +81,4 @@ module _ (program : List (List Slot)) (p : Plan) (code : Code p) (kept : FlowSta
 
 pub harts_go_on : HartsGoOn
 harts_go_on program p code kept w r logs (between none point) ready i = absurd (ready.inside point)
-harts_go_on program p code kept w r logs (inside some told) ready i = goes_on program p code kept w r logs told ready i
+harts_go_on program p code kept w r logs (inside some told) ready i = goes_on program code logs told ready i
