@@ -132,35 +132,32 @@ set_set [] n x y = refl
 set_set (z ∷ zs) zero x y = refl
 set_set (z ∷ zs) (suc n) x y = ap (λ (rest : List _). z ∷ rest) (set_set zs n x y)
 
-module _ (program : List (List Slot)) (number : ℕ) (recovering held over : Bool) (before after : Parts) (reply : Reply) (w : World) (model : HartModel) where
-  over-is : w.recovering ≡ recovering → held ≡ (recovering && not (holds_none before.locks number)) → over ≡ (held && holds_none after.locks number) →
-      PartsStand before number w model → (e : PartsEnd after reply number w (hart_step program w number model)) →
-      over_after w (hart_step program w number model).0 number ≡ over
-  over-is recovers is_held is_over s e =
-      ap (λ (r : Bool). r && (not (holds_none w.holders number) && holds_none (hart_step program w number model).0.holders number)) recovers
-      ∙ ap (λ (holders : List (Option ℕ)).
-      recovering && (not (holds_none holders number) && holds_none (hart_step program w number model).0.holders number)) s.holders
-      ∙ ap (λ (holders : List (Option ℕ)). recovering && (not (holds_none before.locks number) && holds_none holders number)) e.stand.holders
-      ∙ and_both recovering (not (holds_none before.locks number)) (holds_none after.locks number)
-      ∙ ap (λ (h : Bool). h && holds_none after.locks number) (sym is_held)
-      ∙ sym is_over
+module _ (program : List (List Slot)) (number : ℕ) (before after : Parts) (reply : Reply) (w : World) (model : HartModel) where
+  -- in recovery, the hart has released its last lock
+  abbrev pub ends : Bool
+  ends = (w.recovering && not (holds_none before.locks number)) && holds_none after.locks number
 
-  pub run_on : w.recovering ≡ recovering → held ≡ (recovering && not (holds_none before.locks number)) → over ≡ (held && holds_none after.locks number) →
-      over ≡ false → PartsStand before number w model → PartsEnd after reply number w (hart_step program w number model) →
+  over-is : PartsStand before number w model → (e : PartsEnd after reply number w (hart_step program w number model)) →
+      over_after w (hart_step program w number model).0 number ≡ ends
+  over-is s e =
+      ap (λ (holders : List (Option ℕ)).
+      w.recovering && (not (holds_none holders number) && holds_none (hart_step program w number model).0.holders number)) s.holders
+      ∙ ap (λ (holders : List (Option ℕ)). w.recovering && (not (holds_none before.locks number) && holds_none holders number)) e.stand.holders
+      ∙ and_both w.recovering (not (holds_none before.locks number)) (holds_none after.locks number)
+
+  pub run_on : ends ≡ false → PartsStand before number w model → PartsEnd after reply number w (hart_step program w number model) →
       PartsEnd after reply number w (run_step program w number model)
-  run_on recovers is_held is_over stays s e =
+  run_on stays s e =
       let o : Outcome = hart_step program w number model in
-      subst (λ (x : Outcome). PartsEnd after reply number w x)
-      (sym (after-done w number o e.model false e.stand.found (over-is recovers is_held is_over s e ∙ stays))) e
+      subst (λ (x : Outcome). PartsEnd after reply number w x) (sym (after-done w number o e.model false e.stand.found (over-is s e ∙ stays))) e
 
-  pub run_done : w.recovering ≡ recovering → held ≡ (recovering && not (holds_none before.locks number)) → over ≡ (held && holds_none after.locks number) →
-      over ≡ true → PartsStand before number w model → PartsEnd after reply number w (hart_step program w number model) →
+  pub run_done : ends ≡ true → PartsStand before number w model → PartsEnd after reply number w (hart_step program w number model) →
       PartsEnd (record after { phase = Done }) reply number w (run_step program w number model)
-  run_done recovers is_held is_over ends s e =
+  run_done over s e =
       let o : Outcome = hart_step program w number model in
       let done : HartModel = record e.model { phase = Done } in
       subst (λ (x : Outcome). PartsEnd (record after { phase = Done }) reply number w x)
-      (sym (after-done w number o e.model true e.stand.found (over-is recovers is_held is_over s e ∙ ends))) (record {
+      (sym (after-done w number o e.model true e.stand.found (over-is s e ∙ over))) (record {
         replied = e.replied;
         model = done;
         stand = record {
