@@ -140,7 +140,7 @@ pub record BoundaryIsRecoverable (p : Plan) (code : Code p) (s : FlowState) (nod
   pub recoverable : IsRecoverable (keeping p code.thread code.is.places node) resume x
   pub describes : Describes p code s (recorded_by (keeping p code.thread code.is.places node) side resume x)
 
-module _ (p : Plan) (code : Code p) (s : FlowState) (side resume : ℕ) (x : List ℕ) (plan : IsPlan p) (orderly : IsOrderly p s) (good : Good p.flat s)
+module _ {p : Plan} (code : Code p) {s : FlowState} {side resume : ℕ} {x : List ℕ} (plan : IsPlan p) (orderly : IsOrderly p s) (good : Good p.flat s)
     (k : IsBeginning p code s side resume x) where
   abbrev at_boundary : AtBoundary p code s side resume x
   at_boundary = record {

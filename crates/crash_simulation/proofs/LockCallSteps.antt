@@ -284,8 +284,7 @@ module _ {y : System} {s : IsSystem y} {w : World} {h mutex next : ℕ} (at : At
     begins_there : BoundaryIsRecoverable y.plan code (now_of y then_abstract) next at.o.side resume asks.registers
     unfolding beginning
     begins_there =
-        boundaries_begin y.plan code (now_of y then_abstract) at.o.side resume asks.registers s.plan (now_orderly y s then_abstract)
-        (now_good y s then_abstract) beginning
+        boundaries_begin code s.plan (now_orderly y s then_abstract) (now_good y s then_abstract) beginning
 
     abbrev then_ghost : ThreadGhost
     then_ghost = begins_with c (recorded_by b_next at.o.side resume asks.registers) (boundary_effects b_next at.o.side resume asks.registers) None

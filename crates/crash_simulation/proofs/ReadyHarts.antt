@@ -241,7 +241,7 @@ module _ {y : System} {s : IsSystem y} {w : World} {h : ℕ} (site : Site y s w 
         stands_in y s h site.below resume storing.instr storing.stands
 
     begins : BoundaryIsRecoverable y.plan code (now_of y b) graph_thread.at side resume registers
-    begins = boundaries_begin y.plan code (now_of y b) side resume registers s.plan (now_orderly y s b) (now_good y s b) (record {
+    begins = boundaries_begin code s.plan (now_orderly y s b) (now_good y s b) (record {
       graph_thread = graph_thread;
       there = t.walks;
       goes_on = fits.1;

@@ -134,17 +134,16 @@ module _ {y : System} {s : IsSystem y} {w : World} {h : ℕ} (site : AtNode y s 
       (subst (λ (z : Seen). Enters y.plan code.thread graph_thread.at z site.core.side site.core.registers) seen_same site.core.core.enters)
 
   begins : BoundaryIsRecoverable y.plan code (now_of y next) next_node site.core.side resume site.core.registers
-  begins = boundaries_begin y.plan code (now_of y next) site.core.side resume site.core.registers s.plan (now_orderly y s next)
-      (now_good y s next) (record {
-        graph_thread = graph_thread_next;
-        there = walks_next;
-        goes_on = site.core.goes.execution;
-        own = mark.at.own;
-        resumes = λ holds. past_unlock graph_thread.at name node site.core.core.own (at_plan site doing) action holds;
-        enters = enters_next;
-        address = after_unlock_in y s h site.hart.below graph_thread.at graph_thread.locals mutex next_node
-            (record { own = site.core.core.own; is = node; at = at_plan site doing; lock = name; unlocks = action; number = refl });
-      })
+  begins = boundaries_begin code s.plan (now_orderly y s next) (now_good y s next) (record {
+    graph_thread = graph_thread_next;
+    there = walks_next;
+    goes_on = site.core.goes.execution;
+    own = mark.at.own;
+    resumes = λ holds. past_unlock graph_thread.at name node site.core.core.own (at_plan site doing) action holds;
+    enters = enters_next;
+    address = after_unlock_in y s h site.hart.below graph_thread.at graph_thread.locals mutex next_node
+        (record { own = site.core.core.own; is = node; at = at_plan site doing; lock = name; unlocks = action; number = refl });
+  })
 
   log_first : LogInv n c.new new_record w effects_all
   log_first = log_begins site.hart next_node site.core.side resume site.core.registers site.core.goes.goes.rest site.core.core.enters.at_side
