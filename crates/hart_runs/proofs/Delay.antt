@@ -115,10 +115,8 @@ kind_of h Crash n = absurd (n refl)
 own_test : (h : ℕ) → is_step_of h (Step h) ≡ true
 own_test h = grind arith
 
-module _ (program : List (List Slot)) (w : World) (h : ℕ) (s : MarkedEnvironment) (steps : ℕ) (seen : List Observation) (to : LocalConfig) (event : Event)
-    (events : List Event)
-    (sound : IsWellFormedWorld w)
-    (on : IsOnTrace w h s (suc steps) seen to) where
+module _ (program : List (List Slot)) {w : World} {h : ℕ} {s : MarkedEnvironment} {steps : ℕ} {seen : List Observation} {to : LocalConfig} (event : Event)
+    (events : List Event) (sound : IsWellFormedWorld w) (on : IsOnTrace w h s (suc steps) seen to) where
   -- what a hart comes to by the other events, it comes to after this one
   goes_on : AgreesOnTheFragment program w h s to (event ∷ events) → steps_left (suc steps) seen on.hart.queue ≤ own_steps h (event ∷ events) →
       ((k : ℕ) (rest : List Observation) (x : IsOnTrace (after_event program w event) h s k rest to) → steps_left k rest x.hart.queue ≤ own_steps h events →
@@ -156,7 +154,7 @@ harts_come program w h s (suc steps) seen to [] count sound on crashless agrees 
 harts_come program w h s (suc steps) seen to (event ∷ events) count sound on crashless agrees left =
     let stays : IsWellFormedWorld (after_event program w event) × (length (after_event program w event).harts ≡ length w.harts) =
     queues_stand program w event count sound in
-    goes_on program w h s steps seen to event events sound on agrees left
+    goes_on program event events sound on agrees left
     (λ k rest x l. harts_come program (after_event program w event) h s k rest to events (count ∙ sym stays.1) stays.0 x crashless.1
     (agrees_later program w h s to event events agrees) l)
     (kind_of h event crashless.0)
