@@ -1,3 +1,4 @@
 pub mod CompilableForms
 pub mod Analyses
+pub mod LiveKeys
 pub mod links

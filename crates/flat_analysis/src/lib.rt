@@ -2,5 +2,6 @@
 #![tactic(auto)]
 
 mod analyses;
+pub mod laws;
 
 pub use analyses::{Analysis, analyse};
