@@ -9,7 +9,7 @@ use Rattle.ido_base.specs.declared.limits.TheConstants.{MOST_EVENTS}
 use Rattle.ido_base.specs.Places.{line_feed}
 use Rattle.c_tree.specs.Flats as f
 use Rattle.rv64_isa.specs.Programs.{slot_of}
-use Rattle.flow_graph.specs.Refusals.{IsAccepted, IsRefusedBy}
+use Rattle.flow_graph.specs.Refusals.{IsAccepted}
 use Rattle.compiler_correctness.specs.Translations.{Translation}
 use Rattle.ido_compile.proofs.Public.{few_accepted}
 use Rattle.ido_compile.specs.Verdicts.{OneFlat, NotBoth}
@@ -57,17 +57,14 @@ threads_are flat c made =
     ap (λ (z : Translation). length z.runs.program) made.is ∙ length-map made.object.code.items (λ code. map slot_of code.items)
     ∙ as_many_threads flat made.object made.marks made.cuts made.translated
 
--- an input whose source text and script are known
-module _ (one_flat : OneFlat) (not_both : NotBoth) (input source script : List ℕ) (source_is : source_of input ≡ source) (script_is : rest_of input ≡ script)
-    (flat : f.Flat) (accepted : IsAccepted source flat) (lines : List scripts.Line)
-    (read_is : scripts.read (length flat.threads) script ≡ scripts.Lines lines) where
+-- an input whose source is accepted, and whose script has these lines
+module _ (one_flat : OneFlat) (not_both : NotBoth) (input : List ℕ) (flat : f.Flat) (accepted : IsAccepted (source_of input) flat)
+    (lines : List scripts.Line) (read_is : scripts.read (length flat.threads) (rest_of input) ≡ scripts.Lines lines) where
   same_flat : (other : f.Flat) → IsAccepted (source_of input) other → other ≡ flat
-  same_flat other is = one_flat source other flat (subst (λ (text : List ℕ). IsAccepted text other) source_is is) accepted
+  same_flat other is = one_flat (source_of input) other flat is accepted
 
   reading : (other : f.Flat) → IsAccepted (source_of input) other → scripts.read (length other.threads) (rest_of input) ≡ scripts.Lines lines
-  reading other is =
-      ap (λ (z : f.Flat). scripts.read (length z.threads) (rest_of input)) (same_flat other is)
-      ∙ ap (scripts.read (length flat.threads)) script_is ∙ read_is
+  reading other is = ap (λ (z : f.Flat). scripts.read (length z.threads) (rest_of input)) (same_flat other is) ∙ read_is
 
   same_lines : (other : f.Flat) → IsAccepted (source_of input) other → (found : List scripts.Line) →
       scripts.read (length other.threads) (rest_of input) ≡ scripts.Lines found → found ≡ lines
@@ -102,8 +99,7 @@ module _ (one_flat : OneFlat) (not_both : NotBoth) (input source script : List �
     }
 
     is_of_script : (status : ℕ) (output : List ℕ) → ScriptedAnswer Says input status output → IsOfScript status output
-    is_of_script status output (unplayed found place is told) =
-        absurd (not_both source flat found place accepted (subst (λ (text : List ℕ). IsRefusedBy text found place) source_is is))
+    is_of_script status output (unplayed found place is told) = absurd (not_both (source_of input) flat found place accepted is)
     is_of_script status output (no_script other is x read told) = absurd (none_refused other is x read)
     is_of_script status output (of_script other is found read c made answer) =
         of_script_at other (same_flat other is) found (same_lines other is found read) c made _ status output answer
@@ -123,6 +119,9 @@ journals_are_played one_flat not_both back source events flat status output alon
     let limit : length events < 4294967296 = omega (arith, few) in
     let played = back (length flat.threads) events (few_accepted source flat accepted) limit valid in
     let both = parts source events alone in
-    let it = is_of_script one_flat not_both (journal_text source events) source (script_of events) both.0 both.1 flat accepted played.lines played.read_is
-    IsRunBy status output answer in
-    (it.translation, it.made, run_is flat events played few it.translation it.made (journal_text source events) it.begins status output it.says)
+    let input = journal_text source events in
+    let accepted_in : IsAccepted (source_of input) flat = subst (λ (text : List ℕ). IsAccepted text flat) (sym both.0) accepted in
+    let read_is : scripts.read (length flat.threads) (rest_of input) ≡ scripts.Lines played.lines =
+    ap (scripts.read (length flat.threads)) both.1 ∙ played.read_is in
+    let it = is_of_script one_flat not_both input flat accepted_in played.lines read_is IsRunBy status output answer in
+    (it.translation, it.made, run_is flat events played few it.translation it.made input it.begins status output it.says)

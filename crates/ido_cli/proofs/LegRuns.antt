@@ -71,7 +71,7 @@ more_over (Some u) (Some v) None m n f g = absurd g
 
 -- ---- A leg of a life, as it is defined
 
-module _ (turns : ℕ) (first : Option Evictor) (opening : LifeConfig) (word : Option ℕ) (moment : ℕ) (life : Course) (evict : Option Evictor)
+module _ (turns : ℕ) (first : Option Evictor) {opening : LifeConfig} (word : Option ℕ) (moment : ℕ) (life : Course) (evict : Option Evictor)
     (same : opening_of life ≡ opening) (is : moment ≡ moment_after life.journal word)
     (over : HasAdvanced evictions_of first (count_by is_eviction life.journal) evict) where
   -- a leg by what it opens with, by its moment, and by what is still to come
@@ -98,7 +98,7 @@ module _ (turns : ℕ) (first : Option Evictor) (opening : LifeConfig) (word : O
 -- ---- A leg and a crash
 
 module _ (turns word most moment : ℕ) (run : Run) (is : moment ≡ min (length run.life.journal + word) most) (can : CanRun (most + 1) run)
-    (within : length run.life.journal ≤ most) (core : Course) (stops : List Stop) (evict : Option Evictor)
+    (within : length run.life.journal ≤ most) {core : Course} {stops : List Stop} {evict : Option Evictor}
     (d : IsLifeDriven run.life turns moment run.evict core stops evict) where
   few : length d.journal ≤ moment - length run.life.journal
   few = leg_bounded (leg_from turns moment run.life run.evict) d.journal d.leg.each
@@ -207,7 +207,7 @@ module _ (turns : ℕ) (words : List ℕ) (begun : Run) where
         let crashless = leg_crashless (leg_from turns latest run.life run.evict) c.leg c.is.each in
         let long = ap length c.journal ∙ length-append (run.life.journal ++ c.leg) (Crash ∷ []) in
         let longer = length-append run.life.journal c.leg in
-        let leg = is_leg_after turns begun.evict opening (Some word) latest run.life run.evict between.opens moment between.advanced c.leg c.is in
+        let leg = is_leg_after turns begun.evict (Some word) latest run.life run.evict between.opens moment between.advanced c.leg c.is in
         let crashes = counted word left c is_crash in
         let one : count_by is_crash (Crash ∷ []) ≡ 1 = refl in
         let evictions = counted word left c is_eviction in
@@ -241,7 +241,7 @@ module _ (turns : ℕ) (words : List ℕ) (begun : Run) where
         let opening = opening_of begun.life in
         let stream = coming_of evictions_of begun.evict in
         let moment : most ≡ moment_after run.life.journal None = between.most_is ∙ ap (λ (k : ℕ). most_leg_events + k) (sym between.crashes) in
-        let leg = is_leg_after turns begun.evict opening None most run.life run.evict between.opens moment between.advanced d.journal d.leg in
+        let leg = is_leg_after turns begun.evict None most run.life run.evict between.opens moment between.advanced d.journal d.leg in
         let none : [] ≡ drop made words = sym (drop_all made words over) in
         record {
           opens = d.plays.opens ∙ between.opens;

@@ -3,13 +3,7 @@ use Rattle.std.proofs.Common.{◌≡◌, ◌∙◌, ℕ, ◌≤◌, List, [], le
 use Rattle.std.proofs.lemmas.Option.{none-some}
 use Rattle.ido_base.specs.declared.event.Event.{Event}
 use Rattle.ido_base.specs.declared.limits.TheConstants.{MOST_EVENTS, MOST_STEPS}
-use Rattle.c_tree.specs.Flats.{Flat}
-use Rattle.rv64_isa.specs.declared.object.Object.{Object}
-use Rattle.rv64_isa.specs.declared.object.Marks.{Marks}
 use Rattle.rv64_isa.specs.Executables.{first_world}
-use Rattle.flow_graph.specs.declared.cuts.Cuts.{Cuts}
-use Rattle.flow_graph.specs.Refusals.{IsAccepted}
-use Rattle.flat_compile.specs.TranslatedForms.{IsTranslated}
 use Rattle.compiler_correctness.specs.Images as left
 use Rattle.compiler_correctness.specs.Translations.{Translation, translation_to}
 use Rattle.ido_compile.specs.CompileAnswers.{translation_in}
@@ -26,18 +20,20 @@ use Rattle.ido_cli.specs.Refusals.{image_line}
 use Rattle.rv64_isa.specs.Schedule.{LifeSchedules, first_steps, only_life}
 use Rattle.rv64_isa.proofs.Public.{along_earlier}
 use Rattle.ido_cli.proofs.KeptStepsBounded.{kept_few}
+use Rattle.ido_cli.proofs.RunImageAnswers.{RunImage}
 
-module _ (law : RunImagesAreRead) (source image : List ℕ) (flat : Flat) (object : Object) (marks : Marks) (cuts : Cuts) (before : List Event)
-    (turns status answer : ℕ) (output : List ℕ) (accepted : IsAccepted source flat) (t : IsTranslated flat object marks cuts)
-    (short : length before ≤ MOST_EVENTS) (written : IsImageAfter source (translation_to flat object marks cuts) before status image) where
+few : (c : Translation) (events : List Event) → length events ≤ MOST_EVENTS → length (left_by c events).kept.schedule ≤ MOST_STEPS
+few c events short =
+    let kept = kept_few c.runs.marks c.runs.program (first_world c.runs) events (length c.runs.program) (only_life []) in omega (arith, kept, short)
+
+module _ (law : RunImagesAreRead) (source image : List ℕ) (run : RunImage source image) (turns answer : ℕ) (output : List ℕ) where
+  open run use {flat, object, marks, cuts, events as before}
+
   abbrev c : Translation
   c = translation_to flat object marks cuts
 
   abbrev Recovered : Type 0
   Recovered = IsRecoveredRun source c before turns answer output
-
-  few : length (left_by c before).kept.schedule ≤ MOST_STEPS
-  few = let kept = kept_few c.runs.marks c.runs.program (first_world c.runs) before (length c.runs.program) (only_life []) in omega (arith, kept, short)
 
   one_life : only_life (left_by c before).kept.schedule ≡ (left_by c before).kept
   one_life =
@@ -45,7 +41,7 @@ module _ (law : RunImagesAreRead) (source image : List ℕ) (flat : Flat) (objec
       ap (λ (earlier : List (List ℕ)). let z : LifeSchedules = record { earlier = earlier; schedule = (left_by c before).kept.schedule } in z) (sym none)
 
   read : (result : Result Image ImageError) → IsImageAnswer image result → IsReadAgain source c (left_by c before) result
-  read result told = law source image flat object marks cuts before result accepted t few written.read_as told
+  read result told = law source image flat object marks cuts before result run.accepted run.translated run.most run.spelled told
 
   not_read : (error : ImageError) → answer ≡ 6 → image_line error ≡ Some output → IsReadAgain source c (left_by c before) (Err error) → Recovered
   not_read error six line (elsewhere d x is differs fault) = refused d x is differs fault six line
@@ -64,6 +60,17 @@ module _ (law : RunImagesAreRead) (source image : List ℕ) (flat : Flat) (objec
 
 pub runs_are_recovered : RunImagesAreRead → RunsAreRecovered
 runs_are_recovered law source image flat c before turns status answer output accepted of short written told =
-    subst (λ (z : Translation). IsRecoveredRun source z before turns answer output) (sym of.is)
-    (by law source image flat of.object of.marks of.cuts before turns status answer output accepted of.translated short
-    (subst (λ (z : Translation). IsImageAfter source z before status image) of.is written) told)
+    let made = translation_to flat of.object of.marks of.cuts in
+    let now : IsImageAfter source made before status image = subst (λ (z : Translation). IsImageAfter source z before status image) of.is written in
+    let run : RunImage source image = record {
+      flat = flat;
+      object = of.object;
+      marks = of.marks;
+      cuts = of.cuts;
+      events = before;
+      accepted = accepted;
+      translated = of.translated;
+      most = few made before short;
+      spelled = now.read_as;
+    } in
+    subst (λ (z : Translation). IsRecoveredRun source z before turns answer output) (sym of.is) (by law source image run turns answer output told)

@@ -178,7 +178,7 @@ module _ (flat : f.Flat) (object : Object) (marks : Marks) (cuts : Cuts) (t : Is
             journal = life.journal;
             leg =
                 subst (λ (es : List Event). IsLeg (leg_after (recovering made file) turns None es None) life.journal) none_made
-                (is_leg_after turns None (recovering made file) None most_leg_events begun None (sym same ∙ opens)
+                (is_leg_after turns None None most_leg_events begun None (sym same ∙ opens)
                 (sym (ap (λ (es : List Event). moment_after es None) none_made)) tt life.journal leg);
             reported = reported;
             goes_on = after_crash crashes made compilation file life.journal status output reported;

@@ -57,12 +57,22 @@ module _ (flat : Flat) (object : Object) (marks : Marks) (cuts : Cuts) (t : IsTr
       sym (length-map object.code.items (λ code. map slot_of code.items)) ∙ sym (ap (λ (x : Executable). length x.program) t.runs) ∙ t.is.count
       ∙ ap (λ (g : Graph). length g.threads) t.is.plan.lowered ∙ ap (λ (x : Flat). length (lowered x).threads) t.of_flat
 
-module _ (one_flat : OneFlat) (not_both : NotBoth) (no_fault : RunsLeaveNoFault) (source bytes : List ℕ) (flat : Flat) (object : Object) (marks : Marks)
-    (cuts : Cuts) (events : List Event) (accepted : IsAccepted source flat) (t : IsTranslated flat object marks cuts)
-    (most : length (left_by (translation_to flat object marks cuts) events).kept.schedule ≤ MOST_STEPS)
-    (spelled : IsReadAs (file_contents source (translation_to flat object marks cuts) (left_by (translation_to flat object marks cuts) events)) bytes)
-    (is_whole : IsWhole flat (length object.code.items) (length object.initial.items)
-    (file_state (translation_to flat object marks cuts) (left_by (translation_to flat object marks cuts) events))) where
+-- a run of a translation of the source, and bytes that spell the file that it leaves
+pub record RunImage (source bytes : List ℕ) : Type 0 where
+  pub flat : Flat
+  pub object : Object
+  pub marks : Marks
+  pub cuts : Cuts
+  pub events : List Event
+  pub accepted : IsAccepted source flat
+  pub translated : IsTranslated flat object marks cuts
+  pub most : length (left_by (translation_to flat object marks cuts) events).kept.schedule ≤ MOST_STEPS
+  pub spelled : IsReadAs (file_contents source (translation_to flat object marks cuts) (left_by (translation_to flat object marks cuts) events)) bytes
+
+module _ (one_flat : OneFlat) (not_both : NotBoth) (machines : MachinesResume) (records : MachinesRecord) (no_fault : RunsLeaveNoFault)
+    (source bytes : List ℕ) (run : RunImage source bytes) where
+  open run use {flat, object, marks, cuts, events, accepted, translated as t, most, spelled}
+
   abbrev c : Translation
   c = translation_to flat object marks cuts
 
@@ -80,6 +90,9 @@ module _ (one_flat : OneFlat) (not_both : NotBoth) (no_fault : RunsLeaveNoFault)
 
   abbrev Read : Result Image ImageError → Type 0
   Read answer = IsReadAgain source c file answer
+
+  is_whole : IsWhole flat threads size state
+  is_whole = left_is_whole flat object marks cuts t events machines records most
 
   -- ---- The bytes
 
@@ -195,5 +208,6 @@ module _ (one_flat : OneFlat) (not_both : NotBoth) (no_fault : RunsLeaveNoFault)
 
 pub run_images_are_read : OneFlat → NotBoth → MachinesResume → MachinesRecord → RunsLeaveNoFault → RunImagesAreRead
 run_images_are_read one_flat not_both machines records no_fault source bytes flat object marks cuts events answer accepted t most spelled told =
-    read one_flat not_both no_fault source bytes flat object marks cuts events accepted t most spelled
-    (left_is_whole flat object marks cuts t events machines records most) answer told
+    let run : RunImage source bytes =
+    record { flat = flat; object = object; marks = marks; cuts = cuts; events = events; accepted = accepted; translated = t; most = most; spelled = spelled } in
+    read one_flat not_both machines records no_fault source bytes run answer told

@@ -124,7 +124,7 @@ module _ (flat : f.Flat) (object : Object) (marks : Marks) (cuts : Cuts) (begun 
     on_threads : IsLeg (leg_after (beginning loaded_by) load_turns None [] None) d.journal
     on_threads =
         subst (λ (es : List Event). IsLeg (leg_after (beginning loaded_by) load_turns None es None) d.journal) none_yet
-        (is_leg_after load_turns None (beginning loaded_by) None most_leg_events begun None (ap opening_of is)
+        (is_leg_after load_turns None None most_leg_events begun None (ap opening_of is)
         (sym (ap (λ (es : List Event). moment_after es None) none_yet)) tt d.journal d.leg)
 
     in_rounds : AreRounds (beginning loaded_by) 0 d.journal rounds.made

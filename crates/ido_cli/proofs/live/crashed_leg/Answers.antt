@@ -6,11 +6,9 @@ use Rattle.ido_cli.proofs.live.crashed_leg.Goals as goal
 pub event-requires-clause-room : goal.event-requires-clause-room
 event-requires-clause-room g c =
     let run = c.args.run in
-    let left = c.in_ok-driven.driven in
     let is : c.min-moment.result ≡ min (length run.life.journal + c.args.word) c.args.most =
     omega (arith, c.events.ensures, c.saturating_add.ensures, c.min-moment.ensures, c.ranges.most.fits) in
-    crash_fits c.from.result c.args.word c.args.most c.min-moment.result run is c.requires.can c.requires.within left.core left.stops.items left.evict
-    c.in_ok-driven.ensures
+    crash_fits c.from.result c.args.word c.args.most c.min-moment.result run is c.requires.can c.requires.within c.in_ok-driven.ensures
 
 pub returns : goal.returns
 returns g c =
@@ -19,5 +17,5 @@ returns g c =
     let is : c.min-moment.result ≡ min (length run.life.journal + c.args.word) c.args.most =
     omega (arith, c.events.ensures, c.saturating_add.ensures, c.min-moment.ensures, c.ranges.most.fits) in
     subst (λ (t : ℕ). HasCrashed t c.args.word c.args.most run (record { life = c.event.new.self; evict = left.evict })) c.from.ensures
-    (has_crashed c.from.result c.args.word c.args.most c.min-moment.result run is c.requires.can c.requires.within left.core left.stops.items left.evict
-    c.in_ok-driven.ensures c.event.new.self c.event.ensures.life)
+    (has_crashed c.from.result c.args.word c.args.most c.min-moment.result run is c.requires.can c.requires.within c.in_ok-driven.ensures
+    c.event.new.self c.event.ensures.life)
