@@ -8,9 +8,9 @@ use Rattle.ido_base.specs.Layout.{point_at, slot_at, byte_number, word_number}
 use Rattle.ido_base.proofs.Public.{reach_stays, cleans_reach, changed_refl, clean_entry, entries_append}
 use Rattle.rv64_isa.specs.Rows.{Cleans, Fences}
 use Rattle.rv64_isa.specs.Machine.{bank_of}
-use Rattle.log_states.specs.Logs.{Record, slots_of, value_of, bank_word, point_in, slot_in, IsWord, HasLog, IsDurable, HasBank, IsRecorded}
+use Rattle.log_states.specs.Logs.{Record, slots_of, value_of, bank_word, point_in, slot_in, IsWord, IsDurable, HasBank, IsRecorded}
 use Rattle.log_states.specs.Stages.{LogConfig, IsComing, ToStore, ToClean, Queued, IsWriting, IsPointed, Stage, Writing, Written, Pointed, PointQueued, Over}
-use Rattle.log_states.specs.Stages.{MayOverwrite}
+use Rattle.log_states.specs.Stages.{LogIs}
 use Rattle.log_states.proofs.Lists.{contains_none, contains_cases, contains_first, contains_later}
 use Rattle.log_states.proofs.Heads.{no_head, not_done, same_address, same_rest}
 use Rattle.log_states.proofs.Numbers.{bank_line, bank_line_exists, slot_in_line, point_line, point_line_exists}
@@ -32,9 +32,10 @@ cleaned_line words queue line exists entries = record {
   stays = λ j position h. reach_stays words words queue (entry_of words line ∷ []) j position (changed_refl words) h;
 }
 
-module _ (log : Log) (thread : ℕ) (old new : Record) (m n : LogConfig) (f : MayOverwrite log old new) (has : HasLog log thread m.words)
-    (entries : AreEntries m.words m.queue) (address : ℕ)
+module _ {log : Log} {thread : ℕ} {old new : Record} {m : LogConfig} (l : LogIs log thread old new m) (n : LogConfig) (address : ℕ)
     (does : m.rest ≡ Cleans address ∷ n.rest) (words : n.words ≡ m.words) (queue : n.queue ≡ m.queue ++ entry_of m.words (byte_number address / 64) ∷ []) where
+  open l use {log as has, queue as entries}
+
   does_clean : (place line : ℕ) → address ≡ place → byte_number place / 64 ≡ line → 8 * line + 8 ≤ length m.words → IsCleaned n.words m.queue n.queue line
   does_clean place line same is exists =
       let e : m.queue ++ entry_of m.words line ∷ [] ≡ n.queue =
@@ -64,9 +65,6 @@ module _ (log : Log) (thread : ℕ) (old new : Record) (m n : LogConfig) (f : Ma
       Queued (cleaned_words (λ ws. live_value (slot_in log ws thread new slot) ≡ value_of log new slot) live)
       (c.stays (bank_word log thread (bank_of new.point) slot) (last_position (slot_in log n.words thread new slot))
       (cleaned_words (λ ws. PersistsThrough ws m.queue (bank_word log thread (bank_of new.point) slot) (last_position (slot_in log ws thread new slot))) h))
-
-  cleaned_stage : AreEntries n.words n.queue → Stage log thread old new n → AreEntries n.words n.queue × Stage log thread old new n
-  cleaned_stage e s = (e, s)
 
   cleans : (slots lines : List ℕ) → IsWriting log thread new slots lines m → IsRecorded log thread old m.words →
       AreEntries n.words n.queue × Stage log thread old new n
@@ -116,10 +114,10 @@ pub reached_durable : (words : List Word) (j value : ℕ) → IsWord (word_at wo
     IsDurable (word_at words j) value
 reached_durable words j value is live h = record { durable = omega (arith, is.durable, h); live = live }
 
-module _ (log : Log) (thread : ℕ) (old new : Record) (m n : LogConfig) (f : MayOverwrite log old new) (has : HasLog log thread m.words)
-    (does : m.rest ≡ Fences ∷ n.rest)
-    (words : n.words ≡ m.words)
-    (empty : m.queue ≡ []) where
+module _ {log : Log} {thread : ℕ} {old new : Record} {m : LogConfig} (l : LogIs log thread old new m) (n : LogConfig) (does : m.rest ≡ Fences ∷ n.rest)
+    (words : n.words ≡ m.words) (empty : m.queue ≡ []) where
+  open l use {follows as f, log as has}
+
   fenced_words : (P : List Word → Type 0) → P m.words → P n.words
   fenced_words P h = subst P (sym words) h
 

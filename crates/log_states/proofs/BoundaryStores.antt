@@ -12,7 +12,8 @@ use Rattle.rv64_isa.specs.Rows.{Stores, Cleans, Fences}
 use Rattle.rv64_isa.specs.Machine.{bank_of}
 use Rattle.boundary_code.specs.Boundaries.{commit_effects}
 use Rattle.log_states.specs.Logs.{Record, slots_of, value_of, log_word, bank_word, point_in, slot_in, IsWord, HasLog, IsDurable, HasBank, IsRecorded}
-use Rattle.log_states.specs.Stages.{LogConfig, stores_of, cleans_of, IsComing, ToStore, ToClean, Queued, IsWriting, IsPointed, Stage, Writing, Written, Pointed}
+use Rattle.log_states.specs.Stages.{LogConfig, stores_of, cleans_of, IsComing, ToStore, ToClean, Queued}
+use Rattle.log_states.specs.Stages.{IsWriting, IsPointed, LogIs, Stage, Writing, Written, Pointed}
 use Rattle.log_states.specs.Stages.{PointQueued, Over, MayOverwrite}
 use Rattle.log_states.proofs.Lists.{contains_cases, contains_first, contains_later}
 use Rattle.log_states.proofs.Heads.{no_head, not_done, same_address, same_value, same_rest}
@@ -45,10 +46,18 @@ stored_at words number value aligned inside is fits = record {
   changed = stores_change words number 8 value;
 }
 
-module _ (log : Log) (thread : ℕ) (m n : LogConfig) (at value : ℕ) (s : IsStoredAt m.words n.words at value) (queue : n.queue ≡ m.queue) (fits : value < 2 ^ 64)
-    (has : HasLog log thread m.words)
-    (is : IsWord (word_at m.words at)) where
-  pub stored_log : HasLog log thread n.words
+-- one word of a machine with the thread's log is stored to, and nothing else is done
+record StoresWord (log : Log) (thread : ℕ) (m n : LogConfig) (at value : ℕ) : Type 0 where
+  s : IsStoredAt m.words n.words at value
+  queue : n.queue ≡ m.queue
+  fits : value < 2 ^ 64
+  has : HasLog log thread m.words
+  is : IsWord (word_at m.words at)
+
+module _ {log : Log} {thread : ℕ} {m n : LogConfig} {at value : ℕ} (stores : StoresWord log thread m n at value) where
+  open stores use {s, queue, fits, has, is}
+
+  stored_log : HasLog log thread n.words
   stored_log = record {
     exists = omega (arith, has.exists, s.size);
     each = λ i below. elim (cases_eq (log_word log thread i) at) [
@@ -58,12 +67,12 @@ module _ (log : Log) (thread : ℕ) (m n : LogConfig) (at value : ℕ) (s : IsSt
     ];
   }
 
-  pub stored_bank : (r : Record) → HasBank log thread r m.words → ((slot : ℕ) → Contains (slots_of log r) slot →
+  stored_bank : (r : Record) → HasBank log thread r m.words → ((slot : ℕ) → Contains (slots_of log r) slot →
       bank_word log thread (bank_of r.point) slot ≢ at) → HasBank log thread r n.words
   stored_bank r bank apart slot c =
       subst (λ (w : Word). IsDurable w (value_of log r slot)) (sym (s.others (bank_word log thread (bank_of r.point) slot) (apart slot c))) (bank slot c)
 
-  pub stored_recorded : (r : Record) → IsRecorded log thread r m.words → word_number (point_at log thread) ≢ at
+  stored_recorded : (r : Record) → IsRecorded log thread r m.words → word_number (point_at log thread) ≢ at
       → ((slot : ℕ) → Contains (slots_of log r) slot → bank_word log thread (bank_of r.point) slot ≢ at) → IsRecorded log thread r n.words
   stored_recorded r h point apart = record {
     point = subst (λ (w : Word). IsDurable w r.point) (sym (s.others (word_number (point_at log thread)) point)) h.point;
@@ -101,7 +110,7 @@ module _ (log : Log) (thread : ℕ) (m n : LogConfig) (at value : ℕ) (s : IsSt
           (subst (λ (w : Word). PersistsThrough n.words n.queue (bank_word log thread (bank_of new.point) slot) (last_position w)) (sym beside)
           (stored_reach (bank_word log thread (bank_of new.point) slot) (last_position (slot_in log m.words thread new slot)) reached))
 
-  pub stored_writing : (new : Record) (first : ℕ) (slots lines : List ℕ) → at ≡ bank_word log thread (bank_of new.point) first → value ≡ value_of log new first
+  stored_writing : (new : Record) (first : ℕ) (slots lines : List ℕ) → at ≡ bank_word log thread (bank_of new.point) first → value ≡ value_of log new first
       → n.rest ≡ stores_of log thread new slots ++ cleans_of log thread new lines ++ commit_effects log thread new.point
       → IsWriting log thread new (first ∷ slots) lines m → IsWriting log thread new slots lines n
   stored_writing new first slots lines place holds rest w = record {
@@ -113,7 +122,7 @@ module _ (log : Log) (thread : ℕ) (m n : LogConfig) (at value : ℕ) (s : IsSt
   }
 
   -- the point is stored
-  pub stored_point : (old new : Record) → at ≡ word_number (point_at log thread) → value ≡ new.point → IsRecorded log thread old m.words →
+  stored_point : (old new : Record) → at ≡ word_number (point_at log thread) → value ≡ new.point → IsRecorded log thread old m.words →
       HasBank log thread new m.words → IsPointed log thread old new n.words
   stored_point old new place holds h bank =
       let w : Word = word_at m.words at in
@@ -137,21 +146,25 @@ module _ (log : Log) (thread : ℕ) (m n : LogConfig) (at value : ℕ) (s : IsSt
 
 -- ---- By where the boundary stands
 
-module _ (log : Log) (thread : ℕ) (old new : Record) (m n : LogConfig) (f : MayOverwrite log old new) (has : HasLog log thread m.words) (address value : ℕ)
-    (does : m.rest ≡ Stores address 8 value ∷ n.rest)
-    (words : n.words ≡ stored m.words (byte_number address) 8 value) (queue : n.queue ≡ m.queue) where
+module _ {log : Log} {thread : ℕ} {old new : Record} {m : LogConfig} (l : LogIs log thread old new m) (n : LogConfig) (address value : ℕ)
+    (does : m.rest ≡ Stores address 8 value ∷ n.rest) (words : n.words ≡ stored m.words (byte_number address) 8 value) (queue : n.queue ≡ m.queue) where
+  open l use {follows as f, log as has}
+
   -- what a store to a word of the log does
   does_store : (place : ℕ) → address ≡ place → byte_number place % 8 ≡ 0 → (i : ℕ) → i < log_words log → byte_number place / 8 ≡ log_word log thread i →
-      value < 2 ^ 64
-      → IsStoredAt m.words n.words (byte_number place / 8) value × IsWord (word_at m.words (byte_number place / 8))
+      value < 2 ^ 64 → StoresWord log thread m n (byte_number place / 8) value
   does_store place same aligned i below index fits =
       let is : IsWord (word_at m.words (byte_number place / 8)) = subst (λ (j : ℕ). IsWord (word_at m.words j)) (sym index) (has.each i below) in
       let inside : byte_number place / 8 < length m.words = omega (arith, index, has.exists, word_exists log thread i below) in
-      let e : stored m.words (byte_number place) 8 value ≡ n.words = ap (λ (a : ℕ). stored m.words (byte_number a) 8 value) (sym same) ∙ sym words in (
-        subst (λ (ws : List Word). IsStoredAt m.words ws (byte_number place / 8) value) e
-            (stored_at m.words (byte_number place) value aligned inside is fits),
-        is,
-      )
+      let e : stored m.words (byte_number place) 8 value ≡ n.words = ap (λ (a : ℕ). stored m.words (byte_number a) 8 value) (sym same) ∙ sym words in
+      record {
+        s = subst (λ (ws : List Word). IsStoredAt m.words ws (byte_number place / 8) value) e
+            (stored_at m.words (byte_number place) value aligned inside is fits);
+        queue = queue;
+        fits = fits;
+        has = has;
+        is = is;
+      }
 
   writes : (slots lines : List ℕ) → IsWriting log thread new slots lines m → IsRecorded log thread old m.words →
       HasLog log thread n.words × Stage log thread old new n
@@ -163,12 +176,11 @@ module _ (log : Log) (thread : ℕ) (old new : Record) (m n : LogConfig) (f : Ma
       let index = slot_word log new first f.new_is c thread in
       let holds : value ≡ value_of log new first = same_value _ _ _ _ e in
       let fits : value < 2 ^ 64 = omega (arith, holds, value_below log new first f.new_is c) in
-      let at : ℕ = bank_word log thread (bank_of new.point) first in
       let done = does_store (slot_at log thread (bank_of new.point) first) (same_address _ _ _ _ e)
       (whole_slot log thread (bank_of new.point) first) index.0 index.1 index.2 fits in (
-        stored_log log thread m n at value done.0 queue fits has done.1,
-        Writing slots lines (stored_writing log thread m n at value done.0 queue fits has done.1 new first slots lines refl holds (same_rest _ _ _ _ e) w)
-            (stored_recorded log thread m n at value done.0 queue fits has done.1 old h (λ p. slot_not_point log thread (bank_of new.point) first (sym p))
+        stored_log done,
+        Writing slots lines (stored_writing done new first slots lines refl holds (same_rest _ _ _ _ e) w)
+            (stored_recorded done old h (λ p. slot_not_point log thread (bank_of new.point) first (sym p))
             (λ slot d. other_bank log thread old new slot first f d c)),
       )
 
@@ -179,10 +191,9 @@ module _ (log : Log) (thread : ℕ) (old new : Record) (m n : LogConfig) (f : Ma
       let e = sym does ∙ rest in
       let holds : value ≡ new.point = same_value _ _ _ _ e in
       let fits : value < 2 ^ 64 = omega (arith, holds, f.new_is.point) in
-      let at : ℕ = word_number (point_at log thread) in
       let done = does_store (point_at log thread) (same_address _ _ _ _ e) (whole_point log thread) 0 (some_words log) (point_index log thread) fits in (
-        stored_log log thread m n at value done.0 queue fits has done.1,
-        Pointed (same_rest _ _ _ _ e) (stored_point log thread m n at value done.0 queue fits has done.1 old new refl holds h bank),
+        stored_log done,
+        Pointed (same_rest _ _ _ _ e) (stored_point done old new refl holds h bank),
       )
 
   pub own_store : Stage log thread old new m → HasLog log thread n.words × Stage log thread old new n

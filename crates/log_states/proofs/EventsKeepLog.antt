@@ -75,7 +75,7 @@ pub keeps : Keeps
 keeps log thread old new m n l (Stored address value does words queue) =
     let changed : AreChanged m.words n.words = subst (λ (ws : List Word). AreChanged m.words ws) (sym words)
     (stores_change m.words (byte_number address) 8 value) in
-    let own = own_store log thread old new m n l.follows l.log address value does words queue l.stage in
+    let own = own_store l n address value does words queue l.stage in
     record {
       follows = l.follows;
       log = own.0;
@@ -83,13 +83,13 @@ keeps log thread old new m n l (Stored address value does words queue) =
       stage = own.1;
     }
 keeps log thread old new m n l (Cleaned address does words queue) =
-    let own = own_clean log thread old new m n l.follows l.log l.queue address does words queue l.stage in
+    let own = own_clean l n address does words queue l.stage in
     record { follows = l.follows; log = subst (HasLog log thread) (sym words) l.log; queue = own.0; stage = own.1 }
 keeps log thread old new m n l (Fenced does words before after) = record {
   follows = l.follows;
   log = subst (HasLog log thread) (sym words) l.log;
   queue = subst (λ (q : List Entry). AreEntries n.words q) (sym after) tt;
-  stage = own_fence log thread old new m n l.follows l.log does words before l.stage;
+  stage = own_fence l n does words before l.stage;
 }
 keeps log thread old new m n l (Drained entry rest words queue) =
     quiet_keeps log thread old new m n l (drained_quiet log thread m n entry l.queue rest words queue)

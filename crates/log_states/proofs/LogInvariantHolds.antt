@@ -62,9 +62,8 @@ begins_standing b older old side resume x w same s at r = record {
 
 -- ---- An instruction of a boundary
 
-module _ (program : List (List Slot)) (thread : ℕ) (old new : Record) (w : World) (hart : Hart) (effect : Effect) (later : List Effect)
-    (sound : IsWellFormedWorld w)
-    (is : IsNext program w thread hart effect) where
+module _ {program : List (List Slot)} {thread : ℕ} {w : World} {hart : Hart} {effect : Effect} (old new : Record) (later : List Effect)
+    (sound : IsWellFormedWorld w) (is : IsNext program w thread hart effect) where
   -- an instruction of the boundary makes the next effect
   makes : LogIs w.log thread old new (config_of w hart (effect ∷ later)) → Advances program (passage thread old new) w (effect ∷ []) later
   makes l =
@@ -132,7 +131,7 @@ module _ (program : List (List Slot)) (thread : ℕ) (old new : Record) (w : Wor
   by_effect Calls e s = absurd (true≢false (sym (boundaries_stay_in w.log thread old new (config_of w s.hart (Calls ∷ later)) Calls later s.log refl).1))
 
 pub own_steps_keep : OwnStepsKeep
-own_steps_keep program thread old new w hart effect later sound is s = by_effect program thread old new w hart effect later sound is effect refl s
+own_steps_keep program thread old new w hart effect later sound is s = by_effect old new later sound is effect refl s
 
 -- ---- Crashes and starts
 
