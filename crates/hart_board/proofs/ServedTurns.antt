@@ -2,6 +2,7 @@
 use Rattle.std.proofs.Common.{◌≡◌, ℕ, ◌+◌, ◌≤◌, List, [], ◌∷◌, ◌++◌, length, Some, None, Option, sym, refl, ap, ◌∙◌, subst, arith, length-append}
 use Rattle.ido_base.specs.declared.event.Event.{Event}
 use Rattle.ido_base.specs.declared.event.Event.TheVariants.{Step, Evict, Crash}
+use Rattle.ido_base.specs.declared.machine.Core.{Ghosts}
 use Rattle.ido_base.specs.Cores.{Behaviour, IsValid}
 use Rattle.atomic_table.specs.Table.{Me}
 use Rattle.hart_board.specs.declared.journal.Entry.{Entry}
@@ -36,7 +37,9 @@ still_valid opening history hart_count space evictable from to events (Step hart
 still_valid opening history hart_count space evictable from to events (Evict line mask) p v = (p.evicts line mask).1 v
 still_valid opening history hart_count space evictable from to events Crash p v = tt
 
-module _ {C L M : Type 0} (b : Behaviour M) (opening : C → M) (history : C → List Event) (hart_count space : C → ℕ) (evictable : C → ℕ → ℕ → Type 0) where
+module _ {C L : Type 0} (m : Ghosts C L) where
+  open m use {behaviour as b, opening, history, hart_count, space, evictable}
+
   abbrev Turning : Seat C L → Known C → C → Type 0
   Turning s k core = IsInTurn (play_of b opening history hart_count) (IsPlayOf opening history hart_count space evictable) s k core
 
@@ -56,10 +59,39 @@ module _ {C L M : Type 0} (b : Behaviour M) (opening : C → M) (history : C →
         omega (arith, len, room, reached, is),
       )
 
-  module _ (s : Seat C L) (k : Known C) (core new : C) (event : Event) (most : ℕ) (result : Option Made) (h : Turning s k core)
-      (reach : IsInReach history space k.terms) (own : IsOwn (hart_count k.terms.opening.value) s.number event)
-      (q : IsPlayed opening history hart_count space evictable core (events_made event result) new)
-      (given : TurnGives b opening history hart_count core (quota_of s) event most result) where
+  -- a seat in its turn has made its event with the core in hand, at most so often, and has left the core as this one
+  pub record HasServed (s : Seat C L) (k : Known C) : Type 0 where
+    pub core : C
+    pub new : C
+    pub event : Event
+    pub most : ℕ
+    pub result : Option Made
+    pub turning : Turning s k core
+    pub reach : IsInReach history space k.terms
+    pub own : IsOwn (hart_count k.terms.opening.value) s.number event
+    pub plays : IsPlayed opening history hart_count space evictable core (events_made event result) new
+    pub given : TurnGives b opening history hart_count core (quota_of s) event most result
+
+  abbrev pub served : {s : Seat C L} {k : Known C} {core new : C} (event : Event) (most : ℕ) (result : Option Made) → Turning s k core →
+      IsInReach history space k.terms → IsOwn (hart_count k.terms.opening.value) s.number event →
+      IsPlayed opening history hart_count space evictable core (events_made event result) new →
+      TurnGives b opening history hart_count core (quota_of s) event most result → HasServed s k
+  served {s} {k} {core} {new} event most result turning reach own plays given = record {
+    core = core;
+    new = new;
+    event = event;
+    most = most;
+    result = result;
+    turning = turning;
+    reach = reach;
+    own = own;
+    plays = plays;
+    given = given;
+  }
+
+  module _ (s : Seat C L) (k : Known C) (turn : HasServed s k) where
+    open turn use {core, new, event, most, result, turning as h, reach, own, plays as q, given}
+
     pub entry_is : turn_of (play_of b opening history hart_count) history k s.number new ≡ made_entry s.number event result
     entry_is =
         turn_is b opening history hart_count space evictable k s.number event core new result h.plays q
@@ -122,8 +154,8 @@ module _ {C L M : Type 0} (b : Behaviour M) (opening : C → M) (history : C →
       let reach' : IsInReach history space k'.terms = subst (λ (z : Known C). IsInReach history space z.terms) same reach in
       let own' : IsOwn (hart_count k'.terms.opening.value) s.number event =
       subst (λ (z : Known C). IsOwn (hart_count z.terms.opening.value) s.number event) same own in
-      let a = acted in (
-        is_within b opening history hart_count core' (quota_of s) event most result a.3,
-        represents_after s k' core' a.0 event most result h' reach' own' a.2 a.3 t a.1 number turns ceiling made none,
-        legal_after s k' core' a.0 event most result h' reach' own' a.2 a.3,
+      let turn : HasServed s k' = served event most result h' reach' own' acted.2 acted.3 in (
+        is_within b opening history hart_count core' (quota_of s) event most result acted.3,
+        represents_after s k' turn t acted.1 number turns ceiling made none,
+        legal_after s k' turn,
       )

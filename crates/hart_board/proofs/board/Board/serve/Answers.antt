@@ -1,12 +1,12 @@
 use Rattle.std.proofs.Common.{arith, ◌+◌, refl, None, sym, subst, ℕ}
 use Rattle.hart_board.specs.declared.views.View.TheVariants.{Seated}
 use Rattle.hart_board.specs.CoreTurns.{RunsAhead}
-use Rattle.hart_board.proofs.ServedTurns.{held, passes_on, made_below, after}
+use Rattle.hart_board.proofs.ServedTurns.{held, served, passes_on, made_below, after}
 use Rattle.hart_board.proofs.board.Board.serve.Goals as goal
 
 pub act-made-requires-clause-held : goal.act-made-requires-clause-held
 act-made-requires-clause-held g c κs lives = let t = c.requires.turn in
-    let x = held g.C.Core.behaviour g.C.Core.opening g.C.Core.history g.C.Core.hart_count g.C.Core.space g.C.Core.evictable c.args.seat.now t.0 t.1 c.args.event
+    let x = held g.C.Core c.args.seat.now t.0 t.1 c.args.event
     t.2 t.3 t.4 t.5 in (
       Seated t.0,
       t.1,
@@ -21,14 +21,14 @@ act-made-requires-clause-held g c κs lives = let t = c.requires.turn in
 
 pub pass-requires-clause-turn : goal.pass-requires-clause-turn
 pass-requires-clause-turn g c κs lives = let t = c.requires.turn in let a = c.act-made.ensures.acted (Seated t.0) t.1 t.2.me in
-    let p = passes_on g.C.Core.behaviour g.C.Core.opening g.C.Core.history g.C.Core.hart_count g.C.Core.space g.C.Core.evictable c.args.seat.now t.0 t.1 a.0
-    c.args.event c.args.most c.act-made.result t.2 t.3 t.4 a.2 a.3 in
+    let p = passes_on g.C.Core c.args.seat.now t.0
+    (served g.C.Core c.args.event c.args.most c.act-made.result t.2 t.3 t.4 a.2 a.3) in
     (t.0, c.args.seat.now.number, a.0, a.1, t.2.numbers, t.2.turning, p.0, p.1)
 
 pub overflow_add-seat : goal.overflow_add-seat
 overflow_add-seat g c = let t = c.requires.turn in let a = c.act-made.ensures.acted (Seated t.0) t.1 t.2.me in
-    let w = made_below g.C.Core.behaviour g.C.Core.opening g.C.Core.history g.C.Core.hart_count g.C.Core.space g.C.Core.evictable c.args.seat.now t.0 t.1 a.0
-    c.args.event c.args.most c.act-made.result t.2 t.3 t.4 a.2 a.3 in
+    let w = made_below g.C.Core c.args.seat.now t.0
+    (served g.C.Core c.args.event c.args.most c.act-made.result t.2 t.3 t.4 a.2 a.3) in
     let n = c.count_of.ensures in
     omega (arith, w, n)
 
@@ -36,7 +36,7 @@ pub returns-clause-turn : goal.returns-clause-turn
 returns-clause-turn g c k core h = let t = c.requires.turn in
     let a = c.act-made.ensures.acted (Seated k) core h.me in
     let p = c.pass.ensures.passed.1 k c.args.seat.now.number a.0 a.1 h.numbers in
-    let x = after g.C.Core.behaviour g.C.Core.opening g.C.Core.history g.C.Core.hart_count g.C.Core.space g.C.Core.evictable c.args.seat.now t.0 t.1 k core
+    let x = after g.C.Core c.args.seat.now t.0 t.1 k core
     c.args.event c.args.most c.act-made.result
     record {
       place = c.pass.new.place;
