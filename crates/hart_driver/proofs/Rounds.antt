@@ -9,7 +9,8 @@ use Rattle.std.proofs.Math.Seq.{drop-append_seam}
 use mathlib.Core.List.{append_assoc}
 use Rattle.ido_base.specs.declared.event.Event.{Event}
 use Rattle.ido_base.specs.declared.event.Event.TheVariants.{Step, Evict, Crash}
-use Rattle.ido_base.specs.Cores.{Behaviour, played}
+use Rattle.ido_base.specs.declared.machine.Core.{Ghosts}
+use Rattle.ido_base.specs.Cores.{played}
 use Rattle.ido_base.proofs.Public.{played-append}
 use Rattle.hart_board.specs.CoreTurns.{IsPlayed}
 use Rattle.hart_driver.specs.declared.start.Start.{Start}
@@ -24,8 +25,9 @@ other_event harts w v (Step hart) own other = ne_eqb hart v (λ e. other (sym e 
 other_event harts w v (Evict line mask) own other = ne_eqb harts v (λ e. other (sym e ∙ eqb-true harts w own))
 other_event harts w v Crash own other = absurd (cc own)
 
-module _ {C M V : Type 0} (b : Behaviour M) (opening : C → M) (history : C → List Event) (hart_count : C → ℕ) (coming : V → ℕ → ℕ × ℕ)
-    (space : C → ℕ) (evictable : C → ℕ → ℕ → Type 0) (s : Start C V) where
+module _ {C L V : Type 0} (members : Ghosts C L) (coming : V → ℕ → ℕ × ℕ) (s : Start C V) where
+  open members use {Meaning as M, behaviour as b, opening, history, hart_count, space, evictable}
+
   abbrev leg : Leg M
   leg = leg_from b opening history hart_count coming s
 
@@ -54,25 +56,27 @@ module _ {C M V : Type 0} (b : Behaviour M) (opening : C → M) (history : C →
       × (length (history core) ≡ s.moment → length (since history s core) ≡ leg.most)
   full_now core p begun = let n = events_now core p in ((λ e. omega (arith, e, n, begun)), λ e. omega (arith, e, n, begun))
 
-  module _ (core new : C) (counts : List ℕ) (w : ℕ) (evict evict_new : Option V) (event : Event) (u : UnderWay core counts evict)
+  -- a worker's next event is made
+  module _ {core new : C} {counts : List ℕ} {w : ℕ} {evict evict_new : Option V} {event : Event} (u : UnderWay core counts evict)
       (next : IsNext hart_count coming evictable s leg (since history s core) w event evict_new) (inside : w < workers leg)
-      (opens : opening new ≡ opening core) (more : history new ≡ history core ++ event ∷ []) (room : space new + 1 ≡ space core)
-      (harts : hart_count new ≡ hart_count core)
-      (evicts : (line mask : ℕ) → (evictable new line mask → evictable core line mask) × (evictable core line mask → evictable new line mask)) where
+      (played_on : IsPlayed opening history hart_count space evictable core (event ∷ []) new) where
     whole : history new ≡ history s.core.value ++ (since history s core ++ event ∷ [])
-    whole = more ∙ (ap (λ (z : List Event). z ++ event ∷ []) u.plays.events_are ∙ append_assoc (history s.core.value) (since history s core) (event ∷ []))
+    whole =
+        played_on.events_are ∙ (ap (λ (z : List Event). z ++ event ∷ []) u.plays.events_are
+        ∙ append_assoc (history s.core.value) (since history s core) (event ∷ []))
 
     pub since_more : since history s new ≡ since history s core ++ event ∷ []
     since_more = ap (drop (length (history s.core.value))) whole ∙ drop-append_seam (history s.core.value) (since history s core ++ event ∷ [])
 
     plays_on : Plays new
     plays_on = record {
-      opens = opens ∙ u.plays.opens;
+      opens = played_on.opens ∙ u.plays.opens;
       events_are = whole ∙ ap (λ (z : List Event). history s.core.value ++ z) (sym since_more);
-      harts = harts ∙ u.plays.harts;
+      harts = played_on.harts ∙ u.plays.harts;
       room =
-          (let n = u.plays.room in let m = ap length since_more in let k = length-append (since history s core) (event ∷ []) in omega (arith, n, m, k, room));
-      evicts = λ line mask. let x = evicts line mask in let y = u.plays.evicts line mask in ((λ h. y.0 (x.0 h)), λ h. x.1 (y.1 h));
+          (let n = u.plays.room in let m = ap length since_more in let k = length-append (since history s core) (event ∷ []) in let l = played_on.room in
+          omega (arith, n, m, k, l));
+      evicts = λ line mask. let x = played_on.evicts line mask in let y = u.plays.evicts line mask in ((λ h. y.0 (x.0 h)), λ h. x.1 (y.1 h));
     }
 
     room_left : length (since history s core) ≢ leg.most
@@ -105,7 +109,7 @@ module _ {C M V : Type 0} (b : Behaviour M) (opening : C → M) (history : C →
       within =
           (let full = full_now core u.plays u.drives.begun in let few = u.within in
           let left : length (history core) ≢ s.moment = (λ e. room_left (full.1 e)) in
-          let n = ap length more in let m = length-append (history core) (event ∷ []) in omega (arith, left, few, n, m));
+          let n = ap length played_on.events_are in let m = length-append (history core) (event ∷ []) in omega (arith, left, few, n, m));
       size = length-set counts w (get_or counts w 0 + 1) ∙ u.size;
       counted = counted_on;
       advanced =

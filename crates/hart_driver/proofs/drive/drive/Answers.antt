@@ -45,8 +45,7 @@ finish-requires-clause-under_way g c κs within = let e = c.in_ok-board.ensures.
     subst (λ (z : List ℕ).
     IsUnderWay g.C.Core.behaviour g.C.Core.opening g.C.Core.history g.C.Core.hart_count g.V.Evictions.coming g.C.Core.space
     g.C.Core.evictable s c.run-core.result.0 z c.run-core.result.2) (sym c.as_mut_slice.ensures.value)
-    (under_way g.C.Core.behaviour g.C.Core.opening g.C.Core.history g.C.Core.hart_count g.C.Core.space g.C.Core.evictable g.V.Evictions.coming s
-    c.run-core.result.0 c.run-core.result.1.items c.run-core.result.2 ran)
+    (under_way g.C.Core g.V.Evictions.coming s ran)
 
 pub finish-requires-clause-workers : goal.finish-requires-clause-workers
 finish-requires-clause-workers g c κs within =
