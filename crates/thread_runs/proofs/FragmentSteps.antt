@@ -1,7 +1,6 @@
 -- Steps in a fragment.
 use Rattle.std.proofs.Common.{◌≡◌, refl, ◌⊎◌, inl, inr, ℕ, suc, List, length, ◌∙◌, subst, false}
 use Rattle.ido_base.specs.declared.event.Event.TheVariants.{Step}
-use Rattle.rv64_isa.specs.declared.object.Slot.{Slot}
 use Rattle.rv64_isa.specs.Rows.{Effect}
 use Rattle.rv64_isa.specs.Machine.{World, after_event}
 use Rattle.rv64_isa.specs.Frames.{IsWellFormedWorld}
@@ -14,7 +13,7 @@ use Rattle.hart_runs.specs.Laws as r
 use Rattle.hart_runs.proofs.Public.{steps_go_on, forward_agrees, drains_agree}
 use Rattle.thread_code.specs.Plans.{Plan, Thread}
 use Rattle.thread_code.specs.NodeCodeEffects.{Places}
-use Rattle.thread_runs.specs.CodeFragments.{Stage, AreEffectsApart, end_of, IsOnFragment, on_machine}
+use Rattle.thread_runs.specs.CodeFragments.{Stage, Running, AreEffectsApart, end_of, IsOnFragment}
 use Rattle.thread_runs.specs.Laws.{run_of, AreMarksOf, CompletesInstruction, IsHeldUp, FragmentsGoOn}
 use Rattle.thread_runs.proofs.RemainingSteps.{forward_less, drains_less}
 use Rattle.thread_runs.proofs.RunObservations.{Ahead, unmarked_ahead, mark_of_machine, apart_first}
@@ -31,9 +30,10 @@ seen_lockstep w h s steps seen other to e on = record {
   may = subst (λ (x : List Observation). MayGo w.log (length w.harts) x) e on.may;
 }
 
-module _ (p : Plan) (t : Thread) (c : Places) (program : List (List Slot)) (w : World) (h : ℕ) (s : MarkedEnvironment) (stage : Stage) (steps : ℕ)
-    (effects : List Effect) (sound : IsWellFormedWorld w) (counts : r.ForwardCounts) (drained : r.DrainsCountNone)
-    (fragment : IsOnFragment p t c (on_machine program w h s) stage (suc steps) effects) where
+module _ {p : Plan} {t : Thread} {c : Places} {running : Running} {stage : Stage} {steps : ℕ} {effects : List Effect} (sound : IsWellFormedWorld running.world)
+    (counts : r.ForwardCounts) (drained : r.DrainsCountNone) (fragment : IsOnFragment p t c running stage (suc steps) effects) where
+  open running use {program, world as w, hart as h, environment as s}
+
   abbrev to : LocalConfig
   to = config fragment.registers (end_of p t c stage.exit stage.node)
 
@@ -42,8 +42,7 @@ module _ (p : Plan) (t : Thread) (c : Places) (program : List (List Slot)) (w : 
 
   abbrev Result : Type 0
   Result =
-      (CompletesInstruction p t c (on_machine program w h s) stage steps effects fragment
-      ⊎ IsHeldUp p t c (on_machine program w h s) stage steps effects fragment) ×
+      (CompletesInstruction p t c running stage steps effects fragment ⊎ IsHeldUp p t c running stage steps effects fragment) ×
       ((marks : List (List ℕ)) → AreMarksOf marks h s → passes_mark marks program w h ≡ false)
 
   goes : GoesForward program w h run → Result
@@ -107,4 +106,4 @@ module _ (p : Plan) (t : Thread) (c : Places) (program : List (List Slot)) (w : 
 
 pub fragments_go_on : r.ForwardCounts → r.DrainsCountNone → FragmentsGoOn
 fragments_go_on counts drained p t c program w h s stage steps effects sound fragment =
-    one_step p t c program w h s stage steps effects sound counts drained fragment
+    one_step sound counts drained fragment

@@ -4,7 +4,6 @@ use Rattle.std.specs.Prelude.{slice_get, ◌&&◌, Contains}
 use Rattle.std.specs.List.{list_any}
 use Rattle.ido_base.specs.declared.event.Event.TheVariants.{Step}
 use Rattle.ido_base.specs.declared.event.Reply.TheVariants.{Waits}
-use Rattle.rv64_isa.specs.declared.object.Slot.{Slot}
 use Rattle.rv64_isa.specs.Rows.{Effect, next, read}
 use Rattle.rv64_isa.specs.Machine.{Hart, World, Outcome, with_holder, moved, gone_on, happens, after_event}
 use Rattle.rv64_isa.specs.Schedule.{has_moved, is_mark, passes_mark}
@@ -13,7 +12,7 @@ use Rattle.node_code.specs.Pieces.{takes}
 use Rattle.flow_graph.specs.Nodes.{Action, Lock, successors}
 use Rattle.flow_graph.specs.Actions.{Seen}
 use Rattle.code_runs.specs.ComputingRuns.{LocalConfig, config}
-use Rattle.code_runs.specs.CodeTraces.{Program, MarkedEnvironment, seen_effects}
+use Rattle.code_runs.specs.CodeTraces.{Program, seen_effects}
 use Rattle.hart_runs.specs.HartsOnRuns.{Agrees, IsRunningAt, MayGo}
 use Rattle.hart_runs.specs.Calls.{IsAtCall, lock_asked}
 use Rattle.hart_runs.specs.Laws as r
@@ -23,19 +22,20 @@ use Rattle.thread_code.specs.Plans.{Plan, Thread, IsNodeOf}
 use Rattle.thread_code.specs.NodeCodeEffects.{Places, keeping}
 use Rattle.thread_code.specs.Programs.{IsThreadCode, IsCalling, mark_of}
 use Rattle.thread_runs.specs.CodeFragments as ways
-use Rattle.thread_runs.specs.CodeFragments.{ReadsVariables, IsLockOf, IsUnlockOf, IsOnFragment, IsPlaced, on_machine}
+use Rattle.thread_runs.specs.CodeFragments.{ReadsVariables, Running, IsLockOf, IsOnFragment, IsPlaced}
 use Rattle.thread_runs.specs.Laws.{TakesMutex, LocksTake, LocksWait}
 use Rattle.thread_runs.proofs.Boundaries.{boundary_may, boundary_apart}
 use Rattle.thread_runs.proofs.FragmentStarts.{on_fragment, contains_first}
 use Rattle.thread_runs.proofs.RunObservations.{mark_of_machine}
 use Rattle.thread_runs.proofs.Graph.{mark_there}
 use Rattle.thread_runs.proofs.ThreadsAtCalls.{agrees_on, words_stay, count_stays, log_stays, has_moved_by}
-use Rattle.thread_runs.proofs.ThreadsAtCalls.{and_right, pc_is, registers_are, call_there, boundary_after_is}
+use Rattle.thread_runs.proofs.ThreadsAtCalls.{and_right, pc_is, registers_are, at_call_for, boundary_after_is}
 
-module _ (p : Plan) (t : Thread) (program : List (List Slot)) (own : Program) (code : IsThreadCode p t own) (w : World) (h : ℕ) (s : MarkedEnvironment)
-    (node mutex next : ℕ) (seen : Seen) (side : ℕ) (effects : List Effect) (counts : r.CallsCount)
-    (fragment : IsOnFragment p t code.places (on_machine program w h s) (record { exit = ways.Asks mutex next; node = node; seen = seen; side = side })
-    0 effects) where
+module _ {p : Plan} {t : Thread} {own : Program} (code : IsThreadCode p t own) {running : Running} {node mutex next : ℕ} {seen : Seen} {side : ℕ}
+    {effects : List Effect} (counts : r.CallsCount)
+    (fragment : IsOnFragment p t code.places running (record { exit = ways.Asks mutex next; node = node; seen = seen; side = side }) 0 effects) where
+  open running use {program, world as w, hart as h, environment as s}
+
   abbrev c : Places
   c = code.places
 
@@ -49,20 +49,13 @@ module _ (p : Plan) (t : Thread) (program : List (List Slot)) (own : Program) (c
   calling = subst (λ (a : Action). IsCalling p t c a node) lock.locks (code.code node lock.is lock.own lock.at).calls
 
   abbrev at_call : IsAtCall program w h takes
-  at_call =
-      call_there program c w h s fragment.meets fragment.agrees node takes calling.0 fragment.registers hart fragment.on.here fragment.on.runs
-      fragment.on.walks.0 fragment.has.call
+  at_call = at_call_for fragment node refl calling.0 takes fragment.has.call
 
   lock_is : lock_asked hart ≡ mutex
-  lock_is = ap (λ (x : List ℕ). read x 10)
-      (registers_are program c w h s fragment.meets fragment.agrees node takes calling.0 fragment.registers hart fragment.on.here fragment.on.runs
-      fragment.on.walks.0 fragment.has.call)
-      ∙ fragment.has.lock
+  lock_is = ap (λ (x : List ℕ). read x 10) (registers_are fragment node refl calling.0) ∙ fragment.has.lock
 
   pc : hart.pc ≡ c.call node
-  pc =
-      pc_is program c w h s fragment.meets fragment.agrees node takes calling.0 fragment.registers hart fragment.on.here fragment.on.runs fragment.on.walks.0
-      fragment.has.call
+  pc = pc_is fragment node refl calling.0
 
   pub waits : (holder : ℕ) → slice_get w.holders mutex ≡ Some (Some holder) → (happens program w (Step h) ≡ (w, Waits mutex holder)) ×
       ((marks : List (List ℕ)) → passes_mark marks program w h ≡ false)
@@ -88,8 +81,7 @@ module _ (p : Plan) (t : Thread) (program : List (List Slot)) (own : Program) (c
 
     after : IsRunningAt v h (config fragment.registers (c.call node + 4))
     after = subst (λ (m : LocalConfig). IsRunningAt v h m)
-        (boundary_after_is program c w h s fragment.meets fragment.agrees node takes calling.0 fragment.registers hart fragment.on.here fragment.on.runs
-        fragment.on.walks.0 fragment.has.call placed.room)
+        (boundary_after_is fragment node refl calling.0 placed.room)
         (moved_harts_begin program w (with_holder w mutex (Some h)) h hart (gone_on hart) fragment.on.here does fragment.on.runs)
 
     agrees_after : Agrees program v h s
@@ -105,8 +97,8 @@ module _ (p : Plan) (t : Thread) (program : List (List Slot)) (own : Program) (c
         (subst (λ (a : Action). list_any (λ mark. mark == mark_of c a node) s.marks ≡ true) lock.locks
         (mark_there p t own code s fragment.meets node lock.is lock.own lock.at))
 
-    pub takes_it : TakesMutex p t c (on_machine program w h s) mutex next
-        (record { exit = ways.Asks mutex next; node = node; seen = seen; side = side }) hart fragment.registers
+    pub takes_it : TakesMutex p t c running mutex next (record { exit = ways.Asks mutex next; node = node; seen = seen; side = side }) hart
+        fragment.registers
     takes_it = record {
       does = does;
       on = on_fragment p t c program v h s fragment.meets agrees_after
@@ -129,8 +121,8 @@ module _ (p : Plan) (t : Thread) (program : List (List Slot)) (own : Program) (c
 
 pub locks_take : r.CallsCount → LocksTake
 locks_take counts p t program own code w h s node mutex next seen side effects placed reads fragment free =
-    takes_it p t program own code w h s node mutex next seen side effects counts fragment placed reads free
+    takes_it code counts fragment placed reads free
 
 pub locks_wait : r.CallsCount → LocksWait
 locks_wait counts p t program own code w h s node mutex next seen side effects holder fragment held =
-    waits p t program own code w h s node mutex next seen side effects counts fragment holder held
+    waits code counts fragment holder held

@@ -1,30 +1,30 @@
 -- Steps at a mark.
 use Rattle.std.proofs.Common.{◌≡◌, refl, ◌⊎◌, inl, inr, ℕ, suc, List, [], ◌∷◌, sym, ◌∙◌, subst, true, Some}
 use Rattle.ido_base.specs.declared.event.Event.TheVariants.{Step}
-use Rattle.rv64_isa.specs.declared.object.Slot.{Slot}
 use Rattle.rv64_isa.specs.Rows.{Effect}
-use Rattle.rv64_isa.specs.Machine.{Hart, World, after_event}
+use Rattle.rv64_isa.specs.Machine.{Hart, after_event}
 use Rattle.rv64_isa.specs.Frames.{IsWellFormedWorld}
 use Rattle.rv64_isa.specs.Schedule.{effect_at}
 use Rattle.flow_graph.specs.Actions as a
 use Rattle.code_runs.specs.ComputingRuns.{LocalConfig, config}
-use Rattle.code_runs.specs.CodeTraces.{MarkedEnvironment, Observation, Mark, marked, seen_effects}
+use Rattle.code_runs.specs.CodeTraces.{Observation, Mark, marked, seen_effects}
 use Rattle.hart_runs.specs.HartsOnRuns.{OnRun}
 use Rattle.hart_runs.specs.RunSteps.{GoesForward, Drains, steps_left}
 use Rattle.hart_runs.specs.Laws as r
 use Rattle.hart_runs.proofs.Public.{steps_go_on, forward_agrees, drains_agree}
 use Rattle.thread_code.specs.Plans.{Plan, Thread}
 use Rattle.thread_code.specs.NodeCodeEffects.{Places}
-use Rattle.thread_runs.specs.CodeFragments.{Stage, AreEffectsApart, end_of, IsMadeBy, IsAtMark, on_machine}
+use Rattle.thread_runs.specs.CodeFragments.{Stage, Running, AreEffectsApart, end_of, IsMadeBy, IsAtMark}
 use Rattle.thread_runs.specs.Laws.{run_at, PassesMark, Stays, MarksPass}
 use Rattle.thread_runs.proofs.RemainingSteps.{forward_less, drains_less}
 use Rattle.thread_runs.proofs.RunObservations.{Ahead, marked_ahead, marked_is, mark_of_machine, apart_first}
 use Rattle.thread_runs.proofs.FragmentSteps.{seen_lockstep}
 
-module _ (p : Plan) (t : Thread) (c : Places) (program : List (List Slot)) (w : World) (h : ℕ) (s : MarkedEnvironment) (e : a.Effect)
-    (stage : Stage) (steps : ℕ)
-    (effects : List Effect) (sound : IsWellFormedWorld w) (counts : r.ForwardCounts) (drained : r.DrainsCountNone)
-    (at : IsAtMark p t c (on_machine program w h s) e stage steps effects) where
+module _ {p : Plan} {t : Thread} {c : Places} {running : Running} {e : a.Effect} {stage : Stage} {steps : ℕ} {effects : List Effect}
+    (sound : IsWellFormedWorld running.world) (counts : r.ForwardCounts) (drained : r.DrainsCountNone)
+    (at : IsAtMark p t c running e stage steps effects) where
+  open running use {program, world as w, hart as h, environment as s}
+
   abbrev to : LocalConfig
   to = config at.registers (end_of p t c stage.exit stage.node)
 
@@ -32,7 +32,7 @@ module _ (p : Plan) (t : Thread) (c : Places) (program : List (List Slot)) (w : 
   run = run_at p t c at
 
   abbrev Result : Type 0
-  Result = PassesMark p t c (on_machine program w h s) e stage steps effects at ⊎ Stays p t c (on_machine program w h s) e stage steps effects at
+  Result = PassesMark p t c running e stage steps effects at ⊎ Stays p t c running e stage steps effects at
 
   passes : GoesForward program w h run → Result
   passes f =
@@ -86,8 +86,7 @@ module _ (p : Plan) (t : Thread) (c : Places) (program : List (List Slot)) (w : 
         same = refl;
       })
 
-  one : GoesForward program w h run ⊎ Drains program w h run →
-      Result
+  one : GoesForward program w h run ⊎ Drains program w h run → Result
   one (inl f) = passes f
   one (inr d) = stays d
 
@@ -96,4 +95,4 @@ module _ (p : Plan) (t : Thread) (c : Places) (program : List (List Slot)) (w : 
 
 pub marks_pass : r.ForwardCounts → r.DrainsCountNone → MarksPass
 marks_pass counts drained p t c program w h s e stage steps effects sound at =
-    one_step p t c program w h s e stage steps effects sound counts drained at
+    one_step sound counts drained at

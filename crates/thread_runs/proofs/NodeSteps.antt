@@ -9,9 +9,7 @@ use Rattle.ido_ints.specs.declared.kinds.Kind.{Kind}
 use Rattle.ido_ints.specs.Kinds.{bytes_of}
 use Rattle.c_tree.specs.Source.{Pending}
 use Rattle.c_tree.specs.WellFormed.{shape_of}
-use Rattle.rv64_isa.specs.declared.object.Slot.{Slot}
 use Rattle.rv64_isa.specs.Rows.{Effect, Cleans, row, read}
-use Rattle.rv64_isa.specs.Machine.{World}
 use Rattle.rv64_isa.specs.Schedule.{effect_at}
 use Rattle.memory_layout.specs.Roles.{pending_value}
 use Rattle.boundary_code.specs.Boundaries.{boundary_effects}
@@ -28,7 +26,7 @@ use Rattle.thread_code.specs.RegistersAtNodes.{IsAnswered, source_of}
 use Rattle.thread_code.specs.NodeCodeEffects.{Places, Entrance, Performs, Storing, kind_at, keeping, pending_observations}
 use Rattle.thread_code.specs.Programs.{IsThreadCode}
 use Rattle.thread_runs.specs.CodeFragments.{Stage, AreEffectsApart, ReadsVariables, end_of, Has, IsInGraph, IsAtCore}
-use Rattle.thread_runs.specs.CodeFragments.{IsAtMark, IsMadeBy, AreSeen, stage_after, store_of, on_machine}
+use Rattle.thread_runs.specs.CodeFragments.{IsAtMark, IsMadeBy, AreSeen, Running, stage_after, store_of, on_machine}
 use Rattle.thread_runs.specs.CodeFragments.{cleans_of, IsPlaced, MayBeMade, MayDo}
 use Rattle.thread_runs.specs.Laws.{IsAtSomeMark, Performing, NodesBegin}
 use Rattle.thread_runs.proofs.Boundaries.{both_true, second_true, boundary_may, boundary_apart}
@@ -80,10 +78,25 @@ cleans_lockstep : (b : Bool) (effect : Effect) → cond b (Does effect ∷ []) [
 cleans_lockstep true effect = refl
 cleans_lockstep false effect = refl
 
-module _ (p : Plan) (t : Thread) (program : List (List Slot)) (own : Program) (code : IsThreadCode p t own) (w : World) (h : ℕ) (s : MarkedEnvironment)
-    (node : ℕ) (seen : Seen) (side : ℕ) (registers : List ℕ) (is : Node) (placed : IsPlaced p t code.places w.log (length w.harts))
-    (meets : Meets code.places.program s) (agrees : Agrees program w h s) (reads : ReadsVariables s) (found : NodeAt p.graph node is)
-    (answered : IsAnswered (source_of p t seen) s.around.loads is.action) (at : IsAtCore p t code.places w h node seen side registers) where
+-- a hart that runs stands at the code of a node, in a machine with room for its thread and an environment that answers what the node reads
+record StandsAtNode {p : Plan} {t : Thread} {own : Program} (code : IsThreadCode p t own) (running : Running) : Type 0 where
+  node : ℕ
+  seen : Seen
+  side : ℕ
+  registers : List ℕ
+  is : Node
+  placed : IsPlaced p t code.places running.world.log (length running.world.harts)
+  meets : Meets code.places.program running.environment
+  agrees : Agrees running.program running.world running.hart running.environment
+  reads : ReadsVariables running.environment
+  found : NodeAt p.graph node is
+  answered : IsAnswered (source_of p t seen) running.environment.around.loads is.action
+  at : IsAtCore p t code.places running.world running.hart node seen side registers
+
+module _ {p : Plan} {t : Thread} {own : Program} (code : IsThreadCode p t own) (running : Running) (stands : StandsAtNode code running) where
+  open running use {program, world as w, hart as h, environment as s}
+  open stands use {node, seen, side, registers, is, placed, meets, agrees, reads, found, answered, at}
+
   abbrev c : Places
   c = code.places
 
@@ -101,7 +114,7 @@ module _ (p : Plan) (t : Thread) (program : List (List Slot)) (own : Program) (c
       IsNodeOf t stage.node → IsInGraph p t c stage.exit stage.node stage.seen → AreEffectsApart s effects →
       MayGo w.log (length w.harts) (seen_effects effects) →
       ((effect : Effect) → effect_at program h at.at.hart ≡ Some effect → IsMadeBy p t c e effect) → AreSeen p t c node side registers e effects →
-      IsAtSomeMark p t c (on_machine program w h s) node seen side registers e
+      IsAtSomeMark p t c running node seen side registers e
   at_mark e stage effects after eq plain goes own_next graph apart may made are_seen =
       let to : LocalConfig = config goes.registers (end_of p t c stage.exit stage.node) in
       let some : (k : ℕ) × (goes.steps ≡ suc k) = some_steps s goes.steps (config registers (c.core node)) to (seen_effects effects) goes.walks in
@@ -112,7 +125,7 @@ module _ (p : Plan) (t : Thread) (program : List (List Slot)) (own : Program) (c
         steps = some.0;
         effects = effects;
         short = subst (λ (n : ℕ). n ≤ c.words node) some.1 goes.short;
-        at = subst (λ (x : Stage). IsAtMark p t c (on_machine program w h s) e x some.0 effects) (sym after) (record {
+        at = subst (λ (x : Stage). IsAtMark p t c running e x some.0 effects) (sym after) (record {
           meets = meets;
           agrees = agrees;
           apart = apart;
@@ -140,7 +153,7 @@ module _ (p : Plan) (t : Thread) (program : List (List Slot)) (own : Program) (c
 
   makes : (store : Pending) (next : ℕ) → effect_of is.action seen ≡ Some (a.Makes store next) → (k : Kind) →
       kind_at p.flat.variables store.variable ≡ Some k → MayBeMade p t c w.log (length w.harts) s k store →
-      IsAtSomeMark p t c (on_machine program w h s) node seen side registers (a.Makes store next)
+      IsAtSomeMark p t c running node seen side registers (a.Makes store next)
   makes store next eq k kind may =
       let address : ℕ = variable_at (map shape_of p.flat.variables) store.variable store.element in
       let value : ℕ = read registers pending_value in
@@ -180,7 +193,7 @@ module _ (p : Plan) (t : Thread) (program : List (List Slot)) (own : Program) (c
           }
 
   begins : (e : a.Effect) → effect_of is.action seen ≡ Some e → MayDo p t c w.log (length w.harts) s e →
-      Performing p t c (on_machine program w h s) node seen side registers e
+      Performing p t c running node seen side registers e
   begins (a.Sets local number next) eq may =
       at_mark (a.Sets local number next) (stage_after p t c node seen side (a.Sets local number next)) [] refl eq refl
       (performs (a.Sets local number next) eq) (follows (a.Sets local number next) next eq refl) tt tt tt (λ effect k. tt) refl
@@ -211,4 +224,17 @@ module _ (p : Plan) (t : Thread) (program : List (List Slot)) (own : Program) (c
 
 pub nodes_begin : NodesBegin
 nodes_begin p t program own code w h s node seen side registers is e placed meets agrees reads found eq answered may at =
-    begins p t program own code w h s node seen side registers is placed meets agrees reads found answered at e eq may
+    begins code (on_machine program w h s) (record {
+      node = node;
+      seen = seen;
+      side = side;
+      registers = registers;
+      is = is;
+      placed = placed;
+      meets = meets;
+      agrees = agrees;
+      reads = reads;
+      found = found;
+      answered = answered;
+      at = at;
+    }) e eq may

@@ -2,26 +2,26 @@
 use Rattle.std.proofs.Common.{ℕ, List, [], length, sym, subst, refl}
 use Rattle.c_tree.specs.Values.{lock_number}
 use Rattle.std.specs.Prelude.{Contains}
-use Rattle.rv64_isa.specs.declared.object.Slot.{Slot}
-use Rattle.rv64_isa.specs.Machine.{World}
 use Rattle.flow_graph.specs.Nodes.{Action, Node, successors}
 use Rattle.flow_graph.specs.Actions.{Seen}
 use Rattle.flow_graph.specs.Liveness.{NodeAt}
 use Rattle.code_runs.specs.ComputingRuns.{config}
-use Rattle.code_runs.specs.CodeTraces.{Program, MarkedEnvironment, Meets}
+use Rattle.code_runs.specs.CodeTraces.{Program, Meets}
 use Rattle.hart_runs.specs.HartsOnRuns.{Agrees, IsRunningAt}
 use Rattle.thread_code.specs.Plans.{Plan, Thread, IsNodeOf}
 use Rattle.thread_code.specs.RegistersAtNodes.{Enters}
 use Rattle.thread_code.specs.NodeCodeEffects.{Places}
 use Rattle.thread_code.specs.Programs.{IsThreadCode, IsResumeAddress, at_chosen, past_lock, past_unlock}
 use Rattle.thread_code.proofs.Public.{enters_again}
-use Rattle.thread_runs.specs.CodeFragments.{IsPlaced, on_machine}
+use Rattle.thread_runs.specs.CodeFragments.{Running, IsPlaced, on_machine}
 use Rattle.thread_runs.specs.Laws.{node_resumed, AreResumed, IsUnderFragment, at_core, arrives, ResumedGoOn}
 use Rattle.thread_runs.proofs.FragmentStarts.{locks_go_on, unlocks_go_on, contains_first}
 
-module _ (p : Plan) (t : Thread) (program : List (List Slot)) (own : Program) (code : IsThreadCode p t own) (w : World) (h : ℕ) (s : MarkedEnvironment)
-    (seen : Seen) (side : ℕ) (registers : List ℕ) (placed : IsPlaced p t code.places w.log (length w.harts)) (meets : Meets code.places.program s)
-    (agrees : Agrees program w h s) where
+module _ {p : Plan} {t : Thread} {own : Program} (code : IsThreadCode p t own) (running : Running) (seen : Seen) (side : ℕ) (registers : List ℕ)
+    (placed : IsPlaced p t code.places running.world.log (length running.world.harts)) (meets : Meets code.places.program running.environment)
+    (agrees : Agrees running.program running.world running.hart running.environment) where
+  open running use {program, world as w, hart as h, environment as s}
+
   abbrev c : Places
   c = code.places
 
@@ -33,7 +33,7 @@ module _ (p : Plan) (t : Thread) (program : List (List Slot)) (own : Program) (c
 
   pub goes_on : (address : ℕ) (r : IsResumeAddress p t c address) → IsRunningAt w h (config registers address) →
       AreResumed p t c (node_resumed p t c r) seen side registers →
-      IsUnderFragment p t c (on_machine program w h s) (node_resumed p t c r) seen side registers
+      IsUnderFragment p t c running (node_resumed p t c r) seen side registers
   goes_on address (at_chosen node of chosen) at r = at_core (record { own = of; at = at; enters = enters node of r })
   goes_on address (past_lock from lock next is of found locks) at r =
       let goes : Contains (successors is.action) next = subst (λ (a : Action). Contains (successors a) next) (sym locks) (contains_first next []) in
@@ -50,4 +50,4 @@ module _ (p : Plan) (t : Thread) (program : List (List Slot)) (own : Program) (c
 
 pub resumed_go_on : ResumedGoOn
 resumed_go_on p t program own code w h s address r seen side registers placed meets agrees at resumed =
-    goes_on p t program own code w h s seen side registers placed meets agrees address r at resumed
+    goes_on code (on_machine program w h s) seen side registers placed meets agrees address r at resumed

@@ -11,7 +11,7 @@ use Rattle.rv64_isa.specs.declared.instr.Instr.{Instr}
 use Rattle.rv64_isa.specs.declared.instr.Instr.TheVariants.{Ecall}
 use Rattle.rv64_isa.specs.declared.object.Slot.{Slot}
 use Rattle.rv64_isa.specs.declared.phase.Phase.TheVariants.{Run}
-use Rattle.rv64_isa.specs.Rows.{next, read}
+use Rattle.rv64_isa.specs.Rows.{Effect, next, read}
 use Rattle.rv64_isa.specs.Machine.{Hart, World, Outcome, moved, happens, after_event, reply_to}
 use Rattle.rv64_isa.specs.Schedule.{has_moved}
 use Rattle.rv64_link.specs.LinkedCode.{IsInstructionAt}
@@ -21,7 +21,9 @@ use Rattle.code_runs.specs.CodeTraces.{Program, MarkedEnvironment, Meets}
 use Rattle.hart_runs.specs.HartsOnRuns.{Agrees, LoadGives, instr_at, is_access}
 use Rattle.hart_runs.specs.Calls.{IsAtCall}
 use Rattle.hart_runs.proofs.Public.{none_some}
+use Rattle.thread_code.specs.Plans.{Plan, Thread}
 use Rattle.thread_code.specs.NodeCodeEffects.{Places}
+use Rattle.thread_runs.specs.CodeFragments.{IsOnFragment, Running, Stage, end_of}
 
 below_length : (xs : List Slot) (i : ℕ) (x : Slot) → slice_get xs i ≡ Some x → i < length xs
 below_length [] i x e = absurd (none_some x e)
@@ -77,25 +79,40 @@ and_none false b e = refl
 
 -- ---- A hart at the call of a node
 
-module _ (program : List (List Slot)) (c : Places) (w : World) (h : ℕ) (s : MarkedEnvironment) (meets : Meets c.program s)
-    (agrees : Agrees program w h s) (node number : ℕ) (stands : IsInstructionAt c.program.start c.program.code (c.call node) Ecall)
-    (registers : List ℕ) (hart : Hart) (here : slice_get w.harts h ≡ Some hart) (runs : hart.phase ≡ Run)
-    (is : config hart.registers hart.pc ≡ config registers (c.call node)) (asks : read registers roles.call ≡ number) where
-  pub pc_is : hart.pc ≡ c.call node
-  pc_is = ap (λ (x : LocalConfig). x.pc) is
+-- by its registers and pc, and by what its environment has there
+abbrev pub call_there : (program : List (List Slot)) (c : Places) (w : World) (h : ℕ) (s : MarkedEnvironment) → Meets c.program s → Agrees program w h s →
+    (node number : ℕ) → IsInstructionAt c.program.start c.program.code (c.call node) Ecall → (registers : List ℕ) (hart : Hart) →
+    slice_get w.harts h ≡ Some hart → hart.phase ≡ Run → config hart.registers hart.pc ≡ config registers (c.call node) →
+    read registers roles.call ≡ number → IsAtCall program w h number
+call_there program c w h s meets agrees node number stands registers hart here runs is asks = record {
+  hart = hart;
+  here = here;
+  runs = runs;
+  calls = subst (λ (x : ℕ). instr_at program h x ≡ Some Ecall) (ap (λ (x : LocalConfig). x.pc) (sym is))
+      (agrees.fetches (c.call node) Ecall (meets.fetches (c.call node) Ecall stands));
+  asks = ap (λ (x : LocalConfig). read x.registers 17) is ∙ asks;
+}
 
-  pub registers_are : hart.registers ≡ registers
-  registers_are = ap (λ (x : LocalConfig). x.registers) is
+-- at the end of a fragment that leads to the call of a node
+module _ {p : Plan} {t : Thread} {c : Places} {running : Running} {stage : Stage} {effects : List Effect} (there : IsOnFragment p t c running stage 0 effects)
+    (node : ℕ) (ends : end_of p t c stage.exit stage.node ≡ c.call node)
+    (stands : IsInstructionAt c.program.start c.program.code (c.call node) Ecall) where
+  pub config_is : config there.on.hart.registers there.on.hart.pc ≡ config there.registers (c.call node)
+  config_is = there.on.walks.0 ∙ ap (λ (x : ℕ). config there.registers x) ends
 
-  abbrev pub call_there : IsAtCall program w h number
-  call_there = record {
-    hart = hart;
-    here = here;
-    runs = runs;
-    calls = subst (λ (x : ℕ). instr_at program h x ≡ Some Ecall) (sym pc_is) (agrees.fetches (c.call node) Ecall (meets.fetches (c.call node) Ecall stands));
-    asks = ap (λ (x : List ℕ). read x 17) registers_are ∙ asks;
-  }
+  pub pc_is : there.on.hart.pc ≡ c.call node
+  pc_is = ap (λ (x : LocalConfig). x.pc) config_is
 
-  pub boundary_after_is : c.program.start + 4 * length c.program.code < 2 ^ 64 → config hart.registers (next hart.pc) ≡ config registers (c.call node + 4)
-  boundary_after_is room = ap (λ (x : LocalConfig). config x.registers (next x.pc)) is ∙
-      ap (λ (x : ℕ). config registers x) (next_is c.program (c.call node) Ecall stands room)
+  pub registers_are : there.on.hart.registers ≡ there.registers
+  registers_are = ap (λ (x : LocalConfig). x.registers) config_is
+
+  -- it asks for the call of that number
+  abbrev pub at_call_for : (number : ℕ) → read there.registers roles.call ≡ number → IsAtCall running.program running.world running.hart number
+  at_call_for number asks =
+      call_there running.program c running.world running.hart running.environment there.meets there.agrees node number stands there.registers there.on.hart
+      there.on.here there.on.runs config_is asks
+
+  pub boundary_after_is : c.program.start + 4 * length c.program.code < 2 ^ 64 →
+      config there.on.hart.registers (next there.on.hart.pc) ≡ config there.registers (c.call node + 4)
+  boundary_after_is room = ap (λ (x : LocalConfig). config x.registers (next x.pc)) config_is ∙
+      ap (λ (x : ℕ). config there.registers x) (next_is c.program (c.call node) Ecall stands room)

@@ -3,14 +3,13 @@ use Rattle.std.proofs.Common.{◌≡◌, ℕ, List, length, refl, ap, sym, ◌�
 use Rattle.std.specs.Prelude.{slice_get, slice_set}
 use Rattle.std.specs.List.{list_any}
 use Rattle.ido_base.specs.declared.event.Event.TheVariants.{Step}
-use Rattle.rv64_isa.specs.declared.object.Slot.{Slot}
 use Rattle.rv64_isa.specs.Rows.{Effect, next, read}
 use Rattle.rv64_isa.specs.Machine.{Hart, World, with_holder, moved, gone_on, happens, after_event}
 use Rattle.node_code.specs.Pieces.{gives, ends}
 use Rattle.flow_graph.specs.Nodes.{Action, Unlock, End}
 use Rattle.flow_graph.specs.Actions.{Seen}
 use Rattle.code_runs.specs.ComputingRuns.{LocalConfig, config}
-use Rattle.code_runs.specs.CodeTraces.{Program, MarkedEnvironment}
+use Rattle.code_runs.specs.CodeTraces.{Program}
 use Rattle.hart_runs.specs.HartsOnRuns.{IsRunningAt}
 use Rattle.hart_runs.specs.Calls.{IsAtCall, lock_asked, phase_after}
 use Rattle.hart_runs.specs.Laws as r
@@ -20,16 +19,17 @@ use Rattle.thread_code.specs.Plans.{Plan, Thread}
 use Rattle.thread_code.specs.NodeCodeEffects.{Places}
 use Rattle.thread_code.specs.Programs.{IsThreadCode, IsCalling}
 use Rattle.thread_runs.specs.CodeFragments as ways
-use Rattle.thread_runs.specs.CodeFragments.{ReadsVariables, IsLockOf, IsUnlockOf, IsOnFragment, IsPlaced, on_machine}
+use Rattle.thread_runs.specs.CodeFragments.{Running, IsUnlockOf, IsOnFragment, IsPlaced}
 use Rattle.thread_runs.specs.Laws.{GivesMutex, UnlocksGive, EndsEnd}
 use Rattle.thread_runs.proofs.RunObservations.{mark_of_machine, none_marked}
-use Rattle.thread_runs.proofs.ThreadsAtCalls.{agrees_on, words_stay, count_stays, log_stays, and_none, pc_is, registers_are, call_there, boundary_after_is}
+use Rattle.thread_runs.proofs.ThreadsAtCalls.{agrees_on, words_stay, count_stays, log_stays, and_none, pc_is, registers_are, at_call_for, boundary_after_is}
 
-module _ (p : Plan) (t : Thread) (program : List (List Slot)) (own : Program) (code : IsThreadCode p t own) (w : World) (h : ℕ) (s : MarkedEnvironment)
-    (from mutex next : ℕ) (seen : Seen) (side : ℕ) (effects : List Effect) (counts : r.CallsCount) (placed : IsPlaced p t code.places w.log (length w.harts))
-    (fragment : IsOnFragment p t code.places (on_machine program w h s)
-    (record { exit = ways.Gives from mutex; node = next; seen = seen; side = side }) 0 effects)
-    (held : slice_get w.holders mutex ≡ Some (Some h)) where
+module _ {p : Plan} {t : Thread} {own : Program} (code : IsThreadCode p t own) {running : Running} {from mutex next : ℕ} {seen : Seen} {side : ℕ}
+    {effects : List Effect} (counts : r.CallsCount) (placed : IsPlaced p t code.places running.world.log (length running.world.harts))
+    (fragment : IsOnFragment p t code.places running (record { exit = ways.Gives from mutex; node = next; seen = seen; side = side }) 0 effects)
+    (held : slice_get running.world.holders mutex ≡ Some (Some running.hart)) where
+  open running use {program, world as w, hart as h, environment as s}
+
   abbrev c : Places
   c = code.places
 
@@ -43,20 +43,13 @@ module _ (p : Plan) (t : Thread) (program : List (List Slot)) (own : Program) (c
   calling = subst (λ (a : Action). IsCalling p t c a from) unlock.unlocks (code.code from unlock.is unlock.own unlock.at).calls
 
   abbrev at_call : IsAtCall program w h gives
-  at_call =
-      call_there program c w h s fragment.meets fragment.agrees from gives calling.0 fragment.registers hart fragment.on.here fragment.on.runs
-      fragment.on.walks.0 fragment.has.call
+  at_call = at_call_for fragment from refl calling.0 gives fragment.has.call
 
   lock_is : lock_asked hart ≡ mutex
-  lock_is = ap (λ (x : List ℕ). read x 10)
-      (registers_are program c w h s fragment.meets fragment.agrees from gives calling.0 fragment.registers hart fragment.on.here fragment.on.runs
-      fragment.on.walks.0 fragment.has.call)
-      ∙ fragment.has.lock
+  lock_is = ap (λ (x : List ℕ). read x 10) (registers_are fragment from refl calling.0) ∙ fragment.has.lock
 
   pc : hart.pc ≡ c.call from
-  pc =
-      pc_is program c w h s fragment.meets fragment.agrees from gives calling.0 fragment.registers hart fragment.on.here fragment.on.runs fragment.on.walks.0
-      fragment.has.call
+  pc = pc_is fragment from refl calling.0
 
   abbrev after : Hart
   after = record (gone_on hart) { phase = phase_after w h (slice_set w.holders mutex None) }
@@ -75,16 +68,13 @@ module _ (p : Plan) (t : Thread) (program : List (List Slot)) (own : Program) (c
       (subst (λ (ms : List ℕ). list_any (λ mark. mark == c.call from) ms ≡ false) (sym fragment.meets.marks)
       (none_marked c.program.nodes (c.call from) calling.3))
 
-  pub gives_it : GivesMutex p t c (on_machine program w h s) from mutex
-      (record { exit = ways.Gives from mutex; node = next; seen = seen; side = side }) hart fragment.registers
+  pub gives_it : GivesMutex p t c running from mutex (record { exit = ways.Gives from mutex; node = next; seen = seen; side = side }) hart fragment.registers
   gives_it = record {
     does = does;
     agrees = agrees_on program w v h s (words_stay program w (with_holder w mutex None) h after does refl)
         (count_stays program w (with_holder w mutex None) h after does refl) (log_stays program w (with_holder w mutex None) h after does refl) fragment.agrees;
     at = λ runs. subst (λ (m : LocalConfig). IsRunningAt v h m)
-        (boundary_after_is program c w h s fragment.meets fragment.agrees from gives calling.0 fragment.registers hart fragment.on.here fragment.on.runs
-        fragment.on.walks.0 fragment.has.call placed.room
-        ∙ ap (λ (x : ℕ). config fragment.registers x) (sym calling.2))
+        (boundary_after_is fragment from refl calling.0 placed.room ∙ ap (λ (x : ℕ). config fragment.registers x) (sym calling.2))
         (moved_harts_begin program w (with_holder w mutex None) h hart after fragment.on.here does runs);
     enters = fragment.has.enters;
     no_mark = λ marks same. (counts program w h gives at_call).0 marks ∙ and_none _ _ (mark_of_machine marks h s hart.pc false same plain);
@@ -93,7 +83,7 @@ module _ (p : Plan) (t : Thread) (program : List (List Slot)) (own : Program) (c
 
 pub unlocks_give : r.CallsCount → UnlocksGive
 unlocks_give counts p t program own code w h s from mutex next seen side effects placed fragment held =
-    gives_it p t program own code w h s from mutex next seen side effects counts placed fragment held
+    gives_it code counts placed fragment held
 
 -- ---- Ends
 
@@ -103,12 +93,8 @@ ends_end counts p t program own code w h s node seen side effects fragment none 
     let hart : Hart = fragment.on.hart in
     let of_end = fragment.of_graph in
     let calling : IsCalling p t c End node = subst (λ (a : Action). IsCalling p t c a node) of_end.ends (code.code node of_end.is of_end.own of_end.at).calls in
-    let at_call : IsAtCall program w h ends =
-    call_there program c w h s fragment.meets fragment.agrees node ends calling.0 fragment.registers hart fragment.on.here fragment.on.runs
-    fragment.on.walks.0 fragment.has in
-    let pc : hart.pc ≡ c.call node =
-    pc_is program c w h s fragment.meets fragment.agrees node ends calling.0 fragment.registers hart fragment.on.here fragment.on.runs
-    fragment.on.walks.0 fragment.has in
+    let at_call : IsAtCall program w h ends = at_call_for fragment node refl calling.0 ends fragment.has in
+    let pc : hart.pc ≡ c.call node = pc_is fragment node refl calling.0 in
     let plain : list_any (λ mark. mark == hart.pc) s.marks ≡ false =
     subst (λ (x : ℕ). list_any (λ mark. mark == x) s.marks ≡ false) (sym pc)
     (subst (λ (ms : List ℕ). list_any (λ mark. mark == c.call node) ms ≡ false) (sym fragment.meets.marks)
