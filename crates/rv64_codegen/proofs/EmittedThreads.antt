@@ -30,10 +30,10 @@ use Rattle.rv64_codegen.specs.ThreadPieces.{Choices, AreChoices, IsNodePiece, Ar
 use Rattle.rv64_codegen.proofs.JoinedAddresses.{AreOnes, joined_ones, IsIn, in_one, in_joined, Ascends, joined_ascend, ascending}
 use Rattle.rv64_codegen.proofs.Addresses.{contains_one, lies_on}
 use Rattle.rv64_codegen.proofs.PieceSites.{IsLinkedIn, IsSited, Spots, AgreesAt}
-use Rattle.rv64_codegen.proofs.PieceParts.{chosen_or_not}
+use Rattle.rv64_codegen.proofs.PieceParts.{PlacedNode, chosen_or_not, spots_in}
 use Rattle.rv64_codegen.proofs.ClosedPieces.{thread_closed}
 use Rattle.rv64_codegen.proofs.PieceSplits.{sited_as}
-use Rattle.rv64_codegen.proofs.NodeCode.{spots_in, node_code}
+use Rattle.rv64_codegen.proofs.NodeCode.{node_code}
 use Rattle.rv64_codegen.proofs.PiecePlaces as placed
 use Rattle.rv64_codegen.proofs.PiecePlaces.{part_lies, linked_lies, Stood}
 use Rattle.rv64_codegen.proofs.Marks as own
@@ -78,8 +78,20 @@ node_there p plan t thread i below =
 
 -- ---- The thread
 
-module _ (p : Plan) (plan : IsPlan p) (t : Thread) (thread : IsThread p t) (c : Choices) (choices : AreChoices p t c) (pieces : List (List CodeItem))
-    (are : ArePieces p t c pieces) (program : Program) (n : IsLinkedIn program (joined 0 pieces)) where
+-- the pieces of a plan's thread, linked one after another
+pub record LinkedPieces (p : Plan) (t : Thread) : Type 0 where
+  pub plan : IsPlan p
+  pub thread : IsThread p t
+  pub c : Choices
+  pub choices : AreChoices p t c
+  pub pieces : List (List CodeItem)
+  pub are : ArePieces p t c pieces
+  pub program : Program
+  pub n : IsLinkedIn program (joined 0 pieces)
+
+module _ (p : Plan) (t : Thread) (linked : LinkedPieces p t) where
+  open linked use {plan, thread, c, choices, pieces, are, program, n}
+
   nodes : (i : ℕ) → i < length pieces → (is : Node) × NodeAt p.graph (t.part.first + i) is
   nodes i below = let count : length pieces ≡ t.part.end - t.part.first = are.count in node_there p plan t thread i (omega (arith, count, below))
 
@@ -121,9 +133,24 @@ module _ (p : Plan) (plan : IsPlan p) (t : Thread) (thread : IsThread p t) (c : 
   parted {i} a =
       sited_as t program (joined 0 pieces) n entry (t.part.first + i) a.piece (a.of.before ++ (a.of.does ++ a.of.goes)) a.of.split a.stood.sited
 
+  abbrev placed_node : {i : ℕ} → Here i → PlacedNode p t c entry
+  placed_node {i} a = record {
+    program = program;
+    items = joined 0 pieces;
+    n = n;
+    node = t.part.first + i;
+    is = a.is;
+    at = a.found;
+    before = a.of.before;
+    does = a.of.does;
+    goes = a.of.goes;
+    guarded = a.of.guarded;
+    doing = a.of.doing;
+    sited = parted a;
+  }
+
   abbrev spots_at : {i : ℕ} → Here i → Spots
-  spots_at {i} a =
-      spots_in p t c program (joined 0 pieces) n entry (t.part.first + i) a.is a.found a.of.before a.of.does a.of.goes a.of.guarded a.of.doing (parted a)
+  spots_at a = spots_in (placed_node a)
 
   abbrev spots_by : (i : ℕ) → (i < length pieces) ⊎ (length pieces ≤ i) → Spots
   spots_by i (inl below) = spots_at (here i below)
@@ -201,21 +228,17 @@ module _ (p : Plan) (plan : IsPlan p) (t : Thread) (thread : IsThread p t) (c : 
 
   marks_of : (i : ℕ) (m : Node_at i) → marked m.a m.a.piece ≡ mark_of places m.a.is.action (t.part.first + i) ∷ []
   marks_of i m =
-      ap (λ (xs : List CodeItem). marked m.a xs) m.a.of.split ∙
-      own.marks_are p t c (t.part.first + i) m.a.is m.a.found m.a.of.before m.a.of.does m.a.of.goes m.a.of.guarded m.a.of.doing program (joined 0 pieces) n
-      places (parted m.a) m.agrees
+      ap (λ (xs : List CodeItem). marked m.a xs) m.a.of.split ∙ own.marks_are places (placed_node m.a) m.agrees
 
   resumes_are : (i : ℕ) (m : Node_at i) → ResumesAre p t places m.a.is.action (t.part.first + i) (resumes_of m.a)
   resumes_are i m =
       subst (λ (xs : List CodeItem). ResumesAre p t places m.a.is.action (t.part.first + i) (resumed_in m.a xs)) (sym m.a.of.split)
-      (own.resumes_are p t c (t.part.first + i) m.a.is m.a.found m.a.of.before m.a.of.does m.a.of.goes m.a.of.guarded m.a.of.doing program (joined 0 pieces) n
-      places (parted m.a) m.agrees)
+      (own.resumes_are places (placed_node m.a) m.agrees)
 
   resumes_ascend : (i : ℕ) (m : Node_at i) → Ascends (entry (t.part.first + i)) (entry (t.part.first + i + 1)) (resumes_of m.a)
   resumes_ascend i m =
       subst (λ (xs : List CodeItem). Ascends (entry (t.part.first + i)) (entry (t.part.first + i + 1)) (resumed_in m.a xs)) (sym m.a.of.split)
-      (own.resumes_ascend p t c (t.part.first + i) m.a.is m.a.found m.a.of.before m.a.of.does m.a.of.goes m.a.of.guarded m.a.of.doing program (joined 0 pieces)
-      n places (parted m.a) m.agrees)
+      (own.resumes_ascend places (placed_node m.a) m.agrees)
 
   own_node : (i : ℕ) → i < length pieces → IsNodeOf t (t.part.first + i)
   own_node i below =
@@ -224,11 +247,10 @@ module _ (p : Plan) (plan : IsPlan p) (t : Thread) (thread : IsThread p t) (c : 
 
   code_at : (i : ℕ) → i < length pieces → (m : Node_at i) → IsNodeCode p t places (t.part.first + i) m.a.is
   code_at i below m =
-      node_code p t c plan thread choices places program (joined 0 pieces) n (t.part.first + i) m.a.is (own_node i below) m.a.found m.a.of.before m.a.of.does
-      m.a.of.goes m.a.of.guarded m.a.of.doing (parted m.a)
-      (subst (λ (xs : List CodeItem). sum_by most_words_of xs ≤ node_price (action_nodes m.a.is.action)) m.a.of.split m.a.of.price) m.agrees
-      (own.is_within p t c (t.part.first + i) m.a.is m.a.found m.a.of.before m.a.of.does m.a.of.goes m.a.of.guarded m.a.of.doing program (joined 0 pieces) n
-      places (parted m.a) m.agrees)
+      node_code places (placed_node m.a)
+      (record { plan = plan; of = thread; choices = choices; own = own_node i below; agrees = m.agrees })
+      (subst (λ (xs : List CodeItem). sum_by most_words_of xs ≤ node_price (action_nodes m.a.is.action)) m.a.of.split m.a.of.price)
+      (own.is_within places (placed_node m.a) m.agrees)
 
   same_node : (i : ℕ) (m : Node_at i) (is : Node) → NodeAt p.graph (t.part.first + i) is → m.a.is ≡ is
   same_node i m is found = same_Some m.a.is is (sym m.a.found ∙ found)
@@ -424,4 +446,13 @@ module _ (p : Plan) (plan : IsPlan p) (t : Thread) (thread : IsThread p t) (c : 
 pub emitted_is_code : EmittedIsCode
 emitted_is_code p plan t items thread e =
     subst (λ (is : List CodeItem). IsCodeOfThread p t is) (sym e.joined_are)
-    (λ program linked room. is_thread_code p plan t thread e.choices e.are e.pieces e.of_nodes program (record { linked = linked; room = room }))
+    (λ program linked room. is_thread_code p t (record {
+      plan = plan;
+      thread = thread;
+      c = e.choices;
+      choices = e.are;
+      pieces = e.pieces;
+      are = e.of_nodes;
+      program = program;
+      n = record { linked = linked; room = room };
+    }))

@@ -3,17 +3,15 @@ use Rattle.std.proofs.Common.{◌≡◌, ◌⊎◌, inl, inr, ℕ, zero, suc, �
 use Rattle.std.specs.Prelude.{slice_get, slice_index_or}
 use Rattle.std.proofs.lemmas.Bool.{true≢false}
 use Rattle.std.proofs.lemmas.Option.{same_Some}
-use Rattle.rv64_isa.specs.declared.object.CodeItem.{CodeItem}
 use Rattle.rv64_link.specs.LabelledCode.{one_if, fences_in}
 use Rattle.flow_graph.specs.Nodes.{Action, Eval, Store, Test, Lock, Unlock, End, Node}
 use Rattle.flow_graph.specs.IdempotentCuts as cutting
 use Rattle.flow_graph.specs.IdempotentCuts.{IsChosen, locks, unlocks}
-use Rattle.flow_graph.specs.Liveness.{NodeAt}
 use Rattle.node_code.proofs.Public.{fences_append}
 use Rattle.thread_code.specs.Plans.{Plan, Thread, IsPlan}
 use Rattle.thread_code.specs.Programs.{boundary_count}
-use Rattle.rv64_codegen.specs.ThreadPieces.{Choices, IsGuarded, GoesTo, IsChoosing, turned, straight, IsDoing}
-use Rattle.rv64_codegen.proofs.PieceParts.{chosen_or_not, same_or_other}
+use Rattle.rv64_codegen.specs.ThreadPieces.{Choices, GoesTo, IsChoosing, turned, straight, IsDoing}
+use Rattle.rv64_codegen.proofs.PieceParts.{PlacedNode, chosen_or_not, same_or_other}
 
 -- ---- Flags
 
@@ -47,8 +45,9 @@ is_unlock (Lock lock next) = false
 is_unlock (Unlock lock next) = true
 is_unlock End = false
 
-module _ (p : Plan) (t : Thread) (c : Choices) (plan : IsPlan p) (node : ℕ) (is : Node) (at : NodeAt p.graph node is) (before does goes : List CodeItem)
-    (guarded : IsGuarded p t c node before) (doing : IsDoing p t c node is.action does goes) where
+module _ {p : Plan} {t : Thread} {c : Choices} {entry : ℕ → ℕ} (plan : IsPlan p) (it : PlacedNode p t c entry) where
+  open it use {node, is, at, before, does, goes, guarded, doing}
+
   abbrev has_before : Bool
   has_before = slice_index_or p.boundaries.before node false
 

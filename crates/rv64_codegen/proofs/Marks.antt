@@ -6,24 +6,22 @@ use Rattle.c_tree.specs.Exprs as e
 use Rattle.rv64_isa.specs.declared.object.CodeItem.{CodeItem}
 use Rattle.rv64_link.specs.LabelledCode.{is_mark, is_resume, positions_from}
 use Rattle.boundary_code.specs.Boundaries.{is_empty}
-use Rattle.code_runs.specs.CodeTraces.{Program, MarkedEnvironment, Meets}
-use Rattle.flow_graph.specs.Nodes.{Action, Eval, Store, Test, Lock, Unlock, End, Node}
+use Rattle.code_runs.specs.CodeTraces.{MarkedEnvironment, Meets}
+use Rattle.flow_graph.specs.Nodes.{Action, Eval, Store, Test, Lock, Unlock, End}
 use Rattle.flow_graph.specs.IdempotentCuts.{IsChosen}
-use Rattle.flow_graph.specs.Liveness.{NodeAt}
 use Rattle.node_code.specs.Sites.{Site}
 use Rattle.node_code.proofs.Public.{Lies}
 use Rattle.thread_code.specs.Plans.{Plan, Thread, locks_before}
 use Rattle.thread_code.specs.NodeCodeEffects.{Places}
 use Rattle.thread_code.specs.Programs.{mark_of, IsOn, IsCallWithin, IsWithin}
-use Rattle.rv64_codegen.specs.ThreadPieces.{Choices, IsGuarded, GoesTo, IsChoosing, turned, straight, IsDoing, boundary_before}
+use Rattle.rv64_codegen.specs.ThreadPieces.{Choices, GoesTo, IsChoosing, turned, straight, IsDoing, boundary_before}
 use Rattle.rv64_codegen.proofs.JoinedAddresses.{Ascends}
 use Rattle.rv64_codegen.proofs.Addresses.{on_here, on_then, on_up, lies_on, IsAmong, marked_among, boundary_grows}
-use Rattle.rv64_codegen.proofs.PieceSites.{IsLinkedIn, spot_site, IsSited, AgreesAt, bare, bare_meets}
+use Rattle.rv64_codegen.proofs.PieceSites.{spot_site, AgreesAt, bare, bare_meets}
 use Rattle.rv64_codegen.proofs.PieceParts as parts
-use Rattle.rv64_codegen.proofs.PieceParts.{chosen_or_not, does_closed}
+use Rattle.rv64_codegen.proofs.PieceParts.{PlacedNode, call_of, chosen_or_not, does_closed, spots_in}
 use Rattle.rv64_codegen.proofs.PieceSplits.{addresses_split}
 use Rattle.rv64_codegen.proofs.PiecePlaces.{part_lies, linked_lies}
-use Rattle.rv64_codegen.proofs.NodeCode.{call_of, spots_in}
 
 -- where a node is resumed after what it does
 abbrev pub resumes_after : Plan → Thread → Places → Action → (node : ℕ) → List ℕ
@@ -56,9 +54,9 @@ ends_in xs ys zs e = ap (λ (ns : List ℕ). xs ++ ns) (ap (λ (ns : List ℕ). 
 in_one : (xs : List ℕ) (y : ℕ) → xs ≡ y ∷ [] → Contains xs y
 in_one xs y e = subst (λ (ns : List ℕ). Contains ns y) (sym e) (0, omega arith, refl)
 
-module _ (p : Plan) (t : Thread) (c : Choices) (node : ℕ) (is : Node) (found : NodeAt p.graph node is) (before does goes : List CodeItem)
-    (guarded : IsGuarded p t c node before) (doing : IsDoing p t c node is.action does goes) (program : Program) (items : List CodeItem)
-    (n : IsLinkedIn program items) (places : Places) (sited : IsSited t program items n places.entry node (before ++ (does ++ goes))) where
+module _ {p : Plan} {t : Thread} {c : Choices} (places : Places) (it : PlacedNode p t c places.entry) where
+  open it use {program, items, n, node, is, at as found, before, does, goes, guarded, doing, sited}
+
   abbrev at : ℕ → ℕ
   at = n.linked.address_of
 
@@ -79,13 +77,13 @@ module _ (p : Plan) (t : Thread) (c : Choices) (node : ℕ) (is : Node) (found :
   meets = bare_meets program
 
   abbrev first_site : Site before
-  first_site = spot_site n before (parts.before_spot p t c program items n places.entry node is found before does goes guarded doing sited) s meets
+  first_site = spot_site n before (parts.before_spot it) s meets
 
   abbrev middle_site : Site does
-  middle_site = spot_site n does (parts.does_spot p t c program items n places.entry node is found before does goes guarded doing sited) s meets
+  middle_site = spot_site n does (parts.does_spot it) s meets
 
   abbrev last_site : Site goes
-  last_site = spot_site n goes (parts.goes_spot p t c program items n places.entry node is found before does goes guarded doing sited) s meets
+  last_site = spot_site n goes (parts.goes_spot it) s meets
 
   abbrev marked_from : (position : ℕ) → List CodeItem → List ℕ
   marked_from position part = map at (positions_from position is_mark part)
@@ -130,8 +128,7 @@ module _ (p : Plan) (t : Thread) (c : Choices) (node : ℕ) (is : Node) (found :
     no_resumes : resumed_from k₂ goes ≡ []
     last : IsLast action
 
-  module _ (g : AgreesAt places program c.live c.cleans node
-      (spots_in p t c program items n places.entry node is found before does goes guarded doing sited)) where
+  module _ (g : AgreesAt places program c.live c.cleans node (spots_in it)) where
     at_core : marked_from k₁ does ≡ at k₁ ∷ [] → marked_from k₁ does ≡ places.core node ∷ []
     at_core m = m ∙ ap (λ (y : ℕ). y ∷ []) (sym g.core)
 
@@ -152,7 +149,7 @@ module _ (p : Plan) (t : Thread) (c : Choices) (node : ℕ) (is : Node) (found :
     }
 
     says : (action : Action) → (d : IsDoing p t c node action does goes) →
-        places.call node ≡ call_of p t c program items n places.entry node is found before does goes guarded doing sited action d → Says action
+        places.call node ≡ call_of it action d → Says action
     says (Eval target value next) d call = record {
       marks = at_core (d.0.at middle_site).marks;
       no_marks = goes_marks next d.1;
@@ -226,7 +223,7 @@ module _ (p : Plan) (t : Thread) (c : Choices) (node : ℕ) (is : Node) (found :
     last_on =
         let lie : Lies at k₂ goes = part_lies at items whole k₂ goes last_site.is_part in
         let end : at (k₂ + length goes) ≡ places.entry (node + 1) =
-        parts.ends p t c program items n places.entry node is found before does goes guarded doing sited in
+        parts.ends it in
         subst (λ (a : ℕ). IsOn (at k₂) a) end (lies_on at k₂ goes lie)
 
     mark_among : IsAmong (at k₁) (mark_of places is.action node) (at k₂)

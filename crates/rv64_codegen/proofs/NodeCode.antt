@@ -20,84 +20,52 @@ use Rattle.rv64_link.specs.LinkedCode.{IsInstructionAt, AreInstructions}
 use Rattle.memory_layout.specs.Roles.{pending_value}
 use Rattle.boundary_code.specs.Boundaries.{Boundary, side_after}
 use Rattle.code_runs.specs.CodeTraces.{Program, MarkedEnvironment, Meets, Observation, GoesThrough, marked}
-use Rattle.flow_graph.specs.Nodes.{Action, Eval, Store, Test, Lock, Unlock, End, Node}
+use Rattle.flow_graph.specs.Nodes.{Action, Eval, Store, Test, Lock, Unlock, End}
 use Rattle.flow_graph.specs.Actions as a
 use Rattle.flow_graph.specs.Actions.{Seen, effect_of, number_in, element_in}
 use Rattle.flow_graph.specs.OmittedCleans.{IsCleanedLater}
 use Rattle.flow_graph.specs.IdempotentCuts.{IsChosen}
-use Rattle.flow_graph.specs.Liveness.{NodeAt}
 use Rattle.node_code.specs.Sites.{Site}
 use Rattle.node_code.specs.Pieces.{IsBoundaryPiece, LeavesRegisters, boundary_observations, Locks, words_in}
 use Rattle.node_code.proofs.Public.{fragment, weaker, moved, words_are_few, part_instructions}
-use Rattle.thread_code.specs.Plans.{Plan, Thread, IsThread, IsPlan, IsNodeOf, homes}
+use Rattle.thread_code.specs.Plans.{Plan, Thread, IsNodeOf, homes}
 use Rattle.thread_code.specs.RegistersAtNodes.{Enters, source_of, IsAnswered}
 use Rattle.thread_code.specs.NodeCodeEffects.{Places, Entrance, EntersAt, keeping, BoundaryCode, Performs, GoesOnAfter}
 use Rattle.thread_code.specs.Programs.{IsAtOwnNode, IsPlainCall, IsCalling, IsCleaning, IsNodeCode, IsWithin, action_nodes, boundary_count}
-use Rattle.rv64_codegen.specs.ThreadPieces.{Choices, AreChoices, IsGuarded, GoesTo, IsDoing, boundary_before}
-use Rattle.rv64_codegen.specs.Locals.{HoldsEach}
+use Rattle.rv64_codegen.specs.ThreadPieces.{Choices, GoesTo, IsDoing, boundary_before}
 use Rattle.rv64_codegen.proofs.ReadLocals.{left_held}
 use Rattle.rv64_codegen.proofs.Nodes.{Known}
-use Rattle.rv64_codegen.proofs.PieceSites.{IsLinkedIn, Spot, spot_site, IsSited, site_in, Spots, AgreesAt, bare, bare_meets}
+use Rattle.rv64_codegen.proofs.PieceSites.{Spot, spot_site, site_in, bare, bare_meets}
 use Rattle.rv64_codegen.proofs.FenceCounts.{piece_fences}
 use Rattle.rv64_codegen.proofs.LegalEvaluations.{variable_below, element_below, reads_held}
 use Rattle.rv64_codegen.proofs.RegistersAfterNodes.{low_bytes}
 use Rattle.rv64_codegen.proofs.PieceParts as parts
+use Rattle.rv64_codegen.proofs.PieceParts.{PlacedNode, HasPlaces, call_of, does_in}
 use Rattle.rv64_codegen.proofs.NodeCorrectness as performs
-use Rattle.rv64_codegen.proofs.NodeCorrectness.{known_of, enters_kept}
+use Rattle.rv64_codegen.proofs.NodeCorrectness.{Evaluates, known_of, enters_kept}
 
 first_same : (x y : ℕ) → x ∷ [] ≡ y ∷ [] → x ≡ y
 first_same x y same = ap (λ (xs : List ℕ). slice_index_or xs 0 0) same
 
-module _ (p : Plan) (t : Thread) (c : Choices) (program : Program) (items : List CodeItem) (n : IsLinkedIn program items) (entry : ℕ → ℕ) (node : ℕ) (is : Node)
-    (at : NodeAt p.graph node is) (before does goes : List CodeItem) (guarded : IsGuarded p t c node before) (doing : IsDoing p t c node is.action does goes)
-    (sited : IsSited t program items n entry node (before ++ (does ++ goes))) where
-  abbrev pub to : ℕ → ℕ
-  to k = n.linked.address_of k
+module _ {p : Plan} {t : Thread} {c : Choices} (places : Places) (it : PlacedNode p t c places.entry) (has : HasPlaces places it)
+    (price : sum_by most_words_of (it.before ++ (it.does ++ it.goes)) ≤ node_price (action_nodes it.is.action)) where
+  open it use {program, items, n, node, is, at, before, does, goes, guarded, doing, sited}
+  open has use {plan, of, choices, own, agrees}
 
-  abbrev pub does_at : ℕ
-  does_at = parts.does_at p t c program items n entry node is at before does goes guarded doing sited
-
-  abbrev pub goes_at : ℕ
-  goes_at = parts.goes_at p t c program items n entry node is at before does goes guarded doing sited
-
-  abbrev pub does_in : (s : MarkedEnvironment) → Meets program s → Site does
-  does_in s meets = spot_site n does (parts.does_spot p t c program items n entry node is at before does goes guarded doing sited) s meets
-
-  abbrev pub does_bare : Site does
-  does_bare = does_in (bare program) (bare_meets program)
-
-  -- where its call stands
-  abbrev pub call_of : (b : Action) → IsDoing p t c node b does goes → ℕ
-  call_of (Eval target value next) d = 0
-  call_of (Store variable kind next) d = 0
-  call_of (Test condition holds fails) d = 0
-  call_of (Lock lock next) d = (d.0.at does_bare).call
-  call_of (Unlock lock next) d = (d.0.at does_bare).call
-  call_of End d = (d.0.at does_bare).call
-
-  abbrev pub spots_in : Spots
-  spots_in = record { core = to does_at; call = call_of is.action doing; after = to goes_at }
-
-module _ (p : Plan) (t : Thread) (c : Choices) (plan : IsPlan p) (of : IsThread p t) (choices : AreChoices p t c) (places : Places) (program : Program)
-    (items : List CodeItem) (n : IsLinkedIn program items) (node : ℕ) (is : Node) (own : IsNodeOf t node) (at : NodeAt p.graph node is)
-    (before does goes : List CodeItem) (guarded : IsGuarded p t c node before) (doing : IsDoing p t c node is.action does goes)
-    (sited : IsSited t program items n places.entry node (before ++ (does ++ goes)))
-    (price : sum_by most_words_of (before ++ (does ++ goes)) ≤ node_price (action_nodes is.action))
-    (agrees : AgreesAt places program c.live c.cleans node (spots_in p t c program items n places.entry node is at before does goes guarded doing sited)) where
   abbrev addr : ℕ → ℕ
   addr k = n.linked.address_of k
 
   abbrev core_at : ℕ
-  core_at = parts.does_at p t c program items n places.entry node is at before does goes guarded doing sited
+  core_at = parts.does_at it
 
   abbrev on_at : ℕ
-  on_at = parts.goes_at p t c program items n places.entry node is at before does goes guarded doing sited
+  on_at = parts.goes_at it
 
   abbrev words : ℕ
   words = places.words node
 
   abbrev site_of : (s : MarkedEnvironment) → Meets program s → Site does
-  site_of s meets = does_in p t c program items n places.entry node is at before does goes guarded doing sited s meets
+  site_of s meets = does_in it s meets
 
   abbrev bare_site : Site does
   bare_site = site_of (bare program) (bare_meets program)
@@ -122,8 +90,7 @@ module _ (p : Plan) (t : Thread) (c : Choices) (plan : IsPlan p) (of : IsThread 
   chosen_by boundary s seen side x meets enters =
       let b : Boundary = boundary_before p t c node 0 in
       let P : List ℕ → Type 0 = Enters p t node seen (side_after b side) in
-      let site : Site before = spot_site n before (parts.before_spot p t c program items n places.entry node is at before does goes guarded doing sited) s
-      (met s meets) in
+      let site : Site before = spot_site n before (parts.before_spot it) s (met s meets) in
       let lockstep : boundary_observations b side (addr core_at) x ≡ boundary_observations (keeping p t places node) side (places.core node) x =
       ap (λ (z : ℕ). boundary_observations b side z x) (sym agrees.core) ∙
       ap (λ (ls : List ℕ). boundary_observations (record { log = p.log; thread = t.number; locks = b.locks; live = ls; resume = pos 0 }) side
@@ -132,10 +99,8 @@ module _ (p : Plan) (t : Thread) (c : Choices) (plan : IsPlan p) (of : IsThread 
       subst (λ (ss : List Observation). GoesThrough s (fragment x (places.entry node) (places.core node) words) ss P) lockstep
       (moved s x (places.entry node) (places.entry node) (addr core_at) (places.core node) words (boundary_observations b side (addr core_at) x) P refl
       (sym agrees.core)
-      (parts.then_core p t c program items n places.entry node is at before does goes guarded doing sited words agrees.words s x
-      (boundary_observations b side (addr core_at) x) P
-      (weaker s (fragment x (addr sited.position) (addr core_at)
-      (parts.before_words p t c program items n places.entry node is at before does goes guarded doing sited)) (boundary_observations b side (addr core_at) x)
+      (parts.then_core it words agrees.words s x (boundary_observations b side (addr core_at) x) P
+      (weaker s (fragment x (addr sited.position) (addr core_at) (parts.before_words it)) (boundary_observations b side (addr core_at) x)
       (LeavesRegisters b side x) P
       (λ y left. enters_kept p t plan of c choices node 0 own seen side x y enters left)
       ((boundary.at site).keeps x side enters.at_side))))
@@ -192,23 +157,19 @@ module _ (p : Plan) (t : Thread) (c : Choices) (plan : IsPlan p) (of : IsThread 
         by None none eq = absurd (none-some effect eq)
         by (Some store) pending eq =
             subst By (same_Some (a.Makes store next) effect eq)
-            (performs.makes_it p t c plan of choices places program items n node is own at before does goes guarded doing sited agrees.words agrees.of_program
-            agrees.live agrees.cleans agrees.core s meets seen side x enters variable kind next same known (d.0.at (site_of s meets)) d.1 store pending)
+            (performs.makes_it places it has s meets seen side x enters variable kind next same known (d.0.at (site_of s meets)) d.1 store pending)
 
     does_it : (b : Action) → is.action ≡ b → Known p.flat t.kinds t.part.first t.part.end p.graph.nodes is b → (d : IsDoing p t c node b does goes) →
-        places.call node ≡ call_of p t c program items n places.entry node is at before does goes guarded doing sited b d →
-        IsAnswered (source_of p t seen) s.around.loads b → (effect : a.Effect) → effect_of b seen ≡ Some effect → By effect
+        places.call node ≡ call_of it b d → IsAnswered (source_of p t seen) s.around.loads b → (effect : a.Effect) → effect_of b seen ≡ Some effect → By effect
     does_it (Eval (e.ToLocal place local kind) val next) same known d call answered effect eq =
         subst By (same_Some (a.Sets local (reduced kind (number_in seen val.expr)) next) effect eq)
-        (performs.sets p t c plan of choices places program items n node is own at before does goes guarded doing sited agrees.words agrees.of_program
-        agrees.live agrees.cleans agrees.core s meets seen side x enters place local kind val next same known d.0 d.1 answered)
+        (performs.sets places it has s meets seen side x enters place local kind
+        (record { val = val; next = next; same = same; known = known; doing = d; answered = answered }))
     does_it (Eval (e.ToVariable place variable kind) val next) same known d call answered effect eq =
         let store : Pending = record { variable = variable; element = 0; number = reduced kind (number_in seen val.expr) } in
         subst By (same_Some (a.Owes store next) effect eq)
-        (performs.owes_it p t c plan of choices places program items n node is own at before does goes guarded doing sited agrees.words agrees.of_program
-        agrees.live agrees.cleans agrees.core s meets seen side x enters (e.ToVariable place variable kind) val next same known d.0 d.1 answered store
-        variable kind
-        known.assigns known.owed (λ r. refl)
+        (performs.owes_it places it has s meets seen side x enters (e.ToVariable place variable kind)
+        (record { val = val; next = next; same = same; known = known; doing = d; answered = answered }) store variable kind known.assigns known.owed (λ r. refl)
         (λ y got. record {
           variable_is = refl;
           address = got.has.0;
@@ -218,13 +179,11 @@ module _ (p : Plan) (t : Thread) (c : Choices) (plan : IsPlan p) (of : IsThread 
     does_it (Eval (e.ToElement place variable kind index) val next) same known d call answered effect eq =
         let store : Pending = record { variable = variable; element = element_in seen index.expr; number = reduced kind (number_in seen val.expr) } in
         let target : e.Lvalue = e.ToElement place variable kind index in
-        let held : HoldsEach (homes p t) (source_of p t seen) x (expr_locals index.expr ++ expr_locals val.expr) =
-        performs.held_uses p t c plan of choices places program items n node is own at before does goes guarded doing sited agrees.words agrees.of_program
-        agrees.live agrees.cleans agrees.core s meets seen side x enters target val next same known d.0 d.1 answered in
+        let ev : Evaluates it s seen target =
+        record { val = val; next = next; same = same; known = known; doing = d; answered = answered } in
+        let held = performs.held_uses places it has s meets seen side x enters target ev in
         subst By (same_Some (a.Owes store next) effect eq)
-        (performs.owes_it p t c plan of choices places program items n node is own at before does goes guarded doing sited agrees.words agrees.of_program
-        agrees.live agrees.cleans agrees.core s meets seen side x enters target val next same known d.0 d.1 answered store variable kind
-        known.assigns known.owed (λ r. refl)
+        (performs.owes_it places it has s meets seen side x enters target ev store variable kind known.assigns known.owed (λ r. refl)
         (λ y got. record {
           variable_is = refl;
           address = got.has.0;
@@ -236,22 +195,18 @@ module _ (p : Plan) (t : Thread) (c : Choices) (plan : IsPlan p) (of : IsThread 
     does_it (Store variable kind next) same known d call answered effect eq = does_store variable kind next same known d effect eq
     does_it (Test condition holds fails) same known d call answered effect eq =
         subst By (same_Some (a.Goes (if is_zero (number_in seen condition.expr) then fails else holds)) effect eq)
-        (performs.tests_it p t c plan of choices places program items n node is own at before does goes guarded doing sited agrees.words agrees.of_program
-        agrees.live agrees.cleans agrees.core s meets seen side x enters condition holds fails same known answered d)
+        (performs.tests_it places it has s meets seen side x enters condition holds fails same known answered d)
     does_it (Lock lock next) same known d call answered effect eq =
         subst By (same_Some (a.Takes lock.mutex next) effect (ap (λ (k : ℕ). Some (a.Takes k next)) (sym (plain_lock seen.locals lock known.keyless)) ∙ eq))
-        (performs.takes_it p t c plan of choices places program items n node is own at before does goes guarded doing sited agrees.words agrees.of_program
-        agrees.live agrees.cleans agrees.core s meets seen side x enters lock next same known (d.0.at (site_of s meets))
+        (performs.takes_it places it has s meets seen side x enters lock next same known (d.0.at (site_of s meets))
         (call ∙ sym (lock_call lock next d s meets)))
     does_it (Unlock lock next) same known d call answered effect eq =
         subst By (same_Some (a.Gives lock.mutex next) effect (ap (λ (k : ℕ). Some (a.Gives k next)) (sym (plain_lock seen.locals lock known.keyless)) ∙ eq))
-        (performs.gives_it p t c plan of choices places program items n node is own at before does goes guarded doing sited agrees.words agrees.of_program
-        agrees.live agrees.cleans agrees.core s meets seen side x enters lock next same known (d.0.at (site_of s meets))
+        (performs.gives_it places it has s meets seen side x enters lock next same known (d.0.at (site_of s meets))
         (call ∙ sym (unlock_call lock next d s meets)) agrees.after)
     does_it End same known d call answered effect eq =
         subst By (same_Some a.Ends effect eq)
-        (performs.ends_it p t c plan of choices places program items n node is own at before does goes guarded doing sited agrees.words agrees.of_program
-        agrees.live agrees.cleans agrees.core s meets seen side x enters (d.0.at (site_of s meets)) (call ∙ sym (end_call d s meets)))
+        (performs.ends_it places it has s meets seen side x enters (d.0.at (site_of s meets)) (call ∙ sym (end_call d s meets)))
 
   performs_it : (m : Entrance) (effect : a.Effect) → m.node ≡ node → IsAtOwnNode p t places m →
       IsAnswered (source_of p t m.seen) m.environment.around.loads is.action → effect_of is.action m.seen ≡ Some effect → Performs p t places m effect
@@ -273,8 +228,7 @@ module _ (p : Plan) (t : Thread) (c : Choices) (plan : IsPlan p) (of : IsThread 
         (Enters p t next m.seen m.side) (sym agrees.after) refl
         (weaker m.environment (fragment m.registers (addr on_at) (places.entry next) (words - 3)) [] (λ y. y ≡ m.registers) (Enters p t next m.seen m.side)
         (λ y is_it. subst (λ (z : List ℕ). Enters p t next m.seen m.side z) (sym is_it) enters)
-        (parts.on_from_after p t c program items n places.entry node is at before does goes guarded doing sited words agrees.words 3 calling next of_next g
-        m.environment (met m.environment meets) m.registers)));
+        (parts.on_from_after it words agrees.words 3 calling next of_next g m.environment (met m.environment meets) m.registers)));
   }
 
   -- after the call of a lock
@@ -298,10 +252,8 @@ module _ (p : Plan) (t : Thread) (c : Choices) (plan : IsPlan p) (of : IsThread 
       (subst (λ (ss : List Observation). GoesThrough s (fragment x (places.call node + 4) (places.after node) words) ss P) lockstep
       (moved s x (locks.call + 4) (places.call node + 4) (addr on_at) (places.after node) words (boundary_observations b m.side (addr on_at) x) P at_call
       (sym agrees.after)
-      (parts.within p t c program items n places.entry node is at before does goes guarded doing sited words agrees.words s x (locks.call + 4) (addr on_at)
-      (boundary_observations b m.side (addr on_at) x) P
-      (weaker s (fragment x (locks.call + 4) (addr on_at)
-      (parts.does_words p t c program items n places.entry node is at before does goes guarded doing sited)) (boundary_observations b m.side (addr on_at) x)
+      (parts.within it words agrees.words s x (locks.call + 4) (addr on_at) (boundary_observations b m.side (addr on_at) x) P
+      (weaker s (fragment x (locks.call + 4) (addr on_at) (parts.does_words it)) (boundary_observations b m.side (addr on_at) x)
       (LeavesRegisters b m.side x) P
       (λ y left. enters_kept p t plan of c choices next 0 of_next m.seen m.side x y enters left) (locks.keeps x m.side enters.at_side)))))
 
@@ -316,7 +268,7 @@ module _ (p : Plan) (t : Thread) (c : Choices) (plan : IsPlan p) (of : IsThread 
       subst (λ (z : ℕ). marked places.program.nodes z ≡ []) (sym same) (subst (λ (q : Program). marked q.nodes call ≡ []) (sym agrees.of_program) h)
 
   calls_by : (b : Action) → is.action ≡ b → Known p.flat t.kinds t.part.first t.part.end p.graph.nodes is b → (d : IsDoing p t c node b does goes) →
-      places.call node ≡ call_of p t c program items n places.entry node is at before does goes guarded doing sited b d → IsCalling p t places b node
+      places.call node ≡ call_of it b d → IsCalling p t places b node
   calls_by (Eval target val next) same known d call = tt
   calls_by (Store variable kind next) same known d call = tt
   calls_by (Test condition holds fails) same known d call = tt
@@ -351,14 +303,14 @@ module _ (p : Plan) (t : Thread) (c : Choices) (plan : IsPlan p) (of : IsThread 
   priced : places.words node ≤ node_price (action_nodes is.action)
   priced =
       let bare_of : (part : List CodeItem) → Spot items part → Site part = λ part spot. spot_site n part spot (bare program) (bare_meets program) in
-      let first = parts.before_spot p t c program items n places.entry node is at before does goes guarded doing sited in
-      let second = parts.does_spot p t c program items n places.entry node is at before does goes guarded doing sited in
-      let third = parts.goes_spot p t c program items n places.entry node is at before does goes guarded doing sited in
+      let first = parts.before_spot it in
+      let second = parts.does_spot it in
+      let third = parts.goes_spot it in
       let a1 : words_in before (bare_of before first) ≤ sum_by most_words_of before = words_are_few before (bare_of before first) in
       let a2 : words_in does (bare_of does second) ≤ sum_by most_words_of does = words_are_few does (bare_of does second) in
       let a3 : words_in goes (bare_of goes third) ≤ sum_by most_words_of goes = words_are_few goes (bare_of goes third) in
       let sum : words_in before (bare_of before first) + (words_in does (bare_of does second) + words_in goes (bare_of goes third)) ≡ words =
-      parts.all_words p t c program items n places.entry node is at before does goes guarded doing sited words agrees.words in
+      parts.all_words it words agrees.words in
       let b1 : sum_by most_words_of (before ++ (does ++ goes)) ≡ sum_by most_words_of before + sum_by most_words_of (does ++ goes) =
       sum_by-append most_words_of before (does ++ goes) in
       let b2 : sum_by most_words_of (does ++ goes) ≡ sum_by most_words_of does + sum_by most_words_of goes = sum_by-append most_words_of does goes in
@@ -373,7 +325,7 @@ module _ (p : Plan) (t : Thread) (c : Choices) (plan : IsPlan p) (of : IsThread 
       let site : Site piece = site_in t program items n places.entry node piece sited (bare program) (bare_meets program) in
       let own_words : AreInstructions program.start program.code (addr sited.position) (addr (sited.position + length piece)) (fences_in piece) =
       part_instructions piece site in
-      let fences : fences_in piece ≡ count = piece_fences p t c plan node is at before does goes guarded doing in
+      let fences : fences_in piece ≡ count = piece_fences plan it in
       subst (λ (q : Program). AreInstructions q.start q.code (places.entry node) (places.entry (node + 1)) count) (sym agrees.of_program)
       (subst (λ (a : ℕ). AreInstructions program.start program.code a (places.entry (node + 1)) count) sited.begin
       (subst (λ (a : ℕ). AreInstructions program.start program.code (addr sited.position) a count) sited.end

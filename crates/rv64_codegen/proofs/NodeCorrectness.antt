@@ -1,5 +1,5 @@
 -- What the code of a node does is what the node does.
-use Rattle.std.proofs.Common.{◌≡◌, ◌≢◌, ℕ, ◌+◌, ◌*◌, ◌^◌, ◌<◌, List, [], ◌∷◌, ◌++◌, map, refl, ap, arith, sym, ◌∙◌, subst, Bool}
+use Rattle.std.proofs.Common.{◌≡◌, ◌≢◌, ℕ, ◌+◌, ◌^◌, ◌<◌, List, [], ◌∷◌, ◌++◌, map, refl, ap, arith, sym, ◌∙◌, subst, Bool}
 use Rattle.c_tree.specs.Exprs.{LockName}
 use Rattle.std.proofs.Common.{true, false, Some, None, ◌==◌, ◌||◌, if◌then◌else◌}
 use Rattle.std.specs.Prelude.{slice_get, Contains, pos, not}
@@ -19,7 +19,6 @@ use Rattle.c_tree.specs.Programs as v
 use Rattle.c_tree.specs.Source.{Pending}
 use Rattle.c_tree.specs.Values.{value}
 use Rattle.c_tree.specs.WellFormed.{shape_of}
-use Rattle.rv64_isa.specs.declared.object.CodeItem.{CodeItem}
 use Rattle.rv64_isa.specs.Rows.{Stores, row, read}
 use Rattle.rv64_link.specs.LinkedCode.{IsInstructionAt}
 use Rattle.memory_layout.specs.Roles as roles
@@ -32,7 +31,7 @@ use Rattle.expr_code.specs.EvaluationCode.{Homes, Source, home_of, is_home}
 use Rattle.expr_code.proofs.Public.{or_right}
 use Rattle.flow_graph.specs.Nodes.{Action, Eval, Store, Test, Lock, Unlock, Node, Graph, successors}
 use Rattle.flow_graph.specs.Actions as a
-use Rattle.flow_graph.specs.Actions.{Seen, effect_of, number_in, element_in}
+use Rattle.flow_graph.specs.Actions.{Seen, number_in}
 use Rattle.flow_graph.specs.Lowering.{target_locals}
 use Rattle.flow_graph.specs.Liveness.{NodeAt}
 use Rattle.node_code.specs.Pieces.{store_observations, boundary_observations, LeavesRegisters}
@@ -43,18 +42,19 @@ use Rattle.thread_code.specs.Plans.{Plan, Thread, IsThread, IsPlan, IsNodeOf, Is
 use Rattle.thread_code.specs.RegistersAtNodes.{HasLowBytes, HasPending, IsPendingIn, Enters, source_of, IsAnswered}
 use Rattle.thread_code.specs.NodeCodeEffects.{Places, Entrance, kind_at, keeping, Asking, Storing, Performs}
 use Rattle.thread_code.proofs.Public.{enters_again}
-use Rattle.rv64_codegen.specs.Evaluations.{IsEvaluation, IsAssigned, may_write, IsTest, IsTested, is_taken, is_in}
+use Rattle.rv64_codegen.specs.Evaluations.{IsAssigned, may_write, IsTest, IsTested, is_taken, is_in}
 use Rattle.rv64_codegen.specs.Locals.{HoldsEach}
-use Rattle.rv64_codegen.specs.ThreadPieces.{Choices, AreChoices, IsGuarded, GoesTo, IsChoosing, turned, straight, IsDoing, boundary_before, label_of_node}
+use Rattle.rv64_codegen.specs.ThreadPieces.{Choices, AreChoices, GoesTo, IsChoosing, turned, straight, boundary_before, label_of_node, IsDoing}
 use Rattle.rv64_codegen.proofs.EvaluationCode.{spare, local_spare}
 use Rattle.rv64_codegen.proofs.ReadLocals.{live_is_enough, left_held, right_held}
 use Rattle.rv64_codegen.proofs.Nodes.{Known, EvalKnown, StoreKnown, TestKnown, CallKnown, StoresThere, node_known}
 use Rattle.rv64_codegen.proofs.StoresAfterEvaluations.{owes}
-use Rattle.rv64_codegen.proofs.PieceSites.{IsLinkedIn, spot_site, IsSited}
+use Rattle.rv64_codegen.proofs.PieceSites.{spot_site}
 use Rattle.rv64_codegen.proofs.LocalRegisters.{home_local}
 use Rattle.rv64_codegen.proofs.RegistersAfterNodes.{enters_on, enters_owing, enters_set}
 use Rattle.rv64_codegen.proofs.LegalEvaluations.{registers_at, may_evaluate, may_reach}
 use Rattle.rv64_codegen.proofs.PieceParts as parts
+use Rattle.rv64_codegen.proofs.PieceParts.{PlacedNode, HasPlaces}
 use Rattle.expr_code.specs.declared.home.Home.{Home}
 use Rattle.expr_code.specs.declared.home.Home.TheVariants.{InRegister}
 
@@ -109,51 +109,58 @@ module _ (p : Plan) (t : Thread) (plan : IsPlan p) (of : IsThread p t) where
       enters_again p t node seen side (side_after (boundary_before p t c node resume) side) x y (c.live node) (choices.kept node own) enters left.at_side
       (λ r has. let plain = kept_plain node r ((choices.kept node own r).0 has) in left.others r plain.0 plain.1)
 
-module _ (p : Plan) (t : Thread) (c : Choices) (plan : IsPlan p) (of : IsThread p t) (choices : AreChoices p t c) (places : Places) (program : Program)
-    (items : List CodeItem) (n : IsLinkedIn program items) (node : ℕ) (is : Node) (own : IsNodeOf t node) (at : NodeAt p.graph node is)
-    (before does goes : List CodeItem) (guarded : IsGuarded p t c node before) (doing : IsDoing p t c node is.action does goes)
-    (sited : IsSited t program items n places.entry node (before ++ (does ++ goes)))
-    (counted : places.entry (node + 1) ≡ places.entry node + 4 * places.words node) (of_program : places.program ≡ program)
-    (live : (other : ℕ) → places.live other ≡ c.live other) (cleans : places.cleans node ≡ c.cleans node) where
+-- the node evaluates into a target, which it can in an environment, and goes on to the next one
+pub record Evaluates {p : Plan} {t : Thread} {c : Choices} {entry : ℕ → ℕ} (it : PlacedNode p t c entry) (s : MarkedEnvironment) (seen : Seen)
+    (target : e.Lvalue) : Type 0 where
+  pub val : e.Placed
+  pub next : ℕ
+  pub same : it.is.action ≡ Eval target val next
+  pub known : EvalKnown p.flat t.kinds t.part.first t.part.end p.graph.nodes target val next it.is
+  pub doing : IsDoing p t c it.node (Eval target val next) it.does it.goes
+  pub answered : IsAnswered (source_of p t seen) s.around.loads (Eval target val next)
+
+module _ {p : Plan} {t : Thread} {c : Choices} (places : Places) (it : PlacedNode p t c places.entry) (has : HasPlaces places it) where
+  open it use {program, items, n, node, is, at, before, does, goes, sited}
+  open has use {plan, of, own, agrees}
+  open agrees use {of_program, live, cleans}
+
   abbrev to : ℕ → ℕ
   to k = n.linked.address_of k
 
   abbrev does_at : ℕ
-  does_at = parts.does_at p t c program items n places.entry node is at before does goes guarded doing sited
+  does_at = parts.does_at it
 
   abbrev goes_at : ℕ
-  goes_at = parts.goes_at p t c program items n places.entry node is at before does goes guarded doing sited
+  goes_at = parts.goes_at it
 
   abbrev words : ℕ
   words = places.words node
 
   abbrev does_words : ℕ
-  does_words = parts.does_words p t c program items n places.entry node is at before does goes guarded doing sited
+  does_words = parts.does_words it
 
-  module _ (core : places.core node ≡ to does_at) (s : MarkedEnvironment) (meets : Meets program s) where
+  module _ (s : MarkedEnvironment) (meets : Meets program s) where
     abbrev before_site : Site before
-    before_site = spot_site n before (parts.before_spot p t c program items n places.entry node is at before does goes guarded doing sited) s meets
+    before_site = spot_site n before (parts.before_spot it) s meets
 
     abbrev does_site : Site does
-    does_site = spot_site n does (parts.does_spot p t c program items n places.entry node is at before does goes guarded doing sited) s meets
+    does_site = spot_site n does (parts.does_spot it) s meets
 
     -- ---- Legs
 
     from_core : (x : List ℕ) (there : ℕ) (ss : List Observation) (P : List ℕ → Type 0) → GoesThrough s (fragment x (to does_at) there words) ss P →
         GoesThrough s (fragment x (places.core node) there words) ss P
-    from_core x there ss P g = moved s x (to does_at) (places.core node) there there words ss P (sym core) refl g
+    from_core x there ss P g = moved s x (to does_at) (places.core node) there there words ss P (sym agrees.core) refl g
 
     then_next : (next : ℕ) → IsNodeOf t next → GoesTo p t c node next goes → (x : List ℕ) (ss : List Observation) (P : List ℕ → Type 0) →
         GoesThrough s (fragment x (to does_at) (to goes_at) does_words) ss P → GoesThrough s (fragment x (places.core node) (places.entry next) words) ss P
     then_next next of_next g x ss P leg =
-        from_core x (places.entry next) ss P
-        (parts.then_next p t c program items n places.entry node is at before does goes guarded doing sited words counted next of_next g s meets x ss P leg)
+        from_core x (places.entry next) ss P (parts.then_next it words agrees.words next of_next g s meets x ss P leg)
 
     within : (x : List ℕ) (there : ℕ) (ss : List Observation) (P : List ℕ → Type 0) → GoesThrough s (fragment x (to does_at) there does_words) ss P →
         GoesThrough s (fragment x (places.core node) there words) ss P
     within x there ss P leg =
-        from_core x there ss P
-        (parts.within p t c program items n places.entry node is at before does goes guarded doing sited words counted s x (to does_at) there ss P leg)
+        from_core x there ss P (parts.within it words agrees.words s x (to does_at) there ss P leg)
 
     module _ (seen : Seen) (side : ℕ) (x : List ℕ) (enters : Enters p t node seen side x) where
       abbrev m : Entrance
@@ -173,61 +180,51 @@ module _ (p : Plan) (t : Thread) (c : Choices) (plan : IsPlan p) (of : IsThread 
 
       -- ---- Evaluations
 
-      module _ (target : e.Lvalue) (val : e.Placed) (next : ℕ) (same : is.action ≡ Eval target val next)
-          (known : EvalKnown p.flat t.kinds t.part.first t.part.end p.graph.nodes target val next is)
-          (evaluation : IsEvaluation h target val.expr does) (goes_to : GoesTo p t c node next goes)
-          (answered : IsAnswered src s.around.loads (Eval target val next))
-        where
-          of_next : IsNodeOf t next
-          of_next = record { from_first = known.inside.0; below_end = known.inside.1 }
+      module _ (target : e.Lvalue) (ev : Evaluates it s seen target) where
+        open ev use {val, next, same, known, doing, answered}
 
-          follows : Contains (successors is.action) next
-          follows = subst (λ (b : Action). Contains (successors b) next) (sym same) (0, omega arith, refl)
+        of_next : IsNodeOf t next
+        of_next = record { from_first = known.inside.0; below_end = known.inside.1 }
 
-          pub held_uses : HoldsEach h src x (target_locals target ++ expr_locals val.expr)
-          held_uses = subst (λ (ls : List ℕ). HoldsEach h src x ls) known.uses held_all
+        follows : Contains (successors is.action) next
+        follows = subst (λ (b : Action). Contains (successors b) next) (sym same) (0, omega arith, refl)
 
-          eval_leg : GoesThrough s (fragment x (to does_at) (to goes_at) does_words) (Mark ∷ []) (IsAssigned h src target val.expr x)
-          eval_leg = (evaluation.at does_site).evaluates src x are
-              (may_reach p t plan of seen s.around x target known.target_is
-              (left_held h src x (target_locals target) (expr_locals val.expr) held_uses) answered.0)
-              (may_evaluate p t plan of seen s.around x val known.value_is
-              (right_held h src x (target_locals target) (expr_locals val.expr) held_uses) answered.1)
+        pub held_uses : HoldsEach h src x (target_locals target ++ expr_locals val.expr)
+        held_uses = subst (λ (ls : List ℕ). HoldsEach h src x ls) known.uses held_all
 
-          eval_goes : (P : List ℕ → Type 0) → ((y : List ℕ) → IsAssigned h src target val.expr x y → P y) →
-              GoesThrough s (fragment x (places.core node) (places.entry next) words) (Mark ∷ []) P
-          eval_goes P f = then_next next of_next goes_to x (Mark ∷ []) P
-              (weaker s (fragment x (to does_at) (to goes_at) does_words) (Mark ∷ []) (IsAssigned h src target val.expr x) P f eval_leg)
+        eval_leg : GoesThrough s (fragment x (to does_at) (to goes_at) does_words) (Mark ∷ []) (IsAssigned h src target val.expr x)
+        eval_leg = (doing.0.at does_site).evaluates src x are
+            (may_reach p t plan of seen s.around x target known.target_is
+            (left_held h src x (target_locals target) (expr_locals val.expr) held_uses) answered.0)
+            (may_evaluate p t plan of seen s.around x val known.value_is
+            (right_held h src x (target_locals target) (expr_locals val.expr) held_uses) answered.1)
 
-      pub sets : (name : Place) (local : ℕ) (kind : Kind) (val : e.Placed) (next : ℕ) → is.action ≡ Eval (e.ToLocal name local kind) val next →
-          EvalKnown p.flat t.kinds t.part.first t.part.end p.graph.nodes (e.ToLocal name local kind) val next is →
-          IsEvaluation h (e.ToLocal name local kind) val.expr does → GoesTo p t c node next goes →
-          IsAnswered src s.around.loads (Eval (e.ToLocal name local kind) val next) →
-          Performs p t places m (a.Sets local (reduced kind (number_in seen val.expr)) next)
-      sets name local kind val next same known evaluation goes_to answered =
-          eval_goes (e.ToLocal name local kind) val next same known evaluation goes_to answered _ (λ y got.
-          let stands : is_home (home_of t.locals local) ≡ true = home_local p t plan of local (slice_get_within t.kinds local kind known.target_is.0) in
-          enters_set p t plan of node next is at (follows (e.ToLocal name local kind) val next same known evaluation goes_to answered) seen side x enters own
-          local kind
-          (reduced kind (number_in seen val.expr)) y known.target_is.0 known.assigns
-          (λ r is_one other. got.unchanged r (set_kept h name local kind r (local_plain r is_one) other)) got.has (ap owes same)
+        eval_goes : (P : List ℕ → Type 0) → ((y : List ℕ) → IsAssigned h src target val.expr x y → P y) →
+            GoesThrough s (fragment x (places.core node) (places.entry next) words) (Mark ∷ []) P
+        eval_goes P f = then_next next of_next doing.1 x (Mark ∷ []) P
+            (weaker s (fragment x (to does_at) (to goes_at) does_words) (Mark ∷ []) (IsAssigned h src target val.expr x) P f eval_leg)
+
+      pub sets : (name : Place) (local : ℕ) (kind : Kind) (ev : Evaluates it s seen (e.ToLocal name local kind)) →
+          Performs p t places m (a.Sets local (reduced kind (number_in seen ev.val.expr)) ev.next)
+      sets name local kind ev =
+          eval_goes (e.ToLocal name local kind) ev _ (λ y got.
+          let stands : is_home (home_of t.locals local) ≡ true = home_local p t plan of local (slice_get_within t.kinds local kind ev.known.target_is.0) in
+          enters_set p t plan of node ev.next is at (follows (e.ToLocal name local kind) ev) seen side x enters own local kind
+          (reduced kind (number_in seen ev.val.expr)) y ev.known.target_is.0 ev.known.assigns
+          (λ r is_one other. got.unchanged r (set_kept h name local kind r (local_plain r is_one) other)) got.has (ap owes ev.same)
           (at_side_on p.log side x y enters.at_side got.are
           (got.unchanged 3 (set_kept h name local kind 3 refl (λ e3. true≢false (sym stands ∙ sym (ap is_home e3)))))))
 
       -- a store is pending after it
-      module _ (target : e.Lvalue) (val : e.Placed) (next : ℕ) (same : is.action ≡ Eval target val next)
-          (known : EvalKnown p.flat t.kinds t.part.first t.part.end p.graph.nodes target val next is)
-          (evaluation : IsEvaluation h target val.expr does) (goes_to : GoesTo p t c node next goes)
-          (answered : IsAnswered src s.around.loads (Eval target val next))
-          (store : Pending) (variable : ℕ) (kind : Kind) (assigns : is.assigns ≡ None) (stores : StoresThere p.graph.nodes next variable kind)
-          (writes : (r : ℕ) → may_write h target r ≡ spare r)
-          (has : (y : List ℕ) → IsAssigned h src target val.expr x y → HasPending p store variable kind y) where
-        pub owes_it : Performs p t places m (a.Owes store next)
-        owes_it = eval_goes target val next same known evaluation goes_to answered _ (λ y got.
-            enters_owing p t plan of node next is at (follows target val next same known evaluation goes_to answered) seen side x enters
-            (record seen { pending = Some store }) y store variable kind assigns refl refl
+      module _ (target : e.Lvalue) (ev : Evaluates it s seen target) (store : Pending) (variable : ℕ) (kind : Kind) (assigns : is.assigns ≡ None)
+          (stores : StoresThere p.graph.nodes ev.next variable kind) (writes : (r : ℕ) → may_write h target r ≡ spare r)
+          (has_it : (y : List ℕ) → IsAssigned h src target ev.val.expr x y → HasPending p store variable kind y) where
+        pub owes_it : Performs p t places m (a.Owes store ev.next)
+        owes_it = eval_goes target ev _ (λ y got.
+            enters_owing p t plan of node ev.next is at (follows target ev) seen side x enters (record seen { pending = Some store }) y store variable kind
+            assigns refl refl
             (at_side_on p.log side x y enters.at_side got.are (got.unchanged 3 (writes 3)))
-            (λ r is_one. got.unchanged r (writes r ∙ local_spare r is_one)) stores (has y got))
+            (λ r is_one. got.unchanged r (writes r ∙ local_spare r is_one)) stores (has_it y got))
 
       -- ---- Stores
 
@@ -268,9 +265,9 @@ module _ (p : Plan) (t : Thread) (c : Choices) (plan : IsPlan p) (of : IsThread 
           storing = record {
             instr = makes.instr;
             stands =
-                subst (λ (z : ℕ). IsInstructionAt places.program.start places.program.code z makes.instr) (sym core)
+                subst (λ (z : ℕ). IsInstructionAt places.program.start places.program.code z makes.instr) (sym agrees.core)
                 (subst (λ (q : Program). IsInstructionAt q.start q.code (to does_at) makes.instr) (sym of_program) makes.stands);
-            does = ap (λ (z : ℕ). row makes.instr x z) core ∙ makes.first x small ∙ stores_same;
+            does = ap (λ (z : ℕ). row makes.instr x z) agrees.core ∙ makes.first x small ∙ stores_same;
             value = subst (λ (j : Kind). HasLowBytes x roles.pending_value j store.number) kinds owed.value;
           }
 

@@ -12,12 +12,13 @@ use Rattle.code_runs.specs.CodeTraces.{Program, MarkedEnvironment, Meets, Observ
 use Rattle.flow_graph.specs.Nodes.{Action, Eval, Store, Test, Lock, Unlock, End, Node, Graph}
 use Rattle.flow_graph.specs.IdempotentCuts.{Boundaries, IsUnlock, unlocks, IsChosen}
 use Rattle.flow_graph.specs.Liveness.{NodeAt}
-use Rattle.node_code.specs.Sites.{IsPart, mark_waits}
+use Rattle.node_code.specs.Sites.{IsPart, Site, mark_waits}
 use Rattle.node_code.specs.Pieces.{IsClosed, words_in}
 use Rattle.node_code.proofs.Public.{part_left, part_right, waits_left, waits_right, words_are, fragment, weaker, more_room, moved, two_legs}
-use Rattle.thread_code.specs.Plans.{Plan, Thread, IsNodeOf}
-use Rattle.rv64_codegen.specs.ThreadPieces.{Choices, IsGuarded, GoesTo, IsChoosing, turned, straight, IsDoing}
-use Rattle.rv64_codegen.proofs.PieceSites.{IsLinkedIn, Spot, spot_site, IsSited, bare, bare_meets}
+use Rattle.thread_code.specs.Plans.{Plan, Thread, IsNodeOf, IsPlan, IsThread}
+use Rattle.thread_code.specs.NodeCodeEffects.{Places}
+use Rattle.rv64_codegen.specs.ThreadPieces.{Choices, AreChoices, IsGuarded, GoesTo, IsChoosing, turned, straight, IsDoing}
+use Rattle.rv64_codegen.proofs.PieceSites.{IsLinkedIn, Spot, Spots, spot_site, IsSited, AgreesAt, bare, bare_meets}
 
 -- ---- A boundary is chosen or not
 
@@ -57,6 +58,21 @@ same_or_other m n = grind arith
 nothing_closed : IsClosed []
 nothing_closed = record { waits = refl; labels = λ label. refl }
 
+-- a node of a thread, with the three parts of its piece where that stands in linked code
+pub record PlacedNode (p : Plan) (t : Thread) (c : Choices) (entry : ℕ → ℕ) : Type 0 where
+  pub program : Program
+  pub items : List CodeItem
+  pub n : IsLinkedIn program items
+  pub node : ℕ
+  pub is : Node
+  pub at : NodeAt p.graph node is
+  pub before : List CodeItem
+  pub does : List CodeItem
+  pub goes : List CodeItem
+  pub guarded : IsGuarded p t c node before
+  pub doing : IsDoing p t c node is.action does goes
+  pub sited : IsSited t program items n entry node (before ++ (does ++ goes))
+
 module _ (p : Plan) (t : Thread) (c : Choices) where
   pub guarded_closed : (node : ℕ) (is : Node) (piece : List CodeItem) → NodeAt p.graph node is → IsGuarded p t c node piece → IsClosed piece
   guarded_closed node is piece at g = by (chosen_or_not p.graph p.boundaries node is at)
@@ -77,124 +93,150 @@ module _ (p : Plan) (t : Thread) (c : Choices) where
   does_closed node (Unlock lock next) does goes d = d.0.closed
   does_closed node End does goes d = d.0.closed
 
-  module _ (program : Program) (items : List CodeItem) (n : IsLinkedIn program items) (entry : ℕ → ℕ) (node : ℕ) (is : Node) (at : NodeAt p.graph node is)
-      (before does goes : List CodeItem) (guarded : IsGuarded p t c node before) (doing : IsDoing p t c node is.action does goes)
-      (sited : IsSited t program items n entry node (before ++ (does ++ goes))) where
-    abbrev pub to : ℕ → ℕ
-    to k = n.linked.address_of k
+module _ {p : Plan} {t : Thread} {c : Choices} {entry : ℕ → ℕ} (it : PlacedNode p t c entry) where
+  open it use {program, items, n, node, is, at, before, does, goes, guarded, doing, sited}
 
-    -- where the parts begin
-    abbrev pub first_at : ℕ
-    first_at = sited.position
+  abbrev pub to : ℕ → ℕ
+  to k = n.linked.address_of k
 
-    abbrev pub does_at : ℕ
-    does_at = sited.position + length before
+  -- where the parts begin
+  abbrev pub first_at : ℕ
+  first_at = sited.position
 
-    abbrev pub goes_at : ℕ
-    goes_at = sited.position + length before + length does
+  abbrev pub does_at : ℕ
+  does_at = sited.position + length before
 
-    abbrev pub before_spot : Spot items before
-    before_spot = record {
-      position = first_at;
-      is_part = part_left items sited.position before (does ++ goes) sited.is_part;
-      closed = waits_left items sited.position before (does ++ goes) sited.is_part ∙ sited.closed;
-    }
+  abbrev pub goes_at : ℕ
+  goes_at = sited.position + length before + length does
 
-    pub inner : IsPart items (sited.position + length before) (does ++ goes)
-    inner = part_right items sited.position before (does ++ goes) sited.is_part
+  abbrev pub before_spot : Spot items before
+  before_spot = record {
+    position = first_at;
+    is_part = part_left items sited.position before (does ++ goes) sited.is_part;
+    closed = waits_left items sited.position before (does ++ goes) sited.is_part ∙ sited.closed;
+  }
 
-    pub inner_closed : mark_waits false inner.before ≡ false
-    unfolding inner
-    inner_closed =
-        waits_right items sited.position before (does ++ goes) sited.is_part ∙ ap (λ (w : Bool). mark_waits w before) sited.closed ∙
-        (guarded_closed node is before at guarded).waits
+  pub inner : IsPart items (sited.position + length before) (does ++ goes)
+  inner = part_right items sited.position before (does ++ goes) sited.is_part
 
-    abbrev pub does_spot : Spot items does
-    does_spot = record {
-      position = does_at;
-      is_part = part_left items (sited.position + length before) does goes inner;
-      closed = waits_left items (sited.position + length before) does goes inner ∙ inner_closed;
-    }
+  pub inner_closed : mark_waits false inner.before ≡ false
+  unfolding inner
+  inner_closed =
+      waits_right items sited.position before (does ++ goes) sited.is_part ∙ ap (λ (w : Bool). mark_waits w before) sited.closed ∙
+      (guarded_closed p t c node is before at guarded).waits
 
-    abbrev pub goes_spot : Spot items goes
-    goes_spot = record {
-      position = goes_at;
-      is_part = part_right items (sited.position + length before) does goes inner;
-      closed = waits_right items (sited.position + length before) does goes inner ∙ ap (λ (w : Bool). mark_waits w does) inner_closed ∙
-          (does_closed node is.action does goes doing).waits;
-    }
+  abbrev pub does_spot : Spot items does
+  does_spot = record {
+    position = does_at;
+    is_part = part_left items (sited.position + length before) does goes inner;
+    closed = waits_left items (sited.position + length before) does goes inner ∙ inner_closed;
+  }
 
-    pub ends : to (goes_at + length goes) ≡ entry (node + 1)
-    ends =
-        let whole : length (before ++ (does ++ goes)) ≡ length before + length (does ++ goes) = length-append before (does ++ goes) in
-        let rest : length (does ++ goes) ≡ length does + length goes = length-append does goes in
-        let same : sited.position + length before + length does + length goes ≡ sited.position + length (before ++ (does ++ goes)) =
-        omega (arith, whole, rest) in
-        ap to same ∙ sited.end
+  abbrev pub goes_spot : Spot items goes
+  goes_spot = record {
+    position = goes_at;
+    is_part = part_right items (sited.position + length before) does goes inner;
+    closed = waits_right items (sited.position + length before) does goes inner ∙ ap (λ (w : Bool). mark_waits w does) inner_closed ∙
+        (does_closed p t c node is.action does goes doing).waits;
+  }
 
-    -- ---- Words
+  abbrev pub does_in : (s : MarkedEnvironment) → Meets program s → Site does
+  does_in s meets = spot_site n does does_spot s meets
 
-    abbrev pub before_words : ℕ
-    before_words = words_in before (spot_site n before before_spot (bare program) (bare_meets program))
+  abbrev pub does_bare : Site does
+  does_bare = does_in (bare program) (bare_meets program)
 
-    abbrev pub does_words : ℕ
-    does_words = words_in does (spot_site n does does_spot (bare program) (bare_meets program))
+  -- where its call stands
+  abbrev pub call_of : (b : Action) → IsDoing p t c node b does goes → ℕ
+  call_of (Eval target value next) d = 0
+  call_of (Store variable kind next) d = 0
+  call_of (Test condition holds fails) d = 0
+  call_of (Lock lock next) d = (d.0.at does_bare).call
+  call_of (Unlock lock next) d = (d.0.at does_bare).call
+  call_of End d = (d.0.at does_bare).call
 
-    abbrev pub goes_words : ℕ
-    goes_words = words_in goes (spot_site n goes goes_spot (bare program) (bare_meets program))
+  abbrev pub spots_in : Spots
+  spots_in = record { core = to does_at; call = call_of is.action doing; after = to goes_at }
 
-    module _ (words : ℕ) (counted : entry (node + 1) ≡ entry node + 4 * words) where
-      pub all_words : before_words + (does_words + goes_words) ≡ words
-      all_words =
-          let a : to does_at ≡ to first_at + 4 * before_words = words_are before (spot_site n before before_spot (bare program) (bare_meets program)) in
-          let b : to goes_at ≡ to does_at + 4 * does_words = words_are does (spot_site n does does_spot (bare program) (bare_meets program)) in
-          let d : to (goes_at + length goes) ≡ to goes_at + 4 * goes_words = words_are goes (spot_site n goes goes_spot (bare program) (bare_meets program)) in
-          let begin : to first_at ≡ entry node = sited.begin in
-          omega (arith, a, b, d, ends, begin, counted)
+  pub ends : to (goes_at + length goes) ≡ entry (node + 1)
+  ends =
+      let whole : length (before ++ (does ++ goes)) ≡ length before + length (does ++ goes) = length-append before (does ++ goes) in
+      let rest : length (does ++ goes) ≡ length does + length goes = length-append does goes in
+      let same : sited.position + length before + length does + length goes ≡ sited.position + length (before ++ (does ++ goes)) =
+      omega (arith, whole, rest) in
+      ap to same ∙ sited.end
 
-      -- ---- How the code goes on
+  -- ---- Words
 
-      goes_leg : (next : ℕ) → IsNodeOf t next → GoesTo p t c node next goes → (s : MarkedEnvironment) → Meets program s → (x : List ℕ) →
-          GoesThrough s (fragment x (to goes_at) (entry next) goes_words) [] (λ y. y ≡ x)
-      goes_leg next of_next g s meets x = by (same_or_other next (node + 1))
-        where
-          by : (next ≡ node + 1) ⊎ (next ≢ node + 1) → GoesThrough s (fragment x (to goes_at) (entry next) goes_words) [] (λ y. y ≡ x)
-          by (inl same) =
-              let none : goes ≡ [] = g.follows same in
-              let e : goes_at ≡ goes_at + length goes = let l : length goes ≡ 0 = ap length none in omega (arith, l) in
-              let here : to goes_at ≡ entry next = ap to e ∙ ends ∙ ap entry (sym same) in
-              record { registers = x; steps = 0; walks = (ap (λ (a : ℕ). config x a) here, refl); short = omega arith; are = refl }
-          by (inr other) =
-              moved s x (to goes_at) (to goes_at) (to (label_position (next - t.part.first) items)) (entry next) goes_words [] (λ y. y ≡ x) refl
-              (sited.labels next of_next) (((g.jumps other).at (spot_site n goes goes_spot s meets)).jumps x)
+  abbrev pub before_words : ℕ
+  before_words = words_in before (spot_site n before before_spot (bare program) (bare_meets program))
 
-      -- after the boundary alone
-      pub then_core : (s : MarkedEnvironment) (x : List ℕ) (ss : List Observation) (P : List ℕ → Type 0) →
-          GoesThrough s (fragment x (to first_at) (to does_at) before_words) ss P → GoesThrough s (fragment x (entry node) (to does_at) words) ss P
-      then_core s x ss P g =
-          more_room s x (entry node) (to does_at) before_words words ss P (omega (arith, all_words))
-          (moved s x (to first_at) (entry node) (to does_at) (to does_at) before_words ss P sited.begin refl g)
+  abbrev pub does_words : ℕ
+  does_words = words_in does (spot_site n does does_spot (bare program) (bare_meets program))
 
-      -- within what the node does
-      pub within : (s : MarkedEnvironment) (x : List ℕ) (from there : ℕ) (ss : List Observation) (P : List ℕ → Type 0) →
-          GoesThrough s (fragment x from there does_words) ss P → GoesThrough s (fragment x from there words) ss P
-      within s x from there ss P g = more_room s x from there does_words words ss P (omega (arith, all_words)) g
+  abbrev pub goes_words : ℕ
+  goes_words = words_in goes (spot_site n goes goes_spot (bare program) (bare_meets program))
 
-      -- after what the node does, within what so many of its words leave
-      pub on_from_after : (least : ℕ) → least ≤ does_words → (next : ℕ) → IsNodeOf t next → GoesTo p t c node next goes → (s : MarkedEnvironment) →
-          Meets program s → (x : List ℕ) → GoesThrough s (fragment x (to goes_at) (entry next) (words - least)) [] (λ y. y ≡ x)
-      on_from_after least some next of_next g s meets x =
-          more_room s x (to goes_at) (entry next) goes_words (words - least) [] (λ y. y ≡ x) (omega (arith, all_words, some))
-          (goes_leg next of_next g s meets x)
+  module _ (words : ℕ) (counted : entry (node + 1) ≡ entry node + 4 * words) where
+    pub all_words : before_words + (does_words + goes_words) ≡ words
+    all_words =
+        let a : to does_at ≡ to first_at + 4 * before_words = words_are before (spot_site n before before_spot (bare program) (bare_meets program)) in
+        let b : to goes_at ≡ to does_at + 4 * does_words = words_are does (spot_site n does does_spot (bare program) (bare_meets program)) in
+        let d : to (goes_at + length goes) ≡ to goes_at + 4 * goes_words = words_are goes (spot_site n goes goes_spot (bare program) (bare_meets program)) in
+        let begin : to first_at ≡ entry node = sited.begin in
+        omega (arith, a, b, d, ends, begin, counted)
 
-      -- what the node does, and on to the next
-      pub then_next : (next : ℕ) → IsNodeOf t next → GoesTo p t c node next goes → (s : MarkedEnvironment) → Meets program s →
-          (x : List ℕ) (ss : List Observation)
-          (P : List ℕ → Type 0) → GoesThrough s (fragment x (to does_at) (to goes_at) does_words) ss P →
-          GoesThrough s (fragment x (to does_at) (entry next) words) ss P
-      then_next next of_next g s meets x ss P leg =
-          more_room s x (to does_at) (entry next) (does_words + goes_words) words ss P (omega (arith, all_words))
-          (subst (λ (ts : List Observation). GoesThrough s (fragment x (to does_at) (entry next) (does_words + goes_words)) ts P) (append-nil ss)
-          (two_legs s x (to does_at) (to goes_at) (entry next) does_words goes_words ss [] P P leg
-          (λ y h. weaker s (fragment y (to goes_at) (entry next) goes_words) [] (λ z. z ≡ y) P (λ z same. subst P (sym same) h)
-          (goes_leg next of_next g s meets y))))
+    -- ---- How the code goes on
+
+    goes_leg : (next : ℕ) → IsNodeOf t next → GoesTo p t c node next goes → (s : MarkedEnvironment) → Meets program s → (x : List ℕ) →
+        GoesThrough s (fragment x (to goes_at) (entry next) goes_words) [] (λ y. y ≡ x)
+    goes_leg next of_next g s meets x = by (same_or_other next (node + 1))
+      where
+        by : (next ≡ node + 1) ⊎ (next ≢ node + 1) → GoesThrough s (fragment x (to goes_at) (entry next) goes_words) [] (λ y. y ≡ x)
+        by (inl same) =
+            let none : goes ≡ [] = g.follows same in
+            let e : goes_at ≡ goes_at + length goes = let l : length goes ≡ 0 = ap length none in omega (arith, l) in
+            let here : to goes_at ≡ entry next = ap to e ∙ ends ∙ ap entry (sym same) in
+            record { registers = x; steps = 0; walks = (ap (λ (a : ℕ). config x a) here, refl); short = omega arith; are = refl }
+        by (inr other) =
+            moved s x (to goes_at) (to goes_at) (to (label_position (next - t.part.first) items)) (entry next) goes_words [] (λ y. y ≡ x) refl
+            (sited.labels next of_next) (((g.jumps other).at (spot_site n goes goes_spot s meets)).jumps x)
+
+    -- after the boundary alone
+    pub then_core : (s : MarkedEnvironment) (x : List ℕ) (ss : List Observation) (P : List ℕ → Type 0) →
+        GoesThrough s (fragment x (to first_at) (to does_at) before_words) ss P → GoesThrough s (fragment x (entry node) (to does_at) words) ss P
+    then_core s x ss P g =
+        more_room s x (entry node) (to does_at) before_words words ss P (omega (arith, all_words))
+        (moved s x (to first_at) (entry node) (to does_at) (to does_at) before_words ss P sited.begin refl g)
+
+    -- within what the node does
+    pub within : (s : MarkedEnvironment) (x : List ℕ) (from there : ℕ) (ss : List Observation) (P : List ℕ → Type 0) →
+        GoesThrough s (fragment x from there does_words) ss P → GoesThrough s (fragment x from there words) ss P
+    within s x from there ss P g = more_room s x from there does_words words ss P (omega (arith, all_words)) g
+
+    -- after what the node does, within what so many of its words leave
+    pub on_from_after : (least : ℕ) → least ≤ does_words → (next : ℕ) → IsNodeOf t next → GoesTo p t c node next goes → (s : MarkedEnvironment) →
+        Meets program s → (x : List ℕ) → GoesThrough s (fragment x (to goes_at) (entry next) (words - least)) [] (λ y. y ≡ x)
+    on_from_after least some next of_next g s meets x =
+        more_room s x (to goes_at) (entry next) goes_words (words - least) [] (λ y. y ≡ x) (omega (arith, all_words, some))
+        (goes_leg next of_next g s meets x)
+
+    -- what the node does, and on to the next
+    pub then_next : (next : ℕ) → IsNodeOf t next → GoesTo p t c node next goes → (s : MarkedEnvironment) → Meets program s →
+        (x : List ℕ) (ss : List Observation)
+        (P : List ℕ → Type 0) → GoesThrough s (fragment x (to does_at) (to goes_at) does_words) ss P →
+        GoesThrough s (fragment x (to does_at) (entry next) words) ss P
+    then_next next of_next g s meets x ss P leg =
+        more_room s x (to does_at) (entry next) (does_words + goes_words) words ss P (omega (arith, all_words))
+        (subst (λ (ts : List Observation). GoesThrough s (fragment x (to does_at) (entry next) (does_words + goes_words)) ts P) (append-nil ss)
+        (two_legs s x (to does_at) (to goes_at) (entry next) does_words goes_words ss [] P P leg
+        (λ y h. weaker s (fragment y (to goes_at) (entry next) goes_words) [] (λ z. z ≡ y) P (λ z same. subst P (sym same) h)
+        (goes_leg next of_next g s meets y))))
+
+-- it is a node of a plan's thread, whose places have its addresses
+pub record HasPlaces {p : Plan} {t : Thread} {c : Choices} (places : Places) (it : PlacedNode p t c places.entry) : Type 0 where
+  pub plan : IsPlan p
+  pub of : IsThread p t
+  pub choices : AreChoices p t c
+  pub own : IsNodeOf t it.node
+  pub agrees : AgreesAt places it.program c.live c.cleans it.node (spots_in it)
