@@ -59,39 +59,11 @@ module _ {C L : Type 0} (m : Ghosts C L) where
         omega (arith, len, room, reached, is),
       )
 
-  -- a seat in its turn has made its event with the core in hand, at most so often, and has left the core as this one
-  pub record HasServed (s : Seat C L) (k : Known C) : Type 0 where
-    pub core : C
-    pub new : C
-    pub event : Event
-    pub most : ℕ
-    pub result : Option Made
-    pub turning : Turning s k core
-    pub reach : IsInReach history space k.terms
-    pub own : IsOwn (hart_count k.terms.opening.value) s.number event
-    pub plays : IsPlayed opening history hart_count space evictable core (events_made event result) new
-    pub given : TurnGives b opening history hart_count core (quota_of s) event most result
-
-  abbrev pub served : {s : Seat C L} {k : Known C} {core new : C} (event : Event) (most : ℕ) (result : Option Made) → Turning s k core →
-      IsInReach history space k.terms → IsOwn (hart_count k.terms.opening.value) s.number event →
-      IsPlayed opening history hart_count space evictable core (events_made event result) new →
-      TurnGives b opening history hart_count core (quota_of s) event most result → HasServed s k
-  served {s} {k} {core} {new} event most result turning reach own plays given = record {
-    core = core;
-    new = new;
-    event = event;
-    most = most;
-    result = result;
-    turning = turning;
-    reach = reach;
-    own = own;
-    plays = plays;
-    given = given;
-  }
-
-  module _ (s : Seat C L) (k : Known C) (turn : HasServed s k) where
-    open turn use {core, new, event, most, result, turning as h, reach, own, plays as q, given}
-
+  -- a seat in its turn has made its event with the core in hand, at most so often, and has left the core as another
+  module _ {s : Seat C L} {k : Known C} {core new : C} (event : Event) (most : ℕ) (result : Option Made) (h : Turning s k core)
+      (reach : IsInReach history space k.terms) (own : IsOwn (hart_count k.terms.opening.value) s.number event)
+      (q : IsPlayed opening history hart_count space evictable core (events_made event result) new)
+      (given : TurnGives b opening history hart_count core (quota_of s) event most result) where
     pub entry_is : turn_of (play_of b opening history hart_count) history k s.number new ≡ made_entry s.number event result
     entry_is =
         turn_is b opening history hart_count space evictable k s.number event core new result h.plays q
@@ -153,9 +125,8 @@ module _ {C L : Type 0} (m : Ghosts C L) where
       let same : k ≡ k' = is_seated k k' (ap (λ (m : Me C (View C)). m.0) (sym h.me ∙ h'.me)) in
       let reach' : IsInReach history space k'.terms = subst (λ (z : Known C). IsInReach history space z.terms) same reach in
       let own' : IsOwn (hart_count k'.terms.opening.value) s.number event =
-      subst (λ (z : Known C). IsOwn (hart_count z.terms.opening.value) s.number event) same own in
-      let turn : HasServed s k' = served event most result h' reach' own' acted.2 acted.3 in (
+      subst (λ (z : Known C). IsOwn (hart_count z.terms.opening.value) s.number event) same own in (
         is_within b opening history hart_count core' (quota_of s) event most result acted.3,
-        represents_after s k' turn t acted.1 number turns ceiling made none,
-        legal_after s k' turn,
+        represents_after event most result h' reach' own' acted.2 acted.3 t acted.1 number turns ceiling made none,
+        legal_after event most result h' reach' own' acted.2 acted.3,
       )

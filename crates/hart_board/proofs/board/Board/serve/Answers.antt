@@ -1,7 +1,7 @@
 use Rattle.std.proofs.Common.{arith, ◌+◌, refl, None, sym, subst, ℕ}
 use Rattle.hart_board.specs.declared.views.View.TheVariants.{Seated}
 use Rattle.hart_board.specs.CoreTurns.{RunsAhead}
-use Rattle.hart_board.proofs.ServedTurns.{held, served, passes_on, made_below, after}
+use Rattle.hart_board.proofs.ServedTurns.{held, passes_on, made_below, after}
 use Rattle.hart_board.proofs.board.Board.serve.Goals as goal
 
 pub act-made-requires-clause-held : goal.act-made-requires-clause-held
@@ -21,14 +21,12 @@ act-made-requires-clause-held g c κs lives = let t = c.requires.turn in
 
 pub pass-requires-clause-turn : goal.pass-requires-clause-turn
 pass-requires-clause-turn g c κs lives = let t = c.requires.turn in let a = c.act-made.ensures.acted (Seated t.0) t.1 t.2.me in
-    let p = passes_on g.C.Core c.args.seat.now t.0
-    (served g.C.Core c.args.event c.args.most c.act-made.result t.2 t.3 t.4 a.2 a.3) in
+    let p = passes_on g.C.Core c.args.event c.args.most c.act-made.result t.2 t.3 t.4 a.2 a.3 in
     (t.0, c.args.seat.now.number, a.0, a.1, t.2.numbers, t.2.turning, p.0, p.1)
 
 pub overflow_add-seat : goal.overflow_add-seat
 overflow_add-seat g c = let t = c.requires.turn in let a = c.act-made.ensures.acted (Seated t.0) t.1 t.2.me in
-    let w = made_below g.C.Core c.args.seat.now t.0
-    (served g.C.Core c.args.event c.args.most c.act-made.result t.2 t.3 t.4 a.2 a.3) in
+    let w = made_below g.C.Core c.args.event c.args.most c.act-made.result t.2 t.3 t.4 a.2 a.3 in
     let n = c.count_of.ensures in
     omega (arith, w, n)
 
