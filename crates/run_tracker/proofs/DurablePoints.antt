@@ -114,10 +114,13 @@ none_at_point program w event h same =
 
 -- ---- Sections after an event
 
-module _ (program : List (List Slot)) (w : World) (event : Event) (harts : ℕ) (old new : Sections) (ended then_ended : ℕ → ℕ)
-    (are : AreSections old harts w ended) (more : (h : ℕ) → then_ended h ≡ ended h + cond (ends_at_point program w event h) 1 0) where
+module _ (program : List (List Slot)) (w : World) (event : Event) (harts : ℕ) (old : Sections) (ended : ℕ → ℕ) (are : AreSections old harts w ended) where
   abbrev after : World
   after = after_event program w event
+
+  -- with those that end by the event
+  abbrev then_ended : ℕ → ℕ
+  then_ended h = ended h + cond (ends_at_point program w event h) 1 0
 
   -- where it has been looked at the durable points since
   module _ (kept : (h : ℕ) → h < harts → (word_at after.words (point_word after.log h)).durable ≡ (word_at w.words (point_word w.log h)).durable →
@@ -135,27 +138,22 @@ module _ (program : List (List Slot)) (w : World) (event : Event) (harts : ℕ) 
     stays same =
         let there = kept h below (sym same ∙ are.position h below) in
         let none = ap {B = ℕ} (λ (b : Bool). cond b 1 0) (none_at_point program w event h there) in
-        let grown = more h in
         let was = are.counted h below in
-        (same, are.point h below ∙ sym there, omega (arith, none, grown, was))
+        (same, are.point h below ∙ sym there, omega (arith, none, was))
 
     sees : IsSection (seen_at position point (section_at old h))
-    sees = (
-      refl,
-      refl,
-      ap₂ (λ (n k : ℕ). n + cond (not (k == 0) && (point == 0)) 1 0) (are.counted h below) (are.point h below) ∙ sym (more h),
-    )
+    sees = (refl, refl, ap₂ (λ (n k : ℕ). n + cond (not (k == 0) && (point == 0)) 1 0) (are.counted h below) (are.point h below))
 
     pub looked : IsSection (looked_at position point (section_at old h))
     looked = cond_both ((section_at old h).position == position) (section_at old h) (seen_at position point (section_at old h)) IsSection
         (λ e. stays (eqb-true (section_at old h).position position e)) (λ _. sees)
 
-  pub sections_seen : length new.harts.items ≡ length old.harts.items →
+  pub sections_seen : (new : Sections) → length new.harts.items ≡ length old.harts.items →
       ((h : ℕ) → h < length old.harts.items → section_at new h
       ≡ looked_at (word_at after.words (point_word after.log h)).durable (durable_point after.log after.words h) (section_at old h)) →
       ((h : ℕ) → h < harts → (word_at after.words (point_word after.log h)).durable ≡ (word_at w.words (point_word w.log h)).durable →
       durable_point after.log after.words h ≡ durable_point w.log w.words h) → AreSections new harts after then_ended
-  sections_seen size each kept = record {
+  sections_seen new size each kept = record {
     size = size ∙ are.size;
     position = λ h below. ap (λ (s : HartSections). s.position) (each h (omega (arith, below, are.size))) ∙ (looked kept h below).0;
     point = λ h below. ap (λ (s : HartSections). s.point) (each h (omega (arith, below, are.size))) ∙ (looked kept h below).1;
@@ -171,21 +169,20 @@ module _ (program : List (List Slot)) (w : World) (event : Event) (harts : ℕ) 
     point = λ h below. are.point h below ∙ sym (same h below);
     counted = λ h below.
         let none = ap {B = ℕ} (λ (b : Bool). cond b 1 0) (none_at_point program w event h (same h below)) in
-        let grown = more h in
         let was = are.counted h below in
-        omega (arith, none, grown, was);
+        omega (arith, none, was);
   }
 
   -- where it has been looked at them if more of memory may be durable
-  pub sections_after : (machine : Machine) → RepresentsMachine machine w → harts ≡ length (program_in machine) → IsWellFormedWorld w → (looks : Bool) →
-      looks ≡ may_persist (reply_to program w event) → length new.harts.items ≡ length old.harts.items →
+  pub sections_after : (machine : Machine) → RepresentsMachine machine w → harts ≡ length (program_in machine) → IsWellFormedWorld w → (new : Sections) →
+      (looks : Bool) → looks ≡ may_persist (reply_to program w event) → length new.harts.items ≡ length old.harts.items →
       (looks ≡ true → (h : ℕ) → h < length old.harts.items → section_at new h
       ≡ looked_at (word_at after.words (point_word after.log h)).durable (durable_point after.log after.words h) (section_at old h)) →
       (looks ≡ false → new ≡ old) → AreSections new harts after then_ended
-  sections_after machine stands many sound true looks size seen unseen =
-      sections_seen size (seen refl) (λ h below. point_kept program w event h sound
+  sections_after machine stands many sound new true looks size seen unseen =
+      sections_seen new size (seen refl) (λ h below. point_kept program w event h sound
       (point_there machine w h stands (omega (arith, below, many))))
-  sections_after machine stands many sound false looks size seen unseen =
+  sections_after machine stands many sound new false looks size seen unseen =
       subst (λ (s : Sections). AreSections s harts after then_ended) (sym (unseen refl))
       (sections_unseen (λ h below. position_stays program w event h sound (sym looks)) (λ h below.
       point_stays program w event h sound (point_there machine w h stands (omega (arith, below, many))) (sym looks)))

@@ -9,6 +9,7 @@ mod Events
 mod PointPositions
 mod KeptStepBounds
 mod KeptSchedules
+mod LifeChanges
 mod LifeAfterEvent
 mod LifeOpenings
 mod StepsStayOpen

@@ -1,15 +1,18 @@
-use Rattle.std.proofs.Common.{◌≡◌, ◌-◌, ◌<◌, ◌≤◌, [], length, slice_get, slice_index_or, Some, refl, sym, subst, ◌∙◌, arith}
+use Rattle.std.proofs.Common.{◌≡◌, ℕ, ◌+◌, ◌-◌, ◌<◌, ◌≤◌, [], length, replicate, slice_get, slice_index_or, Some, refl, ap, sym, subst, ◌∙◌, arith}
+use Rattle.std.proofs.lemmas.List.{length-replicate}
+use Rattle.std.specs.Vec.{vec_capacity, vec_len}
+use Rattle.ido_base.specs.declared.event.Event.TheVariants.{Step}
 use Rattle.ido_base.specs.Cores.{EachMoves}
 use Rattle.rv64_isa.specs.declared.phase.Phase.TheVariants.{Run}
 use Rattle.rv64_isa.specs.Executables.{node_marks}
 use Rattle.rv64_isa.specs.Machine.{Hart}
 use Rattle.hart_core.specs.LocalSteps.{placed_code}
-use Rattle.ido_machine.specs.Machines.{program_in}
+use Rattle.ido_machine.specs.Machines.{events_of, program_in}
 use Rattle.ido_machine.proofs.Public.{get_some}
 use Rattle.run_tracker.specs.ObjectLives.{Course, living, opening_of, steps_in, world_of}
 use Rattle.run_tracker.specs.LocalRuns.{IsAtBeginning}
 use Rattle.run_tracker.specs.links.LifeRepresentation.{course_of}
-use Rattle.run_tracker.proofs.LifeAfterEvent.{hart_count}
+use Rattle.run_tracker.proofs.LifeChanges.{hart_count}
 use Rattle.run_tracker.proofs.LifeAfterSteps.{lasts_steps}
 use Rattle.run_tracker.proofs.LocalInvariants.{adopted_marks, adopted_state}
 use Rattle.run_tracker.proofs.LocalRuns.{each_moves}
@@ -46,19 +49,49 @@ invariant_of-self c =
     let running : 0 < local.made → it.phase ≡ Run = λ some. sym begins.0 ∙ c.state.ensures.running some in
     let made = c.made-made.result in
     let made_is : made ≡ local.made = c.made-made.ensures in
+    let many : length (replicate made (Step h)) ≡ made = length-replicate made (Step h) in
     let marks : local.marks ≡ slice_index_or (node_marks life.marks.threads.items) h [] =
     subst (λ (x : Course). local.marks ≡ slice_index_or x.runs.marks h []) (sym c.self.view_is) c.requires.own.marks in
     let room : local.made ≤ life.cap - length life.journal.events =
     subst (λ (x : Course). local.made ≤ x.cap - length x.journal) (sym c.self.view_is) c.requires.room in
-    lasts_steps life stands h made c.passed.result it c.state.result.now c.go_to.new.self c.begin_more.new.self c.push_steps.new.self exists some.1
-    (λ some. running (omega (arith, made_is, some)))
-    (adopted_state (placed_code program h) local it begins code made c.state.result.now made_is c.state.ensures.state)
-    (adopted_marks (placed_code program h) local it begins code (slice_index_or (node_marks life.marks.threads.items) h []) made c.passed.result made_is
-    marks c.passed.ensures.count)
-    (omega (arith, made_is, c.passed.ensures.few)) (omega (arith, made_is, room, stands.within)) c.go_to.ensures.program c.go_to.ensures.log
-    c.go_to.ensures.events
-    (c.go_to.ensures.world (world_of now) it stands.machine some.1) (c.begin_more.ensures.stands (steps_in now) stands.account) c.push_steps.ensures
-    c.begin_more.ensures.capacity c.begin_more.ensures.stores
+    lasts_steps life stands
+    (record {
+      h = h;
+      hart = it;
+      made = made;
+      last = c.state.result.now;
+      passed = c.passed.result;
+      exists = exists;
+      there = some.1;
+      running = λ some. running (omega (arith, made_is, some));
+      run = adopted_state (placed_code program h) local it begins code made c.state.result.now made_is c.state.ensures.state;
+      passed_is = adopted_marks (placed_code program h) local it begins code (slice_index_or (node_marks life.marks.threads.items) h []) made c.passed.result
+          made_is marks c.passed.ensures.count;
+      few = omega (arith, made_is, c.passed.ensures.few);
+    })
+    (record {
+      machine = c.go_to.new.self;
+      account = c.begin_more.new.self;
+      journal = c.push_steps.new.self;
+      counts = life.counts;
+      sections = life.sections;
+    })
+    (record {
+      grown = record {
+        program = c.go_to.ensures.program;
+        log = c.go_to.ensures.log;
+        events = c.go_to.ensures.events ∙ ap (λ (n : ℕ). events_of life.machine + n) (sym many);
+        journal = c.push_steps.ensures;
+        room = omega (arith, many, made_is, room, stands.within);
+        kept_room = c.begin_more.ensures.capacity;
+        stores_room = ap vec_capacity c.begin_more.ensures.stores;
+        stores = omega (arith, ap vec_len c.begin_more.ensures.stores);
+      };
+      world = c.go_to.ensures.world (world_of now) it stands.machine some.1;
+      account = c.begin_more.ensures.stands (steps_in now) stands.account;
+      counts = refl;
+      sections = refl;
+    })
 
 pub returns-clause-moves : goal.returns-clause-moves
 returns-clause-moves c =
