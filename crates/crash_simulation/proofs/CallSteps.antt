@@ -41,8 +41,7 @@ module _ {y : System} {s : IsSystem y} {w : World} {h from mutex : ℕ} (at : At
   at_unlock : IsAtCall y.runs.program w n gives
   at_unlock =
       let calls = subst (λ (a : Action). IsCalling y.plan code.thread places a from) unlock.unlocks (code.is.code from unlock.is unlock.own unlock.at).calls in
-      call_there y.runs.program places w n (z at) giving.meets giving.agrees from gives calls.0 giving.registers giving.on.hart
-      giving.on.here giving.on.runs giving.on.walks.0 giving.has.call
+      call_there giving from refl calls.0 gives giving.has.call
 
   none_begun : steps_begun b.config n ≡ 0
   none_begun = bounded.after (committed_over at)
@@ -230,8 +229,7 @@ module _ {y : System} {s : IsSystem y} {w : World} {h : ℕ} (at : AtEnd y s w h
   at_end =
       let calls = subst (λ (a : Action). IsCalling y.plan code.thread places a graph_thread.at) last.ends
       (code.is.code graph_thread.at last.is last.own last.at).calls in
-      call_there y.runs.program places w n (z at) ending.meets ending.agrees graph_thread.at ends calls.0 ending.registers ending.on.hart
-      ending.on.here ending.on.runs ending.on.walks.0 ending.has
+      call_there ending graph_thread.at refl calls.0 ends ending.has
 
   none_now : (lock : ℕ) → slice_get (now_of y b).holders lock ≢ Some (Some n)
   none_now = ends_free y s b code graph_thread t.walks last

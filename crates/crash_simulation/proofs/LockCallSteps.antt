@@ -161,8 +161,7 @@ module _ {y : System} {s : IsSystem y} {w : World} {h mutex next : ℕ} (at : At
   at_lock =
       let calls = subst (λ (a : Action). IsCalling y.plan code.thread places a graph_thread.at) lock_here.locks
       (code.is.code graph_thread.at lock_here.is lock_here.own lock_here.at).calls in
-      call_there y.runs.program places w n (z at) asks.meets asks.agrees graph_thread.at takes calls.0 asks.registers asks.on.hart
-      asks.on.here asks.on.runs asks.on.walks.0 asks.has.call
+      call_there asks graph_thread.at refl calls.0 takes asks.has.call
 
   -- another thread has the mutex
   waits : (holder : ℕ) → slice_get w.holders mutex ≡ Some (Some holder) → StepOf at.site n

@@ -29,7 +29,7 @@ use Rattle.thread_runs.proofs.FragmentStarts.{on_fragment, contains_first}
 use Rattle.thread_runs.proofs.RunObservations.{mark_of_machine}
 use Rattle.thread_runs.proofs.Graph.{mark_there}
 use Rattle.thread_runs.proofs.ThreadsAtCalls.{agrees_on, words_stay, count_stays, log_stays, has_moved_by}
-use Rattle.thread_runs.proofs.ThreadsAtCalls.{and_right, pc_is, registers_are, at_call_for, boundary_after_is}
+use Rattle.thread_runs.proofs.ThreadsAtCalls.{and_right, pc_is, registers_are, call_there, boundary_after_is}
 
 module _ {p : Plan} {t : Thread} {own : Program} (code : IsThreadCode p t own) {running : Running} {node mutex next : ℕ} {seen : Seen} {side : ℕ}
     {effects : List Effect} (counts : r.CallsCount)
@@ -49,7 +49,7 @@ module _ {p : Plan} {t : Thread} {own : Program} (code : IsThreadCode p t own) {
   calling = subst (λ (a : Action). IsCalling p t c a node) lock.locks (code.code node lock.is lock.own lock.at).calls
 
   abbrev at_call : IsAtCall program w h takes
-  at_call = at_call_for fragment node refl calling.0 takes fragment.has.call
+  at_call = call_there fragment node refl calling.0 takes fragment.has.call
 
   lock_is : lock_asked hart ≡ mutex
   lock_is = ap (λ (x : List ℕ). read x 10) (registers_are fragment node refl calling.0) ∙ fragment.has.lock

@@ -10,14 +10,13 @@ use Rattle.ido_base.specs.Words.{Word, loaded}
 use Rattle.rv64_isa.specs.declared.instr.Instr.{Instr}
 use Rattle.rv64_isa.specs.declared.instr.Instr.TheVariants.{Ecall}
 use Rattle.rv64_isa.specs.declared.object.Slot.{Slot}
-use Rattle.rv64_isa.specs.declared.phase.Phase.TheVariants.{Run}
 use Rattle.rv64_isa.specs.Rows.{Effect, next, read}
 use Rattle.rv64_isa.specs.Machine.{Hart, World, Outcome, moved, happens, after_event, reply_to}
 use Rattle.rv64_isa.specs.Schedule.{has_moved}
 use Rattle.rv64_link.specs.LinkedCode.{IsInstructionAt}
 use Rattle.memory_layout.specs.Roles as roles
 use Rattle.code_runs.specs.ComputingRuns.{LocalConfig, config}
-use Rattle.code_runs.specs.CodeTraces.{Program, MarkedEnvironment, Meets}
+use Rattle.code_runs.specs.CodeTraces.{Program, MarkedEnvironment}
 use Rattle.hart_runs.specs.HartsOnRuns.{Agrees, LoadGives, instr_at, is_access}
 use Rattle.hart_runs.specs.Calls.{IsAtCall}
 use Rattle.hart_runs.proofs.Public.{none_some}
@@ -79,20 +78,6 @@ and_none false b e = refl
 
 -- ---- A hart at the call of a node
 
--- by its registers and pc, and by what its environment has there
-abbrev pub call_there : (program : List (List Slot)) (c : Places) (w : World) (h : ℕ) (s : MarkedEnvironment) → Meets c.program s → Agrees program w h s →
-    (node number : ℕ) → IsInstructionAt c.program.start c.program.code (c.call node) Ecall → (registers : List ℕ) (hart : Hart) →
-    slice_get w.harts h ≡ Some hart → hart.phase ≡ Run → config hart.registers hart.pc ≡ config registers (c.call node) →
-    read registers roles.call ≡ number → IsAtCall program w h number
-call_there program c w h s meets agrees node number stands registers hart here runs is asks = record {
-  hart = hart;
-  here = here;
-  runs = runs;
-  calls = subst (λ (x : ℕ). instr_at program h x ≡ Some Ecall) (ap (λ (x : LocalConfig). x.pc) (sym is))
-      (agrees.fetches (c.call node) Ecall (meets.fetches (c.call node) Ecall stands));
-  asks = ap (λ (x : LocalConfig). read x.registers 17) is ∙ asks;
-}
-
 -- at the end of a fragment that leads to the call of a node
 module _ {p : Plan} {t : Thread} {c : Places} {running : Running} {stage : Stage} {effects : List Effect} (there : IsOnFragment p t c running stage 0 effects)
     (node : ℕ) (ends : end_of p t c stage.exit stage.node ≡ c.call node)
@@ -107,10 +92,15 @@ module _ {p : Plan} {t : Thread} {c : Places} {running : Running} {stage : Stage
   registers_are = ap (λ (x : LocalConfig). x.registers) config_is
 
   -- it asks for the call of that number
-  abbrev pub at_call_for : (number : ℕ) → read there.registers roles.call ≡ number → IsAtCall running.program running.world running.hart number
-  at_call_for number asks =
-      call_there running.program c running.world running.hart running.environment there.meets there.agrees node number stands there.registers there.on.hart
-      there.on.here there.on.runs config_is asks
+  abbrev pub call_there : (number : ℕ) → read there.registers roles.call ≡ number → IsAtCall running.program running.world running.hart number
+  call_there number asks = record {
+    hart = there.on.hart;
+    here = there.on.here;
+    runs = there.on.runs;
+    calls = subst (λ (x : ℕ). instr_at running.program running.hart x ≡ Some Ecall) (sym pc_is)
+        (there.agrees.fetches (c.call node) Ecall (there.meets.fetches (c.call node) Ecall stands));
+    asks = ap (λ (x : List ℕ). read x 17) registers_are ∙ asks;
+  }
 
   pub boundary_after_is : c.program.start + 4 * length c.program.code < 2 ^ 64 →
       config there.on.hart.registers (next there.on.hart.pc) ≡ config there.registers (c.call node + 4)

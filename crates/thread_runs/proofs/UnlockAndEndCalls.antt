@@ -22,7 +22,7 @@ use Rattle.thread_runs.specs.CodeFragments as ways
 use Rattle.thread_runs.specs.CodeFragments.{Running, IsUnlockOf, IsOnFragment, IsPlaced}
 use Rattle.thread_runs.specs.Laws.{GivesMutex, UnlocksGive, EndsEnd}
 use Rattle.thread_runs.proofs.RunObservations.{mark_of_machine, none_marked}
-use Rattle.thread_runs.proofs.ThreadsAtCalls.{agrees_on, words_stay, count_stays, log_stays, and_none, pc_is, registers_are, at_call_for, boundary_after_is}
+use Rattle.thread_runs.proofs.ThreadsAtCalls.{agrees_on, words_stay, count_stays, log_stays, and_none, pc_is, registers_are, call_there, boundary_after_is}
 
 module _ {p : Plan} {t : Thread} {own : Program} (code : IsThreadCode p t own) {running : Running} {from mutex next : ℕ} {seen : Seen} {side : ℕ}
     {effects : List Effect} (counts : r.CallsCount) (placed : IsPlaced p t code.places running.world.log (length running.world.harts))
@@ -43,7 +43,7 @@ module _ {p : Plan} {t : Thread} {own : Program} (code : IsThreadCode p t own) {
   calling = subst (λ (a : Action). IsCalling p t c a from) unlock.unlocks (code.code from unlock.is unlock.own unlock.at).calls
 
   abbrev at_call : IsAtCall program w h gives
-  at_call = at_call_for fragment from refl calling.0 gives fragment.has.call
+  at_call = call_there fragment from refl calling.0 gives fragment.has.call
 
   lock_is : lock_asked hart ≡ mutex
   lock_is = ap (λ (x : List ℕ). read x 10) (registers_are fragment from refl calling.0) ∙ fragment.has.lock
@@ -93,7 +93,7 @@ ends_end counts p t program own code w h s node seen side effects fragment none 
     let hart : Hart = fragment.on.hart in
     let of_end = fragment.of_graph in
     let calling : IsCalling p t c End node = subst (λ (a : Action). IsCalling p t c a node) of_end.ends (code.code node of_end.is of_end.own of_end.at).calls in
-    let at_call : IsAtCall program w h ends = at_call_for fragment node refl calling.0 ends fragment.has in
+    let at_call : IsAtCall program w h ends = call_there fragment node refl calling.0 ends fragment.has in
     let pc : hart.pc ≡ c.call node = pc_is fragment node refl calling.0 in
     let plain : list_any (λ mark. mark == hart.pc) s.marks ≡ false =
     subst (λ (x : ℕ). list_any (λ mark. mark == x) s.marks ≡ false) (sym pc)
