@@ -14,7 +14,7 @@ use Rattle.c_tree.specs.Flats as f
 use Rattle.c_tree.specs.Inlining as i
 use Rattle.c_tree.specs.Source as m
 use Rattle.c_tree.specs.Source.{source_step}
-use Rattle.c_tree.specs.Values.{value, element_number, element_at}
+use Rattle.c_tree.specs.Values.{value, reference_to, referent, element_number, element_at}
 use Rattle.c_inline.specs.CallLaws.{read, ExprReads, ListUses, AreAllBelow, local_of}
 use Rattle.c_inline.proofs.WeightUpdates.{get_set_same}
 use Rattle.c_inline.proofs.InlinedStatements.{passed_more}
@@ -28,6 +28,8 @@ value_same (e.Local local kind) ls js vs h = ap (typed kind) (h local refl)
 value_same (e.Variable place variable kind) ls js vs h = refl
 value_same (e.Element place variable kind index_place index) ls js vs h = ap (λ (z : Typed). typed kind (element_number vs variable (element_at z)))
     (value_same index ls js vs h)
+value_same (e.Address variable index_place index) ls js vs h = ap reference_to (value_same index ls js vs h)
+value_same (e.Referent place last local) ls js vs h = ap referent (h local refl)
 value_same (e.Unary operator operand) ls js vs h = ap (unary_of operator) (value_same operand ls js vs h)
 value_same (e.Cast kind operand) ls js vs h = ap (λ (z : Typed). converted z kind) (value_same operand ls js vs h)
 value_same (e.Converted kind operand) ls js vs h = ap (λ (z : Typed). converted z kind) (value_same operand ls js vs h)

@@ -83,6 +83,8 @@ module _ (n : ℕ) where
   kind_same (e.Local local kind) = refl
   kind_same (e.Variable place variable kind) = refl
   kind_same (e.Element place variable kind index_place index) = refl
+  kind_same (e.Address variable index_place index) = refl
+  kind_same (e.Referent place last local) = refl
   kind_same (e.Unary operator operand) = ap (unary_kind operator) (kind_same operand)
   kind_same (e.Cast kind operand) = refl
   kind_same (e.Converted kind operand) = refl
@@ -94,6 +96,8 @@ module _ (n : ℕ) where
   range_same (e.Local local kind) = refl
   range_same (e.Variable place variable kind) = refl
   range_same (e.Element place variable kind index_place index) = refl
+  range_same (e.Address variable index_place index) = refl
+  range_same (e.Referent place last local) = refl
   range_same (e.Unary operator operand) = λ j. r.unary_range operator (kind_same operand j) (range_same operand j)
   range_same (e.Cast kind operand) = ap (r.fitted kind) (range_same operand)
   range_same (e.Converted kind operand) = ap (r.fitted kind) (range_same operand)
@@ -126,6 +130,9 @@ module _ (vs : List p.Variable) (ms : List p.Mutex) where
     fits_shifted (e.Variable place variable kind) h = tt
     fits_shifted (e.Element place variable kind index_place index) h =
         (index_fits_shifted variable index_place index (head_in _ (r.expr_indexes index) h), fits_shifted index (tail_in _ (r.expr_indexes index) h))
+    fits_shifted (e.Address variable index_place index) h =
+        (index_fits_shifted variable index_place index (head_in _ (r.expr_indexes index) h), fits_shifted index (tail_in _ (r.expr_indexes index) h))
+    fits_shifted (e.Referent place last local) h = tt
     fits_shifted (e.Unary operator operand) h = fits_shifted operand h
     fits_shifted (e.Cast kind operand) h = fits_shifted operand h
     fits_shifted (e.Converted kind operand) h = fits_shifted operand h
@@ -157,6 +164,8 @@ module _ (vs : List p.Variable) (ms : List p.Mutex) where
       expr_shifted (e.Local local kind) h = at local kind h
       expr_shifted (e.Variable place variable kind) h = h
       expr_shifted (e.Element place variable kind index_place index) h = (h.0, expr_shifted index h.1)
+      expr_shifted (e.Address variable index_place index) h = absurd h
+      expr_shifted (e.Referent place last local) h = absurd h
       expr_shifted (e.Unary operator operand) h = expr_shifted operand h
       expr_shifted (e.Cast kind operand) h = expr_shifted operand h
       expr_shifted (e.Converted kind operand) h = expr_shifted operand h

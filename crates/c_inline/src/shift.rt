@@ -49,6 +49,26 @@ pub fn shift(alloc: Global, by: u32, expr: &Expr) -> Result<Expr, AllocError>
                 index,
             })
         }
+        Expr::Address {
+            variable,
+            index_place,
+            index,
+        } => {
+            let index = shift_boxed(alloc, by, index)?;
+            Ok(Expr::Address {
+                variable: *variable,
+                index_place: *index_place,
+                index,
+            })
+        }
+        Expr::Referent { place, last, local } => {
+            let local = shift_local(by, *local)?;
+            Ok(Expr::Referent {
+                place: *place,
+                last: *last,
+                local,
+            })
+        }
         Expr::Unary { operator, operand } => {
             let operand = shift_boxed(alloc, by, operand)?;
             Ok(Expr::Unary {

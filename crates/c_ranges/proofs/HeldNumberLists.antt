@@ -84,6 +84,8 @@ module _ (vs : List Variable) (ks : List Kind) (ls : List ℤ) (ns : List (List 
   all_held (e.Local local kind) h = zip_at Holds ks ls local kind (pos 0) locals h
   all_held (e.Variable place variable kind) h = element_held variable 0 kind false h
   all_held (e.Element place variable kind index_place index) h = (element_held variable (element_at (value ls ns index)) kind true h.0, all_held index h.1)
+  all_held (e.Address variable index_place index) h = absurd h
+  all_held (e.Referent place last local) h = absurd h
   all_held (e.Unary op operand) h = all_held operand h
   all_held (e.Cast kind operand) h = all_held operand h
   all_held (e.Converted kind operand) h = all_held operand h

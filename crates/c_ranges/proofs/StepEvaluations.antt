@@ -55,6 +55,8 @@ module _ (x : f.Flat) (ks : List Kind) (ls : List ℤ) (ns : List (List ℤ)) (l
         (all_held x.variables ks ls ns locals variables index h.1),
     elements index h.1 g.1,
   )
+  elements (e.Address variable index_place index) h g = absurd h
+  elements (e.Referent place last local) h g = absurd h
   elements (e.Unary op operand) h g = elements operand h g
   elements (e.Cast kind operand) h g = elements operand h g
   elements (e.Converted kind operand) h g = elements operand h g

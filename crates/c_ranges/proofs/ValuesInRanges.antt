@@ -1,8 +1,9 @@
 -- Values lie in their ranges, by induction on the expression.
-use Rattle.std.proofs.Common.{◌≡◌, refl, sym, ap, ap₂, subst, ℕ, ◌<◌, List, Bool, true, false, cond, arith}
+use Rattle.std.proofs.Common.{◌≡◌, refl, sym, ap, ap₂, ◌∙◌, subst, ℕ, ◌<◌, List, Bool, true, false, cond, arith}
 use Rattle.std.specs.Prelude.{ℤ, pos, ◌-ℤ◌, neg_ℤ, ◌≤ℤ◌, Contains, unsigned_abs}
 use Rattle.std.proofs.lemmas.Int.{ints}
 use Rattle.ido_ints.specs.declared.kinds.Kind.{Kind}
+use Rattle.ido_ints.specs.declared.kinds.Kind.TheVariants.{UnsignedLong}
 use Rattle.ido_ints.specs.declared.operators.Unary.{Unary}
 use Rattle.ido_ints.specs.declared.operators.Unary.TheVariants as un
 use Rattle.ido_ints.specs.declared.operators.Binary.{Binary}
@@ -11,14 +12,14 @@ use Rattle.ido_ints.specs.Kinds.{promoted, common_of, Holds}
 use Rattle.ido_ints.specs.Operators.{is_zero, unary_kind, unary_number, binary_kind, binary_number}
 use Rattle.ido_ints.specs.Reduction.{reduced}
 use Rattle.ido_ints.specs.TypedNumbers.{Typed}
-use Rattle.ido_ints.proofs.Public.{reduced-neg}
+use Rattle.ido_ints.proofs.Public.{reduced-neg, reduced_held}
 use Rattle.c_tree.specs.Exprs as e
 use Rattle.c_tree.specs.Programs as p
-use Rattle.c_tree.specs.Values.{value}
+use Rattle.c_tree.specs.Values.{value, referent}
 use Rattle.c_tree.specs.Elaboration.{kind_of}
 use Rattle.c_tree.specs.Ranges.{Interval, interval, Within, full, fitted, hull, sum, difference, product, unary_range}
 use Rattle.c_tree.specs.Ranges.{binary_range, range_of, Index, indexed, program_indexes, AllFit, is_below, lies_in}
-use Rattle.c_ranges.specs.Laws.{AllHeld, IsForeseen, NamesElement}
+use Rattle.c_ranges.specs.Laws.{IsReference, AllHeld, IsForeseen, NamesElement}
 use Rattle.c_ranges.proofs.Multiples.{Within_product}
 use Rattle.c_ranges.proofs.Operations.{Within_sum, Within_difference, Within_negative, Within_quotient, Within_remainder, Within_and, Within_shifted}
 use Rattle.c_ranges.proofs.Reductions.{Within_full, Within_fitted, Within_truth, Inside_fitted}
@@ -102,11 +103,28 @@ either_within : (k : Kind) (i j : Interval) (zero : Bool) (x y : Typed) → With
 either_within k i j false x y h g = Within_hull_left (fitted k i) (fitted k j) _ (Within_fitted k i x.number h)
 either_within k i j true x y h g = Within_hull_right (fitted k i) (fitted k j) _ (Within_fitted k j y.number g)
 
+-- of a reference that isn't null the number of its element
+referent_within : (last : ℕ) (z : ℤ) → IsReference last z → Within (interval (pos 0) (pos last)) (referent z).number
+referent_within last z h =
+    let k = UnsignedLong in
+    let low = h.names.from_low in
+    let high = h.names.to_high in
+    let most = h.held.to_greatest in
+    let one : reduced k (pos 1) ≡ pos 1 = reduced_held k (pos 1) (record { from_least = omega (arith, ints); to_greatest = omega (arith, ints) }) in
+    let own : reduced k z ≡ z = reduced_held k z h.held in
+    let less : reduced k (z -ℤ pos 1) ≡ z -ℤ pos 1 =
+    reduced_held k (z -ℤ pos 1) (record { from_least = omega (arith, ints, low); to_greatest = omega (arith, ints, most) }) in
+    let is : (referent z).number ≡ z -ℤ pos 1 = (λ i. reduced k (own i -ℤ one i)) ∙ less in
+    subst (Within (interval (pos 0) (pos last))) (sym is)
+    (record { from_low = omega (arith, ints, low); to_high = omega (arith, ints, high) })
+
 pub foreseen : (ls : List ℤ) (vs : List (List ℤ)) (x : e.Expr) → AllHeld ls vs x → IsForeseen ls vs x
 foreseen ls vs (e.Constant x) h = record { kind = refl; within = Within_only x.number }
 foreseen ls vs (e.Local local kind) h = record { kind = refl; within = held_within kind _ h }
 foreseen ls vs (e.Variable place variable kind) h = record { kind = refl; within = held_within kind _ h }
 foreseen ls vs (e.Element place variable kind index_place index) h = record { kind = refl; within = held_within kind _ h.0 }
+foreseen ls vs (e.Address variable index_place index) h = record { kind = refl; within = Within_full UnsignedLong _ }
+foreseen ls vs (e.Referent place last local) h = record { kind = refl; within = referent_within last _ h }
 foreseen ls vs (e.Unary op operand) h =
     let f = foreseen ls vs operand h in
     let i = range_of operand in

@@ -1,18 +1,26 @@
 -- What ranges are for: values lie in them, and an index that fits names an element.
-use Rattle.std.specs.Prelude.{◌≡◌, ℕ, ◌<◌, List, Contains, slice_index_or, ℤ, pos, ◌≤ℤ◌}
+use Rattle.std.specs.Prelude.{◌≡◌, ℕ, suc, ◌<◌, List, Contains, slice_index_or, ℤ, pos, ◌≤ℤ◌}
+use Rattle.ido_ints.specs.declared.kinds.Kind.TheVariants.{UnsignedLong}
 use Rattle.ido_ints.specs.Kinds.{Holds}
 use Rattle.c_tree.specs.Exprs as e
 use Rattle.c_tree.specs.Programs as p
 use Rattle.c_tree.specs.Values.{value, element_number, element_at}
 use Rattle.c_tree.specs.Elaboration.{kind_of}
-use Rattle.c_tree.specs.Ranges.{Within, Index, range_of, program_indexes, indexed, AllFit}
+use Rattle.c_tree.specs.Ranges.{Within, interval, Index, range_of, program_indexes, indexed, AllFit}
 
--- each local, variable and element that the expression names has a number that its kind holds
+-- the number refers to an element of an array whose last one has that number: it isn't null
+pub record IsReference (last : ℕ) (reference : ℤ) : Type 0 where
+  pub held : Holds UnsignedLong reference
+  pub names : Within (interval (pos 1) (pos (suc last))) reference
+
+-- each local, variable and element that the expression names has a number that its kind holds, and each reference to an element that it names refers to one
 abbrev pub AllHeld : (locals : List ℤ) (variables : List (List ℤ)) → e.Expr → Type 0
 AllHeld ls vs (e.Constant x) = Unit {0}
 AllHeld ls vs (e.Local local kind) = Holds kind (slice_index_or ls local (pos 0))
 AllHeld ls vs (e.Variable place variable kind) = Holds kind (element_number vs variable 0)
 AllHeld ls vs (e.Element place variable kind index_place index) = Holds kind (element_number vs variable (element_at (value ls vs index))) × AllHeld ls vs index
+AllHeld ls vs (e.Address variable index_place index) = AllHeld ls vs index
+AllHeld ls vs (e.Referent place last local) = IsReference last (slice_index_or ls local (pos 0))
 AllHeld ls vs (e.Unary operator operand) = AllHeld ls vs operand
 AllHeld ls vs (e.Cast kind operand) = AllHeld ls vs operand
 AllHeld ls vs (e.Converted kind operand) = AllHeld ls vs operand

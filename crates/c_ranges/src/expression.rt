@@ -1,7 +1,8 @@
 //! The ranges of expressions.
 ghost use Rattle.std.specs.Prelude.{◌≡◌, ◌^◌, pos, neg_ℤ, ◌≤ℤ◌, ◌<ℤ◌};
+ghost use Rattle.ido_ints.specs.declared.kinds.Kind.TheVariants.{UnsignedLong};
 ghost use Rattle.c_tree.specs.Exprs.{expr_of};
-ghost use Rattle.c_tree.specs.Ranges.{full, fitted, hull, range_of};
+ghost use Rattle.c_tree.specs.Ranges.{interval, full, fitted, hull, range_of};
 ghost use Rattle.c_tree.specs.Elaboration.{kind_of};
 ghost use Rattle.c_ranges.specs.Bounds.{interval_of, HeldBy};
 
@@ -34,6 +35,8 @@ fn found(expr: &Expr) -> Found
         Expr::Local { kind, .. } | Expr::Variable { kind, .. } | Expr::Element { kind, .. } => {
             full(*kind)
         }
+        Expr::Address { .. } => full(Kind::UnsignedLong),
+        Expr::Referent { last, .. } => up_to(*last),
         Expr::Unary { operator, operand } => unary(*operator, found(operand)),
         Expr::Cast { kind, operand } | Expr::Converted { kind, operand } => {
             converted(*kind, found(operand).range)
@@ -61,6 +64,21 @@ fn full(kind: Kind) -> Found
     Found {
         kind,
         range: Interval::full(kind),
+    }
+}
+
+/// The numbers of the elements of an array, up to that one.
+fn up_to(last: u32) -> Found
+    ensures kind { result.kind ≡ UnsignedLong }
+    ensures range { interval_of result.range ≡ interval (pos 0) (pos last) }
+    ensures held { HeldBy UnsignedLong result.range }
+{
+    Found {
+        kind: Kind::UnsignedLong,
+        range: Interval {
+            lo: 0,
+            hi: i128::from(last),
+        },
     }
 }
 

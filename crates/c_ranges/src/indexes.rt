@@ -214,12 +214,23 @@ fn of_expr(program: &Program, expr: &Expr) -> Option<IndexError>
     ensures { result ≡ first_fault (program_of program.now) (expr_indexes (expr_of expr.now)) }
 {
     match expr {
-        Expr::Constant { .. } | Expr::Local { .. } | Expr::Variable { .. } => None,
+        Expr::Constant { .. }
+        | Expr::Local { .. }
+        | Expr::Variable { .. }
+        | Expr::Referent { .. } => None,
         Expr::Element {
             variable,
             index_place,
             index,
             ..
+        } => earlier(
+            of_index(elements(program, *variable), *index_place, index),
+            of_expr(program, index),
+        ),
+        Expr::Address {
+            variable,
+            index_place,
+            index,
         } => earlier(
             of_index(elements(program, *variable), *index_place, index),
             of_expr(program, index),

@@ -11,6 +11,7 @@ mod WorkedReading
 mod WorkedValues
 mod WorkedTyping
 mod WorkedRanges
+mod WorkedReferences
 mod WorkedInlining
 mod WorkedSource
 mod WorkedLocking

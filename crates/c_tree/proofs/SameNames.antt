@@ -17,7 +17,7 @@ use Rattle.ido_ints.specs.declared.operators.Binary.TheVariants as b
 use Rattle.ido_ints.specs.TypedNumbers.{Typed, typed, converted}
 use Rattle.ido_ints.specs.Operators.{is_zero, unary_of, binary_of}
 use Rattle.c_tree.specs.Exprs as e
-use Rattle.c_tree.specs.Values.{value, element_at, element_number, lock_number}
+use Rattle.c_tree.specs.Values.{value, reference_to, referent, element_at, element_number, lock_number}
 use Rattle.c_tree.specs.LockNames.{kind_number, unary_number, binary_number, same_kind, same_typed, same_expr, same_key, same_lock, number_in}
 use Rattle.c_tree.specs.LockNames.{Held, holds, held_names, plain_names}
 use Rattle.c_tree.proofs.PlainNames.{length-plain_names, plain_at}
@@ -104,6 +104,8 @@ module _ (ls : List ℤ) (vs ws : List (List ℤ)) where
   same_value (e.Constant x1) (e.Local number2 j2) h = cc
   same_value (e.Constant x1) (e.Variable place22 variable22 j2) h = cc
   same_value (e.Constant x1) (e.Element place22 variable22 j2 index_place22 index22) h = cc
+  same_value (e.Constant x1) (e.Address variable22 index_place22 y2) h = cc
+  same_value (e.Constant x1) (e.Referent place22 last22 number2) h = cc
   same_value (e.Constant x1) (e.Unary o2 y2) h = cc
   same_value (e.Constant x1) (e.Cast j2 y2) h = cc
   same_value (e.Constant x1) (e.Converted j2 y2) h = cc
@@ -115,6 +117,8 @@ module _ (ls : List ℤ) (vs ws : List (List ℤ)) where
       ap₂ (λ (i : ℕ) (c : Kind). typed c (slice_index_or ls i (pos 0))) (eqb-true local number p.0) (same_kind_is k j p.1)
   same_value (e.Local local1 k1) (e.Variable place22 variable22 j2) h = cc
   same_value (e.Local local1 k1) (e.Element place22 variable22 j2 index_place22 index22) h = cc
+  same_value (e.Local local1 k1) (e.Address variable22 index_place22 y2) h = cc
+  same_value (e.Local local1 k1) (e.Referent place22 last22 number2) h = cc
   same_value (e.Local local1 k1) (e.Unary o2 y2) h = cc
   same_value (e.Local local1 k1) (e.Cast j2 y2) h = cc
   same_value (e.Local local1 k1) (e.Converted j2 y2) h = cc
@@ -124,6 +128,8 @@ module _ (ls : List ℤ) (vs ws : List (List ℤ)) where
   same_value (e.Variable place1 variable1 k1) (e.Local number2 j2) h = cc
   same_value (e.Variable place variable k) (e.Variable place2 variable2 j) h = cc
   same_value (e.Variable place1 variable1 k1) (e.Element place22 variable22 j2 index_place22 index22) h = cc
+  same_value (e.Variable place1 variable1 k1) (e.Address variable22 index_place22 y2) h = cc
+  same_value (e.Variable place1 variable1 k1) (e.Referent place22 last22 number2) h = cc
   same_value (e.Variable place1 variable1 k1) (e.Unary o2 y2) h = cc
   same_value (e.Variable place1 variable1 k1) (e.Cast j2 y2) h = cc
   same_value (e.Variable place1 variable1 k1) (e.Converted j2 y2) h = cc
@@ -133,15 +139,45 @@ module _ (ls : List ℤ) (vs ws : List (List ℤ)) where
   same_value (e.Element place1 variable1 k1 index_place1 index1) (e.Local number2 j2) h = cc
   same_value (e.Element place1 variable1 k1 index_place1 index1) (e.Variable place22 variable22 j2) h = cc
   same_value (e.Element place variable k index_place index) (e.Element place2 variable2 j index_place2 index2) h = cc
+  same_value (e.Element place1 variable1 k1 index_place1 index1) (e.Address variable22 index_place22 y2) h = cc
+  same_value (e.Element place1 variable1 k1 index_place1 index1) (e.Referent place22 last22 number2) h = cc
   same_value (e.Element place1 variable1 k1 index_place1 index1) (e.Unary o2 y2) h = cc
   same_value (e.Element place1 variable1 k1 index_place1 index1) (e.Cast j2 y2) h = cc
   same_value (e.Element place1 variable1 k1 index_place1 index1) (e.Converted j2 y2) h = cc
   same_value (e.Element place1 variable1 k1 index_place1 index1) (e.Binary o2 v2 w2) h = cc
   same_value (e.Element place1 variable1 k1 index_place1 index1) (e.Conditional j2 u2 v2 w2) h = cc
+  same_value (e.Address variable1 index_place1 x1) (e.Constant y2) h = cc
+  same_value (e.Address variable1 index_place1 x1) (e.Local number2 j2) h = cc
+  same_value (e.Address variable1 index_place1 x1) (e.Variable place22 variable22 j2) h = cc
+  same_value (e.Address variable1 index_place1 x1) (e.Element place22 variable22 j2 index_place22 index22) h = cc
+  same_value (e.Address variable index_place x) (e.Address number at y) h =
+      let p = and_true (variable == number) (same_expr x y) h in
+      ap reference_to (same_value x y p.1)
+  same_value (e.Address variable1 index_place1 x1) (e.Referent place22 last22 number2) h = cc
+  same_value (e.Address variable1 index_place1 x1) (e.Unary o2 y2) h = cc
+  same_value (e.Address variable1 index_place1 x1) (e.Cast j2 y2) h = cc
+  same_value (e.Address variable1 index_place1 x1) (e.Converted j2 y2) h = cc
+  same_value (e.Address variable1 index_place1 x1) (e.Binary o2 v2 w2) h = cc
+  same_value (e.Address variable1 index_place1 x1) (e.Conditional j2 u2 v2 w2) h = cc
+  same_value (e.Referent place1 last1 local1) (e.Constant y2) h = cc
+  same_value (e.Referent place1 last1 local1) (e.Local number2 j2) h = cc
+  same_value (e.Referent place1 last1 local1) (e.Variable place22 variable22 j2) h = cc
+  same_value (e.Referent place1 last1 local1) (e.Element place22 variable22 j2 index_place22 index22) h = cc
+  same_value (e.Referent place1 last1 local1) (e.Address variable22 index_place22 y2) h = cc
+  same_value (e.Referent place last local) (e.Referent at end number) h =
+      let p = and_true (last == end) (local == number) h in
+      ap (λ (i : ℕ). referent (slice_index_or ls i (pos 0))) (eqb-true local number p.1)
+  same_value (e.Referent place1 last1 local1) (e.Unary o2 y2) h = cc
+  same_value (e.Referent place1 last1 local1) (e.Cast j2 y2) h = cc
+  same_value (e.Referent place1 last1 local1) (e.Converted j2 y2) h = cc
+  same_value (e.Referent place1 last1 local1) (e.Binary o2 v2 w2) h = cc
+  same_value (e.Referent place1 last1 local1) (e.Conditional j2 u2 v2 w2) h = cc
   same_value (e.Unary operator1 x1) (e.Constant y2) h = cc
   same_value (e.Unary operator1 x1) (e.Local number2 j2) h = cc
   same_value (e.Unary operator1 x1) (e.Variable place22 variable22 j2) h = cc
   same_value (e.Unary operator1 x1) (e.Element place22 variable22 j2 index_place22 index22) h = cc
+  same_value (e.Unary operator1 x1) (e.Address variable22 index_place22 y2) h = cc
+  same_value (e.Unary operator1 x1) (e.Referent place22 last22 number2) h = cc
   same_value (e.Unary operator x) (e.Unary o y) h =
       let p = and_true (unary_number operator == unary_number o) (same_expr x y) h in
       ap₂ unary_of (one_unary operator o (eqb-true (unary_number operator) (unary_number o) p.0)) (same_value x y p.1)
@@ -153,6 +189,8 @@ module _ (ls : List ℤ) (vs ws : List (List ℤ)) where
   same_value (e.Cast k1 x1) (e.Local number2 j2) h = cc
   same_value (e.Cast k1 x1) (e.Variable place22 variable22 j2) h = cc
   same_value (e.Cast k1 x1) (e.Element place22 variable22 j2 index_place22 index22) h = cc
+  same_value (e.Cast k1 x1) (e.Address variable22 index_place22 y2) h = cc
+  same_value (e.Cast k1 x1) (e.Referent place22 last22 number2) h = cc
   same_value (e.Cast k1 x1) (e.Unary o2 y2) h = cc
   same_value (e.Cast k x) (e.Cast j y) h =
       let p = and_true (same_kind k j) (same_expr x y) h in
@@ -164,6 +202,8 @@ module _ (ls : List ℤ) (vs ws : List (List ℤ)) where
   same_value (e.Converted k1 x1) (e.Local number2 j2) h = cc
   same_value (e.Converted k1 x1) (e.Variable place22 variable22 j2) h = cc
   same_value (e.Converted k1 x1) (e.Element place22 variable22 j2 index_place22 index22) h = cc
+  same_value (e.Converted k1 x1) (e.Address variable22 index_place22 y2) h = cc
+  same_value (e.Converted k1 x1) (e.Referent place22 last22 number2) h = cc
   same_value (e.Converted k1 x1) (e.Unary o2 y2) h = cc
   same_value (e.Converted k1 x1) (e.Cast j2 y2) h = cc
   same_value (e.Converted k x) (e.Converted j y) h =
@@ -175,6 +215,8 @@ module _ (ls : List ℤ) (vs ws : List (List ℤ)) where
   same_value (e.Binary operator1 x1 y1) (e.Local number2 j2) h = cc
   same_value (e.Binary operator1 x1 y1) (e.Variable place22 variable22 j2) h = cc
   same_value (e.Binary operator1 x1 y1) (e.Element place22 variable22 j2 index_place22 index22) h = cc
+  same_value (e.Binary operator1 x1 y1) (e.Address variable22 index_place22 y2) h = cc
+  same_value (e.Binary operator1 x1 y1) (e.Referent place22 last22 number2) h = cc
   same_value (e.Binary operator1 x1 y1) (e.Unary o2 y2) h = cc
   same_value (e.Binary operator1 x1 y1) (e.Cast j2 y2) h = cc
   same_value (e.Binary operator1 x1 y1) (e.Converted j2 y2) h = cc
@@ -188,6 +230,8 @@ module _ (ls : List ℤ) (vs ws : List (List ℤ)) where
   same_value (e.Conditional k1 x1 y1 z1) (e.Local number2 j2) h = cc
   same_value (e.Conditional k1 x1 y1 z1) (e.Variable place22 variable22 j2) h = cc
   same_value (e.Conditional k1 x1 y1 z1) (e.Element place22 variable22 j2 index_place22 index22) h = cc
+  same_value (e.Conditional k1 x1 y1 z1) (e.Address variable22 index_place22 y2) h = cc
+  same_value (e.Conditional k1 x1 y1 z1) (e.Referent place22 last22 number2) h = cc
   same_value (e.Conditional k1 x1 y1 z1) (e.Unary o2 y2) h = cc
   same_value (e.Conditional k1 x1 y1 z1) (e.Cast j2 y2) h = cc
   same_value (e.Conditional k1 x1 y1 z1) (e.Converted j2 y2) h = cc
@@ -288,6 +332,9 @@ module _ (ls : List ℤ) (local : ℕ) (n : ℤ) (vs : List (List ℤ)) where
       ap (typed k) (get_or-set_other ls local other n (pos 0) (unequal other (or_parts (other == local) false h).0))
   value_unread (e.Variable place v k) h = refl
   value_unread (e.Element place v k index_place index) h = ap (λ (i : Typed). typed k (element_number vs v (element_at i))) (value_unread index h)
+  value_unread (e.Address v index_place x) h = ap reference_to (value_unread x h)
+  value_unread (e.Referent place last other) h =
+      ap referent (get_or-set_other ls local other n (pos 0) (unequal other (or_parts (other == local) false h).0))
   value_unread (e.Unary operator x) h = ap (unary_of operator) (value_unread x h)
   value_unread (e.Cast k x) h = ap (λ (y : Typed). converted y k) (value_unread x h)
   value_unread (e.Converted k x) h = ap (λ (y : Typed). converted y k) (value_unread x h)

@@ -21,6 +21,10 @@ pub data Expr : Type 0 where
   Variable : (place : Place) → (variable : ℕ) → Kind → Expr
   -- an element of an array, and the places of its name and of the index's first token
   Element : (place : Place) → (variable : ℕ) → Kind → (index_place : Place) → (index : Expr) → Expr
+  -- `&variable[index]`, a reference to the element, and the place of the index's first token
+  Address : (variable : ℕ) → (index_place : Place) → (index : Expr) → Expr
+  -- the number of the element to which a local refers, of an array whose last element has that number: the index of `*local`, and the place of `*`
+  Referent : (place : Place) → (last : ℕ) → (local : ℕ) → Expr
   Unary : u.Unary → (operand : Expr) → Expr
   Cast : Kind → (operand : Expr) → Expr
   -- a conversion that isn't written
@@ -52,6 +56,8 @@ expr_of (e.Constant value) = Constant value
 expr_of (e.Local local kind) = Local local kind
 expr_of (e.Variable place variable kind) = Variable place variable kind
 expr_of (e.Element' place variable kind index_place _ index) = Element place variable kind index_place (expr_of index)
+expr_of (e.Address' variable index_place _ index) = Address variable index_place (expr_of index)
+expr_of (e.Referent place last local) = Referent place last local
 expr_of (e.Unary' operator _ operand) = Unary operator (expr_of operand)
 expr_of (e.Cast' kind _ operand) = Cast kind (expr_of operand)
 expr_of (e.Converted' kind _ operand) = Converted kind (expr_of operand)

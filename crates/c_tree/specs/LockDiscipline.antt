@@ -33,6 +33,8 @@ expr_uses (e.Local local kind) = []
 expr_uses (e.Variable place variable kind) = record { variable = variable; place = place; index = None } ∷ []
 expr_uses (e.Element place variable kind index_place index) =
     record { variable = variable; place = place; index = Some (record { place = index_place; expr = index }) } ∷ expr_uses index
+expr_uses (e.Address variable index_place index) = expr_uses index
+expr_uses (e.Referent place last local) = []
 expr_uses (e.Unary operator operand) = expr_uses operand
 expr_uses (e.Cast kind operand) = expr_uses operand
 expr_uses (e.Converted kind operand) = expr_uses operand
@@ -78,6 +80,8 @@ expr_locals (e.Constant value) = []
 expr_locals (e.Local local kind) = local ∷ []
 expr_locals (e.Variable place variable kind) = []
 expr_locals (e.Element place variable kind index_place index) = expr_locals index
+expr_locals (e.Address variable index_place index) = expr_locals index
+expr_locals (e.Referent place last local) = local ∷ []
 expr_locals (e.Unary operator operand) = expr_locals operand
 expr_locals (e.Cast kind operand) = expr_locals operand
 expr_locals (e.Converted kind operand) = expr_locals operand

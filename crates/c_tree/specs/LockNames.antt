@@ -64,6 +64,8 @@ same_expr (e.Constant x) other = elim other [ e.Constant y ↦ same_typed x y | 
 same_expr (e.Local local k) other = elim other [ e.Local number j ↦ (local == number) && same_kind k j | _ ↦ false ]
 same_expr (e.Variable place variable k) other = false
 same_expr (e.Element place variable k index_place index) other = false
+same_expr (e.Address variable index_place x) other = elim other [ e.Address number at y ↦ (variable == number) && same_expr x y | _ ↦ false ]
+same_expr (e.Referent place last local) other = elim other [ e.Referent at end number ↦ (last == end) && (local == number) | _ ↦ false ]
 same_expr (e.Unary operator x) other = elim other [ e.Unary o y ↦ (unary_number operator == unary_number o) && same_expr x y | _ ↦ false ]
 same_expr (e.Cast k x) other = elim other [ e.Cast j y ↦ same_kind k j && same_expr x y | _ ↦ false ]
 same_expr (e.Converted k x) other = elim other [ e.Converted j y ↦ same_kind k j && same_expr x y | _ ↦ false ]

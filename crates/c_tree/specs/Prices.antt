@@ -5,13 +5,15 @@ use Rattle.ido_ints.specs.declared.operators.Binary.TheVariants as b
 use Rattle.c_tree.specs.Exprs as e
 use Rattle.c_tree.specs.Flats as f
 
--- ---- Nodes of an expression: numbers, names, elements, operators and casts
+-- ---- Nodes of an expression: numbers, names, elements and their addresses, operators and casts
 
 abbrev pub nodes_of : e.Expr → ℕ
 nodes_of (e.Constant x) = 1
 nodes_of (e.Local local kind) = 1
 nodes_of (e.Variable place variable kind) = 1
 nodes_of (e.Element place variable kind index_place index) = 1 + nodes_of index
+nodes_of (e.Address variable index_place index) = 1 + nodes_of index
+nodes_of (e.Referent place last local) = 1
 nodes_of (e.Unary operator operand) = 1 + nodes_of operand
 nodes_of (e.Cast kind operand) = 1 + nodes_of operand
 nodes_of (e.Converted kind operand) = nodes_of operand
@@ -35,6 +37,8 @@ need_of (e.Constant x) = 1
 need_of (e.Local local kind) = 1
 need_of (e.Variable place variable kind) = 1
 need_of (e.Element place variable kind index_place index) = need_of index
+need_of (e.Address variable index_place index) = need_of index
+need_of (e.Referent place last local) = 1
 need_of (e.Unary operator operand) = need_of operand
 need_of (e.Cast kind operand) = need_of operand
 need_of (e.Converted kind operand) = need_of operand

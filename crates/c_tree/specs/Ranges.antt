@@ -5,6 +5,7 @@ use Rattle.std.specs.Int.{int_shr}
 use Rattle.std.specs.Ordering.{int_eq}
 use Rattle.ido_base.specs.declared.place.Place.{Place}
 use Rattle.ido_ints.specs.declared.kinds.Kind.{Kind}
+use Rattle.ido_ints.specs.declared.kinds.Kind.TheVariants.{UnsignedLong}
 use Rattle.ido_ints.specs.declared.operators.Unary as un
 use Rattle.ido_ints.specs.declared.operators.Unary.TheVariants as u
 use Rattle.ido_ints.specs.declared.operators.Binary as bin
@@ -126,6 +127,9 @@ range_of (e.Constant value) = only value.number
 range_of (e.Local local kind) = full kind
 range_of (e.Variable place variable kind) = full kind
 range_of (e.Element place variable kind index_place index) = full kind
+range_of (e.Address variable index_place index) = full UnsignedLong
+-- where the local is a reference to an element of the array
+range_of (e.Referent place last local) = interval (pos 0) (pos last)
 range_of (e.Unary operator operand) = unary_range operator (kind_of operand) (range_of operand)
 range_of (e.Cast kind operand) = fitted kind (range_of operand)
 range_of (e.Converted kind operand) = fitted kind (range_of operand)
@@ -150,6 +154,8 @@ expr_indexes (e.Constant value) = []
 expr_indexes (e.Local local kind) = []
 expr_indexes (e.Variable place variable kind) = []
 expr_indexes (e.Element place variable kind index_place index) = record { of = OfVariable variable; place = index_place; expr = index } ∷ expr_indexes index
+expr_indexes (e.Address variable index_place index) = record { of = OfVariable variable; place = index_place; expr = index } ∷ expr_indexes index
+expr_indexes (e.Referent place last local) = []
 expr_indexes (e.Unary operator operand) = expr_indexes operand
 expr_indexes (e.Cast kind operand) = expr_indexes operand
 expr_indexes (e.Converted kind operand) = expr_indexes operand

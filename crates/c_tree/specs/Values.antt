@@ -1,5 +1,7 @@
 -- The value of an expression (C11 6.5), from the numbers of locals and variables.
 use Rattle.std.specs.Prelude.{ℕ, ◌+◌, List, [], slice_index_or, Some, None, if◌then◌else◌, ℤ, pos, unsigned_abs}
+use Rattle.ido_ints.specs.declared.kinds.Kind.TheVariants.{UnsignedLong}
+use Rattle.ido_ints.specs.declared.operators.Binary.TheVariants.{Add, Sub}
 use Rattle.ido_ints.specs.TypedNumbers.{Typed, typed, converted}
 use Rattle.ido_ints.specs.Operators.{is_zero, unary_of, binary_of}
 use Rattle.c_tree.specs.Exprs as e
@@ -12,11 +14,20 @@ element_number variables variable element = slice_index_or (slice_index_or varia
 abbrev pub element_at : Typed → ℕ
 element_at index = unsigned_abs index.number
 
+-- a reference is 0, which is null, or the number of an element and 1 more: that to the element of an index, and the number of the element of one
+abbrev pub reference_to : (index : Typed) → Typed
+reference_to index = binary_of Add (converted index UnsignedLong) (typed UnsignedLong (pos 1))
+
+abbrev pub referent : (reference : ℤ) → Typed
+referent reference = binary_of Sub (typed UnsignedLong reference) (typed UnsignedLong (pos 1))
+
 abbrev pub value : (locals : List ℤ) → (variables : List (List ℤ)) → e.Expr → Typed
 value ls vs (e.Constant x) = x
 value ls vs (e.Local local kind) = typed kind (slice_index_or ls local (pos 0))
 value ls vs (e.Variable place variable kind) = typed kind (element_number vs variable 0)
 value ls vs (e.Element place variable kind index_place index) = typed kind (element_number vs variable (element_at (value ls vs index)))
+value ls vs (e.Address variable index_place index) = reference_to (value ls vs index)
+value ls vs (e.Referent place last local) = referent (slice_index_or ls local (pos 0))
 value ls vs (e.Unary operator operand) = unary_of operator (value ls vs operand)
 value ls vs (e.Cast kind operand) = converted (value ls vs operand) kind
 value ls vs (e.Converted kind operand) = converted (value ls vs operand) kind

@@ -63,12 +63,14 @@ pub record IsDeclared (vs : List p.Variable) (variable : ℕ) (k : Kind) (is_arr
   pub array : is_some it.length ≡ is_array
 
 module _ (vs : List p.Variable) (ks : List Kind) where
-  -- each local and each variable is there and of its kind, with an index exactly where it is an array
+  -- each local and each variable is there and of its kind, with an index exactly where it is an array; there is no reference
   abbrev pub IsExpr : e.Expr → Type 0
   IsExpr (e.Constant value) = Unit {0}
   IsExpr (e.Local local kind) = slice_get ks local ≡ Some kind
   IsExpr (e.Variable place variable kind) = IsDeclared vs variable kind false
   IsExpr (e.Element place variable kind index_place index) = IsDeclared vs variable kind true × IsExpr index
+  IsExpr (e.Address variable index_place index) = ⊥
+  IsExpr (e.Referent place last local) = ⊥
   IsExpr (e.Unary operator operand) = IsExpr operand
   IsExpr (e.Cast kind operand) = IsExpr operand
   IsExpr (e.Converted kind operand) = IsExpr operand
@@ -94,6 +96,8 @@ module _ (vs : List p.Variable) where
   Fits (e.Local local kind) = Unit {0}
   Fits (e.Variable place variable kind) = Unit {0}
   Fits (e.Element place variable kind index_place index) = IndexFits variable index_place index × Fits index
+  Fits (e.Address variable index_place index) = IndexFits variable index_place index × Fits index
+  Fits (e.Referent place last local) = Unit {0}
   Fits (e.Unary operator operand) = Fits operand
   Fits (e.Cast kind operand) = Fits operand
   Fits (e.Converted kind operand) = Fits operand

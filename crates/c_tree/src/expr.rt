@@ -32,6 +32,18 @@ pub enum Expr {
         index_place: Place,
         index: Box<Expr>,
     },
+    /// `&variable[index]`: a reference to the element, its number and 1 more. The place is that of the index's first token.
+    Address {
+        variable: u32,
+        index_place: Place,
+        index: Box<Expr>,
+    },
+    /// The number of the element to which a local refers, which isn't past the last one of its array. The place is that of `*`.
+    Referent {
+        place: Place,
+        last: u32,
+        local: u32,
+    },
     /// An operator with one operand.
     Unary {
         operator: Unary,
@@ -69,6 +81,7 @@ impl Expr {
     {
         match self {
             Expr::Constant { value } => value.kind(),
+            Expr::Address { .. } | Expr::Referent { .. } => Kind::UnsignedLong,
             Expr::Local { kind, .. }
             | Expr::Variable { kind, .. }
             | Expr::Element { kind, .. }

@@ -40,6 +40,26 @@ fn same_expr(one: &Expr, other: &Expr) -> bool
             _ => false,
         },
         Expr::Variable { .. } | Expr::Element { .. } => false,
+        Expr::Address {
+            variable,
+            index,
+            ..
+        } => match other {
+            Expr::Address {
+                variable: of,
+                index: with,
+                ..
+            } => *variable == *of && same_expr(index, with),
+            _ => false,
+        },
+        Expr::Referent { last, local, .. } => match other {
+            Expr::Referent {
+                last: end,
+                local: with,
+                ..
+            } => *last == *end && *local == *with,
+            _ => false,
+        },
         Expr::Unary { operator, operand } => match other {
             Expr::Unary {
                 operator: by,
@@ -268,8 +288,8 @@ fn reads(expr: &Expr, local: u32) -> bool
 {
     match expr {
         Expr::Constant { .. } | Expr::Variable { .. } => false,
-        Expr::Local { local: other, .. } => *other == local,
-        Expr::Element { index, .. } => reads(index, local),
+        Expr::Local { local: other, .. } | Expr::Referent { local: other, .. } => *other == local,
+        Expr::Element { index, .. } | Expr::Address { index, .. } => reads(index, local),
         Expr::Unary { operand, .. }
         | Expr::Cast { operand, .. }
         | Expr::Converted { operand, .. } => reads(operand, local),

@@ -9,14 +9,19 @@ use crate::expr::{Expr, LockRef, Lvalue};
 use crate::flat::{Arm, Flat, Statement};
 use ido_ints::Binary;
 
-/// How many numbers, names, elements, operators and casts an expression has. Past 2^64 - 1 it is
-/// answered as that.
+/// How many numbers, names, elements and their addresses, operators and casts an expression has. Past
+/// 2^64 - 1 it is answered as that.
 pub fn nodes(expr: &Expr) -> u64
     ensures { result ≡ min (nodes_of (expr_of expr.now)) u64.MAX }
 {
     match expr {
-        Expr::Constant { .. } | Expr::Local { .. } | Expr::Variable { .. } => 1,
-        Expr::Element { index, .. } => nodes(index).saturating_add(1),
+        Expr::Constant { .. }
+        | Expr::Local { .. }
+        | Expr::Variable { .. }
+        | Expr::Referent { .. } => 1,
+        Expr::Element { index, .. } | Expr::Address { index, .. } => {
+            nodes(index).saturating_add(1)
+        }
         Expr::Unary { operand, .. } | Expr::Cast { operand, .. } => {
             nodes(operand).saturating_add(1)
         }
@@ -66,8 +71,11 @@ pub fn need(expr: &Expr) -> u32
     ensures { result ≡ min (need_of (expr_of expr.now)) u32.MAX }
 {
     match expr {
-        Expr::Constant { .. } | Expr::Local { .. } | Expr::Variable { .. } => 1,
-        Expr::Element { index, .. } => need(index),
+        Expr::Constant { .. }
+        | Expr::Local { .. }
+        | Expr::Variable { .. }
+        | Expr::Referent { .. } => 1,
+        Expr::Element { index, .. } | Expr::Address { index, .. } => need(index),
         Expr::Unary { operand, .. }
         | Expr::Cast { operand, .. }
         | Expr::Converted { operand, .. } => need(operand),

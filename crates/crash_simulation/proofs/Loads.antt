@@ -97,6 +97,8 @@ module _ (vs : List Variable) (ks kinds : List Kind) (ls : List ℤ) (p : Option
             (all (element variable (element_at (value ls ns index))) (0, omega arith, refl)),
         loaded_expr index w.1 fit.1 (λ one c. all one (suc c.0, omega (arith, c.1), c.2)),
       )
+  loaded_expr (e.Address variable index_place index) w fit all = absurd w
+  loaded_expr (e.Referent place last local) w fit all = absurd w
   loaded_expr (e.Unary operator operand) w fit all = loaded_expr operand w fit all
   loaded_expr (e.Cast kind operand) w fit all = loaded_expr operand w fit all
   loaded_expr (e.Converted kind operand) w fit all = loaded_expr operand w fit all

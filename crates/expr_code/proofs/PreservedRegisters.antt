@@ -122,6 +122,8 @@ locals_kept h s x y (e.Local local k) suits f same l =
     (λ register is. same register (sym (ap is_home is) ∙ suits.local local (slice_get_within s.kinds local k f))) l
 locals_kept h s x y (e.Variable place variable k) suits f same l = tt
 locals_kept h s x y (e.Element place variable k index_place index) suits f same l = locals_kept h s x y index suits f.1 same l
+locals_kept h s x y (e.Address variable index_place index) suits f same l = absurd f
+locals_kept h s x y (e.Referent place last local) suits f same l = absurd f
 locals_kept h s x y (e.Unary op t) suits f same l = locals_kept h s x y t suits f same l
 locals_kept h s x y (e.Cast k t) suits f same l = locals_kept h s x y t suits f same l
 locals_kept h s x y (e.Converted k t) suits f same l = locals_kept h s x y t suits f same l

@@ -4,6 +4,7 @@ use Rattle.std.specs.Prelude.{◌||◌, ℤ, pos, sum_by}
 use Rattle.ido_base.specs.Layout.{variable_at, end_from}
 use Rattle.ido_base.specs.declared.limits.TheConstants.{MOST_VARIABLE_BYTES, MOST_ELEMENTS}
 use Rattle.ido_ints.specs.declared.kinds.Kind.{Kind}
+use Rattle.ido_ints.specs.declared.kinds.Kind.TheVariants.{UnsignedLong}
 use Rattle.ido_ints.specs.Kinds.{Holds, bytes_of, bits_of}
 use Rattle.ido_ints.specs.Reduction.{residue}
 use Rattle.ido_ints.specs.Operators.{is_zero}
@@ -46,12 +47,14 @@ pub record Homes : Type 0 where
 abbrev pub homes_of : frame.Frame → Homes
 homes_of f = record { addresses = f.addresses.now; locals = f.locals.now }
 
--- every variable that the expression names has an address, and every local a home
+-- every variable that the expression names has an address, and every local a home; there is no reference
 abbrev pub AreAtHome : Homes → e.Expr → Type 0
 AreAtHome h (e.Constant value) = Unit {0}
 AreAtHome h (e.Local local kind) = (local < length h.locals) × (is_home (home_of h.locals local) ≡ true)
 AreAtHome h (e.Variable place variable kind) = variable < length h.addresses
 AreAtHome h (e.Element place variable kind index_place index) = (variable < length h.addresses) × AreAtHome h index
+AreAtHome h (e.Address variable index_place index) = ⊥
+AreAtHome h (e.Referent place last local) = ⊥
 AreAtHome h (e.Unary operator operand) = AreAtHome h operand
 AreAtHome h (e.Cast kind operand) = AreAtHome h operand
 AreAtHome h (e.Converted kind operand) = AreAtHome h operand
@@ -82,6 +85,8 @@ HoldsLocals h s x (e.Constant value) = Unit {0}
 HoldsLocals h s x (e.Local local kind) = HomeCarries x (home_of h.locals local) (typed kind (slice_index_or s.locals local (pos 0)))
 HoldsLocals h s x (e.Variable place variable kind) = Unit {0}
 HoldsLocals h s x (e.Element place variable kind index_place index) = HoldsLocals h s x index
+HoldsLocals h s x (e.Address variable index_place index) = HoldsLocals h s x index
+HoldsLocals h s x (e.Referent place last local) = HomeCarries x (home_of h.locals local) (typed UnsignedLong (slice_index_or s.locals local (pos 0)))
 HoldsLocals h s x (e.Unary operator operand) = HoldsLocals h s x operand
 HoldsLocals h s x (e.Cast kind operand) = HoldsLocals h s x operand
 HoldsLocals h s x (e.Converted kind operand) = HoldsLocals h s x operand
@@ -100,6 +105,8 @@ AreLoaded s loads (e.Local local kind) = Unit {0}
 AreLoaded s loads (e.Variable place variable kind) = IsLoaded s loads kind variable 0
 AreLoaded s loads (e.Element place variable kind index_place index) =
     IsLoaded s loads kind variable (element_at (value s.locals s.numbers index)) × AreLoaded s loads index
+AreLoaded s loads (e.Address variable index_place index) = AreLoaded s loads index
+AreLoaded s loads (e.Referent place last local) = Unit {0}
 AreLoaded s loads (e.Unary operator operand) = AreLoaded s loads operand
 AreLoaded s loads (e.Cast kind operand) = AreLoaded s loads operand
 AreLoaded s loads (e.Converted kind operand) = AreLoaded s loads operand

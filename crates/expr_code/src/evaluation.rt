@@ -63,6 +63,7 @@ pub(crate) fn evaluate(
             let index = operand(alloc, index, frame, held)?;
             Ok(element_code(index, frame.addresses[*variable as usize], *kind, rd, held)?)
         }
+        Expr::Address { .. } | Expr::Referent { .. } => unreachable!(),
         Expr::Unary {
             operator,
             operand: inner,

@@ -126,6 +126,8 @@ module _ (vs : List Variable) (ks : List Kind) (ls : List ℤ) (ns : List (List 
       (subst P is (lies_element variable kind index_place index w.0 w.1 fit.0)))
       (λ more. one_tail naming (elements table variable (at_index index_place index)) (expr_reads table index) one (lies_expr index p one w.1 fit.1 more))
       (contains_cons one (element variable (element_at (value ls ns index))) (expr_elements index (seen p)) c)
+  lies_expr (e.Address variable index_place index) p one w fit c = absurd w
+  lies_expr (e.Referent place last local) p one w fit c = absurd w
   lies_expr (e.Unary operator operand) p one w fit c = lies_expr operand p one w fit c
   lies_expr (e.Cast kind operand) p one w fit c = lies_expr operand p one w fit c
   lies_expr (e.Converted kind operand) p one w fit c = lies_expr operand p one w fit c

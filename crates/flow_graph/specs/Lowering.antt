@@ -47,6 +47,8 @@ expr_reads table (e.Local local kind) = []
 expr_reads table (e.Variable place variable kind) = scalar variable ∷ []
 expr_reads table (e.Element place variable kind index_place index) =
     elements table variable (record { place = index_place; expr = index }) ∷ expr_reads table index
+expr_reads table (e.Address variable index_place index) = expr_reads table index
+expr_reads table (e.Referent place last local) = []
 expr_reads table (e.Unary operator operand) = expr_reads table operand
 expr_reads table (e.Cast kind operand) = expr_reads table operand
 expr_reads table (e.Converted kind operand) = expr_reads table operand

@@ -48,8 +48,8 @@ pub(crate) fn add_locals(locals: &mut Vec<u32>, expr: &Expr) -> Result<(), OutOf
 {
     match expr {
         Expr::Constant { .. } | Expr::Variable { .. } => {}
-        Expr::Local { local, .. } => locals.push(*local)?,
-        Expr::Element { index, .. } => add_locals(locals, index)?,
+        Expr::Local { local, .. } | Expr::Referent { local, .. } => locals.push(*local)?,
+        Expr::Element { index, .. } | Expr::Address { index, .. } => add_locals(locals, index)?,
         Expr::Unary { operand, .. }
         | Expr::Cast { operand, .. }
         | Expr::Converted { operand, .. } => add_locals(locals, operand)?,
@@ -80,7 +80,7 @@ pub(crate) fn add_reads(
     ensures { IfOk result (λ _. reads.new.items ≡ reads.old.items ++ expr_reads (table_from table.now) (expr_of expr.now)) }
 {
     match expr {
-        Expr::Constant { .. } | Expr::Local { .. } => {}
+        Expr::Constant { .. } | Expr::Local { .. } | Expr::Referent { .. } => {}
         Expr::Variable { variable, .. } => reads.push(Location {
             variable: *variable,
             lo: 0,
@@ -100,6 +100,7 @@ pub(crate) fn add_reads(
             reads.push(elements(table, *variable, at)?)?;
             add_reads(reads, table, index)?;
         }
+        Expr::Address { index, .. } => add_reads(reads, table, index)?,
         Expr::Unary { operand, .. }
         | Expr::Cast { operand, .. }
         | Expr::Converted { operand, .. } => add_reads(reads, table, operand)?,

@@ -74,7 +74,7 @@ pub fn check_expr<'a>(
         MatchResult result (λ _. w ≡ After held) (Refuses w) }
 {
     match expr {
-        Expr::Constant { .. } | Expr::Local { .. } => Ok(()),
+        Expr::Constant { .. } | Expr::Local { .. } | Expr::Referent { .. } => Ok(()),
         Expr::Variable {
             place,
             variable,
@@ -94,6 +94,7 @@ pub fn check_expr<'a>(
             check_use(variables, names, held, *variable, *place, Some(key))?;
             check_expr(variables, names, held, index)
         }
+        Expr::Address { index, .. } => check_expr(variables, held, index),
         Expr::Unary { operand, .. }
         | Expr::Cast { operand, .. }
         | Expr::Converted { operand, .. } => check_expr(variables, names, held, operand),

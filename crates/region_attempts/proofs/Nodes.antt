@@ -50,6 +50,8 @@ module _ (vs : List Variable) (names : List e.LockName) (h : Held) (seen : Seen)
       let u : Use = record { variable = v; place = place; index = Some (record { place = index_place; expr = index }) } in
       of_first u (expr_elements index seen) (guarded_first vs names h u (expr_uses index) g)
       (λ d. expr_held index (guarded_rest vs names h u (expr_uses index) g) d) c
+  expr_held (e.Address v index_place index) g c = expr_held index g c
+  expr_held (e.Referent place last local) g c = absurd (contains_none one c)
   expr_held (e.Unary operator operand) g c = expr_held operand g c
   expr_held (e.Cast kind operand) g c = expr_held operand g c
   expr_held (e.Converted kind operand) g c = expr_held operand g c

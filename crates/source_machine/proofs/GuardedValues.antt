@@ -14,7 +14,7 @@ use Rattle.ido_ints.specs.TypedNumbers.{Typed, typed, converted}
 use Rattle.ido_ints.specs.Operators.{is_zero, unary_of, binary_of}
 use Rattle.c_tree.specs.Exprs as e
 use Rattle.c_tree.specs.Programs.{Variable}
-use Rattle.c_tree.specs.Values.{element_number, element_at, value}
+use Rattle.c_tree.specs.Values.{reference_to, element_number, element_at, value}
 use Rattle.c_tree.specs.LockNames.{Held, holds}
 use Rattle.c_tree.specs.LockDiscipline.{Use, expr_uses, is_guarded, AreGuarded}
 use Rattle.c_tree.proofs.Public.{index_element}
@@ -133,6 +133,8 @@ module _ (variables : List Variable) (names : List e.LockName) (h : Held) (ls : 
       let u : Use = record { variable = v; place = place; index = Some (record { place = index_place; expr = index }) } in
       ap (typed kind) (element_same u _ (guarded_first variables names h u (expr_uses index) g)
       (ap element_at (value_same index (guarded_rest variables names h u (expr_uses index) g))))
+  value_same (e.Address v index_place index) g = ap reference_to (value_same index g)
+  value_same (e.Referent place last local) g = refl
   value_same (e.Unary operator operand) g = ap (unary_of operator) (value_same operand g)
   value_same (e.Cast kind operand) g = ap (λ (y : Typed). converted y kind) (value_same operand g)
   value_same (e.Converted kind operand) g = ap (λ (y : Typed). converted y kind) (value_same operand g)

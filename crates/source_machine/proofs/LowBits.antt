@@ -104,3 +104,9 @@ low_operands b.LogicalOr v w p q = absurd (q refl)
 pub binary_low : (op : bin.Binary) (v w : Typed) (j k : Kind) (m n : ℕ) → op ≢ b.LogicalAnd → op ≢ b.LogicalOr →
     j ≡ v.kind → m ≡ residue 64 v.number → k ≡ w.kind → n ≡ residue 64 w.number → binary_of op (typed j (pos m)) (typed k (pos n)) ≡ binary_of op v w
 binary_low op v w j k m n h l p q r s = (λ i. binary_of op (typed (p i) (pos (q i))) (typed (r i) (pos (s i)))) ∙ low_operands op v w h l
+
+-- where the right operand's number is one of those from 0 up to what 64 bits hold
+pub low_left : (op : bin.Binary) (v w : Typed) (j : Kind) (m : ℕ) → op ≢ b.LogicalAnd → op ≢ b.LogicalOr → j ≡ v.kind → m ≡ residue 64 v.number →
+    w ≡ typed w.kind (pos (residue 64 w.number)) → binary_of op (typed j (pos m)) w ≡ binary_of op v w
+low_left op v w j m h l p q is =
+    ap (binary_of op (typed j (pos m))) is ∙ binary_low op v w j w.kind m (residue 64 w.number) h l p q refl refl

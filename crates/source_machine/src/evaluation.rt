@@ -1,8 +1,8 @@
 //! The value of an expression.
-ghost use Rattle.std.specs.Prelude.{◌≡◌, [], if◌then◌else◌, pos};
+ghost use Rattle.std.specs.Prelude.{◌≡◌, [], slice_index_or, if◌then◌else◌, pos};
 ghost use Rattle.c_tree.specs.Exprs.{expr_of, lock_name_of};
-ghost use Rattle.c_tree.specs.Values.{value, element_at, element_number, lock_number};
-ghost use Rattle.ido_ints.specs.declared.kinds.Kind.TheVariants.{Int};
+ghost use Rattle.c_tree.specs.Values.{value, reference_to, referent, element_at, element_number, lock_number};
+ghost use Rattle.ido_ints.specs.declared.kinds.Kind.TheVariants.{Int, UnsignedLong};
 ghost use Rattle.ido_ints.specs.Operators.{truth, is_zero, unary_of, binary_of};
 ghost use Rattle.ido_ints.specs.Reduction.{residue};
 ghost use Rattle.ido_ints.specs.TypedNumbers.{typed, typed_reduced, converted};
@@ -20,9 +20,7 @@ pub fn evaluate(expr: &Expr, locals: &[i128], variables: &Variables) -> Number
 {
     match expr {
         Expr::Constant { value } => Number::of(*value),
-        Expr::Local { local, kind } => {
-            Number::new(*kind, locals.get(*local as usize).copied().unwrap_or(0))
-        }
+        Expr::Local { local, kind } => Number::new(*kind, local_number(*local, locals)),
         Expr::Variable { variable, kind, .. } => Number::new(*kind, variables.get(*variable, 0)),
         Expr::Element {
             variable,
@@ -30,6 +28,8 @@ pub fn evaluate(expr: &Expr, locals: &[i128], variables: &Variables) -> Number
             index,
             ..
         } => element(*variable, *kind, index, locals, variables),
+        Expr::Address { index, .. } => address(index, locals, variables).value(),
+        Expr::Referent { local, .. } => referent(*local, locals).value(),
         Expr::Unary { operator, operand } => unary(*operator, operand, locals, variables).value(),
         Expr::Cast { kind, operand } | Expr::Converted { kind, operand } => {
             converted(*kind, operand, locals, variables).value()
@@ -103,6 +103,8 @@ fn low_bits(expr: &Expr, locals: &[i128], variables: &Variables) -> LowBits
     match expr {
         Expr::Constant { .. } | Expr::Local { .. } | Expr::Variable { .. } | Expr::Element { .. } =>
             { LowBits::of(evaluate(expr, locals, variables)) }
+        Expr::Address { index, .. } => address(index, locals, variables),
+        Expr::Referent { local, .. } => referent(*local, locals),
         Expr::Unary { operator, operand } => unary(*operator, operand, locals, variables),
         Expr::Cast { kind, operand } | Expr::Converted { kind, operand } => {
             converted(*kind, operand, locals, variables)
@@ -121,6 +123,13 @@ fn low_bits(expr: &Expr, locals: &[i128], variables: &Variables) -> LowBits
     }
 }
 
+/// The number of a local, 0 where there is no such local.
+fn local_number(local: u32, locals: &[i128]) -> i128
+    ensures { result ≡ slice_index_or locals.now local (pos 0) }
+{
+    locals.get(local as usize).copied().unwrap_or(0)
+}
+
 /// The element that the index names.
 #[cycle(evaluation)]
 fn element(
@@ -134,6 +143,27 @@ fn element(
 {
     let index = evaluate(index, locals, variables);
     Number::new(kind, variables.get(variable, element_at(index)))
+}
+
+/// The reference to the element that the index names.
+#[cycle(evaluation)]
+fn address(index: &Expr, locals: &[i128], variables: &Variables) -> LowBits
+    ensures kind { result.kind ≡ UnsignedLong }
+    ensures bits { result.bits ≡ residue 64 (reference_to (value locals.now variables.now (expr_of index.now))).number }
+{
+    let index = converted(Kind::UnsignedLong, index, locals, variables);
+    let one = Number::new(Kind::UnsignedLong, 1);
+    LowBits::of(number::binary(Binary::Add, index.number(), one))
+}
+
+/// The number of the element to which the local refers.
+fn referent(local: u32, locals: &[i128]) -> LowBits
+    ensures kind { result.kind ≡ UnsignedLong }
+    ensures bits { result.bits ≡ residue 64 (referent (slice_index_or locals.now local (pos 0))).number }
+{
+    let reference = Number::new(Kind::UnsignedLong, local_number(local, locals));
+    let one = Number::new(Kind::UnsignedLong, 1);
+    LowBits::of(number::binary(Binary::Sub, reference, one))
 }
 
 /// What the operator gives for its operand.

@@ -20,6 +20,10 @@ pub returns-in-Constant-3 : goal.returns-in-Constant-3
 unfolding first_fault
 returns-in-Constant-3 t c = search rules
 
+pub returns-in-Constant-4 : goal.returns-in-Constant-4
+unfolding first_fault
+returns-in-Constant-4 t c = search rules
+
 pub returns-in-Element : goal.returns-in-Element
 returns-in-Element t c =
     let z = program_of c.args.program.now in
@@ -27,6 +31,17 @@ returns-in-Element t c =
     let x = c.deref.ensures in
     let y = c.deref-in-Element.ensures in
     headed z _ _ _ (index_of (OfVariable w.variable) w.index_place _) _ _ c.earlier.ensures c.elements.ensures c.of_index.ensures c.of_expr.ensures
+    ∙ (λ i. first_fault z (index_of (OfVariable w.variable) w.index_place (expr_of (x i)) ∷ expr_indexes (expr_of (y i))))
+    ∙ ap (λ (e : Expr). first_fault z (expr_indexes (expr_of e))) (sym w.is)
+
+pub returns-in-Address : goal.returns-in-Address
+returns-in-Address t c =
+    let z = program_of c.args.program.now in
+    let w = c.in-Address in
+    let x = c.deref-in-Address.ensures in
+    let y = c.deref-in-Address-2.ensures in
+    headed z _ _ _ (index_of (OfVariable w.variable) w.index_place _) _ _ c.earlier-in-Address.ensures c.elements-in-Address.ensures
+    c.of_index-in-Address.ensures c.of_expr-in-Address.ensures
     ∙ (λ i. first_fault z (index_of (OfVariable w.variable) w.index_place (expr_of (x i)) ∷ expr_indexes (expr_of (y i))))
     ∙ ap (λ (e : Expr). first_fault z (expr_indexes (expr_of e))) (sym w.is)
 

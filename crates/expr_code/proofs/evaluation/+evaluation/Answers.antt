@@ -1,11 +1,12 @@
 -- What the recursion owes besides the contracts of the functions that it calls.
-use Rattle.std.proofs.Common.{rules, ◌≡◌, ◌+◌, ◌*◌, ◌<◌, ◌≤◌, ◌∙◌, ap, sym, subst, arith, ℕ, List, length, get_or}
+use Rattle.std.proofs.Common.{rules, refl, Box, Global, ◌≡◌, ◌+◌, ◌*◌, ◌<◌, ◌≤◌, ◌∙◌, ap, sym, subst, arith, ℕ, List, length, get_or}
 use Rattle.std.specs.Prelude.{true}
 use Rattle.std.proofs.lemmas.Option.{slice_get-get_or, same_Some}
 use Rattle.rv64_isa.specs.declared.instr.Instr.{Instr}
 use Rattle.ido_ints.specs.declared.kinds.Kind.{Kind}
 use Rattle.ido_ints.specs.Kinds.{bits_of, rank_of}
 use Rattle.c_tree.specs.declared.expr.Expr.{Expr}
+use Rattle.c_tree.specs.declared.expr.Expr as raw
 use Rattle.c_tree.specs.Exprs as e
 use Rattle.c_tree.specs.Exprs.{expr_of}
 use Rattle.c_tree.specs.Prices.{nodes_of}
@@ -108,6 +109,36 @@ evaluate_converted-returns-in_ok-code-in_default-clause-code t c =
     kept_value c.kind-from.result c.args.kind c.args.rd c.in_ok-code-in_default.code.items (c.keeps_form.ensures.0 c.if-keeps_form.true)
     (homes_of c.args.frame.now) (expr_of c.args.expr.now) c.args.held (sym c.kind-from.ensures) c.in_ok-code-in_default.ensures.code
 
+-- what isn't a conversion has no words of one
+unconverted : (x : Expr) → ((kind : Kind) (operand : Box Expr Global) → x ≡ raw.Converted kind operand → ⊥) → conversion_words (expr_of x) ≡ 0
+unconverted (raw.Constant value) h = refl
+unconverted (raw.Local local kind) h = refl
+unconverted (raw.Variable place variable kind) h = refl
+unconverted (raw.Element' place variable kind index_place b index) h = refl
+unconverted (raw.Address' variable index_place b index) h = refl
+unconverted (raw.Referent place last local) h = refl
+unconverted (raw.Unary' operator b operand) h = refl
+unconverted (raw.Cast' kind b operand) h = refl
+unconverted (raw.Converted' kind b operand) h = absurd (h kind _ refl)
+unconverted (raw.Binary' operator b left d right) h = refl
+unconverted (raw.Conditional' kind b condition d chosen f otherwise) h = refl
+
+pub evaluate_converted-returns-in_ok-code-in_default-clause-short : goal.evaluate_converted-returns-in_ok-code-in_default-clause-short
+evaluate_converted-returns-in_ok-code-in_default-clause-short t c =
+    let some = some_rank c.args.kind in
+    let wider : conversion_words (expr_of c.args.expr.now) + 2 ≤ 2 * rank_of c.args.kind = elim c.in_default.branch [
+      | evaluate_converted-in_default-via-in-Converted+else-bits w ↦
+          let less : bits_of w.in-Converted.between < bits_of c.args.kind = omega arith in
+          let rank = wider_rank w.in-Converted.between c.args.kind less in
+          subst (λ (x : Expr). conversion_words (expr_of x) + 2 ≤ 2 * rank_of c.args.kind) (sym w.in-Converted.is)
+          (let e : 2 * rank_of w.in-Converted.between + 2 ≤ 2 * rank_of c.args.kind = omega arith in e)
+      | evaluate_converted-in_default-via-in_default w ↦
+          let none = unconverted c.args.expr.now w.in_default.not-Converted in
+          omega (arith, none, some)
+    ] in
+    let before = c.in_ok-code-in_default.ensures.short in
+    omega arith
+
 pub evaluate_converted-returns-in_ok-with_conversion-in_default-clause-short : goal.evaluate_converted-returns-in_ok-with_conversion-in_default-clause-short
 evaluate_converted-returns-in_ok-with_conversion-in_default-clause-short t c =
     let some = some_rank c.args.kind in
@@ -117,7 +148,9 @@ evaluate_converted-returns-in_ok-with_conversion-in_default-clause-short t c =
           let rank = wider_rank w.in-Converted.between c.args.kind less in
           subst (λ (x : Expr). conversion_words (expr_of x) + 2 ≤ 2 * rank_of c.args.kind) (sym w.in-Converted.is)
           (let e : 2 * rank_of w.in-Converted.between + 2 ≤ 2 * rank_of c.args.kind = omega arith in e)
-      | evaluate_converted-in_default-via-in_default w ↦ search rules
+      | evaluate_converted-in_default-via-in_default w ↦
+          let none = unconverted c.args.expr.now w.in_default.not-Converted in
+          omega (arith, none, some)
     ] in
     let before = c.in_ok-inner-in_default.ensures.short in
     let more = c.in_ok-with_conversion-in_default.ensures.short in

@@ -1,20 +1,56 @@
 -- A number is put together from its low bits, and an operator makes of low bits those of its result.
-use Rattle.std.proofs.Common.{◌∙◌, sym, ap, cond, ⊎_elim}
+use Rattle.std.proofs.Common.{◌≡◌, refl, ◌∙◌, sym, ap, cond, ⊎_elim}
+use Rattle.std.specs.Prelude.{slice_index_or, pos}
 use Rattle.c_tree.specs.declared.expr.Expr.{Expr}
 use Rattle.c_tree.specs.Exprs.{expr_of}
-use Rattle.c_tree.specs.Values.{value}
+use Rattle.c_tree.specs.Values.{value, reference_to}
+use Rattle.ido_ints.specs.declared.kinds.Kind.TheVariants.{UnsignedLong}
+use Rattle.ido_ints.specs.declared.operators.Binary.TheVariants.{Add, Sub}
 use Rattle.ido_ints.specs.Operators.{is_zero, unary_of, binary_of}
 use Rattle.ido_ints.specs.Reduction.{residue}
-use Rattle.ido_ints.specs.TypedNumbers.{Typed, converted}
-use Rattle.source_machine.proofs.LowBits.{whole_unary, whole_binary, whole_converted, unary_low, converted_low, binary_low}
+use Rattle.ido_ints.specs.TypedNumbers.{Typed, typed, converted}
+use Rattle.source_machine.proofs.LowBits.{whole_unary, whole_binary, whole_converted, unary_low, converted_low, binary_low, low_left}
 use Rattle.source_machine.proofs.evaluation.+evaluation.Goals as goal
+
+pub evaluate-returns-in-Address : goal.evaluate-returns-in-Address
+evaluate-returns-in-Address t c =
+    let V : Expr → Typed = λ x. value c.args.locals.now c.args.variables.now (expr_of x) in
+    let low = c.address in
+    c.value.ensures
+    ∙ whole_binary Add (converted (V c.deref-in-Address.result.now) UnsignedLong) (typed UnsignedLong (pos 1)) low.result.kind low.result.bits
+    low.ensures.kind low.ensures.bits
+    ∙ ap (λ x. reference_to (V x)) c.deref-in-Address.ensures
+    ∙ sym (ap V c.in-Address.is)
+
+pub evaluate-returns-in-Referent : goal.evaluate-returns-in-Referent
+evaluate-returns-in-Referent t c =
+    let V : Expr → Typed = λ x. value c.args.locals.now c.args.variables.now (expr_of x) in
+    let low = c.referent in
+    c.value-in-Referent.ensures
+    ∙ whole_binary Sub (typed UnsignedLong (slice_index_or c.args.locals.now c.in-Referent.local (pos 0))) (typed UnsignedLong (pos 1))
+    low.result.kind low.result.bits low.ensures.kind low.ensures.bits
+    ∙ sym (ap V c.in-Referent.is)
+
+small_residue : typed UnsignedLong (pos 1) ≡ typed UnsignedLong (pos (residue 64 (pos 1)))
+unfolding residue
+small_residue = refl
+
+pub address-returns-clause-bits : goal.address-returns-clause-bits
+address-returns-clause-bits t c =
+    let v = converted (value c.args.locals.now c.args.variables.now (expr_of c.args.index.now)) UnsignedLong in
+    let one = typed UnsignedLong (pos 1) in
+    let one_is : one ≡ typed UnsignedLong (pos (residue 64 (pos 1))) = small_residue in
+    let low = c.converted-index in
+    let same = c.binary.ensures ∙ (λ i. binary_of Add (c.number.ensures i) (c.new-one.ensures i))
+    ∙ low_left Add v one low.result.kind low.result.bits (λ e. cc) (λ e. cc) low.ensures.kind low.ensures.bits one_is in
+    c.of.ensures.bits ∙ ap (λ (r : Typed). residue 64 r.number) same
 
 pub evaluate-returns-in-Unary : goal.evaluate-returns-in-Unary
 evaluate-returns-in-Unary t c =
     let V : Expr → Typed = λ x. value c.args.locals.now c.args.variables.now (expr_of x) in
     let op = c.in-Unary.operator in
     let low = c.unary in
-    c.value.ensures
+    c.value-in-Unary.ensures
     ∙ whole_unary op (V c.deref-in-Unary.result.now) low.result.kind low.result.bits low.ensures.kind low.ensures.bits
     ∙ ap (λ x. unary_of op (V x)) c.deref-in-Unary.ensures
     ∙ sym (ap V c.in-Unary.is)

@@ -13,6 +13,9 @@ decreases-low_bits l = 4 * size-Expr l.expr.now + 1
 abbrev pub decreases-element : goal.decreases-element
 decreases-element l = 4 * size-Expr l.index.now + 2
 
+abbrev pub decreases-address : goal.decreases-address
+decreases-address l = 4 * size-Expr l.index.now + 3
+
 abbrev pub decreases-unary : goal.decreases-unary
 decreases-unary l = 4 * size-Expr l.operand.now + 2
 
