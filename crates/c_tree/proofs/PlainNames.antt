@@ -1,14 +1,13 @@
 -- The names of a thread's locks where no mutex is in an array: number of name, of mutex and of lock are one.
-use Rattle.std.proofs.Common.{◌≡◌, ◌==◌, ◌<◌, ℕ, zero, suc, ◌+◌, List, [], ◌∷◌, length, slice_get, Option, Some, None, Bool, true, false}
-use Rattle.std.proofs.Common.{find, refl, ap, ◌∙◌, arith, tests, rules, cond, ◌&&◌}
-use Rattle.std.specs.List.{AllByRecursion, list_any}
+use Rattle.std.proofs.Common.{◌≡◌, ◌==◌, ◌<◌, ℕ, zero, suc, ◌+◌, List, [], ◌∷◌, length, slice_get, Option, Some, None, false}
+use Rattle.std.proofs.Common.{refl, ap, ◌∙◌, arith, tests, rules}
+use Rattle.std.specs.List.{AllByRecursion}
 use Rattle.c_tree.specs.Exprs as e
 use Rattle.c_tree.specs.Programs.{Mutex}
 use Rattle.c_tree.specs.Flats as f
-use Rattle.c_tree.specs.LockNames.{Held, plain_from, plain_names, names_from, once, locks_in_all, lock_names, number_in, held_names}
+use Rattle.c_tree.specs.LockNames.{plain_from, plain_names, names_from, once, locks_in_all, lock_names, number_in}
 use Rattle.std.specs.Prelude.{ℤ}
 use Rattle.c_tree.specs.Values.{lock_number}
-use Rattle.c_tree.specs.LockDiscipline.{key_locals, freezing, IsFree}
 use Rattle.c_tree.specs.WellFormed.{IsSingle}
 
 -- ---- The table
@@ -57,18 +56,6 @@ past_from n m (suc count) h =
 pub plain_past : (count mutex : ℕ) → (mutex < count → ⊥) → number_in (plain_names count) (named mutex) ≡ count
 plain_past count mutex h = past_from 0 mutex count (λ l. h (omega (arith, l)))
 
-no_place : (b : Bool) (m n : ℕ) → m ≡ n → cond (b && false) 0 (suc m) ≡ suc n
-no_place true m n e = ap suc e
-no_place false m n e = ap suc e
-
-keyed_from : (n count mutex : ℕ) (key : e.Placed) → number_in (plain_from n count) (record { mutex = mutex; key = Some key }) ≡ count
-keyed_from n zero mutex key = refl
-keyed_from n (suc count) mutex key = no_place (mutex == n) _ count (keyed_from (suc n) count mutex key)
-
--- one with a key has it, too
-pub plain_keyed : (count mutex : ℕ) (key : e.Placed) → number_in (plain_names count) (record { mutex = mutex; key = Some key }) ≡ count
-plain_keyed count mutex key = keyed_from 0 count mutex key
-
 -- a name without key has its mutex for its lock
 pub plain_lock : (ls : List ℤ) (x : e.LockName) → x.key ≡ None → lock_number ls x ≡ x.mutex
 plain_lock ls x h = ap (λ (key : Option e.Placed). lock_number ls (record { mutex = x.mutex; key = key })) h
@@ -82,20 +69,3 @@ at_from n (suc count) (suc k) h = at_from (suc n) count k (omega (arith, h)) ∙
 
 pub plain_at : (count k : ℕ) → k < count → slice_get (plain_names count) k ≡ Some (named k)
 plain_at count k h = at_from 0 count k h ∙ ap (λ (m : ℕ). Some (named m)) (let e : 0 + k ≡ k = omega arith in e)
-
--- ---- No held key names a local
-
-free_from : (n count : ℕ) (h : Held) (local : ℕ) →
-    find (λ (x : e.LockName). list_any (λ other. other == local) (key_locals x)) (held_names (plain_from n count) h) ≡ None
-free_from n zero h local = refl
-free_from n (suc count) [] local = refl
-free_from n (suc count) (true ∷ h) local = free_from (suc n) count h local
-free_from n (suc count) (false ∷ h) local = free_from (suc n) count h local
-
-pub none_freezes : (count : ℕ) (h : Held) (local : ℕ) → freezing (plain_names count) h local ≡ None
-none_freezes count h local = free_from 0 count h local
-
-pub all_free : (count : ℕ) (h : Held) (target : e.Lvalue) → IsFree (plain_names count) h target
-all_free count h (e.ToLocal place local kind) = none_freezes count h local
-all_free count h (e.ToVariable place variable kind) = tt
-all_free count h (e.ToElement place variable kind index) = tt

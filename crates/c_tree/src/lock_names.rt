@@ -1,19 +1,20 @@
-//! The names by which a thread takes locks, each with a number.
+//! The names by which a thread takes locks, each with a number, and what guards a variable.
 ghost use Rattle.std.specs.Prelude.{◌≡◌, List, [], ◌∷◌, ◌++◌, filter, map, ◌==◌, IfOk};
 ghost use Rattle.std.specs.List.{list_any};
 ghost use Rattle.std.specs.Option.{option_map};
 ghost use Rattle.c_tree.specs.Exprs as e;
 ghost use Rattle.c_tree.specs.Exprs.{expr_of, placed_ref_of, lock_ref_of};
 ghost use Rattle.c_tree.specs.Flats.{statement_of, statements_of, arms_list_of};
-ghost use Rattle.c_tree.specs.Programs.{mutex_of};
-ghost use Rattle.c_tree.specs.LockDiscipline.{expr_locals, key_locals};
+ghost use Rattle.c_tree.specs.Programs as program;
+ghost use Rattle.c_tree.specs.Programs.{mutex_of, variable_of};
+ghost use Rattle.c_tree.specs.LockDiscipline.{expr_locals, key_locals, variable_guard};
 ghost use Rattle.c_tree.specs.LockNames.{same_typed, same_expr, same_key, same_lock};
 ghost use Rattle.c_tree.specs.LockNames.{locks_in, locks_in_all, locks_in_arms, once, names_from, number_in};
 ghost use Rattle.c_tree.specs.links.KnownNames.{names_of, known_then, names_at};
 
 use crate::expr::{Expr, LockRef, PlacedRef};
 use crate::flat::{Arm, Statement};
-use crate::program::Mutex;
+use crate::program::{Guard, Mutex, Variable};
 use ido_ints::Value;
 use std::alloc::{AllocError, Global};
 
@@ -142,6 +143,16 @@ pub fn number_in(names: &[LockRef<'_>], lock: LockRef<'_>) -> usize
         }
     }
     names.len()
+}
+
+/// What guards the variable; mutex 0 where there is no such variable.
+pub fn variable_guard(variables: &[Variable], variable: u32) -> Guard
+    ensures { program.guard_of result ≡ variable_guard (map variable_of variables.now) variable }
+{
+    match variables.get(variable as usize) {
+        Some(found) => found.guard,
+        None => Guard::By { mutex: 0 },
+    }
 }
 
 /// Some of the names is the lock's.

@@ -7,7 +7,7 @@ ghost use Rattle.c_tree.specs.LockDiscipline.{variable_guard};
 ghost use Rattle.flow_graph.specs.HeldKeys.{key_number};
 
 use c_tree::expr::{LockRef, PlacedRef};
-use c_tree::lock_names::number_in;
+use c_tree::lock_names::{number_in, variable_guard};
 use c_tree::program::{Guard, Variable};
 use ido_base::memory::OutOfMemory;
 
@@ -16,16 +16,6 @@ use ido_base::memory::OutOfMemory;
 pub(crate) struct Table<'a> {
     pub variables: &'a [Variable],
     pub names: &'a [LockRef<'a>],
-}
-
-/// What guards the variable; mutex 0 where there is no such variable.
-fn variable_guard(variables: &[Variable], variable: u32) -> Guard
-    ensures { program.guard_of result ≡ variable_guard (map variable_of variables.now) variable }
-{
-    match variables.get(variable as usize) {
-        Some(found) => found.guard,
-        None => Guard::By { mutex: 0 },
-    }
 }
 
 /// The number of the name whose lock guards the element at the index, if each element has a lock of its own and the name is there.

@@ -7,26 +7,16 @@ ghost use Rattle.c_tree.specs.Programs.{variable_of};
 ghost use Rattle.c_tree.specs.Exprs.{expr_of, lvalue_of, lock_ref_of, placed_ref_of};
 ghost use Rattle.c_tree.specs.LockNames.{holds};
 ghost use Rattle.c_tree.specs.links.KnownNames.{names_of};
-ghost use Rattle.c_tree.specs.LockDiscipline.{After, freezing, key_locals, variable_guard, name_under, walk_target, walk_uses, expr_uses, target_uses};
+ghost use Rattle.c_tree.specs.LockDiscipline.{After, freezing, key_locals, name_under, walk_target, walk_uses, expr_uses, target_uses};
 ghost use Rattle.lock_discipline.specs.links.Refusals.{Refuses};
 ghost use Rattle.lock_discipline.specs.links.Uses.{use_of};
 
 use crate::error::LockError;
 use crate::set::NameSet;
 use c_tree::expr::{Expr, LockRef, Lvalue, PlacedRef};
-use c_tree::lock_names::{key_reads, number_in};
+use c_tree::lock_names::{key_reads, number_in, variable_guard};
 use c_tree::program::{Guard, Variable};
 use ido_base::place::Place;
-
-/// What guards the variable; mutex 0 where there is no such variable.
-fn variable_guard(variables: &[Variable], variable: u32) -> Guard
-    ensures { program.guard_of result ≡ variable_guard (map variable_of variables.now) variable }
-{
-    match variables.get(variable as usize) {
-        Some(found) => found.guard,
-        None => Guard::By { mutex: 0 },
-    }
-}
 
 /// The name of the lock that guards an access with this index.
 fn name_under<'a>(guard: Guard, index: Option<PlacedRef<'a>>) -> LockRef<'a>
@@ -94,7 +84,7 @@ pub fn check_expr<'a>(
             check_use(variables, names, held, *variable, *place, Some(key))?;
             check_expr(variables, names, held, index)
         }
-        Expr::Address { index, .. } => check_expr(variables, held, index),
+        Expr::Address { index, .. } => check_expr(variables, names, held, index),
         Expr::Unary { operand, .. }
         | Expr::Cast { operand, .. }
         | Expr::Converted { operand, .. } => check_expr(variables, names, held, operand),
