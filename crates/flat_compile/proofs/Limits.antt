@@ -4,17 +4,12 @@ use Rattle.std.specs.Prelude.{slice_get, slice_index_or, Vec}
 use Rattle.std.specs.Global.{Global}
 use Rattle.std.proofs.lemmas.List.{length-map}
 use Rattle.std.proofs.lemmas.Option.{none-some, same_Some}
-use Rattle.ido_base.specs.declared.limits.TheConstants.{MOST_CODE_WORDS, MOST_MUTEXES, MOST_THREADS, MOST_VARIABLE_BYTES}
+use Rattle.ido_base.specs.declared.limits.TheConstants.{MOST_CODE_WORDS, MOST_MUTEXES, MOST_VARIABLE_BYTES}
 use Rattle.ido_base.specs.Layout.{end_from}
 use Rattle.c_tree.specs.Flats as f
-use Rattle.c_tree.specs.WellFormed.{shape_of, initial_numbers}
-use Rattle.rv64_isa.specs.declared.object.CodeItem.{CodeItem}
-use Rattle.rv64_isa.specs.declared.object.Object.{Object}
-use Rattle.rv64_isa.specs.declared.object.Marks.{Marks}
+use Rattle.c_tree.specs.WellFormed.{shape_of}
 use Rattle.rv64_isa.specs.Programs.{code_base, program_of, slot_of}
 use Rattle.hart_core.specs.Objects.{IsWithinLimits}
-use Rattle.rv64_link.specs.LinkedCode.{AreLinked}
-use Rattle.memory_layout.specs.Variables.{AreInitial}
 use Rattle.flow_graph.specs.declared.graph.Part.{Part}
 use Rattle.flow_graph.specs.Nodes.{Graph}
 use Rattle.flow_graph.specs.Lowering.{part, parts, statements_count, thread_count}
@@ -22,11 +17,10 @@ use Rattle.flow_graph.proofs.Public.{found_in, lowered_threads}
 use Rattle.code_runs.specs.CodeTraces.{Program}
 use Rattle.thread_code.specs.Plans.{Plan, IsPlan, IsNodeOf}
 use Rattle.recovered_threads.specs.RecordDescriptions.{Code}
-use Rattle.rv64_codegen.specs.ThreadPieces.{IsCode}
 use Rattle.crash_simulation.specs.Systems as y
 use Rattle.crash_simulation.specs.Systems.{System, IsSystem}
-use Rattle.flat_compile.proofs.LinkedThreads.{AllFew, few_words, linked_at, linked_count}
-use Rattle.flat_compile.proofs.Systems.{node_there, system, system_is}
+use Rattle.flat_compile.proofs.LinkedThreads.{few_words, linked_at, linked_count}
+use Rattle.flat_compile.proofs.Systems.{LinkedCode, node_there, system, system_is}
 
 -- ---- A thread has words: those of its first node
 
@@ -72,10 +66,9 @@ as_many_slots [] k d below = absurd (omega (arith, below))
 as_many_slots (code ∷ codes) zero d below = length-map code.items slot_of
 as_many_slots (code ∷ codes) (suc k) d below = as_many_slots codes k d (omega (arith, below))
 
-module _ (p : Plan) (plan : IsPlan p) (threads : List (List CodeItem)) (object : Object) (marks : Marks) (coded : IsCode p threads)
-    (few : AllFew threads) (few_threads : length threads ≤ MOST_THREADS) (linked : AreLinked code_base threads (program_of object) marks.threads.items)
-    (begins : AreInitial (map shape_of p.flat.variables) (map initial_numbers p.flat.variables) object.initial.items)
-    (mutexes : object.mutexes ≡ length p.flat.mutexes) (logs : p.log ≡ object.log) where
+module _ {p : Plan} (plan : IsPlan p) (linked_code : LinkedCode p) where
+  open linked_code use {threads, object, marks, coded, few, few_threads, linked, begins, mutexes}
+
   -- as many as the items are of
   pub count : length object.code.items ≡ length threads
   count =
@@ -84,11 +77,9 @@ module _ (p : Plan) (plan : IsPlan p) (threads : List (List CodeItem)) (object :
 
   some_at : (k : ℕ) (d : Vec ℕ Global) → k < length object.code.items → 1 ≤ length (slice_index_or object.code.items k d).items
   some_at k d below =
-      let own = system p plan threads object marks coded few few_threads linked begins mutexes logs in
-      let is = system_is p plan threads object marks coded few few_threads linked begins mutexes logs in
       let many = coded.count in
       let inside : k < length p.graph.threads = omega (arith, below, count, many) in
-      let words : 1 ≤ length (slice_index_or (program_of object) k []) = some_words own is k inside in
+      let words : 1 ≤ length (slice_index_or (program_of object) k []) = some_words (system plan linked_code) (system_is plan linked_code) k inside in
       subst (λ (n : ℕ). 1 ≤ n) (as_many_slots object.code.items k d below) words
 
   few_at : (k : ℕ) (d : Vec ℕ Global) → k < length object.code.items → length (slice_index_or object.code.items k d).items ≤ MOST_CODE_WORDS

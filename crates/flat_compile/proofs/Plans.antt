@@ -46,7 +46,7 @@ use Rattle.flat_compile.specs.ResumePlaces.{AreMarksOf, AreMarked, IsResumeTable
 use Rattle.flat_compile.specs.TranslatedForms.{AreFewHeld, IsTranslatedAs, IsResumableAs}
 use Rattle.flat_compile.proofs.LinkedThreads.{AllFew, marked_count}
 use Rattle.flat_compile.proofs.Limits.{count, within_limits}
-use Rattle.flat_compile.proofs.Systems.{system, system_is}
+use Rattle.flat_compile.proofs.Systems.{LinkedCode, system, system_is}
 
 -- ---- What was found out of a flat form, and the cuts of its graph
 
@@ -122,37 +122,18 @@ few_at (first ∷ threads) few zero items there =
     subst (λ (is : List CodeItem). sum_by most_words_of is ≤ MOST_CODE_WORDS) (same_Some first.items items there) (All-head IsFew first threads few)
 few_at (first ∷ threads) few (suc n) items there = few_at threads (All-tail IsFew first threads few) n items there
 
-pub is_translated : (p : Plan) (code : Code) → IsCodeFor p code → IsPlan p → (object : Object) (marks : Marks) (cuts : Cuts) →
-    p.boundaries ≡ boundaries_of cuts → IsMinimal p.graph (boundaries_of cuts) → AreFewestCuts p.graph (boundaries_of cuts) →
-    AreLinked code_base (map items_in code.threads.items) (program_of object) marks.threads.items →
-    object.initial ≡ code.initial → object.mutexes ≡ code.mutexes → object.log ≡ code.log → IsTranslatedAs p.log p.flat object marks cuts
-is_translated p code is plan object marks cuts at minimal fewest linked initial mutexes log =
-    let threads = map items_in code.threads.items in
-    let few = few_at code.threads.items is.few in
-    let few_threads : length threads ≤ MOST_THREADS = omega (arith, is.few_threads, length-map code.threads.items items_in) in
-    let begins = subst (λ (bytes : Vec ℕ Global). AreInitial (map shape_of p.flat.variables) (map initial_numbers p.flat.variables) bytes.items)
-    (sym initial) is.initial in
-    let locks = mutexes ∙ is.mutexes in
-    let logs = sym (log ∙ is.log) in
-    record {
-      system = system p plan threads object marks is.is few few_threads linked begins locks logs;
-      is = system_is p plan threads object marks is.is few few_threads linked begins locks logs;
-      of_flat = refl;
-      at_cuts = at;
-      minimal = subst (λ (g : Graph). IsMinimal g (boundaries_of cuts)) plan.lowered minimal;
-      fewest = subst (λ (g : Graph). AreFewestCuts g (boundaries_of cuts)) plan.lowered fewest;
-      runs = refl;
-      log = sym logs;
-      items = threads;
-      linked = linked;
-      cleans = is.cleans;
-      limits = within_limits p plan threads object marks is.is few few_threads linked begins locks logs;
-      threads =
-          marked_count code_base threads (program_of object) marks.threads.items linked
-          ∙ sym (count p plan threads object marks is.is few few_threads linked begins locks logs);
-    }
-
--- ---- Where recovery may resume its threads
+-- a plan whose boundaries are those cuts, and an object that what is emitted for it is linked to
+pub record LinkedPlan (p : Plan) (object : Object) (marks : Marks) (cuts : Cuts) : Type 0 where
+  pub plan : IsPlan p
+  pub at : p.boundaries ≡ boundaries_of cuts
+  pub minimal : IsMinimal p.graph (boundaries_of cuts)
+  pub fewest : AreFewestCuts p.graph (boundaries_of cuts)
+  pub code : Code
+  pub is : IsCodeFor p code
+  pub linked : AreLinked code_base (map items_in code.threads.items) (program_of object) marks.threads.items
+  pub initial : object.initial ≡ code.initial
+  pub mutexes : object.mutexes ≡ code.mutexes
+  pub log : object.log ≡ code.log
 
 marks_of : (y : System) (s : IsSystem y) → length y.runs.resumes ≡ length y.plan.graph.threads → AreMarksOf y.plan s.codes y.runs.resumes
 marks_of y s long = record {
@@ -161,24 +142,60 @@ marks_of y s long = record {
       ap (λ (x : Program). x.resumes) (s.own n below).program ∙ ap (λ (m : ℕ). slice_index_or y.runs.resumes m []) (s.codes.number n below);
 }
 
-module _ (p : Plan) (code : Code) (is : IsCodeFor p code) (plan : IsPlan p) (object : Object) (marks : Marks) (cuts : Cuts)
-    (at : p.boundaries ≡ boundaries_of cuts) (minimal : IsMinimal p.graph (boundaries_of cuts)) (fewest : AreFewestCuts p.graph (boundaries_of cuts))
-    (linked : AreLinked code_base (map items_in code.threads.items) (program_of object) marks.threads.items)
-    (initial : object.initial ≡ code.initial) (mutexes : object.mutexes ≡ code.mutexes) (log : object.log ≡ code.log) where
-  abbrev whole : IsTranslatedAs p.log p.flat object marks cuts
-  whole = is_translated p code is plan object marks cuts at minimal fewest linked initial mutexes log
+module _ {p : Plan} {object : Object} {marks : Marks} {cuts : Cuts} (l : LinkedPlan p object marks cuts) where
+  open l use {plan, code, is, linked}
+
+  abbrev threads : List (List CodeItem)
+  threads = map items_in code.threads.items
+
+  abbrev logs : p.log ≡ object.log
+  logs = sym (l.log ∙ is.log)
+
+  abbrev linked_code : LinkedCode p
+  linked_code = record {
+    threads = threads;
+    object = object;
+    marks = marks;
+    coded = is.is;
+    few = few_at code.threads.items is.few;
+    few_threads = omega (arith, is.few_threads, length-map code.threads.items items_in);
+    linked = linked;
+    begins = subst (λ (bytes : Vec ℕ Global). AreInitial (map shape_of p.flat.variables) (map initial_numbers p.flat.variables) bytes.items)
+        (sym l.initial) is.initial;
+    mutexes = l.mutexes ∙ is.mutexes;
+    logs = logs;
+  }
+
+  pub is_translated : IsTranslatedAs p.log p.flat object marks cuts
+  is_translated = record {
+    system = system plan linked_code;
+    is = system_is plan linked_code;
+    of_flat = refl;
+    at_cuts = l.at;
+    minimal = subst (λ (g : Graph). IsMinimal g (boundaries_of cuts)) plan.lowered l.minimal;
+    fewest = subst (λ (g : Graph). AreFewestCuts g (boundaries_of cuts)) plan.lowered l.fewest;
+    runs = refl;
+    log = sym logs;
+    items = threads;
+    linked = linked;
+    cleans = is.cleans;
+    limits = within_limits plan linked_code;
+    threads = marked_count code_base threads (program_of object) marks.threads.items linked ∙ sym (count plan linked_code);
+  }
+
+  -- ---- Where recovery may resume its threads
 
   resumes_long : length (resume_marks marks.threads.items) ≡ length p.graph.threads
   resumes_long =
       length-map marks.threads.items (λ (m : ThreadMarks). m.resumes.items)
-      ∙ marked_count code_base (map items_in code.threads.items) (program_of object) marks.threads.items linked ∙ is.is.count
+      ∙ marked_count code_base threads (program_of object) marks.threads.items linked ∙ is.is.count
 
   pub marked : AreMarked p (resume_marks marks.threads.items)
   unfolding is_translated
-  marked = record { codes = whole.is.codes; are = marks_of whole.system whole.is resumes_long }
+  marked = record { codes = is_translated.is.codes; are = marks_of is_translated.system is_translated.is resumes_long }
 
   pub resumable : (table : List (Vec Resume Global)) →
       ((codes : Codes p) → AreMarksOf p codes (resume_marks marks.threads.items) → IsResumeTable p codes table) →
       IsResumableAs p.log p.flat object marks cuts table
   unfolding is_translated
-  resumable table h = record { translated = whole; are = h whole.is.codes (marks_of whole.system whole.is resumes_long) }
+  resumable table h = record { translated = is_translated; are = h is_translated.is.codes (marks_of is_translated.system is_translated.is resumes_long) }

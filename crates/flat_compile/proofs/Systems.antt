@@ -106,10 +106,22 @@ disciplined_by p plan k d below =
 
 -- ---- Linked code of a plan
 
-module _ (p : Plan) (plan : IsPlan p) (threads : List (List CodeItem)) (object : Object) (marks : Marks) (coded : IsCode p threads)
-    (few : AllFew threads) (few_threads : length threads ≤ MOST_THREADS) (linked : AreLinked code_base threads (program_of object) marks.threads.items)
-    (begins : AreInitial (map shape_of p.flat.variables) (map initial_numbers p.flat.variables) object.initial.items)
-    (mutexes : object.mutexes ≡ length p.flat.mutexes) (logs : p.log ≡ object.log) where
+-- an object that the code of a plan's threads is linked to, with its marks
+pub record LinkedCode (p : Plan) : Type 0 where
+  pub threads : List (List CodeItem)
+  pub object : Object
+  pub marks : Marks
+  pub coded : IsCode p threads
+  pub few : AllFew threads
+  pub few_threads : length threads ≤ MOST_THREADS
+  pub linked : AreLinked code_base threads (program_of object) marks.threads.items
+  pub begins : AreInitial (map shape_of p.flat.variables) (map initial_numbers p.flat.variables) object.initial.items
+  pub mutexes : object.mutexes ≡ length p.flat.mutexes
+  pub logs : p.log ≡ object.log
+
+module _ {p : Plan} (plan : IsPlan p) (code : LinkedCode p) where
+  open code use {threads, object, marks, coded, few, few_threads, linked}
+
   abbrev runs : Executable
   runs = executable_of object marks
 
@@ -171,9 +183,9 @@ module _ (p : Plan) (plan : IsPlan p) (threads : List (List CodeItem)) (object :
     count = linked_count code_base threads runs.program marks.threads.items linked ∙ coded.count;
     codes = codes;
     own = λ n below. record { program = refl; room = room n below; cleans = cleans n below };
-    initial = begins;
-    log = logs;
-    mutexes = mutexes;
+    initial = code.begins;
+    log = code.logs;
+    mutexes = code.mutexes;
     left_out = λ node e.
         subst (λ (g : Graph). IsCleanedLater g p.boundaries (map shape_of p.flat.variables) node) plan.lowered ((out.each node).0 e);
   }

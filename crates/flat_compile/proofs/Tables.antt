@@ -217,8 +217,8 @@ pub addresses_at : (ms : List ThreadMarks) (n : ℕ) (m : ThreadMarks) → n < l
     slice_index_or (map (λ (x : ThreadMarks). x.resumes.items) ms) n [] ≡ m.resumes.items
 addresses_at ms n m below e = marks_at ms n m (read_get ms n m below e)
 
-module _ (p : Plan) (plan : IsPlan p) (codes : Codes p) (marks : List (List ℕ)) (are : AreMarksOf p codes marks) (n : ℕ) (below : n < length p.graph.threads)
-    (part : Part) (g : slice_get p.graph.threads n ≡ Some part) (nodes : List ℕ) (h : AreNodesBelow p (thread_in p n part) (2 * part.end) nodes) where
+module _ {p : Plan} (plan : IsPlan p) {codes : Codes p} {marks : List (List ℕ)} (are : AreMarksOf p codes marks) (n : ℕ) (below : n < length p.graph.threads)
+    {part : Part} (g : slice_get p.graph.threads n ≡ Some part) {nodes : List ℕ} (h : AreNodesBelow p (thread_in p n part) (2 * part.end) nodes) where
   number : n ≡ (codes.each n below).thread.number
   number = sym (codes.number n below)
 

@@ -48,8 +48,7 @@ thread_resumes-requires-clause-count c =
     let are = c.requires.marked.are in
     let few : n < length ms = omega (arith, below s, are.count, length-map ms (λ (x : ThreadMarks). x.resumes.items)) in
     ap (λ (ns : List ℕ). length ns) c.deref.ensures.value
-    ∙ many_coded p c.requires.plan c.requires.marked.codes (resume_marks ms) are n (below s) c.index-part.result.now (there s) c.in_ok-nodes.nodes.items
-    c.in_ok-nodes.ensures
+    ∙ many_coded c.requires.plan are n (below s) (there s) c.in_ok-nodes.ensures
     ∙ ap (λ (ns : List ℕ). length ns) (addresses_at ms n c.index.result.now few c.index.ensures ∙ sym c.deref-in-loop-number.ensures.value)
 
 pub loop-number-preserved : goal.loop-number-preserved
@@ -69,4 +68,4 @@ loop-number-preserved c =
     c.in_ok-thread_resumes.ensures) in
     subst (λ (t : List (Vec Resume Global)). AreTabled p (resume_marks ms) (n + 1) t) (sym c.in_ok-push.ensures.items)
     (tabled_more p (resume_marks ms) n c.loop-number.table.items rs c.loop-number.invariant
-    (λ codes are b. resumes_coded p c.requires.plan codes (resume_marks ms) are n b part (there s) nodes c.in_ok-nodes.ensures rs.items found))
+    (λ codes are b. resumes_coded c.requires.plan are n b (there s) c.in_ok-nodes.ensures rs.items found))
