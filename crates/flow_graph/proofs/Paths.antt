@@ -18,7 +18,8 @@ use Rattle.flow_graph.specs.Actions.{seen_by, graph_step, graph_after, graph_run
 use Rattle.flow_graph.specs.Lockstep.{free}
 use Rattle.flow_graph.specs.IdempotentCuts.{Boundaries, IsEdge, IsBoundary, BeginsRegion, IsInside, stays, goes_on, ReadsAt, WritesAt, IsWrittenBefore, AreCuts}
 use Rattle.flow_graph.specs.Paths.{Element, reads_of, stored_element, write_of, Visit, solo_path}
-use Rattle.flow_graph.specs.Paths.{ReadsElement, WritesElement, IsWithinRegion, IsReachedFlow, no_names, Lies, LiesInOne, LiesInWritten}
+use Rattle.flow_graph.specs.Paths.{ReadsElement, WritesElement, IsWithinRegion, Naming, Lies, LiesInWritten, HasOneNaming, PlainPathsHaveOneNaming}
+use Rattle.flow_graph.specs.Paths.{ReadsAreRight}
 use Rattle.flow_graph.proofs.Lockstep.{graph_is}
 use Rattle.flow_graph.proofs.Shapes.{ShapedAs, node_shaped}
 use Rattle.flow_graph.proofs.Locations.{common_overlaps, none_apart, same_element}
@@ -235,11 +236,11 @@ inside graph b v (u ∷ path) edge free =
 
 -- ---- The location of a node
 
-lies_in : (ls : Option Location) (l : Location) (one : Element) → LiesInWritten no_names ls one → ls ≡ Some l → Lies no_names l one
-lies_in ls l one h is =
+lies_in : (names : Naming) (ls : Option Location) (l : Location) (one : Element) → LiesInWritten names ls one → ls ≡ Some l → Lies names l one
+lies_in names ls l one h is =
     let of = h.of in
     let same_location : h.location ≡ l = cc in
-    let P : Location → Type 0 = λ z. Lies no_names z one in
+    let P : Location → Type 0 = λ z. Lies names z one in
     subst P same_location h.lies
 
 -- ---- Reads are right
@@ -286,22 +287,21 @@ module _ (x : f.Flat) (w : IsWellFormed x) (t : ℕ) (visit : Visit) (v : IsVisi
       let Q : GraphThread → Type 0 = λ z. effect_of st.node.action (seen_by visit.before z) ≡ Some st.effect in
       subst P same_node (subst Q same_graph_thread st.does)
 
-  writes_here : (l : Location) (made : Element) → node.writes ≡ Some l →
-      write_of node.action (seen_by visit.before visit.graph_thread) ≡ Some made → Lies no_names l made
-  writes_here l made is h =
-      lies_in node.writes l made (writes_lie_here x w visit.before v.good t visit.graph_thread v.found node made (nodes_at x visit.graph_thread.at node at) h)
-      is
-
-  written_at : (l r : Location) (one : Element) → node.writes ≡ Some l → same l r ≡ true → Lies no_names r one →
-      write_of node.action (seen_by visit.before visit.graph_thread) ≡ Some one
-  written_at l r one is lockstep lies =
+  -- what it writes, where it writes a location
+  written_here : (l : Location) → node.writes ≡ Some l → (one : Element) × (write_of node.action (seen_by visit.before visit.graph_thread) ≡ Some one)
+  written_here l is =
       let st = stepped (lowered x) visit.before v.next t v.step in
-      let made = written_by (threads_nodes x x.threads 0) node.action node (seen_by visit.before visit.graph_thread) st.effect l
-      (node_shaped x visit.graph_thread.at node (nodes_at x visit.graph_thread.at node at)) is (does_here st) in
-      made.1 ∙ ap Some (same_element no_names l r made.0 one lockstep (writes_here l made.0 is made.1) lies)
+      written_by (threads_nodes x x.threads 0) node.action node (seen_by visit.before visit.graph_thread) st.effect l
+      (node_shaped x visit.graph_thread.at node (nodes_at x visit.graph_thread.at node at)) is (does_here st)
+
+-- a path within a region, along which keys name one thing
+record NamedRegion (x : f.Flat) (b : Boundaries) (path : List Visit) : Type 0 where
+  inside : IsWithinRegion (lowered x) b path
+  names : Naming
+  named : HasOneNaming (lowered x) path names
 
 module _ (x : f.Flat) (b : Boundaries) (s : FlowState) (t n : ℕ) (w : IsWellFormed x) (cuts : AreCuts (lowered x) b) (good : Good x s)
-    (region : IsWithinRegion (lowered x) b (solo_path (lowered x) s t n)) where
+    (region : NamedRegion x b (solo_path (lowered x) s t n)) where
   abbrev path : List Visit
   path = solo_path (lowered x) s t n
 
@@ -314,23 +314,13 @@ module _ (x : f.Flat) (b : Boundaries) (s : FlowState) (t n : ℕ) (w : IsWellFo
     u.graph_thread.at,
     numbers vs,
     ap numbers (sym is),
-    region.begins u (ap (λ (p : List Visit). slice_get p 0) (sym is)),
+    region.inside.begins u (ap (λ (p : List Visit). slice_get p 0) (sym is)),
     inside (lowered x) b u vs
         (λ j one next a c. edges x w t n s good j one next (ap (λ (p : List Visit). slice_get p j) (sym is)
         ∙ a) (ap (λ (p : List Visit). slice_get p (suc j)) (sym is) ∙ c))
-        (λ j one next a c. region.inside j one next (ap (λ (p : List Visit). slice_get p j) (sym is)
+        (λ j one next a c. region.inside.inside j one next (ap (λ (p : List Visit). slice_get p j) (sym is)
         ∙ a) (ap (λ (p : List Visit). slice_get p (suc j)) (sym is) ∙ c)),
   )
-
-  read_location : (i : ℕ) (one : Element) (r : ReadsElement (lowered x) path i one) → LiesInOne no_names r.is.reads one
-  read_location i one r =
-      let v = visits x w t n s good i r.visit r.there in
-      reads_lie_here x w r.visit.before v.good t r.visit.graph_thread v.found r.is one (nodes_at x r.visit.graph_thread.at r.is r.at) r.reads
-
-  write_location : (j : ℕ) (one : Element) (r : WritesElement (lowered x) path j one) → LiesInWritten no_names r.is.writes one
-  write_location j one r =
-      let v = visits x w t n s good j r.visit r.there in
-      writes_lie_here x w r.visit.before v.good t r.visit.graph_thread v.found r.is one (nodes_at x r.visit.graph_thread.at r.is r.at) r.writes
 
   apart : (i j : ℕ) (one other : Element) → ReadsElement (lowered x) path i one → WritesElement (lowered x) path j other → i ≢ j
   apart i j one other r q same_place =
@@ -343,25 +333,22 @@ module _ (x : f.Flat) (b : Boundaries) (s : FlowState) (t n : ℕ) (w : IsWellFo
       not_both r.is.action (seen_by r.visit.before r.visit.graph_thread) one other r.reads (subst Q (sym same_visit) (subst P (sym same_node) q.writes))
 
   -- what was written at a node that writes the very element
-  written_there : (k : ℕ) (l r : Location) (one : Element) → WritesAt (lowered x) (numbers path) k l → same l r ≡ true → Lies no_names r one →
+  written_there : (k : ℕ) (l r : Location) (one : Element) → WritesAt (lowered x) (numbers path) k l → same l r ≡ true → Lies region.names r one →
       WritesElement (lowered x) path k one
   written_there k l r one q is lies =
       let found = visit_at path k q.node q.there in
       let at : NodeAt (lowered x) found.0.graph_thread.at q.is = ap (slice_get (lowered x).nodes) found.2 ∙ q.at in
-      record {
-        visit = found.0;
-        is = q.is;
-        there = found.1;
-        at = at;
-        writes = written_at x w t found.0 (visits x w t n s good k found.0 found.1) q.is at l r one q.writes is lies;
-      }
+      let made = written_here x w t found.0 (visits x w t n s good k found.0 found.1) q.is at l q.writes in
+      let element : WritesElement (lowered x) path k made.0 = record { visit = found.0; is = q.is; there = found.1; at = at; writes = made.1 } in
+      let lies_there = lies_in region.names q.is.writes l made.0 (region.named.writes k made.0 element) q.writes in
+      subst (WritesElement (lowered x) path k) (same_element region.names l r made.0 one is lies_there lies) element
 
   right : (i j : ℕ) (one : Element) → i ≤ j → ReadsElement (lowered x) path i one → WritesElement (lowered x) path j one →
       (k : ℕ) × (k < i) × WritesElement (lowered x) path k one
   right i j one le r q =
       let within = region_of path refl i r.visit r.there in
-      let read = read_location i one r in
-      let wrote = write_location j one q in
+      let read = region.named.reads i one r in
+      let wrote = region.named.writes j one q in
       let differs = apart i j one one r q in
       let earlier : i < j = ⊎_elim (λ same_place. absurd (differs same_place)) (λ other. lower i j le other) (cases_eq i j) in
       let P : List ℕ → Type 0 = λ ns. ReadsAt (lowered x) ns i read.location in
@@ -373,11 +360,22 @@ module _ (x : f.Flat) (b : Boundaries) (s : FlowState) (t n : ℕ) (w : IsWellFo
       record { node = q.visit.graph_thread.at; is = q.is; there = number_at path j q.visit q.there; at = q.at; writes = wrote.of } in
       let before = subst R (sym within.2) (cuts.idempotent within.0 within.1 within.3 within.4 i j read.location wrote.location earlier
       (subst P within.2 reads)
-      (subst Q within.2 writes) (common_overlaps no_names wrote.location read.location one none_apart wrote.lies read.lies)) in
+      (subst Q within.2 writes) (common_overlaps region.names wrote.location read.location one region.named.apart wrote.lies read.lies)) in
       (before.earlier, before.before, written_there before.earlier before.written read.location one before.writes before.is read.lies)
 
-pub reads_are_right : (x : f.Flat) (b : Boundaries) (s : FlowState) (thread steps : ℕ) → IsWellFormed x → AreCuts (lowered x) b → IsReachedFlow x s →
-    IsWithinRegion (lowered x) b (solo_path (lowered x) s thread steps) → (i j : ℕ) (one : Element) → i ≤ j →
-    ReadsElement (lowered x) (solo_path (lowered x) s thread steps) i one → WritesElement (lowered x) (solo_path (lowered x) s thread steps) j one →
-    (k : ℕ) × (k < i) × WritesElement (lowered x) (solo_path (lowered x) s thread steps) k one
-reads_are_right x b s thread steps w cuts reached region i j one le r q = right x b s thread steps w cuts (good_reached x s w reached) region i j one le r q
+pub reads_are_right : ReadsAreRight
+reads_are_right x b s thread steps names w cuts reached named region i j one le r q =
+    right x b s thread steps w cuts (good_reached x s w reached) (record { inside = region; names = names; named = named }) i j one le r q
+
+pub plain_paths : PlainPathsHaveOneNaming
+plain_paths x s t n w reached =
+    let good = good_reached x s w reached in
+    record {
+      apart = none_apart;
+      reads = λ i one r.
+          let v = visits x w t n s good i r.visit r.there in
+          reads_lie_here x w r.visit.before v.good t r.visit.graph_thread v.found r.is one (nodes_at x r.visit.graph_thread.at r.is r.at) r.reads;
+      writes = λ j one r.
+          let v = visits x w t n s good j r.visit r.there in
+          writes_lie_here x w r.visit.before v.good t r.visit.graph_thread v.found r.is one (nodes_at x r.visit.graph_thread.at r.is r.at) r.writes;
+    }

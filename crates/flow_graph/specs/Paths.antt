@@ -191,9 +191,21 @@ StepsGoAlongEdges = (g : Graph) (s next : FlowState) (thread : ℕ) (graph_threa
     slice_get s.graph_threads thread ≡ Some graph_thread → slice_get next.graph_threads thread ≡ Some after → after.ended ≡ graph_thread.ended →
     IsEdge g graph_thread.at after.at
 
--- reads are right: within a region, what is read and is written then or later was written before
+-- keys name one thing along the path: two of them two elements, and what is read and written lies by that in the locations of its nodes
+pub record HasOneNaming (g : Graph) (path : List Visit) (names : Naming) : Type 0 where
+  pub apart : AreApart names
+  pub reads : (i : ℕ) (one : Element) (r : ReadsElement g path i one) → LiesInOne names r.is.reads one
+  pub writes : (i : ℕ) (one : Element) (w : WritesElement g path i one) → LiesInWritten names w.is.writes one
+
+-- where one mutex guards each variable, keys name nothing along a solo path
+abbrev pub PlainPathsHaveOneNaming : Type 0
+PlainPathsHaveOneNaming = (x : f.Flat) (s : FlowState) (thread steps : ℕ) → IsWellFormed x → IsReachedFlow x s →
+    HasOneNaming (lowered x) (solo_path (lowered x) s thread steps) no_names
+
+-- reads are right, whatever keys name along the path: within a region, what is read and is written then or later was written before
 abbrev pub ReadsAreRight : Type 0
-ReadsAreRight = (x : f.Flat) (b : Boundaries) (s : FlowState) (thread steps : ℕ) → IsWellFormed x → AreCuts (lowered x) b → IsReachedFlow x s →
+ReadsAreRight = (x : f.Flat) (b : Boundaries) (s : FlowState) (thread steps : ℕ) (names : Naming) → IsWellFormed x → AreCuts (lowered x) b →
+    IsReachedFlow x s → HasOneNaming (lowered x) (solo_path (lowered x) s thread steps) names →
     IsWithinRegion (lowered x) b (solo_path (lowered x) s thread steps) → (i j : ℕ) (one : Element) → i ≤ j →
     ReadsElement (lowered x) (solo_path (lowered x) s thread steps) i one → WritesElement (lowered x) (solo_path (lowered x) s thread steps) j one →
     (k : ℕ) × (k < i) × WritesElement (lowered x) (solo_path (lowered x) s thread steps) k one

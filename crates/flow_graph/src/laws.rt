@@ -1,6 +1,6 @@
 //! Laws of flow graphs: nothing is computed here.
 ghost use Rattle.flow_graph.specs.Lockstep.{BeginsLockstep, StepsLockstep, RunsLockstep};
-ghost use Rattle.flow_graph.specs.Paths.{CommonElementsOverlap, ReadsAreRight, ReadsLie, RunsAreVisited, SameHaveOneElement, StepsGoAlongEdges};
+ghost use Rattle.flow_graph.specs.Paths.{CommonElementsOverlap, PlainPathsHaveOneNaming, ReadsAreRight, ReadsLie, RunsAreVisited, SameHaveOneElement, StepsGoAlongEdges};
 ghost use Rattle.flow_graph.specs.Paths.{VisitsAreRuns, WritesLie};
 
 /// A source and the flow graph of its well formed flat form step in lockstep, on every schedule: the same variables, holders, locals and
@@ -33,7 +33,9 @@ pub fn solo_paths_are_runs()
 {}
 
 /// Along the path of one thread alone, within a region of idempotent cuts, an element that is read and is written then or later was
-/// written before it was read: so what is read is the same when the region is run again.
+/// written before it was read: so what is read is the same when the region is run again. That is so whatever keys name along the path, as
+/// long as that is one thing; where one mutex guards each variable they name nothing.
 pub fn reads_are_right()
-    ensures { ReadsAreRight }
+    ensures right { ReadsAreRight }
+    ensures plain { PlainPathsHaveOneNaming }
 {}
