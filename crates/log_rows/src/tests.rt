@@ -19,8 +19,16 @@ const NESTED: &[u8] = b"mutex m; mutex n; persistent(m) int a; persistent(n) int
 /// The word of both variables once the thread has ended.
 const BOTH: u64 = 0x2_0000_0001;
 
+/// A thread that stores while it holds as many locks as a list has room for.
+const SIXTEEN: &[u8] = b"mutex a; mutex b; mutex c; mutex d; mutex e; mutex f; mutex g; mutex h; \
+    mutex i; mutex j; mutex k; mutex l; mutex m; mutex n; mutex o; mutex p; persistent(p) long x; thread t { \
+    lock(p); lock(o); lock(n); lock(m); lock(l); lock(k); lock(j); lock(i); \
+    lock(h); lock(g); lock(f); lock(e); lock(d); lock(c); lock(b); lock(a); x = 7; \
+    unlock(a); unlock(b); unlock(c); unlock(d); unlock(e); unlock(f); unlock(g); unlock(h); \
+    unlock(i); unlock(j); unlock(k); unlock(l); unlock(m); unlock(n); unlock(o); unlock(p); }";
+
 /// Events that a life takes.
-const ROOM: u64 = 2000;
+const ROOM: u64 = 10_000;
 
 /// The text, compiled, where its threads log so.
 fn translated(alloc: Global, log: Log, text: &[u8]) -> Result<Translated, Fail>
@@ -127,6 +135,20 @@ fn power_lost_with_two_locks(rt: HostRuntime) -> Result<(), Fail> {
     assert!(rt; life.settled());
     assert_eq!(rt; life.durable_word(0, 0), BOTH);
     assert_eq!(rt; life.schedule().len(), 8);
+    assert!(rt; life.harts() > 0 && life.ended(0) == 1);
+    Ok(())
+}
+
+/// Power is lost where all sixteen are held: recovery takes each, and the section is ended.
+#[test]
+fn power_lost_with_sixteen_locks(rt: HostRuntime) -> Result<(), Fail> {
+    let mut life = life_of(rt.alloc(), Log::V2, SIXTEEN)?;
+    step_to_fence(&mut life, 32);
+    assert_eq!(rt; lose_power(&mut life), Reply::Device);
+    step_to_end(&mut life);
+    assert!(rt; life.settled());
+    assert_eq!(rt; life.durable_word(0, 0), 7);
+    assert_eq!(rt; life.schedule().len(), 34);
     assert!(rt; life.harts() > 0 && life.ended(0) == 1);
     Ok(())
 }
