@@ -69,6 +69,8 @@ module _ (vs : List Variable) (names : List e.LockName) (h : Held) (l : Location
       of_first (elements table v placed) (expr_reads table index)
       (λ same. element_held v place placed same (guarded_first vs names h u (expr_uses index) g))
       (λ d. expr_key index (guarded_rest vs names h u (expr_uses index) g) d) c
+  expr_key (e.Address v index_place index) g c = expr_key index g c
+  expr_key (e.Referent place last local) g c = absurd (contains_none l c)
   expr_key (e.Unary operator operand) g c = expr_key operand g c
   expr_key (e.Cast kind operand) g c = expr_key operand g c
   expr_key (e.Converted kind operand) g c = expr_key operand g c
