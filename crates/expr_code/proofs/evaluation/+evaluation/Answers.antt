@@ -1,5 +1,5 @@
 -- What the recursion owes besides the contracts of the functions that it calls.
-use Rattle.std.proofs.Common.{rules, refl, Box, Global, ◌≡◌, ◌+◌, ◌*◌, ◌<◌, ◌≤◌, ◌∙◌, ap, sym, subst, arith, ℕ, List, length, get_or}
+use Rattle.std.proofs.Common.{refl, Box, Global, ◌≡◌, ◌+◌, ◌*◌, ◌<◌, ◌≤◌, ◌∙◌, ap, sym, subst, arith, ℕ, List, length, get_or}
 use Rattle.std.specs.Prelude.{true}
 use Rattle.std.proofs.lemmas.Option.{slice_get-get_or, same_Some}
 use Rattle.rv64_isa.specs.declared.instr.Instr.{Instr}
