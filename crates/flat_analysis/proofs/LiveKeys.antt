@@ -39,6 +39,11 @@ same_locals (e.Local local k) (e.Local number j) h =
 same_locals (e.Local local k) y h = cc
 same_locals (e.Variable place variable k) y h = cc
 same_locals (e.Element place variable k index_place index) y h = cc
+same_locals (e.Address variable index_place x) (e.Address number at y) h = same_locals x y (and_true (variable == number) (same_expr x y) h).1
+same_locals (e.Address variable index_place x) y h = cc
+same_locals (e.Referent place last local) (e.Referent at end number) h =
+    ap (λ (n : ℕ). let ns : List ℕ = n ∷ [] in ns) (eqb-true local number (and_true (last == end) (local == number) h).1)
+same_locals (e.Referent place last local) y h = cc
 same_locals (e.Unary operator x) (e.Unary o y) h = same_locals x y (and_true _ (same_expr x y) h).1
 same_locals (e.Unary operator x) y h = cc
 same_locals (e.Cast k x) (e.Cast j y) h = same_locals x y (and_true _ (same_expr x y) h).1
