@@ -5,7 +5,7 @@ ghost use Rattle.hart_core.specs.Objects.{IsWithinLimits};
 
 use c_tree::language::MOST_HELD;
 use flat_compile::{Translated, translate};
-use ido_base::event::{Event, Reply};
+use ido_base::event::Event;
 use ido_base::log::Log;
 use ido_compile::{checked, compile, flatten};
 use run_tracker::life::Life;
@@ -45,12 +45,22 @@ fn translated(alloc: Global, log: Log, text: &[u8]) -> Result<Translated, Fail>
     Err("too many are held".into())
 }
 
-/// A step of the first hart, if the life has one, and room.
-fn step(life: &mut Life) -> Reply {
+/// What a life has come to.
+#[derive(Clone, Copy, Debug, PartialEq, Eq)]
+struct Seen {
+    settled: bool,
+    /// The first word of the variables, as it is durable.
+    word: u64,
+    /// Kept steps of the source.
+    steps: usize,
+    /// Sections of the thread that have ended.
+    ended: u64,
+}
+
+/// An event, if the life has room for it, and a hart.
+fn event(life: &mut Life, event: Event) {
     if life.harts() > 0 && life.room() > 0 {
-        life.event(Event::Step(0))
-    } else {
-        Reply::Still
+        life.event(event);
     }
 }
 
@@ -60,7 +70,7 @@ fn step_to_fence(life: &mut Life, fences: u64) {
         if life.harts() > 0 && life.fences(0) >= fences {
             return;
         }
-        step(life);
+        event(life, Event::Step(0));
     }
 }
 
@@ -70,16 +80,7 @@ fn step_to_end(life: &mut Life) {
         if life.harts() > 0 && life.stopped(0) {
             return;
         }
-        step(life);
-    }
-}
-
-/// Power is lost, if the life has room.
-fn lose_power(life: &mut Life) -> Reply {
-    if life.room() > 0 {
-        life.event(Event::Crash)
-    } else {
-        Reply::Still
+        event(life, Event::Step(0));
     }
 }
 
@@ -92,15 +93,36 @@ fn life_of(alloc: Global, log: Log, text: &[u8]) -> Result<Life, Fail>
     Ok(life)
 }
 
-/// What the first word of the variables settles to where no power is lost.
-fn settled_word(alloc: Global, log: Log) -> Result<Option<u64>, Fail> {
-    let mut life = life_of(alloc, log, NESTED)?;
-    step_to_end(&mut life);
-    if life.settled() {
-        Ok(Some(life.durable_word(0, 0)))
-    } else {
-        Ok(None)
+fn look(life: &Life) -> Seen {
+    Seen {
+        settled: life.settled(),
+        word: life.durable_word(0, 0),
+        steps: life.schedule().len(),
+        ended: if life.harts() > 0 { life.ended(0) } else { 0 },
     }
+}
+
+/// What a life comes to in which no power is lost.
+fn run(alloc: Global, log: Log, text: &[u8]) -> Result<Seen, Fail>
+    requires { length text.now ≤ MOST_SOURCE_BYTES }
+{
+    let mut life = life_of(alloc, log, text)?;
+    step_to_end(&mut life);
+    Ok(look(&life))
+}
+
+/// What a life is when power is lost, two steps after so many fences, and what it comes to.
+fn run_through_loss(alloc: Global, log: Log, text: &[u8], fences: u64) -> Result<[Seen; 2], Fail>
+    requires { length text.now ≤ MOST_SOURCE_BYTES }
+{
+    let mut life = life_of(alloc, log, text)?;
+    step_to_fence(&mut life, fences);
+    event(&mut life, Event::Step(0));
+    event(&mut life, Event::Step(0));
+    let before = look(&life);
+    event(&mut life, Event::Crash);
+    step_to_end(&mut life);
+    Ok([before, look(&life)])
 }
 
 #[test]
@@ -109,12 +131,27 @@ fn each_log_has_its_code(rt: HostRuntime) -> Result<(), Fail> {
     let compiled = compile(a, NESTED)?;
     let first = translated(a, Log::V1, NESTED)?;
     let second = translated(a, Log::V2, NESTED)?;
-    assert!(rt; first.object == compiled.translated.object);
-    assert!(rt; second.object != first.object);
-    assert_eq!(rt; second.object.log, Log::V2);
-    assert_eq!(rt; second.cuts.before.as_slice(), first.cuts.before.as_slice());
-    assert_eq!(rt; settled_word(a, Log::V1)?, Some(BOTH));
-    assert_eq!(rt; settled_word(a, Log::V2)?, Some(BOTH));
+    assert!(rt; first.object == compiled.translated.object && second.object != first.object);
+    assert!(rt;
+        second.object.log == Log::V2
+            && second.cuts.before.as_slice() == first.cuts.before.as_slice()
+    );
+    Ok(())
+}
+
+#[test]
+fn each_log_runs(rt: HostRuntime) -> Result<(), Fail> {
+    let a = rt.alloc();
+    let wanted = Seen {
+        settled: true,
+        word: BOTH,
+        steps: 8,
+        ended: 1,
+    };
+    assert_eq!(rt;
+        [run(a, Log::V1, NESTED)?, run(a, Log::V2, NESTED)?],
+        [wanted, wanted]
+    );
     Ok(())
 }
 
@@ -122,33 +159,43 @@ fn each_log_has_its_code(rt: HostRuntime) -> Result<(), Fail> {
 /// held is stuck, and goes on at the first store.
 #[test]
 fn power_lost_with_two_locks(rt: HostRuntime) -> Result<(), Fail> {
-    let mut life = life_of(rt.alloc(), Log::V2, NESTED)?;
-    step_to_fence(&mut life, 4);
-    assert_eq!(rt; life.schedule().len(), 2);
-    step(&mut life);
-    step(&mut life);
-    assert_eq!(rt; lose_power(&mut life), Reply::Device);
-    assert_eq!(rt; step(&mut life), Reply::Moved);
-    assert!(rt; !life.settled());
-    step_to_end(&mut life);
-    assert_eq!(rt; step(&mut life), Reply::Still);
-    assert!(rt; life.settled());
-    assert_eq!(rt; life.durable_word(0, 0), BOTH);
-    assert_eq!(rt; life.schedule().len(), 8);
-    assert!(rt; life.harts() > 0 && life.ended(0) == 1);
+    let before = Seen {
+        settled: false,
+        word: 0,
+        steps: 2,
+        ended: 0,
+    };
+    let after = Seen {
+        settled: true,
+        word: BOTH,
+        steps: 8,
+        ended: 1,
+    };
+    assert_eq!(rt;
+        run_through_loss(rt.alloc(), Log::V2, NESTED, 4)?,
+        [before, after]
+    );
     Ok(())
 }
 
 /// Power is lost where all sixteen are held: recovery takes each, and the section is ended.
 #[test]
 fn power_lost_with_sixteen_locks(rt: HostRuntime) -> Result<(), Fail> {
-    let mut life = life_of(rt.alloc(), Log::V2, SIXTEEN)?;
-    step_to_fence(&mut life, 32);
-    assert_eq!(rt; lose_power(&mut life), Reply::Device);
-    step_to_end(&mut life);
-    assert!(rt; life.settled());
-    assert_eq!(rt; life.durable_word(0, 0), 7);
-    assert_eq!(rt; life.schedule().len(), 34);
-    assert!(rt; life.harts() > 0 && life.ended(0) == 1);
+    let before = Seen {
+        settled: false,
+        word: 0,
+        steps: 16,
+        ended: 0,
+    };
+    let after = Seen {
+        settled: true,
+        word: 7,
+        steps: 34,
+        ended: 1,
+    };
+    assert_eq!(rt;
+        run_through_loss(rt.alloc(), Log::V2, SIXTEEN, 32)?,
+        [before, after]
+    );
     Ok(())
 }
