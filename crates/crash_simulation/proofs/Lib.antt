@@ -8,6 +8,8 @@ mod LoadFreeEnvironment
 mod LastReleases
 mod ThreadsOfMachines
 mod SimulationAtStart
+mod LifeBeginnings
+mod LivesBegin
 mod SimulationInRecovery
 mod ReadyHarts
 mod UncommittedSteps

@@ -45,7 +45,7 @@ pub record BeginsAgain (y : System) (s : IsSystem y) (v : World) (abstract : Abs
 abbrev pub resting_ghost : System → Record → (n : ℕ) → ThreadGhost
 resting_ghost y r n = record { old = nothing_recorded; new = r; rest = []; committed = true; cleans = []; giving = None; before_mark = most_ahead y n }
 
-resting_thread : (y : System) (v : World) (b : AbstractRun y) (code : Code y.plan) (r : Record) (n : ℕ) (graph_thread : GraphThread)
+pub resting_thread : (y : System) (v : World) (b : AbstractRun y) (code : Code y.plan) (r : Record) (n : ℕ) (graph_thread : GraphThread)
     (log : LogInv code.thread.number nothing_recorded r v []) → Describes y.plan code (kept_of y b) r → (attempt_of b.config code.thread.number).done ≡ 0 →
     slice_get (now_of y b).graph_threads code.thread.number ≡ Some graph_thread →
     InPhase y v b code (resting_ghost y r n) log.hart graph_thread log.hart.phase → ThreadInv y v b code (resting_ghost y r n)

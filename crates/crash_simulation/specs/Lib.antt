@@ -9,3 +9,4 @@ pub mod AccountRelation
 pub mod PointSections
 pub mod Laws
 pub mod RecoveredWords
+pub mod LaterLives

@@ -4,6 +4,7 @@ ghost use Rattle.crash_simulation.specs.Laws.{CommitStutters, CrashSimulates, Ev
 ghost use Rattle.crash_simulation.specs.Laws.{RunsSimulate, SettledIsKept, StartSimulates, StoppedStand, TakesMove, TakesStand, WaitsStand};
 ghost use Rattle.crash_simulation.specs.RecoveredWords.{RecoveredAreCounted, RecoveredWordsSimulate};
 ghost use Rattle.crash_simulation.specs.ReleasedSections.{SectionsAreKept};
+ghost use Rattle.crash_simulation.specs.LaterLives.{LivesSimulate};
 ghost use Rattle.crash_simulation.specs.PointSections.{SectionsEndAtPoints};
 ghost use Rattle.crash_simulation.specs.InstructionSteps.{CallsStep, CoresStep, OwnStepsSimulate, RunsReady, FragmentsStep};
 
@@ -12,6 +13,12 @@ use thread_runs::laws::{fragments_go_on, marks_pass};
 /// At its start the machine simulates the abstract run that begins at the source's start.
 pub fn starts_simulate()
     ensures { StartSimulates }
+{}
+
+/// Where each hart has stopped between sections another life may begin: the machine simulates an abstract run that begins with the variables
+/// that the one before has left.
+pub fn lives_simulate()
+    ensures { LivesSimulate }
 {}
 
 /// After a crash, at whatever moment, the machine simulates an abstract run at what is kept.

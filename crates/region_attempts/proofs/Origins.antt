@@ -62,13 +62,13 @@ starts_are_origins x w disciplined = (start_origin x w disciplined, record { flo
 -- ---- Another life
 
 module _ (x : f.Flat) (o : Origin x) (schedule : List ℕ) (w : IsWellFormed x) (disciplined : All (IsDisciplined x) x.threads) where
-  left : Matches x (graph_after (lowered x) o.flow schedule) (m.after_from o.source schedule)
+  pub left : Matches x (graph_after (lowered x) o.flow schedule) (m.after_from o.source schedule)
   left = matched_run x w schedule o.flow o.source o.matches
 
-  good : Good x (graph_after (lowered x) o.flow schedule)
+  pub good : Good x (graph_after (lowered x) o.flow schedule)
   good = good_after x schedule w o.flow (begins_good x o)
 
-  abbrev life_origin : Origin x
+  abbrev pub life_origin : Origin x
   life_origin =
       let flow = graph_start (lowered x) x in
       let matches = begins_lockstep x w in

@@ -1,0 +1,190 @@
+-- Where threads begin with whole bodies, in memory whose numbers are stable, the machine simulates an abstract run that begins there.
+use Rattle.crash_simulation.proofs.Common.{◌≡◌, ℕ, List, ◌∷◌, sym, ◌∙◌, ap, arith, subst, true, Option, Some, None, refl, suc, ◌+◌, ◌<◌, [], ◌++◌, length, zero}
+use Rattle.crash_simulation.proofs.Common.{replicate, slice_get, true≢false, append-nil, map, ℤ, pos, Contains, add-zero, option_map, length-replicate}
+use Rattle.crash_simulation.proofs.Common.{none-some, same_Some, slice_get_within, slice_get-map, word_count, Word, durable_value, word_of, Crash, Log, typed}
+use Rattle.crash_simulation.proofs.Common.{Kind, Holds-zero, steps_of, first_world, IsWellFormedWorld, Hart, World, happens, after_event, after_crash_of}
+use Rattle.crash_simulation.proofs.Common.{resume_of, fresh_hart, numbers_from, start_of, code_start, Slot, Phase, Run, crashes_simulate, starts_simulate, Seen}
+use Rattle.crash_simulation.proofs.Common.{GraphThread, seen_by, graph_after, graph_thread_start, AreCuts, at_boundary, NodeAt, lowered, parts, part, Action}
+use Rattle.crash_simulation.proofs.Common.{Store, Graph, successors, Part, found_in, durable_variables, well_formed_placed, crashes_hold, durable_are_memory}
+use Rattle.crash_simulation.proofs.Common.{starts_hold, zero_form, fresh_on_side, Attempt, attempt_at, now, attempt_of, Memory, durable_number, crashed}
+use Rattle.crash_simulation.proofs.Common.{AreStable, memory_of, crashes, IsAgain, then, first_config, memory_in, crashed_are_stable, none_yet}
+use Rattle.crash_simulation.proofs.Common.{fresh_are_stable, Resumes, BeginsAtBoundaries, flow_kept, node_of, Origin, free_at_boundaries, start_free}
+use Rattle.crash_simulation.proofs.Common.{start_origin, Program, config, LogInv, Record, nothing_recorded, config_of, contains_first, ends_committed}
+use Rattle.crash_simulation.proofs.Common.{starts_standing, HomeCarries, home_of, Home, InRegister, AreShort, queues_stay_short, starts_are_short, Plan}
+use Rattle.crash_simulation.proofs.Common.{IsNodeOf, IsPendingIn, Enters, locals_are, Arrives, threads_start, Code, ResumesAt, Describes, past_lock, at_chosen}
+use Rattle.crash_simulation.proofs.Common.{AllDescribe, past_unlock, between, inside, Gathers, HasGathered, AreGathering, crashes_gather, AbstractRun, kept_of}
+use Rattle.crash_simulation.proofs.Common.{now_of, CrashSimulates, StartSimulates, IsRecoveredFrom, RecoveredWordsSimulate, Simulates, gathering, gathered}
+use Rattle.crash_simulation.proofs.Common.{IsMachineOf, most_ahead, System, IsSystem, thread_count, flat_of, places_of, Rests, ThreadGhost, on_fragment}
+use Rattle.crash_simulation.proofs.Common.{InPhase, ThreadInv, InFragment}
+use Rattle.flow_graph.specs.Lowering.{thread_count as node_count}
+use Rattle.recovery_semantics.specs.Executions.{begins}
+use Rattle.flow_graph.specs.IdempotentCuts as cutting
+use Rattle.region_attempts.specs.AttemptsInRegion as attempts
+use Rattle.c_tree.specs.Flats as f
+use Rattle.c_tree.specs.Source as m
+use Rattle.crash_simulation.proofs.StatesMatchSource.{orderly, begins_orderly, free_holds_none, none_holds, is_repeated, repeated_or}
+use Rattle.crash_simulation.proofs.RecordsAfterCrash.{over_is_caught, left, log_of, left_describes}
+use Rattle.crash_simulation.proofs.ThreadViews.{none_clean, none_stored, records_over}
+use Rattle.crash_simulation.proofs.ThreadsOfMachines.{machine_stays}
+use Rattle.crash_simulation.proofs.LastReleases.{holds_some}
+use Rattle.crash_simulation.proofs.StepsAfterMarks.{entry_soon}
+use Rattle.crash_simulation.proofs.LoadFreeEnvironment.{bare, bare_agrees, bare_meets, bare_answers}
+use Rattle.region_attempts.specs.Laws.{HoldsNothing}
+use Rattle.crash_simulation.proofs.SimulationAtStart.{resting_ghost, resting_thread}
+
+-- ---- Lists
+
+part_has_nodes : (ts : List f.Thread) (first n : ℕ) (own : Part) → slice_get (parts ts first) n ≡ Some own → own.first < own.end
+part_has_nodes [] first n own h = absurd (none-some own h)
+part_has_nodes (t ∷ ts) first zero own h = subst (λ (o : Part). o.first < o.end) (same_Some (part t first) own h) (omega arith)
+part_has_nodes (t ∷ ts) first (suc n) own h = part_has_nodes ts (first + node_count t) n own h
+
+-- what is pending of no store
+pub pending_free : (p : Plan) (action : Action) (seen : Seen) (x : List ℕ) → seen.pending ≡ None → IsPendingIn p action seen x
+pending_free p (Store variable kind next) seen x none = λ store h. absurd (none-some store (sym none ∙ h))
+pending_free p action seen x none = tt
+
+-- ---- What a life begins with
+
+-- a hart at the first word of its code, with all registers 0; it may have queued something
+pub record IsAtFirstWord (y : System) (v : World) (n : ℕ) : Type 0 where
+  pub hart : Hart
+  pub here : slice_get v.harts n ≡ Some hart
+  pub registers : hart.registers ≡ replicate 32 0
+  pub pc : hart.pc ≡ code_start y.runs.program n
+  pub runs : hart.phase ≡ Run
+
+-- all harts stand so with nothing recorded, no lock is held, and the origin's threads have whole bodies and hold nothing
+pub record BeginsLife (y : System) (o : Origin (flat_of y)) (v : World) : Type 0 where
+  pub machine : IsMachineOf y v
+  pub stable : AreStable o.source (memory_in (places_of y) v.words)
+  pub whole : o.flow.graph_threads ≡ map graph_thread_start (lowered (flat_of y)).threads
+  pub free : HoldsNothing (flat_of y) o
+  pub fresh : (n : ℕ) → n < thread_count y → IsAtFirstWord y v n
+  pub logs : (n : ℕ) → n < thread_count y → LogInv n nothing_recorded nothing_recorded v []
+  pub unheld : (lock thread : ℕ) → slice_get v.holders lock ≡ Some (Some thread) → ⊥
+
+-- ---- The abstract run begins at the origin
+
+module _ (y : System) (s : IsSystem y) (o : Origin (flat_of y)) (v : World) (life : BeginsLife y o v) where
+  abbrev memory : Memory
+  memory = memory_in (places_of y) v.words
+
+  abbrev abstract : AbstractRun y
+  abstract = record {
+    origin = o;
+    config = first_config (flat_of y) o.source memory;
+    schedule = [];
+    execution = begins memory life.stable;
+    respects = free_at_boundaries (flat_of y) y.plan.boundaries o life.free;
+  }
+
+  abbrev ghosts : ℕ → ThreadGhost
+  ghosts n = resting_ghost y nothing_recorded n
+
+  none_done : (n : ℕ) → (attempt_of abstract.config n).done ≡ 0
+  none_done n = ap (λ (a : Attempt). a.done) (none_yet (flat_of y).threads n)
+
+  -- nobody holds a mutex of the graph's state
+  pub flow_free : (lock thread : ℕ) → slice_get o.flow.holders lock ≡ Some (Some thread) → ⊥
+  flow_free lock thread held = life.free lock thread (ap (λ (hs : List (Option ℕ)). slice_get hs lock) (sym o.matches.holders) ∙ held)
+
+  pub not_held : (lock : ℕ) (holder : Option ℕ) → slice_get o.flow.holders lock ≡ Some holder → holder ≡ None
+  not_held lock None there = refl
+  not_held lock (Some thread) there = absurd (flow_free lock thread there)
+
+  abbrev graph_thread : Code y.plan → GraphThread
+  graph_thread code = graph_thread_start code.thread.part
+
+  part_there : (code : Code y.plan) → slice_get (lowered (flat_of y)).threads code.thread.number ≡ Some code.thread.part
+  part_there code = subst (λ (graph : Graph). slice_get graph.threads code.thread.number ≡ Some code.thread.part) s.plan.lowered code.of.nodes
+
+  walks : (code : Code y.plan) → slice_get (now_of y abstract).graph_threads code.thread.number ≡ Some (graph_thread code)
+  walks code =
+      ap (λ (ts : List GraphThread). slice_get ts code.thread.number) life.whole
+      ∙ (slice_get-map graph_thread_start (lowered (flat_of y)).threads code.thread.number ∙ ap (option_map graph_thread_start) (part_there code))
+
+  has_nodes : (n : ℕ) (own : Part) → slice_get (lowered (flat_of y)).threads n ≡ Some own → own.first < own.end
+  unfolding lowered
+  has_nodes n own there = part_has_nodes (flat_of y).threads 0 n own there
+
+  first_node : (code : Code y.plan) → IsNodeOf code.thread code.thread.part.first
+  first_node code = record { from_first = omega arith; below_end = has_nodes code.thread.number code.thread.part (part_there code) }
+
+  zero_carried : (k : Kind) (home : Home) → HomeCarries (replicate 32 0) home (typed k (pos 0))
+  zero_carried k (InRegister register) = record { held = Holds-zero k; form = repeated_or 32 register 0 ∙ sym (zero_form k) }
+
+  enters : (code : Code y.plan) → Enters y.plan code.thread code.thread.part.first (seen_by (now_of y abstract) (graph_thread code)) 0 (replicate 32 0)
+  enters code = record {
+    at_side = fresh_on_side y.plan.log;
+    count = length-replicate code.thread.part.locals (pos 0) ∙ locals_are y.plan code.thread s.plan code.of;
+    locals = λ local k there live.
+        let value = repeated_or code.thread.part.locals local (pos 0) in
+        subst (λ (z : ℤ). HomeCarries (replicate 32 0) (home_of code.thread.locals local) (typed k z)) (sym value)
+        (zero_carried k (home_of code.thread.locals local));
+    pending = λ is at. pending_free y.plan is.action (seen_by (now_of y abstract) (graph_thread code)) (replicate 32 0) refl;
+  }
+
+  on_its_fragment : (n : ℕ) (below : n < thread_count y) (hart : Hart) → slice_get v.harts (s.codes.each n below).thread.number ≡ Some hart →
+      InFragment y v abstract (s.codes.each n below) (ghosts n) hart (graph_thread (s.codes.each n below)) Arrives 0
+  on_its_fragment n below hart here =
+      let code = s.codes.each n below in
+      let number = code.thread.number in
+      let same = s.codes.number n below in
+      let at = life.fresh number (omega (arith, below, same)) in
+      let start : code_start y.runs.program number ≡ code.program.start = ap (λ (p : Program). p.start) (sym (s.own n below).program) in
+      record {
+        environment = bare y s v n below;
+        answers = bare_answers y s v n below (now abstract.config);
+        side = 0;
+        at_side = λ none. absurd (none refl);
+        fragment =
+            threads_start y.plan code.thread y.runs.program code.program code.is v number (bare y s v n below)
+            (seen_by (now_of y abstract) (graph_thread code)) 0 (replicate 32 0) (bare_meets y s v n below) (bare_agrees y s v n below) (first_node code)
+            (record {
+              hart = at.hart;
+              here = at.here;
+              runs = at.runs;
+              is = ap (λ (registers : List ℕ). config registers at.hart.pc) at.registers ∙ ap (config (replicate 32 0)) (at.pc ∙ start);
+            })
+            (enters code);
+        fits = (record { going = sym (none_done number); rest = refl; giving = refl; committed = refl }, refl);
+        soon =
+            let all = entry_soon y s n below code.thread.part.first (length hart.queue) (first_node code) (life.machine.short number hart here) in
+            let is : most_ahead y number ≡ most_ahead y n = ap (most_ahead y) same in
+            (omega (arith, all, is), omega (arith, is));
+      }
+
+  pub thread : (n : ℕ) (below : n < thread_count y) → ThreadInv y v abstract (s.codes.each n below) (ghosts n)
+  thread n below =
+      let code = s.codes.each n below in
+      let number = code.thread.number in
+      let inside : number < thread_count y = omega (arith, below, s.codes.number n below) in
+      let log = life.logs number inside in
+      let at = life.fresh number inside in
+      let runs : Run ≡ log.hart.phase = sym at.runs ∙ ap (λ (h : Hart). h.phase) (same_Some _ _ (sym at.here ∙ log.here)) in
+      let none = free_holds_none number 0 (kept_of y abstract).holders not_held in
+      resting_thread y v abstract code nothing_recorded n (graph_thread code) log (between none refl) (none_done number) (walks code)
+      (subst (λ (p : Phase). InPhase y v abstract code (ghosts n) log.hart (graph_thread code) p) runs
+      (on_fragment Arrives 0 (on_its_fragment n below log.hart log.here)))
+
+  pub all_run : (h : ℕ) (hart : Hart) → slice_get v.harts h ≡ Some hart → HasGathered v h nothing_recorded hart.phase
+  all_run h hart there =
+      let at = life.fresh h (omega (arith, slice_get_within v.harts h hart there, life.machine.count)) in
+      let runs : Run ≡ hart.phase = sym at.runs ∙ ap (λ (x : Hart). x.phase) (same_Some _ _ (sym at.here ∙ there)) in
+      subst (λ (p : Phase). HasGathered v h nothing_recorded p) runs tt
+
+  abbrev pub life_stands : Simulates y s v
+  life_stands = record {
+    machine = life.machine;
+    abstract = abstract;
+    memory = refl;
+    ghosts = ghosts;
+    each = thread;
+    locks = gathered (record { each = all_run }) (record {
+      held = λ lock n there. absurd (life.unheld lock n there);
+      holds = λ lock n there. absurd (flow_free lock n there);
+      giving = λ lock n inside gives. absurd (none-some lock gives);
+    });
+    caught_up = λ n below all. over_is_caught y v abstract (s.codes.each n below) (ghosts n) (thread n below) refl refl;
+  }
