@@ -22,6 +22,7 @@ use Rattle.crash_simulation.proofs.StatesMatchSource.{resumed, repeated_or}
 use Rattle.crash_simulation.proofs.LongestAttempts.{StepsInRun, led_of}
 use Rattle.crash_simulation.proofs.AccountUpdates.{begun_by, more_by, kept_same, pending_is, count_same, own_by, own_is, other_is, still_accounted}
 use Rattle.crash_simulation.proofs.AccountUpdates.{account_stays, own_counted, own_last_stays, other_last_stays, evicted_last_stays}
+use Rattle.crash_simulation.proofs.LifeBeginnings as life
 use Rattle.crash_simulation.proofs.SimulationAtStart as starting
 
 -- ---- Sections that are kept, and the machine's releases
@@ -177,7 +178,7 @@ first_counted y s g {w} stands from none uncommitted fresh = record {
 
 abbrev pub start_counted : (y : System) (s : IsSystem y) →
     SimulatesCounted y s (first_beginning y) (first_world y.runs) (first_steps (length y.runs.program) (only_life [])) (λ n. 0)
-start_counted y s = first_counted y s (first_beginning y) (starting.stands y s) refl refl refl (λ n. (refl, refl))
+start_counted y s = first_counted y s (first_beginning y) (life.stands y s) refl refl refl (λ n. (refl, refl))
 
 abbrev pub recovered_counted : (y : System) (s : IsSystem y) (o : Origin (flat_of y)) (words : List ℕ) (kept : LifeSchedules)
     (is : IsRecoveredFrom y s o words) →

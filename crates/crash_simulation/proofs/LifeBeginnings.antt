@@ -1,38 +1,40 @@
 -- Where threads begin with whole bodies, in memory whose numbers are stable, the machine simulates an abstract run that begins there.
-use Rattle.crash_simulation.proofs.Common.{◌≡◌, ℕ, List, ◌∷◌, sym, ◌∙◌, ap, arith, subst, true, Option, Some, None, refl, suc, ◌+◌, ◌<◌, [], ◌++◌, length, zero}
-use Rattle.crash_simulation.proofs.Common.{replicate, slice_get, true≢false, append-nil, map, ℤ, pos, Contains, add-zero, option_map, length-replicate}
-use Rattle.crash_simulation.proofs.Common.{none-some, same_Some, slice_get_within, slice_get-map, word_count, Word, durable_value, word_of, Crash, Log, typed}
-use Rattle.crash_simulation.proofs.Common.{Kind, Holds-zero, steps_of, first_world, IsWellFormedWorld, Hart, World, happens, after_event, after_crash_of}
-use Rattle.crash_simulation.proofs.Common.{resume_of, fresh_hart, numbers_from, start_of, code_start, Slot, Phase, Run, crashes_simulate, starts_simulate, Seen}
-use Rattle.crash_simulation.proofs.Common.{GraphThread, seen_by, graph_after, graph_thread_start, AreCuts, at_boundary, NodeAt, lowered, parts, part, Action}
-use Rattle.crash_simulation.proofs.Common.{Store, Graph, successors, Part, found_in, durable_variables, well_formed_placed, crashes_hold, durable_are_memory}
-use Rattle.crash_simulation.proofs.Common.{starts_hold, zero_form, fresh_on_side, Attempt, attempt_at, now, attempt_of, Memory, durable_number, crashed}
-use Rattle.crash_simulation.proofs.Common.{AreStable, memory_of, crashes, IsAgain, then, first_config, memory_in, crashed_are_stable, none_yet}
-use Rattle.crash_simulation.proofs.Common.{fresh_are_stable, Resumes, BeginsAtBoundaries, flow_kept, node_of, Origin, free_at_boundaries, start_free}
-use Rattle.crash_simulation.proofs.Common.{start_origin, Program, config, LogInv, Record, nothing_recorded, config_of, contains_first, ends_committed}
-use Rattle.crash_simulation.proofs.Common.{starts_standing, HomeCarries, home_of, Home, InRegister, AreShort, queues_stay_short, starts_are_short, Plan}
-use Rattle.crash_simulation.proofs.Common.{IsNodeOf, IsPendingIn, Enters, locals_are, Arrives, threads_start, Code, ResumesAt, Describes, past_lock, at_chosen}
-use Rattle.crash_simulation.proofs.Common.{AllDescribe, past_unlock, between, inside, Gathers, HasGathered, AreGathering, crashes_gather, AbstractRun, kept_of}
-use Rattle.crash_simulation.proofs.Common.{now_of, CrashSimulates, StartSimulates, IsRecoveredFrom, RecoveredWordsSimulate, Simulates, gathering, gathered}
-use Rattle.crash_simulation.proofs.Common.{IsMachineOf, most_ahead, System, IsSystem, thread_count, flat_of, places_of, Rests, ThreadGhost, on_fragment}
+use Rattle.crash_simulation.proofs.Common.{◌≡◌, ℕ, List, ◌∷◌, sym, ◌∙◌, ap, arith, subst, Option, Some, None, refl, suc, ◌+◌, ◌<◌, [], length, zero}
+use Rattle.crash_simulation.proofs.Common.{replicate, slice_get, map, ℤ, pos, add-zero, option_map, length-replicate}
+use Rattle.crash_simulation.proofs.Common.{none-some, same_Some, slice_get_within, slice_get-map, typed}
+use Rattle.crash_simulation.proofs.Common.{Kind, Holds-zero, first_world, Hart, World}
+use Rattle.crash_simulation.proofs.Common.{fresh_hart, numbers_from, start_of, code_start, Phase, Run, starts_simulate, Seen}
+use Rattle.crash_simulation.proofs.Common.{GraphThread, seen_by, graph_thread_start, lowered, parts, part, Action}
+use Rattle.crash_simulation.proofs.Common.{Store, Graph, Part}
+use Rattle.crash_simulation.proofs.Common.{starts_hold, zero_form, fresh_on_side, Attempt, now, attempt_of, Memory}
+use Rattle.crash_simulation.proofs.Common.{AreStable, first_config, memory_in, none_yet}
+use Rattle.crash_simulation.proofs.Common.{fresh_are_stable, Origin, free_at_boundaries, start_free}
+use Rattle.crash_simulation.proofs.Common.{start_origin, Program, config, LogInv, nothing_recorded}
+use Rattle.crash_simulation.proofs.Common.{starts_standing, HomeCarries, home_of, Home, InRegister, starts_are_short, Plan}
+use Rattle.crash_simulation.proofs.Common.{IsNodeOf, IsPendingIn, Enters, locals_are, Arrives, threads_start, Code}
+use Rattle.crash_simulation.proofs.Common.{between, HasGathered, AbstractRun, kept_of}
+use Rattle.crash_simulation.proofs.Common.{now_of, StartSimulates, Simulates, gathered}
+use Rattle.crash_simulation.proofs.Common.{IsMachineOf, most_ahead, System, IsSystem, thread_count, flat_of, places_of, ThreadGhost, on_fragment}
 use Rattle.crash_simulation.proofs.Common.{InPhase, ThreadInv, InFragment}
 use Rattle.flow_graph.specs.Lowering.{thread_count as node_count}
 use Rattle.recovery_semantics.specs.Executions.{begins}
-use Rattle.flow_graph.specs.IdempotentCuts as cutting
-use Rattle.region_attempts.specs.AttemptsInRegion as attempts
 use Rattle.c_tree.specs.Flats as f
 use Rattle.c_tree.specs.Source as m
-use Rattle.crash_simulation.proofs.StatesMatchSource.{orderly, begins_orderly, free_holds_none, none_holds, is_repeated, repeated_or}
-use Rattle.crash_simulation.proofs.RecordsAfterCrash.{over_is_caught, left, log_of, left_describes}
-use Rattle.crash_simulation.proofs.ThreadViews.{none_clean, none_stored, records_over}
-use Rattle.crash_simulation.proofs.ThreadsOfMachines.{machine_stays}
-use Rattle.crash_simulation.proofs.LastReleases.{holds_some}
+use Rattle.crash_simulation.proofs.StatesMatchSource.{free_holds_none, none_holds, repeated_or}
+use Rattle.crash_simulation.proofs.RecordsAfterCrash.{over_is_caught}
 use Rattle.crash_simulation.proofs.StepsAfterMarks.{entry_soon}
 use Rattle.crash_simulation.proofs.LoadFreeEnvironment.{bare, bare_agrees, bare_meets, bare_answers}
 use Rattle.region_attempts.specs.Laws.{HoldsNothing}
 use Rattle.crash_simulation.proofs.SimulationAtStart.{resting_ghost, resting_thread}
 
 -- ---- Lists
+
+pub row_of : {A : Type 0} (g : ℕ → A) (at count i : ℕ) → i < count → slice_get (map g (numbers_from at count)) i ≡ Some (g (at + i))
+row_of g at zero i below = absurd (omega (arith, below))
+row_of {A} g at (suc count) zero below = ap (λ (n : ℕ). Some (g n)) (sym (add-zero at))
+row_of {A} g at (suc count) (suc i) below =
+    let same : at + 1 + i ≡ at + suc i = omega arith in
+    row_of g (at + 1) count i (omega (arith, below)) ∙ ap (λ (n : ℕ). Some (g n)) same
 
 part_has_nodes : (ts : List f.Thread) (first n : ℕ) (own : Part) → slice_get (parts ts first) n ≡ Some own → own.first < own.end
 part_has_nodes [] first n own h = absurd (none-some own h)
@@ -188,3 +190,56 @@ module _ (y : System) (s : IsSystem y) (o : Origin (flat_of y)) (v : World) (lif
     });
     caught_up = λ n below all. over_is_caught y v abstract (s.codes.each n below) (ghosts n) (thread n below) refl refl;
   }
+
+-- ---- The start: the first life begins at the source's
+
+module _ (y : System) (s : IsSystem y) where
+  abbrev pub first : World
+  first = first_world y.runs
+
+  abbrev pub first_origin : Origin (flat_of y)
+  first_origin = start_origin (flat_of y) s.plan.formed s.disciplined
+
+  hart_first : (n : ℕ) → n < length y.runs.program → slice_get first.harts n ≡ Some (fresh_hart y.runs.program Run n)
+  unfolding start_of
+  hart_first n below =
+      row_of (fresh_hart y.runs.program Run) 0 (length y.runs.program) n below ∙ ap (λ (k : ℕ). Some (fresh_hart y.runs.program Run k)) (omega arith)
+
+  holders_are : first.holders ≡ replicate y.runs.mutexes None
+  unfolding start_of
+  holders_are = refl
+
+  log_is : y.plan.log ≡ first.log
+  unfolding start_of
+  log_is = s.log
+
+  pub first_life : BeginsLife y first_origin first
+  first_life = record {
+    machine = record {
+      count = (starts_simulate y.runs.log y.runs.program y.runs.mutexes y.runs.initial).1 ∙ s.count;
+      log = log_is;
+      mutexes = ap length holders_are ∙ length-replicate y.runs.mutexes None ∙ s.mutexes;
+      sound = (starts_simulate y.runs.log y.runs.program y.runs.mutexes y.runs.initial).0;
+      short = starts_are_short y.runs.log y.runs.program y.runs.mutexes y.runs.initial;
+    };
+    stable = subst (AreStable first_origin.source)
+        (sym (starts_hold y.runs.log (flat_of y) y.runs.program y.runs.mutexes y.runs.initial s.plan.formed s.initial))
+        (fresh_are_stable (m.start (flat_of y)));
+    whole = refl;
+    free = start_free (flat_of y) s.plan.formed s.disciplined;
+    fresh = λ n below. record {
+      hart = fresh_hart y.runs.program Run n;
+      here = hart_first n (omega (arith, below, s.count));
+      registers = refl;
+      pc = refl;
+      runs = refl;
+    };
+    logs = λ n below. starts_standing y.runs.log y.runs.program y.runs.mutexes n y.runs.initial (omega (arith, below, s.count));
+    unheld = λ lock n there. none_holds y.runs.mutexes lock n (ap (λ (hs : List (Option ℕ)). slice_get hs lock) (sym holders_are) ∙ there);
+  }
+
+  abbrev pub stands : Simulates y s first
+  stands = life_stands y s first_origin first first_life
+
+pub start_simulates : StartSimulates
+start_simulates y s = stands y s

@@ -1,20 +1,18 @@
 -- Where all harts have stopped between sections another life may begin: the machine simulates an abstract run that begins with what is kept.
-use Rattle.crash_simulation.proofs.Common.{◌≡◌, ◌⊎◌, inl, inr, ℕ, List, [], ◌∷◌, zero, suc, ◌+◌, ◌<◌, ◌≤◌, length, sym, ◌∙◌, ap, arith, subst, true, false, refl}
-use Rattle.crash_simulation.proofs.Common.{Option, Some, None, Bool, slice_get, true≢false, same_Some, slice_get_within, and_parts, ◌&&◌, eqb-true, cases_lt}
-use Rattle.crash_simulation.proofs.Common.{is_between, holds_none, AreEntries, IsWellFormedWorld, Hart, World, fresh_hart, Slot, Phase, Run, Log, Word}
-use Rattle.crash_simulation.proofs.Common.{LogInv, nothing_recorded, Record, AbstractRun, Simulates, IsMachineOf, AreShort, gathering, gathered, System, IsSystem}
-use Rattle.crash_simulation.proofs.Common.{thread_count, flat_of, places_of, ThreadGhost, ThreadInv, InPhase, Origin, memory_in, now_of, kept_of, word_count}
+use Rattle.crash_simulation.proofs.Common.{◌≡◌, ◌⊎◌, inl, inr, ℕ, List, [], ◌∷◌, zero, suc, ◌<◌, ◌≤◌, length, sym, ◌∙◌, ap, arith, subst, true, refl}
+use Rattle.crash_simulation.proofs.Common.{Option, Some, slice_get, true≢false, same_Some, slice_get_within, and_parts, eqb-true, cases_lt}
+use Rattle.crash_simulation.proofs.Common.{is_between, holds_none, AreEntries, Hart, World, fresh_hart, Phase, Run, Log, Word}
+use Rattle.crash_simulation.proofs.Common.{LogInv, nothing_recorded, Record, AbstractRun, Simulates, IsMachineOf, gathering, gathered, System, IsSystem}
+use Rattle.crash_simulation.proofs.Common.{thread_count, flat_of, places_of, InPhase, Origin, memory_in, word_count}
 use Rattle.rv64_isa.specs.declared.phase.Phase.TheVariants.{Done, Ended}
 use Rattle.rv64_isa.specs.Machine.{durable_point}
 use Rattle.rv64_isa.specs.Schedule.{are_settled, is_settled_hart}
 use Rattle.recovery_semantics.specs.ElementHistories.{AreStable}
-use Rattle.region_attempts.specs.Laws.{begun_anew}
 use Rattle.region_attempts.proofs.Public.{life_origin, settled_may_begin}
 use Rattle.log_states.specs.Logs.{IsDurable, IsRecorded, point_in}
-use Rattle.log_states.specs.Stages.{LogConfig, LogIs, Stage, Writing, Written, Pointed, PointQueued, Over, cleans_of, stores_of}
+use Rattle.log_states.specs.Stages.{LogConfig, LogIs, Stage, Writing, Written, Pointed, PointQueued, Over}
 use Rattle.log_states.specs.Machines.{config_of}
 use Rattle.log_states.proofs.Public.{contains_none, nothing_is_record}
-use Rattle.boundary_code.specs.Boundaries.{commit_effects}
 use Rattle.c_tree.specs.Source as m
 use Rattle.crash_simulation.specs.LaterLives.{HaveStopped, IsBegunAnew, LivesSimulate, SimulatesAnew}
 use Rattle.crash_simulation.proofs.StatesMatchSource.{none_holds, now_orderly, resumed}
@@ -104,7 +102,8 @@ module _ (y : System) (s : IsSystem y) (w v : World) (old : Simulates y s w) (en
       subst (InPhase y w b (s.codes.each n below) (old.ghosts n) t.log.hart t.graph_thread) is t.phase in
       by stops at
     where
-      by : (phase ≡ Done) ⊎ (phase ≡ Ended) → InPhase y w b (s.codes.each n below) (old.ghosts n) (old.each n below).log.hart (old.each n below).graph_thread phase →
+      by : (phase ≡ Done) ⊎ (phase ≡ Ended) →
+          InPhase y w b (s.codes.each n below) (old.ghosts n) (old.each n below).log.hart (old.each n below).graph_thread phase →
           ((old.ghosts n).rest ≡ []) × ((old.ghosts n).new.point ≡ 0)
       by (inl done) at =
           let d = subst (InPhase y w b (s.codes.each n below) (old.ghosts n) (old.each n below).log.hart (old.each n below).graph_thread) done at in
@@ -142,7 +141,9 @@ module _ (y : System) (s : IsSystem y) (w v : World) (old : Simulates y s w) (en
       record {
         hart = hart_anew n o.hart;
         here = anew.harts n o.hart o.here;
-        log = subst (λ (ws : List Word). LogIs v.log n nothing_recorded nothing_recorded (record { words = ws; queue = o.hart.queue; rest = [] })) (sym anew.words)
+        log =
+            subst (λ (ws : List Word). LogIs v.log n nothing_recorded nothing_recorded (record { words = ws; queue = o.hart.queue; rest = [] }))
+            (sym anew.words)
             (subst (λ (l : Log). LogIs l n nothing_recorded nothing_recorded (config_of w o.hart [])) (sym anew.log) o.log);
       }
 

@@ -4,6 +4,7 @@ pub use Rattle.crash_simulation.proofs.AccountsAfterEvents.{Continues, GoesOn, b
 pub use Rattle.crash_simulation.proofs.AccountsAfterEvents.{steps_join, worlds_join}
 pub use Rattle.crash_simulation.proofs.AccountsBeforeCommit.{released_by, start_counted}
 pub use Rattle.crash_simulation.proofs.DisjointStores.{next_store}
+pub use Rattle.crash_simulation.proofs.LifeBeginnings.{pending_free, row_of, start_simulates}
 pub use Rattle.crash_simulation.proofs.LastReleases.{and_none, at_most_one}
 pub use Rattle.crash_simulation.proofs.LockCallSteps.{fragment, lock}
 pub use Rattle.crash_simulation.proofs.LocksAfterStep.{runs_held}
@@ -16,7 +17,6 @@ pub use Rattle.crash_simulation.proofs.PendingReleases.{giving_of}
 pub use Rattle.crash_simulation.proofs.ReadyHarts.{runs_ready}
 pub use Rattle.crash_simulation.proofs.RecordsAfterCrash.{between_there, left, left_describes, left_point, log_of, settled_is_kept}
 pub use Rattle.crash_simulation.proofs.RunOrCall.{IsWhere, RunsOn, at_call, is_where, on_run}
-pub use Rattle.crash_simulation.proofs.SimulationAtStart.{pending_free, row_of, start_simulates}
 pub use Rattle.crash_simulation.proofs.StatesMatchSource.{as_source, kept_good, orderly, resumed}
 pub use Rattle.crash_simulation.proofs.ThreadCommits.{unlocked_last}
 pub use Rattle.crash_simulation.proofs.ThreadsOfMachines.{mutexes_stay, phase_of}

@@ -1,34 +1,29 @@
--- Where it starts, after a crash, and where recovery begins with words that describe an origin, the machine simulates an abstract run.
-use Rattle.crash_simulation.proofs.Common.{◌≡◌, ℕ, List, ◌∷◌, sym, ◌∙◌, ap, arith, subst, true, Option, Some, None, refl, suc, ◌+◌, ◌<◌, [], ◌++◌, length, zero}
-use Rattle.crash_simulation.proofs.Common.{replicate, slice_get, true≢false, append-nil, map, ℤ, pos, Contains, add-zero, option_map, length-replicate}
-use Rattle.crash_simulation.proofs.Common.{none-some, same_Some, slice_get_within, slice_get-map, word_count, Word, durable_value, word_of, Crash, Log, typed}
-use Rattle.crash_simulation.proofs.Common.{Kind, Holds-zero, steps_of, first_world, IsWellFormedWorld, Hart, World, happens, after_event, after_crash_of}
-use Rattle.crash_simulation.proofs.Common.{resume_of, fresh_hart, numbers_from, start_of, code_start, Slot, Phase, Run, crashes_simulate, starts_simulate, Seen}
-use Rattle.crash_simulation.proofs.Common.{GraphThread, seen_by, graph_after, graph_thread_start, AreCuts, at_boundary, NodeAt, lowered, parts, part, Action}
-use Rattle.crash_simulation.proofs.Common.{Store, Graph, successors, Part, found_in, durable_variables, well_formed_placed, crashes_hold, durable_are_memory}
-use Rattle.crash_simulation.proofs.Common.{starts_hold, zero_form, fresh_on_side, Attempt, attempt_at, now, attempt_of, Memory, durable_number, crashed}
-use Rattle.crash_simulation.proofs.Common.{AreStable, memory_of, crashes, IsAgain, then, first_config, memory_in, crashed_are_stable, none_yet}
-use Rattle.crash_simulation.proofs.Common.{fresh_are_stable, Resumes, BeginsAtBoundaries, flow_kept, node_of, Origin, free_at_boundaries, start_free}
-use Rattle.crash_simulation.proofs.Common.{start_origin, Program, config, LogInv, Record, nothing_recorded, config_of, contains_first, ends_committed}
-use Rattle.crash_simulation.proofs.Common.{starts_standing, HomeCarries, home_of, Home, InRegister, AreShort, queues_stay_short, starts_are_short, Plan}
-use Rattle.crash_simulation.proofs.Common.{IsNodeOf, IsPendingIn, Enters, locals_are, Arrives, threads_start, Code, ResumesAt, Describes, past_lock, at_chosen}
-use Rattle.crash_simulation.proofs.Common.{AllDescribe, past_unlock, between, inside, Gathers, HasGathered, AreGathering, crashes_gather, AbstractRun, kept_of}
-use Rattle.crash_simulation.proofs.Common.{now_of, CrashSimulates, StartSimulates, IsRecoveredFrom, RecoveredWordsSimulate, Simulates, gathering, gathered}
-use Rattle.crash_simulation.proofs.Common.{IsMachineOf, most_ahead, System, IsSystem, thread_count, flat_of, places_of, Rests, ThreadGhost, on_fragment}
-use Rattle.crash_simulation.proofs.Common.{InPhase, ThreadInv, InFragment}
-use Rattle.flow_graph.specs.Lowering.{thread_count as node_count}
+-- After a crash, and where recovery begins with words that describe an origin, the machine simulates an abstract run.
+use Rattle.crash_simulation.proofs.Common.{◌≡◌, ℕ, List, ◌∷◌, sym, ◌∙◌, ap, arith, subst, true, Option, Some, None, refl, suc, ◌<◌, [], ◌++◌, length, zero}
+use Rattle.crash_simulation.proofs.Common.{replicate, slice_get, true≢false, append-nil, map, Contains, option_map, length-replicate}
+use Rattle.crash_simulation.proofs.Common.{none-some, same_Some, word_count, Word, durable_value, word_of, Crash, Log}
+use Rattle.crash_simulation.proofs.Common.{steps_of, IsWellFormedWorld, Hart, World, happens, after_event, after_crash_of}
+use Rattle.crash_simulation.proofs.Common.{resume_of, Slot, Phase, crashes_simulate}
+use Rattle.crash_simulation.proofs.Common.{GraphThread, graph_after, AreCuts, at_boundary, NodeAt, lowered, Action}
+use Rattle.crash_simulation.proofs.Common.{Graph, successors, found_in, durable_variables, well_formed_placed, crashes_hold, durable_are_memory}
+use Rattle.crash_simulation.proofs.Common.{Attempt, attempt_at, attempt_of, Memory, durable_number, crashed}
+use Rattle.crash_simulation.proofs.Common.{AreStable, crashes, IsAgain, then, first_config, memory_in, crashed_are_stable, none_yet}
+use Rattle.crash_simulation.proofs.Common.{Resumes, BeginsAtBoundaries, flow_kept, node_of, Origin}
+use Rattle.crash_simulation.proofs.Common.{LogInv, Record, nothing_recorded, config_of, contains_first, ends_committed}
+use Rattle.crash_simulation.proofs.Common.{AreShort, queues_stay_short}
+use Rattle.crash_simulation.proofs.Common.{Code, ResumesAt, Describes, past_lock, at_chosen}
+use Rattle.crash_simulation.proofs.Common.{AllDescribe, past_unlock, between, inside, Gathers, AreGathering, crashes_gather, AbstractRun, kept_of}
+use Rattle.crash_simulation.proofs.Common.{now_of, CrashSimulates, IsRecoveredFrom, RecoveredWordsSimulate, Simulates, gathering}
+use Rattle.crash_simulation.proofs.Common.{IsMachineOf, most_ahead, System, IsSystem, thread_count, flat_of, places_of, Rests, ThreadGhost}
+use Rattle.crash_simulation.proofs.Common.{InPhase, ThreadInv}
 use Rattle.recovery_semantics.specs.Executions.{begins}
 use Rattle.flow_graph.specs.IdempotentCuts as cutting
 use Rattle.region_attempts.specs.AttemptsInRegion as attempts
-use Rattle.c_tree.specs.Flats as f
-use Rattle.c_tree.specs.Source as m
-use Rattle.crash_simulation.proofs.StatesMatchSource.{orderly, begins_orderly, free_holds_none, none_holds, is_repeated, repeated_or}
+use Rattle.crash_simulation.proofs.StatesMatchSource.{orderly, begins_orderly}
 use Rattle.crash_simulation.proofs.RecordsAfterCrash.{over_is_caught, left, log_of, left_describes}
 use Rattle.crash_simulation.proofs.ThreadViews.{none_clean, none_stored, records_over}
 use Rattle.crash_simulation.proofs.ThreadsOfMachines.{machine_stays}
 use Rattle.crash_simulation.proofs.LastReleases.{holds_some}
-use Rattle.crash_simulation.proofs.StepsAfterMarks.{entry_soon}
-use Rattle.crash_simulation.proofs.LoadFreeEnvironment.{bare, bare_agrees, bare_meets, bare_answers}
 
 -- ---- A machine whose harts begin to gather the locks of records simulates an abstract run at the state that these describe
 
@@ -296,164 +291,3 @@ module _ (y : System) (s : IsSystem y) (o : Origin (flat_of y)) (words : List �
 
 pub recovered_words_simulate : RecoveredWordsSimulate
 recovered_words_simulate y s o words is = record { stands = recovered_stands y s o words is; begins = refl }
-
--- ---- The start: the abstract run begins at the source's start
-
--- ---- Lists
-
-pub row_of : {A : Type 0} (g : ℕ → A) (at count i : ℕ) → i < count → slice_get (map g (numbers_from at count)) i ≡ Some (g (at + i))
-row_of g at zero i below = absurd (omega (arith, below))
-row_of {A} g at (suc count) zero below = ap (λ (n : ℕ). Some (g n)) (sym (add-zero at))
-row_of {A} g at (suc count) (suc i) below =
-    let same : at + 1 + i ≡ at + suc i = omega arith in
-    row_of g (at + 1) count i (omega (arith, below)) ∙ ap (λ (n : ℕ). Some (g n)) same
-
-part_has_nodes : (ts : List f.Thread) (first n : ℕ) (own : Part) → slice_get (parts ts first) n ≡ Some own → own.first < own.end
-part_has_nodes [] first n own h = absurd (none-some own h)
-part_has_nodes (t ∷ ts) first zero own h = subst (λ (o : Part). o.first < o.end) (same_Some (part t first) own h) (omega arith)
-part_has_nodes (t ∷ ts) first (suc n) own h = part_has_nodes ts (first + node_count t) n own h
-
--- what is pending of no store
-pub pending_free : (p : Plan) (action : Action) (seen : Seen) (x : List ℕ) → seen.pending ≡ None → IsPendingIn p action seen x
-pending_free p (Store variable kind next) seen x none = λ store h. absurd (none-some store (sym none ∙ h))
-pending_free p action seen x none = tt
-
--- ---- The start
-
-module _ (y : System) (s : IsSystem y) where
-  abbrev w : World
-  w = first_world y.runs
-
-  abbrev origin : Origin (flat_of y)
-  origin = start_origin (flat_of y) s.plan.formed s.disciplined
-
-  abbrev abstract : AbstractRun y
-  abstract =
-      let from = m.start (flat_of y) in
-      record {
-        origin = origin;
-        config = first_config (flat_of y) from (memory_of from);
-        schedule = [];
-        execution = begins (memory_of from) (fresh_are_stable from);
-        respects = free_at_boundaries (flat_of y) y.plan.boundaries origin (start_free (flat_of y) s.plan.formed s.disciplined);
-      }
-
-  abbrev ghosts : ℕ → ThreadGhost
-  ghosts n = resting_ghost y nothing_recorded n
-
-  none_done : (n : ℕ) → (attempt_of abstract.config n).done ≡ 0
-  none_done n = ap (λ (a : Attempt). a.done) (none_yet (flat_of y).threads n)
-
-  fresh : (n : ℕ) → n < length y.runs.program → slice_get w.harts n ≡ Some (fresh_hart y.runs.program Run n)
-  unfolding start_of
-  fresh n below =
-      row_of (fresh_hart y.runs.program Run) 0 (length y.runs.program) n below ∙ ap (λ (k : ℕ). Some (fresh_hart y.runs.program Run k)) (omega arith)
-
-  pub count : length w.harts ≡ length y.runs.program
-  count = (starts_simulate y.runs.log y.runs.program y.runs.mutexes y.runs.initial).1
-
-  pub holders_are : w.holders ≡ replicate y.runs.mutexes None
-  unfolding start_of
-  holders_are = refl
-
-  abbrev graph_thread : Code y.plan → GraphThread
-  graph_thread code = graph_thread_start code.thread.part
-
-  part_there : (code : Code y.plan) → slice_get (lowered (flat_of y)).threads code.thread.number ≡ Some code.thread.part
-  part_there code = subst (λ (graph : Graph). slice_get graph.threads code.thread.number ≡ Some code.thread.part) s.plan.lowered code.of.nodes
-
-  walks : (code : Code y.plan) → slice_get (now_of y abstract).graph_threads code.thread.number ≡ Some (graph_thread code)
-  walks code = slice_get-map graph_thread_start (lowered (flat_of y)).threads code.thread.number ∙ ap (option_map graph_thread_start) (part_there code)
-
-  has_nodes : (n : ℕ) (own : Part) → slice_get (lowered (flat_of y)).threads n ≡ Some own → own.first < own.end
-  unfolding lowered
-  has_nodes n own there = part_has_nodes (flat_of y).threads 0 n own there
-
-  first_node : (code : Code y.plan) → IsNodeOf code.thread code.thread.part.first
-  first_node code = record { from_first = omega arith; below_end = has_nodes code.thread.number code.thread.part (part_there code) }
-
-  zero_carried : (k : Kind) (home : Home) → HomeCarries (replicate 32 0) home (typed k (pos 0))
-  zero_carried k (InRegister register) = record { held = Holds-zero k; form = repeated_or 32 register 0 ∙ sym (zero_form k) }
-
-  enters : (code : Code y.plan) → Enters y.plan code.thread code.thread.part.first (seen_by (now_of y abstract) (graph_thread code)) 0 (replicate 32 0)
-  enters code = record {
-    at_side = fresh_on_side y.plan.log;
-    count = length-replicate code.thread.part.locals (pos 0) ∙ locals_are y.plan code.thread s.plan code.of;
-    locals = λ local k there live.
-        let value = repeated_or code.thread.part.locals local (pos 0) in
-        subst (λ (z : ℤ). HomeCarries (replicate 32 0) (home_of code.thread.locals local) (typed k z)) (sym value)
-        (zero_carried k (home_of code.thread.locals local));
-    pending = λ is at. pending_free y.plan is.action (seen_by (now_of y abstract) (graph_thread code)) (replicate 32 0) refl;
-  }
-
-  on_its_fragment : (n : ℕ) (below : n < thread_count y) (hart : Hart) → slice_get w.harts (s.codes.each n below).thread.number ≡ Some hart →
-      InFragment y w abstract (s.codes.each n below) (ghosts n) hart (graph_thread (s.codes.each n below)) Arrives 0
-  on_its_fragment n below hart here =
-      let code = s.codes.each n below in
-      let number = code.thread.number in
-      let same = s.codes.number n below in
-      let inside : number < length y.runs.program = omega (arith, below, s.count, same) in
-      let start : code_start y.runs.program number ≡ code.program.start = ap (λ (p : Program). p.start) (sym (s.own n below).program) in
-      record {
-        environment = bare y s w n below;
-        answers = bare_answers y s w n below (now abstract.config);
-        side = 0;
-        at_side = λ none. absurd (none refl);
-        fragment =
-            threads_start y.plan code.thread y.runs.program code.program code.is w number (bare y s w n below)
-            (seen_by (now_of y abstract) (graph_thread code)) 0 (replicate 32 0) (bare_meets y s w n below) (bare_agrees y s w n below) (first_node code)
-            (record { hart = fresh_hart y.runs.program Run number; here = fresh number inside; runs = refl; is = ap (config (replicate 32 0)) start })
-            (enters code);
-        fits = (record { going = sym (none_done number); rest = refl; giving = refl; committed = refl }, refl);
-        soon =
-            let all = entry_soon y s n below code.thread.part.first (length hart.queue) (first_node code)
-            (starts_are_short y.runs.log y.runs.program y.runs.mutexes y.runs.initial number hart here) in
-            let is : most_ahead y number ≡ most_ahead y n = ap (most_ahead y) same in
-            (omega (arith, all, is), omega (arith, is));
-      }
-
-  pub thread : (n : ℕ) (below : n < thread_count y) → ThreadInv y w abstract (s.codes.each n below) (ghosts n)
-  thread n below =
-      let code = s.codes.each n below in
-      let number = code.thread.number in
-      let inside : number < length y.runs.program = omega (arith, below, s.count, s.codes.number n below) in
-      let log = starts_standing y.runs.log y.runs.program y.runs.mutexes number y.runs.initial inside in
-      let is : fresh_hart y.runs.program Run number ≡ log.hart = same_Some _ _ (sym (fresh number inside) ∙ log.here) in
-      let runs : Run ≡ log.hart.phase = ap (λ (h : Hart). h.phase) is in
-      let none = free_holds_none number 0 (kept_of y abstract).holders (λ lock. is_repeated (length (flat_of y).mutexes) lock None) in
-      resting_thread y w abstract code nothing_recorded n (graph_thread code) log (between none refl) (none_done number) (walks code)
-      (subst (λ (p : Phase). InPhase y w abstract code (ghosts n) log.hart (graph_thread code) p) runs
-      (on_fragment Arrives 0 (on_its_fragment n below log.hart log.here)))
-
-  pub log_is : y.plan.log ≡ w.log
-  unfolding start_of
-  log_is = s.log
-
-  pub all_run : (h : ℕ) (hart : Hart) → slice_get w.harts h ≡ Some hart → HasGathered w h nothing_recorded hart.phase
-  all_run h hart there =
-      let below : h < length y.runs.program = omega (arith, slice_get_within w.harts h hart there, count) in
-      subst (λ (x : Hart). HasGathered w h nothing_recorded x.phase) (same_Some _ hart (sym (fresh h below) ∙ there)) tt
-
-  abbrev pub stands : Simulates y s w
-  stands = record {
-    machine = record {
-      count = count ∙ s.count;
-      log = log_is;
-      mutexes = ap length holders_are ∙ length-replicate y.runs.mutexes None ∙ s.mutexes;
-      sound = (starts_simulate y.runs.log y.runs.program y.runs.mutexes y.runs.initial).0;
-      short = starts_are_short y.runs.log y.runs.program y.runs.mutexes y.runs.initial;
-    };
-    abstract = abstract;
-    memory = starts_hold y.runs.log (flat_of y) y.runs.program y.runs.mutexes y.runs.initial s.plan.formed s.initial;
-    ghosts = ghosts;
-    each = thread;
-    locks = gathered (record { each = all_run }) (record {
-      held = λ lock n there. absurd (none_holds y.runs.mutexes lock n (ap (λ (hs : List (Option ℕ)). slice_get hs lock) (sym holders_are) ∙ there));
-      holds = λ lock n there. absurd (none_holds (length (flat_of y).mutexes) lock n there);
-      giving = λ lock n inside gives. absurd (none-some lock gives);
-    });
-    caught_up = λ n below all. over_is_caught y w abstract (s.codes.each n below) (ghosts n) (thread n below) refl refl;
-  }
-
-pub start_simulates : StartSimulates
-start_simulates y s = stands y s

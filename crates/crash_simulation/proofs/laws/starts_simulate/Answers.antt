@@ -1,4 +1,4 @@
-use Rattle.crash_simulation.proofs.SimulationAtStart.{start_simulates}
+use Rattle.crash_simulation.proofs.LifeBeginnings.{start_simulates}
 use Rattle.crash_simulation.proofs.laws.starts_simulate.Goals as goal
 
 pub returns : goal.returns
