@@ -23,21 +23,21 @@ in_prefix live n k d within = grind (arith, common_steps)
 in_prefix_below : (live : List LiveLocal) (n k : ℕ) → k < length (take n live) → k < n
 in_prefix_below live n k within = grind (arith, common_steps)
 
-module _ (logs : List ℕ) (thread bank : ℕ) (live : List LiveLocal) (i : ℕ) (d : LiveLocal) (word : ℕ) (within : i < length live)
-    (word_is : word ≡ slot_in logs thread bank (get_or live i d).register)
+module _ (logs : List ℕ) (thread bank : ℕ) (live : List LiveLocal) (i : ℕ) {word : ℕ} (within : i < length live)
+    (word_is : word ≡ slot_in logs thread bank (get_or live i none).register)
     (before : (k : ℕ) (e : LiveLocal) → k < i → HasLocal logs thread bank (get_or live k e)) where
-  pub first_wrong : ¬ (IsForm (get_or live i d).kind word) → IsFirstWrong logs thread bank live (get_or live i d).register
+  pub first_wrong : ¬ (IsForm (get_or live i none).kind word) → IsFirstWrong logs thread bank live (get_or live i none).register
   first_wrong wrong = record {
     before = take i live;
-    local = get_or live i d;
+    local = get_or live i none;
     after = drop (i + 1) live;
-    parts = parted live i d within;
+    parts = parted live i none within;
     right = λ k e l. subst (HasLocal logs thread bank) (sym (in_prefix live i k e l)) (before k e (in_prefix_below live i k l));
-    wrong = λ h. wrong (subst (IsForm (get_or live i d).kind) (sym word_is) h);
+    wrong = λ h. wrong (subst (IsForm (get_or live i none).kind) (sym word_is) h);
     register_is = refl;
   }
 
-  pub more_right : IsForm (get_or live i d).kind word → (k : ℕ) (e : LiveLocal) → k < i + 1 → HasLocal logs thread bank (get_or live k e)
+  pub more_right : IsForm (get_or live i none).kind word → (k : ℕ) (e : LiveLocal) → k < i + 1 → HasLocal logs thread bank (get_or live k e)
   more_right right k e l =
       below_more (λ (n : ℕ). (e : LiveLocal) → HasLocal logs thread bank (get_or live n e)) i (λ n m x. before n x m)
-      (λ x. subst (HasLocal logs thread bank) (get_or_default live i d x within) (subst (IsForm (get_or live i d).kind) word_is right)) k l e
+      (λ x. subst (HasLocal logs thread bank) (get_or_default live i none x within) (subst (IsForm (get_or live i none).kind) word_is right)) k l e

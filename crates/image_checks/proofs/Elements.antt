@@ -20,7 +20,7 @@ mul_once : (b m n : ℕ) → 0 < b → b * m ≡ b * n → m ≡ n
 mul_once b m n some e = sym (mul-div_cancel_left m some) ∙ ap (λ (x : ℕ). x / b) e ∙ mul-div_cancel_left n some
 
 -- of a location in this variable, whose first element stands there
-module _ (xs : List declared.Variable) (addresses : List ℕ) (location : Location) (address first bytes : ℕ) (x : declared.Variable)
+module _ (xs : List declared.Variable) {addresses : List ℕ} (location : Location) (address : ℕ) {first bytes : ℕ} {x : declared.Variable}
     (are : AreAddresses (shapes (map variable_of xs)) addresses) (there : slice_get xs location.variable ≡ Some x)
     (first_is : first ≡ slice_index addresses location.variable) (bytes_is : bytes ≡ bytes_of x.kind) where
   abbrev vs : List Variable

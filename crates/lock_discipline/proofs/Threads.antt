@@ -80,7 +80,7 @@ pub whole_walk : (language : Language) (x : d.Flat) → lock_fault language (f.f
 unfolding lock_fault
 whole_walk language x = refl
 
-module _ (language : Language) (x : d.Flat) (i : ℕ) (t : thread.Thread) (variables : List variable.Variable) (names : List LockName)
+module _ (language : Language) (x : d.Flat) (i : ℕ) (t : thread.Thread) {variables : List variable.Variable} {names : List LockName}
     (all : variables ≡ x.variables.items)
     (own : names ≡ lock_names (f.flat_of x) (f.thread_of t)) (within : i < length x.threads.items) (is : t ≡ get_or x.threads.items i t)
     (before : walk_from language x 0 ≡ walk_from language x i) where

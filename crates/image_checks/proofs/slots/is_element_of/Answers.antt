@@ -10,8 +10,7 @@ returns-then-element-from c =
     let read = c.in-Some.ensures.lookup in
     let there : slice_get xs c.args.location.variable ≡ Some c.in-Some.variable.now =
     slice_get_read xs (length xs) c.args.location.variable c.in-Some.variable.now refl read.3.0 read.1 in
-    not_above xs c.args.addresses.now c.args.location c.args.address c.from-first.result c.from-bytes.result c.in-Some.variable.now
-    c.requires there c.from-first.ensures (c.from-bytes.ensures ∙ c.bytes.ensures)
+    not_above xs c.args.location c.args.address c.requires there c.from-first.ensures (c.from-bytes.ensures ∙ c.bytes.ensures)
     c.in-Some-element_at.element c.from.result c.from-then-element-from.result c.in-Some-element_at.ensures.is c.from.ensures c.from-then-element-from.ensures
     c.if-element-from.true
 
@@ -21,8 +20,7 @@ returns-else-element-from c =
     let read = c.in-Some.ensures.lookup in
     let there : slice_get xs c.args.location.variable ≡ Some c.in-Some.variable.now =
     slice_get_read xs (length xs) c.args.location.variable c.in-Some.variable.now refl read.3.0 read.1 in
-    below xs c.args.addresses.now c.args.location c.args.address c.from-first.result c.from-bytes.result c.in-Some.variable.now
-    c.requires there c.from-first.ensures (c.from-bytes.ensures ∙ c.bytes.ensures)
+    below xs c.args.location c.args.address c.requires there c.from-first.ensures (c.from-bytes.ensures ∙ c.bytes.ensures)
     c.in-Some-element_at.element c.from.result c.in-Some-element_at.ensures.is c.from.ensures c.if-element-from.false
 
 pub returns-in-None : goal.returns-in-None
@@ -31,5 +29,4 @@ returns-in-None c =
     let read = c.in-Some.ensures.lookup in
     let there : slice_get xs c.args.location.variable ≡ Some c.in-Some.variable.now =
     slice_get_read xs (length xs) c.args.location.variable c.in-Some.variable.now refl read.3.0 read.1 in
-    none_there xs c.args.addresses.now c.args.location c.args.address c.from-first.result c.from-bytes.result c.in-Some.variable.now
-    c.requires there c.from-first.ensures (c.from-bytes.ensures ∙ c.bytes.ensures) (c.in-None.ensures.none refl)
+    none_there xs c.args.location c.args.address c.requires there c.from-first.ensures (c.from-bytes.ensures ∙ c.bytes.ensures) (c.in-None.ensures.none refl)

@@ -41,8 +41,7 @@ returns-in_err-walk_thread-clause-refuses c =
     rw (q.1, q.2) (same_fault (fault_of c.in_err-walk_thread.field-0.0)
     (λ fault. walk_thread c.args.language (map variable_of c.deref-in-loop-thread-2.result.now) names (thread_of t) ≡ Broken fault)
     (λ fault. lock_fault c.args.language (flat_of x) ≡ Some fault)
-    (thread_breaks c.args.language x c.loop-thread.thread-index t c.deref-in-loop-thread-2.result.now names
-    c.deref-in-loop-thread-2.ensures.value own within item
+    (thread_breaks c.args.language x c.loop-thread.thread-index t c.deref-in-loop-thread-2.ensures.value own within item
     c.loop-thread.invariant.walk)
     c.in_err-walk_thread.ensures.walk)
 
@@ -59,8 +58,7 @@ loop-thread-preserved c =
     let within : c.loop-thread.thread-index < length x.threads.items = omega arith in
     record {
       walk =
-          thread_keeps c.args.language x c.loop-thread.thread-index t c.deref-in-loop-thread-2.result.now names
-          c.deref-in-loop-thread-2.ensures.value own within item
+          thread_keeps c.args.language x c.loop-thread.thread-index t c.deref-in-loop-thread-2.ensures.value own within item
           c.loop-thread.invariant.walk c.in_ok-walk_thread.ensures.walk;
       sets = next_row x c.loop-thread.thread-index t names c.in_ok-walk_thread.field-0 _ _ own within item c.in_ok-push.ensures.items
           c.in_ok-walk_thread.ensures.sets c.loop-thread.invariant.sets;
