@@ -1,6 +1,7 @@
 //! Laws of flow graphs: nothing is computed here.
 ghost use Rattle.flow_graph.specs.Lockstep.{BeginsLockstep, StepsLockstep, RunsLockstep};
-ghost use Rattle.flow_graph.specs.Paths.{CommonElementsOverlap, PlainPathsHaveOneNaming, ReadsAreRight, ReadsLie, RunsAreVisited, SameHaveOneElement, StepsGoAlongEdges};
+ghost use Rattle.flow_graph.specs.Paths.{CommonElementsOverlap, PlainPathsHaveOneNaming, ReadsAreRight};
+ghost use Rattle.flow_graph.specs.Paths.{ReadsLie, RunsAreVisited, SameHaveOneElement, StepsGoAlongEdges};
 ghost use Rattle.flow_graph.specs.Paths.{VisitsAreRuns, WritesLie};
 
 /// A source and the flow graph of its well formed flat form step in lockstep, on every schedule: the same variables, holders, locals and
