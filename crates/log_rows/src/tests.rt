@@ -57,10 +57,17 @@ struct Seen {
     ended: u64,
 }
 
-/// An event, if the life has room for it, and a hart.
-fn event(life: &mut Life, event: Event) {
+/// A step of the first hart, if the life has one, and room.
+fn step(life: &mut Life) {
     if life.harts() > 0 && life.room() > 0 {
-        life.event(event);
+        life.event(Event::Step(0));
+    }
+}
+
+/// Power is lost, if the life has room.
+fn lose_power(life: &mut Life) {
+    if life.room() > 0 {
+        life.event(Event::Crash);
     }
 }
 
@@ -70,7 +77,7 @@ fn step_to_fence(life: &mut Life, fences: u64) {
         if life.harts() > 0 && life.fences(0) >= fences {
             return;
         }
-        event(life, Event::Step(0));
+        step(life);
     }
 }
 
@@ -80,7 +87,7 @@ fn step_to_end(life: &mut Life) {
         if life.harts() > 0 && life.stopped(0) {
             return;
         }
-        event(life, Event::Step(0));
+        step(life);
     }
 }
 
@@ -117,10 +124,10 @@ fn run_through_loss(alloc: Global, log: Log, text: &[u8], fences: u64) -> Result
 {
     let mut life = life_of(alloc, log, text)?;
     step_to_fence(&mut life, fences);
-    event(&mut life, Event::Step(0));
-    event(&mut life, Event::Step(0));
+    step(&mut life);
+    step(&mut life);
     let before = look(&life);
-    event(&mut life, Event::Crash);
+    lose_power(&mut life);
     step_to_end(&mut life);
     Ok([before, look(&life)])
 }
