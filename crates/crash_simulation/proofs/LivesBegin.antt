@@ -9,41 +9,15 @@ use Rattle.rv64_isa.specs.Machine.{durable_point}
 use Rattle.rv64_isa.specs.Schedule.{are_settled, is_settled_hart}
 use Rattle.recovery_semantics.specs.ElementHistories.{AreStable}
 use Rattle.region_attempts.proofs.Public.{life_origin, settled_may_begin}
-use Rattle.log_states.specs.Logs.{IsDurable, IsRecorded, point_in}
-use Rattle.log_states.specs.Stages.{LogConfig, LogIs, Stage, Writing, Written, Pointed, PointQueued, Over}
+use Rattle.log_states.specs.Stages.{LogIs}
 use Rattle.log_states.specs.Machines.{config_of}
-use Rattle.log_states.proofs.Public.{contains_none, nothing_is_record}
+use Rattle.log_states.proofs.Public.{nothing_is}
 use Rattle.c_tree.specs.Source as m
 use Rattle.crash_simulation.specs.LaterLives.{HaveStopped, IsBegunAnew, LivesSimulate, SimulatesAnew}
 use Rattle.crash_simulation.proofs.StatesMatchSource.{none_holds, now_orderly, resumed}
 use Rattle.crash_simulation.proofs.RecordsAfterCrash.{between_there}
 use Rattle.crash_simulation.proofs.LastReleases.{holds_some}
 use Rattle.crash_simulation.proofs.LifeBeginnings.{BeginsLife, IsAtFirstWord, life_stands}
-
--- ---- Logs
-
--- with no boundary under way the log has its record
-over_has : (log : Log) (thread : ℕ) (old new : Record) (m : LogConfig) → m.rest ≡ [] → Stage log thread old new m → IsRecorded log thread new m.words
-over_has log thread old new m none (Writing [] [] writing recorded) = absurd (let e = sym writing.rest ∙ none in cc)
-over_has log thread old new m none (Writing [] (line ∷ lines) writing recorded) = absurd (let e = sym writing.rest ∙ none in cc)
-over_has log thread old new m none (Writing (slot ∷ slots) lines writing recorded) = absurd (let e = sym writing.rest ∙ none in cc)
-over_has log thread old new m none (Written rest recorded bank) = absurd (let e = sym rest ∙ none in cc)
-over_has log thread old new m none (Pointed rest pointed) = absurd (let e = sym rest ∙ none in cc)
-over_has log thread old new m none (PointQueued rest pointed reaches) = absurd (let e = sym rest ∙ none in cc)
-over_has log thread old new m none (Over rest recorded) = recorded
-
--- a log whose record has no point, in words and with a queue as they are
-nothing_is : (log : Log) (thread : ℕ) (old new : Record) (m : LogConfig) → m.rest ≡ [] → new.point ≡ 0 → LogIs log thread old new m →
-    LogIs log thread nothing_recorded nothing_recorded m
-nothing_is log thread old new m none point is = record {
-  follows = record { old_is = nothing_is_record log; new_is = nothing_is_record log; apart = λ some also. absurd (some refl) };
-  log = is.log;
-  queue = is.queue;
-  stage = Over none (record {
-    point = subst (λ (p : ℕ). IsDurable (point_in log m.words thread) p) point (over_has log thread old new m none is.stage).point;
-    bank = λ slot own. absurd (contains_none slot own);
-  });
-}
 
 -- ---- Settled machines
 

@@ -19,3 +19,4 @@ mod FactsByName
 mod LivePoints
 mod Worked
 mod BoundaryCommits
+mod LogsBetweenLives

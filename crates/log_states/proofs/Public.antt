@@ -10,6 +10,7 @@ pub use Rattle.log_states.proofs.Heads.{address_of, not_done}
 pub use Rattle.log_states.proofs.Lists.{contains_cases, contains_first, contains_later, contains_none}
 pub use Rattle.log_states.proofs.LivePoints.{live_is}
 pub use Rattle.log_states.proofs.LogInvariantHolds.{begins_standing, crashes_standing, evictions_keep, starts_standing, steps_keep}
+pub use Rattle.log_states.proofs.LogsBetweenLives.{nothing_is}
 pub use Rattle.log_states.proofs.Machines.{evictions_move, own_steps_move, steps_move}
 pub use Rattle.log_states.proofs.Numbers.{beyond_variables, logs_are_apart, slot_in_log, some_words, variables_are_apart, word_of_log, word_of_point}
 pub use Rattle.log_states.proofs.Schemes.{mask_has_kept, nothing_is_record, scheme}
