@@ -35,7 +35,7 @@ fn byte_of(event: Event) -> u8
 {
     match event {
         Event::Step(hart) => hart as u8,
-        Event::Evict { .. } => unreachable!(),
+        Event::Evict { .. } | Event::Start => unreachable!(),
         Event::Crash => 4,
     }
 }
@@ -111,6 +111,10 @@ impl Core for Lines {
 
     fn can_step(&self) -> Option<u32> {
         Some(0)
+    }
+
+    fn can_start(&self) -> bool {
+        false
     }
 
     type Local = NothingAhead;

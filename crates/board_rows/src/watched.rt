@@ -105,7 +105,7 @@ fn reply(event: Event) -> Reply
 {
     match event {
         Event::Step(_) => Reply::Moved,
-        Event::Evict { .. } | Event::Crash => Reply::Device,
+        Event::Evict { .. } | Event::Crash | Event::Start => Reply::Device,
     }
 }
 
@@ -196,6 +196,10 @@ impl<'a> Core for Watched<'a> {
 
     fn can_step(&self) -> Option<u32> {
         Some(0)
+    }
+
+    fn can_start(&self) -> bool {
+        false
     }
 
     type Local = Runner<'a>;

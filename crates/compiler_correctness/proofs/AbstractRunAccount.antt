@@ -1,19 +1,19 @@
 -- The abstract run's config, in the words of the machine's account: what is kept, what is now, and where all harts are settled.
-use Rattle.std.proofs.Common.{◌≡◌, inl, inr, ℕ, zero, suc, ◌<◌, List, [], ◌∷◌, ◌++◌, length, ap, ap₂, arith, sym, ◌∙◌, subst, true, ◌≢◌, ◌&&◌, ◌==◌}
+use Rattle.std.proofs.Common.{◌≡◌, inl, inr, ℕ, zero, suc, ◌<◌, [], ◌∷◌, ◌++◌, length, ap, ap₂, arith, sym, ◌∙◌, subst, true, ◌≢◌, ◌&&◌, ◌==◌}
 use Rattle.std.proofs.lemmas.Bool.{and_parts, eqb-true, cases_lt, true≢false}
 use Rattle.ido_base.specs.Layout.{point_at}
 use Rattle.ido_base.specs.Locks.{holds_none}
 use Rattle.c_tree.specs.Source.{State, after_from, is_between, runs_from}
-use Rattle.rv64_isa.specs.Machine.{World, durable_point, live_at, resume_of}
-use Rattle.rv64_isa.specs.Schedule.{Steps, are_settled, is_settled, is_settled_hart}
+use Rattle.rv64_isa.specs.Machine.{World, are_settled, durable_point, is_settled, is_settled_hart, live_at, resume_of}
+use Rattle.rv64_isa.specs.Schedule.{Steps, schedules}
 use Rattle.variable_words.specs.Variables.{durable_variables}
 use Rattle.variable_words.proofs.Public.{well_formed_placed, durable_are_memory}
 use Rattle.crash_simulation.specs.Systems.{System, IsSystem, flat_of, thread_count}
 use Rattle.crash_simulation.specs.SimulationRelation.{Simulates}
-use Rattle.crash_simulation.specs.AccountRelation.{SimulatesCounted, MachinesResume, first_beginning}
-use Rattle.crash_simulation.proofs.Public.{resumed, settled_is_kept, between_there, as_source}
-use Rattle.compiler_correctness.specs.Translations.{Translation, world, steps, source, IsRunnable}
-use Rattle.compiler_correctness.proofs.FirstLife.{after_none}
+use Rattle.crash_simulation.specs.AccountRelation.{SimulatesLives, MachinesResume, first_beginning}
+use Rattle.crash_simulation.proofs.Public.{resumed, settled_is_kept, between_there, as_source, schedule_is}
+use Rattle.compiler_correctness.specs.Translations.{Translation, steps, source, IsRunnable}
+use Rattle.compiler_correctness.proofs.LaterLives.{runnable, source_is}
 use Rattle.compiler_correctness.specs.Laws.{translation_of, SettledMachinesAreKept}
 use Rattle.std.specs.List.{Contains}
 use Rattle.c_tree.specs.Source as m
@@ -58,33 +58,33 @@ module _ (y : System) (s : IsSystem y) (w : World) (stands : Simulates y s w) (s
       ∙ (settled_is_kept y s w stands zeros).durable
 
 module _ (y : System) (s : IsSystem y) (w : World) (account : Steps) {r : ℕ → ℕ}
-    (resumes : SimulatesCounted y s (first_beginning y) w account r) where
-  -- the kept steps are those of the abstract run, and lead to what is kept there
-  pub kept_runs : IsRunnable (translation_of y) (account.kept ∷ [])
-  kept_runs =
-      let b = resumes.stands.abstract in
-      ap₂ runs_from (sym resumes.counted.begins) resumes.counted.kept ∙ (resumed y s b).resumed.kept.runs
+    (resumes : SimulatesLives y s (first_beginning y) w account r) where
+  -- the life's kept steps are those of the abstract run, and lead to what is kept there
+  pub kept_from : (runs_from resumes.is.stands.abstract.origin.source account.kept ≡ true)
+      × (after_from resumes.is.stands.abstract.origin.source account.kept ≡ resumes.is.stands.abstract.config.kept)
+  kept_from =
+      let b = resumes.is.stands.abstract in
+      let kept = (resumed y s b).resumed.kept in
+      let same = schedule_is y s w account resumes in
+      (ap (runs_from b.origin.source) same ∙ kept.runs, ap (after_from b.origin.source) same ∙ kept.is)
 
-  pub kept_is : source (translation_of y) (account.kept ∷ []) ≡ resumes.stands.abstract.config.kept
-  kept_is =
-      let b = resumes.stands.abstract in
-      ap₂ after_from (sym resumes.counted.begins) resumes.counted.kept ∙ (resumed y s b).resumed.kept.is
+  pub kept_runs : IsRunnable (translation_of y) (schedules account)
+  kept_runs = runnable y s w account resumes account.kept kept_from.0
+
+  pub kept_is : source (translation_of y) (schedules account) ≡ resumes.is.stands.abstract.config.kept
+  kept_is = source_is y s w account resumes account.kept ∙ kept_from.1
 
 pub settled_machines_are_kept : MachinesResume → SettledMachinesAreKept
 settled_machines_are_kept machines y s events =
     let resumes = machines y s events in
     let c : Translation = translation_of y in
-    let kept : List ℕ = (steps c events).kept in
     record {
-      runs = after_none c events (λ (earlier : List (List ℕ)). IsRunnable c (earlier ++ kept ∷ [])) (kept_runs y s _ _ resumes);
+      runs = kept_runs y s _ _ resumes;
       between = λ settled thread.
-          after_none c events (λ (earlier : List (List ℕ)). is_between (source c (earlier ++ kept ∷ [])) thread ≡ true)
-          (ap (λ (z : State). is_between z thread) (kept_is y s _ _ resumes) ∙ kept_between y s _ resumes.stands settled thread);
+          ap (λ (z : State). is_between z thread) (kept_is y s _ _ resumes) ∙ kept_between y s _ resumes.is.stands settled thread;
       variables = λ settled.
-          after_none c events (λ (earlier : List (List ℕ)). durable_variables (world c events).words c.flat.variables
-          ≡ (source c (earlier ++ kept ∷ [])).variables)
-          (settled_variables y s _ resumes.stands settled
-          ∙ ap (λ (z : State). z.variables) (ap₂ after_from resumes.counted.begins (sym resumes.counted.kept)));
+          settled_variables y s _ resumes.is.stands settled
+          ∙ ap (λ (z : State). z.variables) ((resumed y s resumes.is.stands.abstract).resumed.kept.is ∙ sym (kept_is y s _ (steps c events) resumes));
     }
 
 -- ---- What is kept, what is now, and the logs of threads
@@ -92,22 +92,26 @@ settled_machines_are_kept machines y s events =
 -- ---- The source after the kept steps and after all steps
 
 module _ (y : System) (s : IsSystem y) (w : World) (steps : Steps) {r : ℕ → ℕ}
-    (resumes : SimulatesCounted y s (first_beginning y) w steps r) where
-  open resumes.stands use {abstract}
+    (resumes : SimulatesLives y s (first_beginning y) w steps r) where
+  open resumes.is.stands use {abstract}
 
-  both : m.after_from (source (translation_of y) (steps.kept ∷ [])) steps.pending ≡ now abstract.config
-  both = ap₂ m.after_from (kept_is y s w steps resumes) resumes.counted.pending
+  abbrev from : State
+  from = abstract.origin.source
 
-  pub now_runs : IsRunnable (translation_of y) ((steps.kept ++ steps.pending) ∷ [])
+  pub now_runs : IsRunnable (translation_of y) (steps.earlier ++ (steps.kept ++ steps.pending) ∷ [])
   now_runs =
-      (goes_on (m.start (flat_of y)) steps.kept steps.pending (kept_runs y s w steps resumes)).runs
-      ∙ (ap₂ m.runs_from (kept_is y s w steps resumes) resumes.counted.pending ∙ (resumed y s abstract).resumed.invariant.runs)
+      runnable y s w steps resumes (steps.kept ++ steps.pending)
+      ((goes_on from steps.kept steps.pending (kept_from y s w steps resumes).0).runs
+      ∙ (ap₂ m.runs_from (kept_from y s w steps resumes).1 resumes.is.counted.pending ∙ (resumed y s abstract).resumed.invariant.runs))
 
-  pub now_is : source (translation_of y) ((steps.kept ++ steps.pending) ∷ []) ≡ now abstract.config
-  now_is = (goes_on (m.start (flat_of y)) steps.kept steps.pending (kept_runs y s w steps resumes)).after ∙ both
+  pub now_is : source (translation_of y) (steps.earlier ++ (steps.kept ++ steps.pending) ∷ []) ≡ now abstract.config
+  now_is =
+      source_is y s w steps resumes (steps.kept ++ steps.pending)
+      ∙ ((goes_on from steps.kept steps.pending (kept_from y s w steps resumes).0).after
+      ∙ ap₂ m.after_from (kept_from y s w steps resumes).1 resumes.is.counted.pending)
 
   -- mutexes are held as in the graph's states
-  pub kept_holders : (kept_of y abstract).holders ≡ (source (translation_of y) (steps.kept ∷ [])).holders
+  pub kept_holders : (kept_of y abstract).holders ≡ (source (translation_of y) (schedules steps)).holders
   kept_holders = (as_source y s abstract).kept_matches.holders ∙ ap (λ (z : m.State). z.holders) (sym (kept_is y s w steps resumes))
 
 -- ---- A thread that holds nothing has no point

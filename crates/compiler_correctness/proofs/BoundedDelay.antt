@@ -1,17 +1,17 @@
 -- Each hart of a compiled program soon begins the next step of its thread: what the simulation says is ahead of it falls with each of its active steps.
-use Rattle.std.proofs.Common.{◌≡◌, ◌≢◌, ◌⊎◌, inl, inr, refl, ℕ, ◌<◌, ◌≤◌, List, [], ◌++◌, length, ap, arith, sym, ◌∙◌, subst, Option, Some, None, Bool, true}
+use Rattle.std.proofs.Common.{◌≡◌, ◌⊎◌, inl, inr, refl, ℕ, ◌<◌, ◌≤◌, List, [], ◌++◌, length, ap, arith, sym, ◌∙◌, subst, Option, Some, None, Bool, true}
 use Rattle.std.proofs.Common.{false, slice_get, ◌==◌, ◌&&◌, ◌-◌, not}
 use Rattle.std.proofs.lemmas.Bool.{cases_eq, cases_Bool, cases_lt, ne_eqb}
 use Rattle.std.proofs.lemmas.Option.{none-some, slice_get_within}
 use Rattle.ido_base.specs.declared.event.Event.{Event}
-use Rattle.ido_base.specs.declared.event.Event.TheVariants.{Step, Evict, Crash}
+use Rattle.ido_base.specs.declared.event.Event.TheVariants.{Step, Evict, Crash, Start}
 use Rattle.ido_base.specs.declared.event.Reply.TheVariants.{Waits}
 use Rattle.rv64_isa.specs.declared.object.Slot.{Slot}
 use Rattle.rv64_isa.specs.declared.phase.Phase.{Phase}
 use Rattle.rv64_isa.specs.declared.phase.Phase.TheVariants.{Run, Done, Ended}
 use Rattle.rv64_isa.specs.Executables.{first_world}
-use Rattle.rv64_isa.specs.Machine.{Hart, World, Outcome, after_event, after_events, reply_to, happens}
-use Rattle.rv64_isa.specs.Schedule.{Steps, only_life, steps_along, passes_mark, is_running, first_steps}
+use Rattle.rv64_isa.specs.Machine.{Hart, World, Outcome, after_event, after_events, has_stopped, reply_to, happens}
+use Rattle.rv64_isa.specs.Schedule.{KeepsOn, Steps, only_life, steps_along, passes_mark, is_running, first_steps}
 use Rattle.flow_graph.proofs.Public.{get_cases, no_more}
 use Rattle.hart_runs.specs.Calls.{IsInPhase}
 use Rattle.thread_runs.specs.Laws.{FragmentsGoOn}
@@ -22,8 +22,7 @@ use Rattle.crash_simulation.specs.SimulationRelation.{Simulates}
 use Rattle.crash_simulation.specs.Laws.{EventsStand}
 use Rattle.crash_simulation.specs.InstructionSteps.{FragmentsStep, CoresStep, Nears, begins_step, waits, is_nearer, halts}
 use Rattle.crash_simulation.proofs.Public.{start_simulates, phase_of, GoesOn, event_goes_on, steps_join, worlds_join, and_none, step_of, not_running}
-use Rattle.compiler_correctness.specs.Translations.{HaveNoCrash}
-use Rattle.compiler_correctness.specs.Compilation.{has_stopped}
+use Rattle.compiler_correctness.specs.Translations.{GoOn}
 use Rattle.compiler_correctness.specs.Delays.{is_active_step, active_steps, has_waited, begun_by, IsStopped, delay}
 use Rattle.compiler_correctness.specs.Laws.{DelaysAreBounded, translation_of}
 use Rattle.compiler_correctness.proofs.ImageWords.{is_run, stands_along}
@@ -92,9 +91,9 @@ module _ (fragments_step : FragmentsStep) (cores_step : CoresStep) (law : Fragme
     then_near event = event_goes_on fragments_step cores_step law y s w event near.stands
 
     -- where as much is ahead as before
-    stays : (event : Event) → event ≢ Crash → (event ≡ Step h → IsInPhase w h Run → ⊥) → is_active_step y.runs.program w event h ≡ false → Nearer w event left
-    stays event no_crash other idle =
-        let same = ((then_near event).on no_crash).stays h other in
+    stays : (event : Event) → KeepsOn event → (event ≡ Step h → IsInPhase w h Run → ⊥) → is_active_step y.runs.program w event h ≡ false → Nearer w event left
+    stays event on other idle =
+        let same = ((then_near event).on on).stays h other in
         nearing.idles idle (record { stands = (then_near event).next; soon = λ below. let soon = near.soon below in omega (arith, soon, same) })
 
     waits_idle : (mutex holder : ℕ) → happens y.runs.program w (Step h) ≡ (w, Waits mutex holder) → is_active_step y.runs.program w (Step h) h ≡ false
@@ -109,7 +108,7 @@ module _ (fragments_step : FragmentsStep) (cores_step : CoresStep) (law : Fragme
         by (Some x) = idle (is_running x.phase)
 
     runs : IsInPhase w h Run → Nearer w (Step h) left
-    runs i = by (((then_near (Step h)).on (λ e. cc)).nears h refl i)
+    runs i = by (((then_near (Step h)).on tt).nears h refl i)
       where
         below : h < thread_count y
         below =
@@ -137,24 +136,25 @@ module _ (fragments_step : FragmentsStep) (cores_step : CoresStep) (law : Fragme
     own : Nearer w (Step h) left
     own = elim (get_cases w.harts h) [
       | inl missing ↦
-          stays (Step h) (λ e. cc) (λ is i. none-some i.hart (sym missing ∙ i.here))
+          stays (Step h) tt (λ is i. none-some i.hart (sym missing ∙ i.here))
           (none_active y.runs.program w h h (ap (active y.runs.program w h) missing))
       | inr there ↦ elim (cases_Bool (is_running there.0.phase)) [
         | inl on ↦ runs (record { hart = there.0; here = there.1; phase_is = is_run there.0.phase on })
         | inr off ↦
-            stays (Step h) (λ e. cc) (λ is i. not_running w h there.0 there.1 off i)
+            stays (Step h) tt (λ is i. not_running w h there.0 there.1 off i)
             (none_active y.runs.program w h h (ap (active y.runs.program w h) there.1
             ∙ ap (λ (b : Bool). b && not (has_waited (reply_to y.runs.program w (Step h)))) off))
       ]
     ]
 
-    falls : (event : Event) → event ≢ Crash → Nearer w event left
-    falls (Step g) no_crash = elim (cases_eq g h) [
+    falls : (event : Event) → KeepsOn event → Nearer w event left
+    falls (Step g) on = elim (cases_eq g h) [
       | inl is ↦ subst (λ (k : ℕ). Nearer w (Step k) left) (sym is) own
-      | inr other ↦ stays (Step g) (λ e. cc) (λ is i. other (step_of g h is)) (other_active y.runs.program w h g (ne_eqb g h other))
+      | inr other ↦ stays (Step g) tt (λ is i. other (step_of g h is)) (other_active y.runs.program w h g (ne_eqb g h other))
     ]
-    falls (Evict line mask) no_crash = stays (Evict line mask) no_crash (λ is i. cc) refl
-    falls Crash no_crash = absurd (no_crash refl)
+    falls (Evict line mask) on = stays (Evict line mask) tt (λ is i. cc) refl
+    falls Crash on = absurd on
+    falls Start on = absurd on
 
   -- by the later events the hart begins one step more, or has stopped, where the machine begins with that world and that account
   abbrev pub GetsOnAfter : (v : World) → (first : Steps) → (events more : List Event) → Type 0
@@ -193,12 +193,12 @@ module _ (fragments_step : FragmentsStep) (cores_step : CoresStep) (law : Fragme
       ]
     ]
 
-    pub delays : HaveNoCrash more → delay (translation_of y) h ≤ active_steps y.runs.program w more h → GetsOnAfter v first events more
+    pub delays : GoOn more → delay (translation_of y) h ≤ active_steps y.runs.program w more h → GetsOnAfter v first events more
     delays none many = told (elim begins_near [
       | inl stopped ↦
           inr (nearing.stays_along y.runs.marks y.runs.program h more w (s.count ∙ sym stands.machine.count) stands.machine.sound none stopped)
       | inr near ↦
-          nearing.gets_on y.runs.marks y.runs.program h IsNear (λ u event left no_crash there. falls u left there event no_crash) more w steps (most_ahead y h)
+          nearing.gets_on y.runs.marks y.runs.program h IsNear (λ u event left on there. falls u left there event on) more w steps (most_ahead y h)
           (s.count ∙ sym stands.machine.count) stands.machine.sound none near (omega (arith, many))
     ])
 

@@ -7,7 +7,8 @@ use Rattle.rv64_isa.specs.declared.phase.Phase.{Phase}
 use Rattle.rv64_isa.specs.declared.phase.Phase.TheVariants.{Run}
 use Rattle.rv64_isa.specs.Rows.{Effect, Stores}
 use Rattle.rv64_isa.specs.Machine.{Hart, World, after_event, after_events, happens, start_of}
-use Rattle.rv64_isa.specs.Schedule.{is_running, all_lives}
+use Rattle.rv64_isa.proofs.Public.{after_start}
+use Rattle.rv64_isa.specs.Schedule.{is_running}
 use Rattle.hart_runs.specs.Calls.{IsInPhase}
 use Rattle.log_states.specs.Machines.{IsNext}
 use Rattle.crash_simulation.specs.Systems.{System, IsSystem, flat_of, shapes_of}
@@ -20,7 +21,7 @@ use Rattle.std.proofs.lemmas.List.{get_or-map, get_or_past, length-map, length-d
 use Rattle.std.proofs.lemmas.List.{length-take-le, length-append, append_assoc}
 use Rattle.ido_base.specs.declared.log.Log.{Log}
 use Rattle.ido_base.specs.declared.limits.TheConstants.{MOST_VARIABLE_BYTES, VARIABLE_WORDS}
-use Rattle.ido_base.specs.declared.event.Event.TheVariants.{Step, Evict, Crash}
+use Rattle.ido_base.specs.declared.event.Event.TheVariants.{Step, Evict, Crash, Start}
 use Rattle.ido_base.specs.Words.{Word, Entry, word_of, word_at, durable_value, last_position}
 use Rattle.ido_base.specs.Layout.{log_words, byte_number, words_of_bytes, initial_words, end_from, word_count, spread_words}
 use Rattle.ido_base.specs.Growth.{IsPersisted, ArePersisted, AreEntries}
@@ -38,7 +39,6 @@ use Rattle.hart_runs.proofs.Public.{crashes_step}
 use Rattle.compiler_correctness.specs.Laws.{WordsBetweenStay, translation_of, FilesAreImages, FilesAreResumed, ImagesAreResumed}
 use Rattle.std.proofs.Math.Seq.{take-append_seam, drop-append_seam}
 use Rattle.compiler_correctness.specs.Translations.{world}
-use Rattle.compiler_correctness.proofs.FirstLife.{no_earlier}
 use Rattle.compiler_correctness.specs.Images.{Image, image_of, variable_words, IsInFile, IsResumedAsKept}
 
 -- ---- Machines of compiled programs along events, and what their harts store
@@ -171,6 +171,7 @@ module _ (y : System) (s : IsSystem y) where
       ]
       stays_zero w (Evict line mask) stands z = are_persisted_zero w.words _ j (evictions_raise w.words line mask) z
       stays_zero w Crash stands z = (crashes_step y.runs.program w).words j ∙ ap (λ (u : Word). word_of (durable_value u)) z
+      stays_zero w Start stands z = after_start y.runs.program w IsZero z z
 
       zero_along : EventsStand → (events : List Event) (w : World) → Simulates y s w → IsZero w → IsZero (after_events y.runs.program w events)
       zero_along stand [] w stands z = z
@@ -248,9 +249,6 @@ module _ (stand : EventsStand) (stay : WordsBetweenStay) (y : System) (s : IsSys
       let mapped = length-map words durable_value in
       get_or-map durable_value words i (word_of 0) 0 (omega (arith, size, mapped, below)) ∙ ap durable_value (stay y s events i from below)
 
-  one_life : all_lives image.kept ≡ image.kept.schedule ∷ []
-  one_life = ap (λ (earlier : List (List ℕ)). earlier ++ image.kept.schedule ∷ []) (no_earlier (translation_of y) events)
-
   in_file : IsInFile (translation_of y) image
   in_file =
       let all = size in
@@ -258,7 +256,6 @@ module _ (stand : EventsStand) (stay : WordsBetweenStay) (y : System) (s : IsSys
       let logs = length-drop VARIABLE_WORDS image.words in
       let both = length-append (take n image.words) (drop VARIABLE_WORDS image.words) in
       record {
-        one_life = one_life;
         size = omega (arith, prefix, logs, both, all);
         is_all =
             ap (λ (ws : List ℕ). record { words = ws; kept = image.kept })

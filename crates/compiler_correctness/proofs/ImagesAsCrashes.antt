@@ -1,17 +1,19 @@
 -- A run that is begun from an image is the one in which power is lost.
 use Rattle.std.proofs.Common.{◌≡◌, refl, ℕ, zero, suc, List, [], ◌∷◌, ◌++◌, length, map, sym, ◌∙◌, ap, ap₂, subst, Bool, true, false, replicate}
+use Rattle.std.specs.Prelude.{if◌then◌else◌}
 use Rattle.std.proofs.lemmas.List.{append-nil, append_assoc, length-set, length-replicate}
-use Rattle.rv64_isa.proofs.Public.{log_stays, queues_stand, starts_simulate}
+use Rattle.rv64_isa.proofs.Public.{first_stays, log_stays, queues_stand, starts_simulate}
 use Rattle.ido_base.specs.declared.log.Log.{Log}
 use Rattle.ido_base.specs.declared.event.Event.{Event}
-use Rattle.ido_base.specs.declared.event.Event.TheVariants.{Step, Evict, Crash}
+use Rattle.ido_base.specs.declared.event.Event.TheVariants.{Step, Evict, Crash, Start}
 use Rattle.ido_base.specs.Words.{Word, last_position, durable_value}
 use Rattle.c_tree.specs.Source.{is_between}
 use Rattle.rv64_isa.specs.declared.object.Slot.{Slot}
 use Rattle.rv64_isa.specs.Executables.{first_world}
-use Rattle.rv64_isa.specs.Machine.{World, start_of, after_crash_of, happens, after_event, after_events}
+use Rattle.rv64_isa.specs.Machine.{World, can_start, is_settled, start_of, after_crash_of, happens, after_event, after_events}
 use Rattle.rv64_isa.specs.Schedule.{Steps, HartSteps, no_steps, passes_mark, stores_point, with_begun, with_bound, with_kept, with_all_kept, with_step}
-use Rattle.rv64_isa.specs.Schedule.{LifeSchedules, all_lives, kept_lives, only_life, schedules, steps_after, steps_along, first_steps, is_settled}
+use Rattle.rv64_isa.specs.Schedule.{HaveNoStart, begins_life, next_life}
+use Rattle.rv64_isa.specs.Schedule.{LifeSchedules, all_lives, kept_lives, only_life, schedules, steps_after, steps_along, first_steps}
 use Rattle.rv64_isa.specs.Frames.{IsWellFormedWorld}
 use Rattle.variable_words.specs.Variables.{durable_variables}
 use Rattle.log_states.specs.Logs.{point_in}
@@ -73,23 +75,53 @@ module _ (prefix : List ℕ) where
   counted_ahead false true h position s = refl
 
   module _ (marks : List (List ℕ)) (program : List (List Slot)) where
-    event_ahead : (w : World) (event : Event) (s : Steps) →
+    event_ahead : (w : World) (event : Event) (s : Steps) → begins_life w event ≡ false →
         steps_after marks program w event (ahead prefix s) ≡ ahead prefix (steps_after marks program w event s)
     unfolding steps_after
-    event_ahead w (Step h) s =
+    event_ahead w (Step h) s none =
         let words = (after_event program w (Step h)).words in
         ap (with_all_kept w.log words (length s.harts))
         (counted_ahead (passes_mark marks program w h) (stores_point program w (Step h) h) h (last_position (point_in w.log words h)) s)
         ∙ kept_ahead w.log words (length s.harts) (with_step marks program w h s)
-    event_ahead w (Evict line mask) s = kept_ahead w.log (after_event program w (Evict line mask)).words (length s.harts) s
-    event_ahead w Crash s = refl
+    event_ahead w (Evict line mask) s none = kept_ahead w.log (after_event program w (Evict line mask)).words (length s.harts) s
+    event_ahead w Crash s none = refl
+    event_ahead w Start s none =
+        ap (λ (may : Bool). if may then next_life (ahead prefix s) else ahead prefix s) none
+        ∙ ap (λ (may : Bool). ahead prefix (if may then next_life s else s)) (sym none)
 
-    along_ahead : (events : List Event) (w : World) (s : Steps) →
+    along_ahead : (events : List Event) (w : World) (s : Steps) → HaveNoStart events →
         steps_along marks program w events (ahead prefix s) ≡ ahead prefix (steps_along marks program w events s)
-    along_ahead [] w s = refl
-    along_ahead (event ∷ events) w s =
-        ap (steps_along marks program (after_event program w event) events) (event_ahead w event s)
-        ∙ along_ahead events (after_event program w event) (steps_after marks program w event s)
+    along_ahead [] w s none = refl
+    along_ahead (event ∷ events) w s none =
+        let first = first_stays event events none in
+        ap (steps_along marks program (after_event program w event) events) (event_ahead w event s (first.0 w))
+        ∙ along_ahead events (after_event program w event) (steps_after marks program w event s) first.1
+
+-- the account is the other one, but for what was begun before; a start drops that
+record IsAhead (s t : Steps) : Type 0 where
+  prefix : List ℕ
+  is : t ≡ ahead prefix s
+
+module _ (marks : List (List ℕ)) (program : List (List Slot)) where
+  event_leads : (prefix : List ℕ) (w : World) (event : Event) (s : Steps) →
+      IsAhead (steps_after marks program w event s) (steps_after marks program w event (ahead prefix s))
+  unfolding steps_after
+  event_leads prefix w (Step h) s = record { prefix = prefix; is = event_ahead prefix marks program w (Step h) s refl }
+  event_leads prefix w (Evict line mask) s = record { prefix = prefix; is = event_ahead prefix marks program w (Evict line mask) s refl }
+  event_leads prefix w Crash s = record { prefix = prefix; is = event_ahead prefix marks program w Crash s refl }
+  event_leads prefix w Start s = by (can_start w)
+    where
+      by : (may : Bool) → IsAhead (if may then next_life s else s) (if may then next_life (ahead prefix s) else ahead prefix s)
+      by true = record { prefix = []; is = refl }
+      by false = record { prefix = prefix; is = refl }
+
+  along_leads : (events : List Event) (w : World) (s t : Steps) → IsAhead s t →
+      IsAhead (steps_along marks program w events s) (steps_along marks program w events t)
+  along_leads [] w s t lead = lead
+  along_leads (event ∷ events) w s t lead =
+      along_leads events (after_event program w event) (steps_after marks program w event s) (steps_after marks program w event t)
+      (subst (λ (z : Steps). IsAhead (steps_after marks program w event s) (steps_after marks program w event z)) (sym lead.is)
+      (event_leads lead.prefix w event s))
 
 -- ---- As many accounts as harts
 
@@ -106,6 +138,11 @@ module _ (marks : List (List ℕ)) (program : List (List Slot)) where
       ∙ count_same (passes_mark marks program w h) (stores_point program w (Step h) h) h (last_position (point_in w.log words h)) s
   event_many w (Evict line mask) s = kept_many w.log (after_event program w (Evict line mask)).words (length s.harts) s
   event_many w Crash s = length-replicate (length s.harts) no_steps
+  event_many w Start s = by (can_start w)
+    where
+      by : (may : Bool) → length (if may then next_life s else s).harts ≡ length s.harts
+      by true = length-replicate (length s.harts) no_steps
+      by false = refl
 
   along_many : (events : List Event) (w : World) (s : Steps) → length (steps_along marks program w events s).harts ≡ length s.harts
   along_many [] w s = refl
@@ -136,20 +173,33 @@ module _ (c : Translation) (before : List Event) where
         sym (worlds_join c.runs.program before (Crash ∷ events) (first_world c.runs)
         ∙ ap (λ (w : World). after_events c.runs.program w events) crash_is)
 
-    steps_same : ahead (steps c before).begun (steps_from c (image_of c before) events) ≡ steps c (before ++ Crash ∷ events)
-    steps_same =
-        let prefix = (steps c before).begun in
+    -- the account where power is lost then, in the words of the other one's beginning
+    steps_join_here : steps c (before ++ Crash ∷ events)
+        ≡ steps_along c.runs.marks c.runs.program (first_from c (image_of c before)) events
+        (ahead (steps c before).begun (first_steps (length c.runs.program) (kept_lives (steps c before))))
+    steps_join_here =
+        steps_join c.runs.marks c.runs.program before (Crash ∷ events) (first_world c.runs) (first_steps (length c.runs.program) (only_life []))
+        ∙ ap₂ (λ (w : World) (s : Steps). steps_along c.runs.marks c.runs.program w events s) crash_is dropped_is
+
+    steps_same : HaveNoStart events → ahead (steps c before).begun (steps_from c (image_of c before) events) ≡ steps c (before ++ Crash ∷ events)
+    steps_same none =
+        sym (steps_join_here
+        ∙ along_ahead (steps c before).begun c.runs.marks c.runs.program events (first_from c (image_of c before))
+        (first_steps (length c.runs.program) (kept_lives (steps c before))) none)
+
+    steps_lead : IsAhead (steps_from c (image_of c before) events) (steps c (before ++ Crash ∷ events))
+    steps_lead =
         let first = first_steps (length c.runs.program) (kept_lives (steps c before)) in
-        sym (steps_join c.runs.marks c.runs.program before (Crash ∷ events) (first_world c.runs) (first_steps (length c.runs.program) (only_life []))
-        ∙ (ap₂ (λ (w : World) (s : Steps). steps_along c.runs.marks c.runs.program w events s) crash_is dropped_is
-        ∙ along_ahead prefix c.runs.marks c.runs.program events (first_from c (image_of c before)) first))
+        subst (IsAhead (steps_from c (image_of c before) events)) (sym steps_join_here)
+        (along_leads c.runs.marks c.runs.program events (first_from c (image_of c before)) first (ahead (steps c before).begun first)
+        (record { prefix = (steps c before).begun; is = refl }))
 
     crashed : IsCrashed c before events
     crashed = record {
       world_is = world_same;
-      begun_is = ap (λ (s : Steps). s.begun) steps_same;
-      kept_is = ap kept_lives steps_same;
-      pending_is = ap (λ (s : Steps). s.pending) steps_same;
+      begun_is = λ none. ap (λ (s : Steps). s.begun) (steps_same none);
+      kept_is = sym (ap kept_lives steps_lead.is);
+      pending_is = sym (ap (λ (s : Steps). s.pending) steps_lead.is);
     }
 
 pub images_are_crashes : ImagesAreCrashes

@@ -1,4 +1,4 @@
-mod FirstLife
+mod LaterLives
 mod KeptSchedulePrefix
 mod Sections
 mod AbstractRunAccount

@@ -1,23 +1,22 @@
 -- A hart that nears its next mark passes it, or stops.
-use Rattle.std.proofs.Common.{◌≡◌, ◌≢◌, ◌⊎◌, inl, inr, refl, ℕ, zero, suc, ◌+◌, ◌<◌, ◌≤◌, List, [], ◌∷◌, length, sym, ◌∙◌, ap, arith, subst, Bool, true, false}
+use Rattle.std.proofs.Common.{◌≡◌, ◌⊎◌, inl, inr, refl, ℕ, zero, suc, ◌+◌, ◌<◌, ◌≤◌, List, [], ◌∷◌, length, sym, ◌∙◌, ap, arith, subst, Bool, true, false}
 use Rattle.std.proofs.Common.{Option, ◌==◌, filter}
 use Rattle.std.proofs.lemmas.Bool.{cases_eq, true≢false}
 use Rattle.std.proofs.lemmas.List.Elements.{filter-append}
 use Rattle.std.proofs.Math.ListN.{length-append}
 use Rattle.ido_base.specs.declared.log.Log.{Log}
 use Rattle.ido_base.specs.declared.event.Event.{Event}
-use Rattle.ido_base.specs.declared.event.Event.TheVariants.{Step, Evict, Crash}
+use Rattle.ido_base.specs.declared.event.Event.TheVariants.{Step, Evict, Crash, Start}
 use Rattle.ido_base.specs.Words.{Word, last_position, word_at}
 use Rattle.ido_base.specs.Layout.{word_number, point_at}
 use Rattle.rv64_isa.specs.declared.object.Slot.{Slot}
 use Rattle.rv64_isa.specs.declared.phase.Phase.{Phase}
 use Rattle.rv64_isa.specs.declared.phase.Phase.TheVariants.{Done, Ended}
-use Rattle.rv64_isa.specs.Machine.{Hart, World, after_event, after_events, happens, phase_step, stepped}
+use Rattle.rv64_isa.specs.Machine.{Hart, World, after_event, after_events, happens, has_stopped, phase_step, stepped}
 use Rattle.rv64_isa.specs.Frames.{IsWellFormedWorld}
-use Rattle.rv64_isa.specs.Schedule.{Steps, with_begun, with_step, with_all_kept, steps_after, steps_along, passes_mark, stores_point}
+use Rattle.rv64_isa.specs.Schedule.{KeepsOn, Steps, with_begun, with_step, with_all_kept, steps_after, steps_along, passes_mark, stores_point}
 use Rattle.rv64_isa.proofs.Public.{queues_stand, steps_touch}
-use Rattle.compiler_correctness.specs.Translations.{HaveNoCrash}
-use Rattle.compiler_correctness.specs.Compilation.{has_stopped}
+use Rattle.compiler_correctness.specs.Translations.{GoOn}
 use Rattle.compiler_correctness.specs.Delays.{is_active_step, active_steps, IsStopped, begun_by}
 use Rattle.crash_simulation.specs.ReleasedSections.{one_if}
 use Rattle.crash_simulation.proofs.Public.{counted_by, at_most_one}
@@ -57,16 +56,17 @@ module _ (marks : List (List ℕ)) (program : List (List Slot)) (h : ℕ) where
   count_kept : (log : Log) (words : List Word) (count : ℕ) (s : Steps) → begun_by (with_all_kept log words count s) h ≡ begun_by s h
   count_kept log words count s = ap (λ (xs : List ℕ). length (filter (λ x. x == h) xs)) (kept_begun log words count s)
 
-  after_more : (w : World) (event : Event) (s : Steps) → begun_by s h ≤ begun_by (steps_after marks program w event s) h
+  after_more : (w : World) (event : Event) (s : Steps) → KeepsOn event → begun_by s h ≤ begun_by (steps_after marks program w event s) h
   unfolding steps_after
-  after_more w (Step g) s =
+  after_more w (Step g) s on =
       let more = step_more (passes_mark marks program w g) (stores_point program w (Step g) g) h g (position_of w g) s in
       let kept = count_kept w.log (after_event program w (Step g)).words (length s.harts) (with_step marks program w g s) in
       omega (arith, more, kept)
-  after_more w (Evict line mask) s =
+  after_more w (Evict line mask) s on =
       let kept = count_kept w.log (after_event program w (Evict line mask)).words (length s.harts) s in
       omega (arith, kept)
-  after_more w Crash s = omega arith
+  after_more w Crash s on = absurd on
+  after_more w Start s on = absurd on
 
   after_own : (w : World) (s : Steps) → passes_mark marks program w h ≡ true → begun_by s h < begun_by (steps_after marks program w (Step h) s) h
   unfolding steps_after
@@ -78,11 +78,11 @@ module _ (marks : List (List ℕ)) (program : List (List Slot)) (h : ℕ) where
       ap (λ (b : Bool). begun_by (counted_by b (stores_point program w (Step h) h) h (position_of w h) s) h) passes in
       omega (arith, more, kept, same)
 
-  along_more : (events : List Event) (w : World) (s : Steps) → begun_by s h ≤ begun_by (steps_along marks program w events s) h
-  along_more [] w s = omega arith
-  along_more (event ∷ events) w s =
-      let one = after_more w event s in
-      let more = along_more events (after_event program w event) (steps_after marks program w event s) in
+  along_more : (events : List Event) (w : World) (s : Steps) → GoOn events → begun_by s h ≤ begun_by (steps_along marks program w events s) h
+  along_more [] w s on = omega arith
+  along_more (event ∷ events) w s on =
+      let one = after_more w event s on.0 in
+      let more = along_more events (after_event program w event) (steps_after marks program w event s) on.1 in
       omega (arith, one, more)
 
   -- ---- A hart that has stopped stays so
@@ -96,9 +96,9 @@ module _ (marks : List (List ℕ)) (program : List (List Slot)) (h : ℕ) where
   unfolding happens
   still w s = ap (λ (o : Option Hart). (stepped program w h o).0) s.here ∙ still_by w s.hart s.hart.phase s.stopped
 
-  stays : (w : World) (event : Event) → IsWellFormedWorld w → event ≢ Crash → IsStopped w h → IsStopped (after_event program w event) h
+  stays : (w : World) (event : Event) → IsWellFormedWorld w → KeepsOn event → IsStopped w h → IsStopped (after_event program w event) h
   unfolding happens
-  stays w (Step g) sound other_event s = elim (cases_eq g h) [
+  stays w (Step g) sound on s = elim (cases_eq g h) [
     | inl is ↦ subst (λ (x : ℕ). IsStopped (after_event program w (Step x)) h) (sym is) (subst (λ (v : World). IsStopped v h) (sym (still w s)) s)
     | inr other ↦ record {
       hart = s.hart;
@@ -106,21 +106,16 @@ module _ (marks : List (List ℕ)) (program : List (List Slot)) (h : ℕ) where
       stopped = s.stopped;
     }
   ]
-  stays w (Evict line mask) sound other_event s = record { hart = s.hart; here = s.here; stopped = s.stopped }
-  stays w Crash sound other_event s = absurd (other_event refl)
+  stays w (Evict line mask) sound on s = record { hart = s.hart; here = s.here; stopped = s.stopped }
+  stays w Crash sound on s = absurd on
+  stays w Start sound on s = absurd on
 
-  no_crash : (event : Event) (events : List Event) → HaveNoCrash (event ∷ events) → (event ≢ Crash) × HaveNoCrash events
-  no_crash (Step g) events none = ((λ e. cc), none)
-  no_crash (Evict line mask) events none = ((λ e. cc), none)
-  no_crash Crash events none = absurd none
-
-  pub stays_along : (events : List Event) (w : World) → length program ≡ length w.harts → IsWellFormedWorld w → HaveNoCrash events → IsStopped w h →
+  pub stays_along : (events : List Event) (w : World) → length program ≡ length w.harts → IsWellFormedWorld w → GoOn events → IsStopped w h →
       IsStopped (after_events program w events) h
-  stays_along [] w count sound none s = s
-  stays_along (event ∷ events) w count sound none s =
-      let both = no_crash event events none in
+  stays_along [] w count sound on s = s
+  stays_along (event ∷ events) w count sound on s =
       let next = queues_stand program w event count sound in
-      stays_along events (after_event program w event) (count ∙ sym next.1) next.0 both.1 (stays w event sound both.0 s)
+      stays_along events (after_event program w event) (count ∙ sym next.1) next.0 on.1 (stays w event sound on.0 s)
 
   -- ---- A measure that falls
 
@@ -131,34 +126,33 @@ module _ (marks : List (List ℕ)) (program : List (List Slot)) (h : ℕ) where
     begins : event ≡ Step h → passes_mark marks program w h ≡ true → GetsNearer Near w event left
     stops : IsStopped (after_event program w event) h → GetsNearer Near w event left
 
-  later : (w : World) (event : Event) (events : List Event) (s : Steps) →
+  later : (w : World) (event : Event) (events : List Event) (s : Steps) → KeepsOn event →
       GetsOn marks program h (after_event program w event) (steps_after marks program w event s) events → GetsOn marks program h w s (event ∷ events)
-  later w event events s (inl more) = let first = after_more w event s in inl (omega (arith, more, first))
-  later w event events s (inr stopped) = inr stopped
+  later w event events s on (inl more) = let first = after_more w event s on in inl (omega (arith, more, first))
+  later w event events s on (inr stopped) = inr stopped
 
   module _ (Near : World → ℕ → Type 0)
-      (falls : (w : World) (event : Event) (left : ℕ) → event ≢ Crash → Near w left → GetsNearer Near w event left) where
+      (falls : (w : World) (event : Event) (left : ℕ) → KeepsOn event → Near w left → GetsNearer Near w event left) where
     pub gets_on : (more : List Event) (w : World) (s : Steps) (left : ℕ) → length program ≡ length w.harts → IsWellFormedWorld w →
-        HaveNoCrash more → Near w left → left < active_steps program w more h → GetsOn marks program h w s more
-    gets_on [] w s left count sound none near many = absurd (let z : ⊥ = omega (arith, many) in z)
-    gets_on (event ∷ events) w s left count sound none near many =
-        let both = no_crash event events none in
+        GoOn more → Near w left → left < active_steps program w more h → GetsOn marks program h w s more
+    gets_on [] w s left count sound on near many = absurd (let z : ⊥ = omega (arith, many) in z)
+    gets_on (event ∷ events) w s left count sound on near many =
         let next = queues_stand program w event count sound in
         let then_count = count ∙ sym next.1 in
-        elim (falls w event left both.0 near) [
+        elim (falls w event left on.0 near) [
           | idles idle then_near ↦
               let zero_here = ap one_if idle in
-              later w event events s (gets_on events (after_event program w event) (steps_after marks program w event s) left then_count next.0 both.1 then_near
-              (omega (arith, many, zero_here)))
+              later w event events s on.0 (gets_on events (after_event program w event) (steps_after marks program w event s) left then_count next.0 on.1
+              then_near (omega (arith, many, zero_here)))
           | nears less is then_near ↦
               let one = at_most_one (is_active_step program w event h) in
-              later w event events s (gets_on events (after_event program w event) (steps_after marks program w event s) less then_count next.0 both.1 then_near
-              (omega (arith, many, one, is)))
+              later w event events s on.0 (gets_on events (after_event program w event) (steps_after marks program w event s) less then_count next.0 on.1
+              then_near (omega (arith, many, one, is)))
           | begins is passes ↦
               let own = after_own w s passes in
               let same : begun_by (steps_after marks program w (Step h) s) h ≡ begun_by (steps_after marks program w event s) h =
               ap (λ (x : Event). begun_by (steps_after marks program w x s) h) (sym is) in
-              let more = along_more events (after_event program w event) (steps_after marks program w event s) in
+              let more = along_more events (after_event program w event) (steps_after marks program w event s) on.1 in
               inl (omega (arith, own, same, more))
-          | stops stopped ↦ inr (stays_along events (after_event program w event) then_count next.0 both.1 stopped)
+          | stops stopped ↦ inr (stays_along events (after_event program w event) then_count next.0 on.1 stopped)
         ]

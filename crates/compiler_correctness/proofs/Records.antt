@@ -18,22 +18,22 @@ use Rattle.crash_simulation.specs.ThreadGhosts.{ThreadGhost, InPhase}
 use Rattle.crash_simulation.specs.SimulationRelation.{Simulates, IsGiving, AreHeld, AreLocked, gathering, gathered, records_of}
 use Rattle.crash_simulation.specs.InstructionSteps.{Site}
 use Rattle.crash_simulation.proofs.Public.{left, left_describes, left_point, log_of, orderly, unlocked_last, takes_move, as_source, view, same_number}
-use Rattle.crash_simulation.proofs.Public.{giving_of, resumed, phase_of}
+use Rattle.crash_simulation.proofs.Public.{begins_at, giving_of, resumed, phase_of, schedule_is}
 use Rattle.compiler_correctness.proofs.AbstractRunAccount.{points_name, now_runs, now_is, kept_holders, none_points, kept_runs}
 use Rattle.std.proofs.lemmas.Option.{slice_get_within}
 use Rattle.ido_base.specs.Locks.{has_lock, holds_none}
 use Rattle.c_tree.specs.Source as m
 use Rattle.recovery_semantics.specs.Configs.{now}
 use Rattle.recovery_semantics.specs.Laws.{LastUnlocks, HasUnlocked}
-use Rattle.rv64_isa.specs.Schedule.{Steps, only_life}
+use Rattle.rv64_isa.specs.Schedule.{LifeSchedules, Steps, schedules}
 use Rattle.source_machine.specs.Mutexes.{locks}
 use Rattle.thread_runs.specs.Laws.{MarksPass}
 use Rattle.recovered_threads.specs.RecoveryStates.{Gathers}
 use Rattle.recovered_threads.proofs.Public.{logs_have_locks, locks_are_held, records_are_apart, holds_none_is, none_if, points_have_locks}
-use Rattle.crash_simulation.specs.AccountRelation.{SimulatesCounted, MachinesResume, first_beginning}
-use Rattle.compiler_correctness.specs.Translations.{Translation, world, steps, source, IsRunnable}
-use Rattle.compiler_correctness.proofs.FirstLife.{after_none}
-use Rattle.compiler_correctness.specs.Compilation.{ThreadHolds, HasJustUnlocked, HoldsAsThread, IsOn, has_stopped, IsOutside, HasEnded}
+use Rattle.crash_simulation.specs.AccountRelation.{SimulatesLives, MachinesResume, first_beginning}
+use Rattle.compiler_correctness.specs.Translations.{Translation, world, source, source_at}
+use Rattle.compiler_correctness.specs.Compilation.{ThreadHolds, HasJustUnlocked, HoldsAsThread, IsOn, IsOutside, HasEnded}
+use Rattle.rv64_isa.specs.Machine.{has_stopped}
 use Rattle.compiler_correctness.specs.Laws.{translation_of, MachinesRecord, MachinesAreWhole}
 use Rattle.compiler_correctness.proofs.LockCalls.{takes_as}
 use Rattle.rv64_isa.specs.declared.phase.Phase.{Phase}
@@ -151,32 +151,37 @@ module _ (y : System) (s : IsSystem y) (w : World) (stands : Simulates y s w) wh
     are_held is = held_by is stands.locks
 
 module _ (y : System) (s : IsSystem y) (w : World) (account : Steps) {r : ℕ → ℕ}
-    (resumes : SimulatesCounted y s (first_beginning y) w account r) (h : ℕ) (hart : Hart)
+    (resumes : SimulatesLives y s (first_beginning y) w account r) (h : ℕ) (hart : Hart)
     (there : slice_get w.harts h ≡ Some hart) where
-  open resumes use {stands}
+  open resumes.is use {stands}
+
+  -- those schedules, and one of this life
+  abbrev with_this : (schedule : List ℕ) → LifeSchedules
+  with_this schedule = record { earlier = account.earlier; schedule = schedule }
 
   below : h < thread_count y
   below = let inside = slice_get_within w.harts h hart there in omega (arith, inside, stands.machine.count)
 
   -- after a schedule that leads to all steps that are begun
-  module _ (schedule : List ℕ) (is : source (translation_of y) (schedule ∷ []) ≡ now stands.abstract.config) where
-    holders : (now_of y stands.abstract).holders ≡ (source (translation_of y) (schedule ∷ [])).holders
+  module _ (schedule : List ℕ) (is : source (translation_of y) (account.earlier ++ schedule ∷ []) ≡ now stands.abstract.config) where
+    holders : (now_of y stands.abstract).holders ≡ (source (translation_of y) (account.earlier ++ schedule ∷ [])).holders
     holders = (as_source y s stands.abstract).now_matches.holders ∙ ap (λ (z : m.State). z.holders) (sym is)
 
     -- what the thread has still to give back its last step of that schedule has unlocked
     abbrev IsLastUnlocked : Type 0
-    IsLastUnlocked = (mutex : ℕ) → (stands.ghosts h).giving ≡ Some mutex → LastUnlocks (m.start (flat_of y)) schedule h mutex
+    IsLastUnlocked = (mutex : ℕ) → (stands.ghosts h).giving ≡ Some mutex → LastUnlocks (source_at (translation_of y) account.earlier) schedule h mutex
 
     held_or_unlocked : IsLastUnlocked → (lock : ℕ) →
         (slice_get (now_of y stands.abstract).holders lock ≡ Some (Some h)) ⊎ IsGiving stands.ghosts (now_of y stands.abstract) lock h →
-        ThreadHolds (source (translation_of y) (schedule ∷ [])) h lock ⊎ HasJustUnlocked (translation_of y) (only_life schedule) h lock
+        ThreadHolds (source (translation_of y) (account.earlier ++ schedule ∷ [])) h lock
+        ⊎ HasJustUnlocked (translation_of y) (with_this schedule) h lock
     held_or_unlocked last lock (inl has) = inl (ap (λ (hs : List (Option ℕ)). slice_get hs lock) (sym holders) ∙ has)
     held_or_unlocked last lock (inr gives) = inr (record {
       last = last lock gives.gives;
       free = ap (λ (hs : List (Option ℕ)). slice_get hs lock) (sym holders) ∙ gives.free;
     })
 
-    pub agree : MarksPass → IsLastUnlocked → IsOn hart → HoldsAsThread (translation_of y) w (only_life schedule) h
+    pub agree : MarksPass → IsLastUnlocked → IsOn hart → HoldsAsThread (translation_of y) w (with_this schedule) h
     agree marks last on =
         let held = are_held y s w stands h hart there on in
         record {
@@ -187,17 +192,19 @@ module _ (y : System) (s : IsSystem y) (w : World) (account : Steps) {r : ℕ �
         }
 
   -- by the account's schedule
-  last_unlocked : (mutex : ℕ) → (stands.ghosts h).giving ≡ Some mutex → LastUnlocks (m.start (flat_of y)) (account.kept ++ account.pending) h mutex
+  last_unlocked : (mutex : ℕ) → (stands.ghosts h).giving ≡ Some mutex →
+      LastUnlocks (source_at (translation_of y) account.earlier) (account.kept ++ account.pending) h mutex
   last_unlocked mutex gives =
       let b = stands.abstract in
       let code = s.codes.each h below in
-      let lists : b.schedule ++ b.config.uncommitted ≡ account.kept ++ account.pending = ap₂ ◌++◌ (sym resumes.counted.kept) (sym resumes.counted.pending) in
-      subst (λ (from : m.State). LastUnlocks from (account.kept ++ account.pending) h mutex) resumes.counted.begins
+      let lists : b.schedule ++ b.config.uncommitted ≡ account.kept ++ account.pending =
+      ap₂ ◌++◌ (sym (schedule_is y s w account resumes)) (sym resumes.is.counted.pending) in
+      subst (λ (from : m.State). LastUnlocks from (account.kept ++ account.pending) h mutex) (begins_at y s w account resumes)
       (subst (λ (us : List ℕ). LastUnlocks b.origin.source us h mutex) lists
       (subst (λ (n : ℕ). LastUnlocks b.origin.source (b.schedule ++ b.config.uncommitted) n mutex) (s.codes.number h below)
       (unlocked_last y s w b code (stands.ghosts h) (stands.each h below) mutex gives)))
 
-  record_is : (lock : ℕ) → (has_lock (record_of w.log w.words h) lock ≡ true) ↔ ThreadHolds (source (translation_of y) (account.kept ∷ [])) h lock
+  record_is : (lock : ℕ) → (has_lock (record_of w.log w.words h) lock ≡ true) ↔ ThreadHolds (source (translation_of y) (schedules account)) h lock
   record_is lock =
       subst (λ (hs : List (Option ℕ)). (has_lock (record_of w.log w.words h) lock ≡ true) ↔ (slice_get hs lock ≡ Some (Some h)))
       (kept_holders y s w account resumes) (record_held y s w stands h below lock)
@@ -206,25 +213,20 @@ pub machines_record : MarksPass → MachinesResume → MachinesRecord
 machines_record marks machines y s events =
     let resumes = machines y s events in
     let c : Translation = translation_of y in
-    let kept : List ℕ = (steps c events).kept in
-    let now_kept : List ℕ = (steps c events).kept ++ (steps c events).pending in
     let w : World = world c events in
     record {
-      kept = after_none c events (λ (earlier : List (List ℕ)). IsRunnable c (earlier ++ kept ∷ [])) (kept_runs y s _ _ resumes);
-      now_runs = after_none c events (λ (earlier : List (List ℕ)). IsRunnable c (earlier ++ now_kept ∷ [])) (now_runs y s _ _ resumes);
+      kept = kept_runs y s _ _ resumes;
+      now_runs = now_runs y s _ _ resumes;
       each = λ h hart there.
           let under = below y s _ _ resumes h hart there in
           record {
             locks_agree = λ on.
-                after_none c events (λ (earlier : List (List ℕ)). HoldsAsThread c w (record { earlier = earlier; schedule = now_kept }) h)
-                (agree y s _ _ resumes h hart there _ (now_is y s _ _ resumes) marks (last_unlocked y s _ _ resumes h hart there) on);
-            record_is = λ lock.
-                after_none c events (λ (earlier : List (List ℕ)). (has_lock (record_of w.log w.words h) lock ≡ true)
-                ↔ ThreadHolds (source c (earlier ++ kept ∷ [])) h lock) (record_is y s _ _ resumes h hart there lock);
-            apart = λ g lock gb other. records_apart y s _ resumes.stands g h lock (omega (arith, gb, s.count)) under other;
-            takes = λ is. takes_move y s w h resumes.stands (record { hart = hart; here = there; phase_is = is });
-            live_point = live_names y s _ resumes.stands h under;
-            durable_point_names = durable_names y s _ resumes.stands h under;
+                agree y s _ _ resumes h hart there _ (now_is y s _ _ resumes) marks (last_unlocked y s _ _ resumes h hart there) on;
+            record_is = λ lock. record_is y s _ _ resumes h hart there lock;
+            apart = λ g lock gb other. records_apart y s _ resumes.is.stands g h lock (omega (arith, gb, s.count)) under other;
+            takes = λ is. takes_move y s w h resumes.is.stands (record { hart = hart; here = there; phase_is = is });
+            live_point = live_names y s _ resumes.is.stands h under;
+            durable_point_names = durable_names y s _ resumes.is.stands h under;
           };
     }
 
@@ -320,13 +322,10 @@ module _ (y : System) (s : IsSystem y) (w : World) (stands : Simulates y s w) (n
 pub machines_are_whole : MachinesResume → MachinesAreWhole
 machines_are_whole machines y s events h hart there =
     let resumes = machines y s events in
-    let stands = resumes.stands in
-    let c : Translation = translation_of y in
+    let stands = resumes.is.stands in
     let below : h < thread_count y = (let inside = slice_get_within _ h hart there in omega (arith, inside, stands.machine.count)) in
     record {
-      ended = λ is.
-          after_none c events (λ (earlier : List (List ℕ)). HasEnded (source c (earlier ++ ((steps c events).kept ++ (steps c events).pending) ∷ [])) h)
-          (subst (λ (z : m.State). HasEnded z h) (sym (now_is y s _ _ resumes)) (ended_now y s _ stands h below hart there is));
+      ended = λ is. subst (λ (z : m.State). HasEnded z h) (sym (now_is y s _ _ resumes)) (ended_now y s _ stands h below hart there is);
       no_live_point = live_outside y s _ stands h below hart there;
       no_durable_point = durable_outside y s _ stands h below hart there;
       recorded = no_locks y s _ stands h below;

@@ -1,4 +1,4 @@
--- What a compiled program is held to, after whatever events: steps of all harts, evictions and crashes in any order.
+-- What a compiled program is held to, after whatever events: steps of all harts, evictions, crashes and starts in any order.
 use Rattle.std.specs.Prelude.{◌≡◌, ◌≢◌, ◌⊎◌, ◌↔◌, ℕ, ◌+◌, ◌<◌, ◌≤◌, List, [], ◌∷◌, ◌++◌, length, Contains, slice_get, Some, None, Bool, true, false}
 use Rattle.std.specs.Prelude.{not, ◌&&◌, ◌==◌, if◌then◌else◌}
 use Rattle.ido_base.specs.declared.event.Event.{Event}
@@ -10,11 +10,10 @@ use Rattle.ido_base.specs.Locks.{has_lock, holds_none}
 use Rattle.c_tree.specs.Source as m
 use Rattle.c_tree.specs.Source.{is_between}
 use Rattle.source_machine.specs.Mutexes.{locks}
-use Rattle.rv64_isa.specs.declared.phase.Phase.{Phase}
-use Rattle.rv64_isa.specs.declared.phase.Phase.TheVariants.{Take, Wait, Resume, Run, Done, Ended}
+use Rattle.rv64_isa.specs.declared.phase.Phase.TheVariants.{Take, Run, Ended}
 use Rattle.rv64_isa.specs.Executables.{first_world}
-use Rattle.rv64_isa.specs.Machine.{World, Hart, after_event, reply_to, live_at, durable_point, resume_of, record_of}
-use Rattle.rv64_isa.specs.Schedule.{LifeSchedules, all_lives, schedules, is_settled, released_count}
+use Rattle.rv64_isa.specs.Machine.{World, Hart, has_stopped, after_event, reply_to, live_at, durable_point, resume_of, record_of, is_settled}
+use Rattle.rv64_isa.specs.Schedule.{LifeSchedules, all_lives, begins_life, schedules, released_count}
 use Rattle.hart_runs.specs.Calls.{IsAtCall, lock_asked}
 use Rattle.recovery_semantics.specs.Laws.{LastUnlocks}
 use Rattle.variable_words.specs.Variables.{live_variables, durable_variables}
@@ -62,11 +61,12 @@ ends_at_point c events event hart =
     not (durable_point (world c events).log (world c events).words hart == 0)
     && (durable_point (after_event c.runs.program (world c events) event).log (after_event c.runs.program (world c events) event).words hart == 0)
 
--- each section that a hart has left is kept, and at most one more of its thread; a section is kept by the event that makes its hart's durable point 0
+-- in the life that goes on each section that a hart has left is kept, and at most one more of its thread; a section is kept by the event that makes its
+-- hart's durable point 0
 pub record AreSectionsKept (c : Translation) (events : List Event) : Type 0 where
   pub no_less : (h : ℕ) → sections_released c events h ≤ sections_kept c events h
   pub no_more : (h : ℕ) → sections_kept c events h ≤ sections_released c events h + 1
-  pub by_points : (event : Event) (h : ℕ) → h < length c.runs.program →
+  pub by_points : (event : Event) (h : ℕ) → h < length c.runs.program → begins_life (world c events) event ≡ false →
       sections_kept c (events ++ event ∷ []) h ≡ sections_kept c events h + (if ends_at_point c events event h then 1 else 0)
 
 -- ---- Locks of a hart and of its thread
@@ -96,7 +96,7 @@ pub record HoldsAsThread (c : Translation) (w : World) (lives : LifeSchedules) (
 abbrev pub IsOn : Hart → Type 0
 IsOn hart = (hart.phase ≡ Run) ⊎ (hart.phase ≡ Ended)
 
--- ---- Lockstep, where power stays on
+-- ---- Lockstep, in a life without a crash
 
 -- the source can be stepped by all steps that have begun: memory has the variables that it has then, and harts hold what their threads do
 pub record IsInStep (c : Translation) (events : List Event) : Type 0 where
@@ -138,14 +138,6 @@ abbrev pub NeverStuck : Translation → List Event → Type 0
 NeverStuck c events = (h : ℕ) (cause : Cause) → reply_to c.runs.program (world c events) (Step h) ≢ Stuck cause
 
 -- ---- Whole sections
-
-abbrev pub has_stopped : Phase → Bool
-has_stopped Ended = true
-has_stopped Done = true
-has_stopped Run = false
-has_stopped Take = false
-has_stopped Wait = false
-has_stopped Resume = false
 
 -- the hart has ended or is done, or it executes instructions and holds nothing
 abbrev pub IsOutside : World → (h : ℕ) → Hart → Type 0

@@ -1,17 +1,18 @@
 -- What code is that does what its source does, whatever happens: all that is promised of compiled programs.
-use Rattle.std.specs.Prelude.{List}
+use Rattle.std.specs.Prelude.{◌≡◌, List, false}
 use Rattle.ido_base.specs.declared.event.Event.{Event}
-use Rattle.compiler_correctness.specs.Translations.{Translation, HaveNoCrash}
+use Rattle.compiler_correctness.specs.Translations.{Translation, world}
 use Rattle.compiler_correctness.specs.Compilation.{IsSettledAsKept, KeptScheduleGrows, AreSectionsKept, AreRecords, AreWhole, IsInStep, NeverStuck}
 use Rattle.compiler_correctness.specs.Forms.{HasForm}
 use Rattle.compiler_correctness.specs.Delays.{AreDelaysBounded}
 use Rattle.compiler_correctness.specs.Images.{IsResumedAsKept, IsInFile, image_of, file_of, image_in}
 
--- The events are any steps, evictions and crashes, in any order.
+-- The events are any steps, evictions, crashes and starts, in any order. By a start another life begins where each hart has stopped between sections, and
+-- else nothing changes.
 pub record IsCompilation (c : Translation) : Type 0 where
   pub form : HasForm c
-  -- as long as power stays on, machine and source keep step
-  pub in_step : (events : List Event) → HaveNoCrash events → IsInStep c events
+  -- in a life without a crash, machine and source keep step
+  pub in_step : (events : List Event) → (world c events).recovering ≡ false → IsInStep c events
   pub never_stuck : (events : List Event) → NeverStuck c events
   pub delays : (events : List Event) → AreDelaysBounded c events
   pub whole : (events : List Event) → AreWhole c events

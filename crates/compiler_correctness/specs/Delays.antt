@@ -2,15 +2,14 @@
 use Rattle.std.specs.Prelude.{◌≡◌, ◌⊎◌, ℕ, ◌+◌, ◌*◌, ◌<◌, ◌≤◌, List, [], ◌∷◌, ◌++◌, length, slice_get, Some, None, Bool, true, false, not, ◌==◌, ◌&&◌}
 use Rattle.std.specs.Prelude.{if◌then◌else◌, filter}
 use Rattle.ido_base.specs.declared.event.Event.{Event}
-use Rattle.ido_base.specs.declared.event.Event.TheVariants.{Step, Evict, Crash}
+use Rattle.ido_base.specs.declared.event.Event.TheVariants.{Step, Evict, Crash, Start}
 use Rattle.ido_base.specs.declared.event.Reply.{Reply}
 use Rattle.ido_base.specs.declared.event.Reply.TheVariants.{Moved, Drained, Waits, Barrier, Still, Stuck, Device}
 use Rattle.rv64_isa.specs.declared.object.Slot.{Slot}
 use Rattle.rv64_isa.specs.Programs.{code_of}
-use Rattle.rv64_isa.specs.Machine.{Hart, World, after_event, reply_to}
+use Rattle.rv64_isa.specs.Machine.{Hart, World, after_event, has_stopped, reply_to}
 use Rattle.rv64_isa.specs.Schedule.{Steps, is_running}
-use Rattle.compiler_correctness.specs.Translations.{Translation, HaveNoCrash, world, steps}
-use Rattle.compiler_correctness.specs.Compilation.{has_stopped}
+use Rattle.compiler_correctness.specs.Translations.{Translation, GoOn, world, steps}
 
 abbrev pub has_waited : Reply → Bool
 has_waited (Waits lock holder) = true
@@ -29,6 +28,7 @@ is_active_step program w (Step g) h = (g == h) && elim (slice_get w.harts h) [
 ]
 is_active_step program w (Evict line mask) h = false
 is_active_step program w Crash h = false
+is_active_step program w Start h = false
 
 -- how many of the events are such
 abbrev pub active_steps : List (List Slot) → World → List Event → (h : ℕ) → ℕ
@@ -54,7 +54,7 @@ GetsOn c events more h = (begun_by (steps c events) h < begun_by (steps c (event
 abbrev pub delay : Translation → (h : ℕ) → ℕ
 delay c h = 2 * length (code_of c.runs.program h) + 18
 
--- delays are bounded whatever other harts do, and whatever is evicted, as long as power stays on
+-- delays are bounded whatever other harts do, and whatever is evicted, as long as the life goes on
 abbrev pub AreDelaysBounded : Translation → List Event → Type 0
-AreDelaysBounded c events = (more : List Event) (h : ℕ) → HaveNoCrash more → delay c h ≤ active_steps c.runs.program (world c events) more h →
+AreDelaysBounded c events = (more : List Event) (h : ℕ) → GoOn more → delay c h ≤ active_steps c.runs.program (world c events) more h →
     GetsOn c events more h

@@ -1,12 +1,12 @@
 -- What a crash leaves of a machine, and runs that are begun from it.
-use Rattle.std.specs.Prelude.{◌≡◌, ℕ, ◌+◌, ◌*◌, ◌/◌, ◌<◌, ◌≤◌, List, ◌∷◌, ◌++◌, length, map, take, drop, true, []}
+use Rattle.std.specs.Prelude.{◌≡◌, ℕ, ◌+◌, ◌*◌, ◌/◌, ◌<◌, ◌≤◌, List, ◌∷◌, ◌++◌, length, map, take, drop, true}
 use Rattle.ido_base.specs.declared.event.Event.{Event}
 use Rattle.ido_base.specs.declared.event.Event.TheVariants.{Crash}
 use Rattle.ido_base.specs.Words.{durable_value, word_of, word_at}
 use Rattle.ido_base.specs.Layout.{variable_lines, log_words, spread_words}
 use Rattle.c_tree.specs.Source.{is_between}
-use Rattle.rv64_isa.specs.Machine.{World, after_crash_of, after_events}
-use Rattle.rv64_isa.specs.Schedule.{LifeSchedules, Steps, all_lives, kept_lives, schedules, steps_along, first_steps, is_settled}
+use Rattle.rv64_isa.specs.Machine.{World, after_crash_of, after_events, is_settled}
+use Rattle.rv64_isa.specs.Schedule.{HaveNoStart, LifeSchedules, Steps, all_lives, kept_lives, schedules, steps_along, first_steps}
 use Rattle.variable_words.specs.Variables.{durable_variables}
 use Rattle.compiler_correctness.specs.Translations.{Translation, world, steps, source, IsRunnable}
 use Rattle.compiler_correctness.specs.Compilation.{BeginLives}
@@ -37,8 +37,8 @@ module _ (c : Translation) (image : Image) where
 -- the run from the image that the machine would leave is the one in which power is lost then
 pub record IsCrashed (c : Translation) (before events : List Event) : Type 0 where
   pub world_is : world_from c (image_of c before) events ≡ world c (before ++ Crash ∷ events)
-  -- the run from the image has the account of the run in which power is lost then, but no entry for what was begun before
-  pub begun_is : (steps c before).begun ++ (steps_from c (image_of c before) events).begun ≡ (steps c (before ++ Crash ∷ events)).begun
+  -- the run from the image has the account of the run in which power is lost then, but in the life that goes on no entry for what was begun before
+  pub begun_is : HaveNoStart events → (steps c before).begun ++ (steps_from c (image_of c before) events).begun ≡ (steps c (before ++ Crash ∷ events)).begun
   pub kept_is : kept_lives (steps_from c (image_of c before) events) ≡ kept_lives (steps c (before ++ Crash ∷ events))
   pub pending_is : (steps_from c (image_of c before) events).pending ≡ (steps c (before ++ Crash ∷ events)).pending
 
@@ -69,8 +69,7 @@ image_in c file = record { words = spread_words (variable_words c) file.words; k
 abbrev pub StayBetween : Translation → List Event → Type 0
 StayBetween c events = (word : ℕ) → variable_words c ≤ word → word < 8 * variable_lines → word_at (world c events).words word ≡ word_of 0
 
--- the image's file has the words of the variables and a log for each thread, tells one life's schedule, and is all of the image
+-- the image's file has the words of the variables and a log for each thread, and is all of the image
 pub record IsInFile (c : Translation) (image : Image) : Type 0 where
-  pub one_life : all_lives image.kept ≡ image.kept.schedule ∷ []
   pub size : length (file_of c image).words ≡ variable_words c + log_words c.runs.log * length c.runs.program
   pub is_all : image_in c (file_of c image) ≡ image

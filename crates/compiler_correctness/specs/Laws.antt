@@ -1,5 +1,5 @@
 -- Laws of compiled programs, in the words of their readers.
-use Rattle.std.specs.Prelude.{List}
+use Rattle.std.specs.Prelude.{◌≡◌, List, false}
 use Rattle.ido_base.specs.declared.event.Event.{Event}
 use Rattle.flow_graph.specs.Lowering.{lowered}
 use Rattle.flow_graph.specs.IdempotentCuts.{IsMinimal}
@@ -7,7 +7,7 @@ use Rattle.region_cutter.specs.FewestCuts.{AreFewestCuts}
 use Rattle.region_attempts.specs.Origins.{Origin}
 use Rattle.crash_simulation.specs.Systems.{System, IsSystem, flat_of}
 use Rattle.crash_simulation.specs.RecoveredWords.{IsRecoveredFrom}
-use Rattle.compiler_correctness.specs.Translations.{Translation, HaveNoCrash}
+use Rattle.compiler_correctness.specs.Translations.{Translation, world}
 use Rattle.compiler_correctness.specs.Delays.{AreDelaysBounded}
 use Rattle.compiler_correctness.specs.Compilation.{IsSettledAsKept, KeptScheduleGrows, AreSectionsKept, AreRecords, AreWhole, IsInStep, NeverStuck}
 use Rattle.compiler_correctness.specs.Forms.{HasForm}
@@ -41,9 +41,9 @@ HartsNeverStick = (y : System) → IsSystem y → (events : List Event) → Neve
 abbrev pub DelaysAreBounded : Type 0
 DelaysAreBounded = (y : System) → IsSystem y → (events : List Event) → AreDelaysBounded (translation_of y) events
 
--- where power stays on, machines keep step with the source
+-- in a life without a crash, machines keep step with the source
 abbrev pub MachinesKeepStep : Type 0
-MachinesKeepStep = (y : System) → IsSystem y → (events : List Event) → HaveNoCrash events → IsInStep (translation_of y) events
+MachinesKeepStep = (y : System) → IsSystem y → (events : List Event) → (world (translation_of y) events).recovering ≡ false → IsInStep (translation_of y) events
 
 -- compiled code has its form, where no boundary that stands by choice can be taken away, and in straight code they are the fewest
 abbrev pub CompiledCodeHasForm : Type 0

@@ -1,14 +1,13 @@
 -- What a compiler makes of a flat form, and what events make of that.
 use Rattle.std.specs.Prelude.{◌≡◌, ℕ, List, [], ◌∷◌, ◌++◌, length, slice_index_or, true}
 use Rattle.ido_base.specs.declared.event.Event.{Event}
-use Rattle.ido_base.specs.declared.event.Event.TheVariants.{Step, Evict, Crash}
 use Rattle.c_tree.specs.Flats as f
 use Rattle.c_tree.specs.Source as m
 use Rattle.rv64_isa.specs.declared.object.Object.{Object}
 use Rattle.rv64_isa.specs.declared.object.Marks.{Marks}
 use Rattle.rv64_isa.specs.Executables.{Executable, executable_of, first_world}
 use Rattle.rv64_isa.specs.Machine.{World, after_events}
-use Rattle.rv64_isa.specs.Schedule.{Steps, LifeSchedules, only_life, steps_along, first_steps}
+use Rattle.rv64_isa.specs.Schedule.{KeepsOn, Steps, LifeSchedules, only_life, steps_along, first_steps}
 use Rattle.source_machine.specs.Lives.{after_lives, runs_lives, begun_after}
 use Rattle.flow_graph.specs.declared.cuts.Cuts.{Cuts}
 use Rattle.flow_graph.specs.IdempotentCuts.{Boundaries, boundaries_of}
@@ -24,12 +23,10 @@ pub record Translation : Type 0 where
 abbrev pub translation_to : f.Flat → Object → Marks → Cuts → Translation
 translation_to flat object marks cuts = record { flat = flat; runs = executable_of object marks; boundaries = boundaries_of cuts }
 
--- power stays on
-abbrev pub HaveNoCrash : List Event → Type 0
-HaveNoCrash [] = Unit {0}
-HaveNoCrash (Step hart ∷ events) = HaveNoCrash events
-HaveNoCrash (Evict line mask ∷ events) = HaveNoCrash events
-HaveNoCrash (Crash ∷ events) = ⊥
+-- the life goes on by them: power stays on, and no other one begins
+abbrev pub GoOn : List Event → Type 0
+GoOn [] = Unit {0}
+GoOn (event ∷ events) = KeepsOn event × GoOn events
 
 module _ (c : Translation) where
   abbrev pub marks_of : (thread : ℕ) → List ℕ

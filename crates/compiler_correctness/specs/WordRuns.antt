@@ -1,18 +1,24 @@
 -- A machine that begins with an image's words, whoever left them, and runs on.
-use Rattle.std.specs.Prelude.{◌≡◌, ◌≢◌, ◌⊎◌, ℕ, ◌<◌, ◌≤◌, List, ◌++◌, true}
+use Rattle.std.specs.Prelude.{◌≡◌, ◌≢◌, ◌⊎◌, ℕ, ◌<◌, ◌≤◌, List, [], ◌∷◌, ◌++◌, true}
 use Rattle.ido_base.specs.declared.event.Event.{Event}
 use Rattle.ido_base.specs.declared.event.Event.TheVariants.{Step}
 use Rattle.ido_base.specs.declared.event.Reply.TheVariants.{Moved, Stuck}
 use Rattle.ido_base.specs.declared.event.Cause.{Cause}
-use Rattle.c_tree.specs.Source.{State, after_from, is_between, runs_from}
+use Rattle.c_tree.specs.Source.{State, is_between}
+use Rattle.source_machine.specs.Lives.{after_lives, runs_lives}
 use Rattle.rv64_isa.specs.declared.phase.Phase.TheVariants.{Take}
-use Rattle.rv64_isa.specs.Machine.{reply_to}
-use Rattle.rv64_isa.specs.Schedule.{kept_lives, is_settled}
+use Rattle.rv64_isa.specs.Machine.{is_settled, reply_to}
+use Rattle.rv64_isa.specs.Schedule.{LifeSchedules, all_lives, kept_lives}
 use Rattle.hart_runs.specs.Calls.{IsInPhase}
 use Rattle.variable_words.specs.Variables.{durable_variables}
-use Rattle.compiler_correctness.specs.Translations.{Translation, HaveNoCrash}
+use Rattle.compiler_correctness.specs.Translations.{Translation, GoOn}
 use Rattle.compiler_correctness.specs.Images.{Image, world_from, steps_from}
 use Rattle.compiler_correctness.specs.Delays.{active_steps, begun_by, delay, IsStopped}
+
+-- schedules of lives behind those that were kept before: the first of these lives goes on with the last of those
+abbrev pub behind : LifeSchedules → (earlier : List (List ℕ)) → (schedule : List ℕ) → LifeSchedules
+behind before [] schedule = record { earlier = before.earlier; schedule = before.schedule ++ schedule }
+behind before (first ∷ rest) schedule = record { earlier = before.earlier ++ (before.schedule ++ first) ∷ rest; schedule = schedule }
 
 module _ (c : Translation) (image : Image) where
   -- by the later events the hart begins one step more, or has stopped
@@ -20,20 +26,20 @@ module _ (c : Translation) (image : Image) where
   GetsOnFrom events more h = (begun_by (steps_from c image events) h < begun_by (steps_from c image (events ++ more)) h)
       ⊎ IsStopped (world_from c image (events ++ more)) h
 
-  -- whatever happens, no hart is ever stuck, none that takes its locks in recovery waits for one, and delays are bounded while power stays on
+  -- whatever happens, no hart is ever stuck, none that takes its locks in recovery waits for one, and delays are bounded while the life goes on
   pub record RunsOn : Type 0 where
     pub never_stuck : (events : List Event) (h : ℕ) (cause : Cause) → reply_to c.runs.program (world_from c image events) (Step h) ≢ Stuck cause
     pub takes : (events : List Event) (h : ℕ) → IsInPhase (world_from c image events) h Take →
         reply_to c.runs.program (world_from c image events) (Step h) ≡ Moved
-    pub delays : (events more : List Event) (h : ℕ) → HaveNoCrash more →
+    pub delays : (events more : List Event) (h : ℕ) → GoOn more →
         delay c h ≤ active_steps c.runs.program (world_from c image events) more h → GetsOnFrom events more h
 
-  -- the source, from a state on, can be stepped by all steps that are kept since; and where all harts stand between sections, so do all threads after
-  -- these, and the durable variables are theirs
+  -- the source, from a state on, can be stepped by all steps that are kept since, life by life; and where all harts stand between sections, so do all
+  -- threads after these, and the durable variables are theirs
   pub record SettlesFrom (from : State) (events : List Event) : Type 0 where
-    pub schedule : List ℕ
-    pub kept : kept_lives (steps_from c image events) ≡ record { earlier = image.kept.earlier; schedule = image.kept.schedule ++ schedule }
-    pub runs : runs_from from schedule ≡ true
-    pub between : is_settled (world_from c image events) ≡ true → (thread : ℕ) → is_between (after_from from schedule) thread ≡ true
+    pub since : LifeSchedules
+    pub kept : kept_lives (steps_from c image events) ≡ behind image.kept since.earlier since.schedule
+    pub runs : runs_lives c.flat from (all_lives since) ≡ true
+    pub between : is_settled (world_from c image events) ≡ true → (thread : ℕ) → is_between (after_lives c.flat from (all_lives since)) thread ≡ true
     pub variables : is_settled (world_from c image events) ≡ true →
-        durable_variables (world_from c image events).words c.flat.variables ≡ (after_from from schedule).variables
+        durable_variables (world_from c image events).words c.flat.variables ≡ (after_lives c.flat from (all_lives since)).variables

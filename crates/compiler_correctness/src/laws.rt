@@ -25,8 +25,8 @@ pub fn kept_steps_grow()
     ensures { KeptStepsGrow }
 {}
 
-/// The kept steps hold each section that a hart has left, and at most one more of its thread. By each event a section of a thread is kept exactly where the
-/// durable point of its hart, which was not 0, becomes 0.
+/// The kept steps of a life hold each section that a hart has left in it, and at most one more of its thread. By each of its events a section of a thread is
+/// kept exactly where the durable point of its hart, which was not 0, becomes 0.
 pub fn sections_are_kept()
     ensures { SectionsAreKept }
 {
@@ -70,7 +70,7 @@ pub fn delays_are_bounded()
     fragments_step();
 }
 
-/// As long as power stays on, the source can be stepped by all steps that have begun, memory has the variables that it has then, and a hart holds what its
+/// In a life without a crash the source can be stepped by all steps that have begun in it, memory has the variables that it has then, and a hart holds what its
 /// thread does, and beside that at most the lock of an unlock that is its thread's last step.
 pub fn machines_keep_step()
     ensures { MachinesKeepStep }
@@ -107,7 +107,7 @@ pub fn images_are_resumed()
 
 /// A machine that begins with words whose records describe a state of the source runs on, whoever left them and whether a run reaches that state or not:
 /// no hart is ever stuck, none that takes its locks in recovery waits for one, and one that waits for no lock begins its next step, or has stopped, within
-/// twice its code's words and 18 of its steps while power stays on.
+/// twice its code's words and 18 of its steps while the life goes on.
 pub fn recovered_words_run_on()
     ensures { RecoveredWordsRunOn }
 {

@@ -1,7 +1,7 @@
 -- Worked rows: which hart can step.
 use Rattle.std.proofs.Common.{◌≡◌, ℕ, Option, Some, None, false, ◌==◌, if◌then◌else◌, refl}
 use Rattle.ido_base.specs.declared.event.Event.{Event}
-use Rattle.ido_base.specs.declared.event.Event.TheVariants.{Step, Evict, Crash}
+use Rattle.ido_base.specs.declared.event.Event.TheVariants.{Step, Evict, Crash, Start}
 use Rattle.ido_base.specs.declared.event.Cause.TheVariants.{NoCode}
 use Rattle.ido_base.specs.declared.event.Reply.{Reply}
 use Rattle.ido_base.specs.declared.event.Reply.TheVariants.{Moved, Waits, Still, Stuck, Device}
@@ -13,12 +13,14 @@ reply_of : Event → Reply
 reply_of (Step hart) = if hart == 0 then Waits 5 2 else if hart == 1 then Still else if hart == 2 then Stuck (NoCode 0) else Moved
 reply_of (Evict line mask) = Device
 reply_of Crash = Device
+reply_of Start = Device
 
 standing : Behaviour ℕ
 standing = record {
   next = λ m event. m;
   reply = λ m event. reply_of event;
   is_stopped = λ m hart. false;
+  can_start = λ m. false;
   stores_point = λ m hart event. false;
   finishes_fence = λ m hart event. false;
 }

@@ -160,6 +160,10 @@ impl Core for Counter {
         if self.steps() < STEPS { Some(0) } else { None }
     }
 
+    fn can_start(&self) -> bool {
+        false
+    }
+
     type Local = NothingAhead;
 
     fn local(&self, _: Global, _: u32) -> Result<NothingAhead, OutOfMemory> {

@@ -1,16 +1,24 @@
 -- The machine simulates an abstract run after all events, and its account is that run's.
 use Rattle.crash_simulation.proofs.Common.{◌≡◌, ◌≢◌, ℕ, List, ◌∷◌, sym, ◌∙◌, ap, arith, subst, true, false, Option, Some, None, refl, ◌+◌, ◌<◌, [], ◌++◌}
 use Rattle.crash_simulation.proofs.Common.{length, Bool, inl, inr, ◌==◌, slice_get, ◌&&◌, not, true≢false, ◌≤◌, ap₂, none-some, same_Some, holds_none}
-use Rattle.crash_simulation.proofs.Common.{last_position, Event, Step, Evict, Crash, State, after_from, runs_from, ended_from, start, first_world, Hart, World}
+use Rattle.crash_simulation.proofs.Common.{last_position, Event, Step, Evict, Crash, State, after_from, runs_from, ended_from, first_world, Hart, World}
 use Rattle.crash_simulation.proofs.Common.{happens, after_event, stepped, after_events, durable_point, after_crash_of, Steps, is_running, completing}
-use Rattle.crash_simulation.proofs.Common.{passes_mark, with_step, with_all_kept, steps_after, steps_along, releases_last, released_count, Slot, Phase, Done}
+use Rattle.crash_simulation.proofs.Common.{passes_mark, with_step, with_all_kept, steps_after, steps_along, releases_last, Slot, Phase, Done}
 use Rattle.crash_simulation.proofs.Common.{Take, Wait, Resume, Run, Ended, log_stays, below_or_past, now, Program, point_in, IsInPhase, AreMarksOf}
 use Rattle.crash_simulation.proofs.Common.{FragmentsGoOn, AbstractRun, kept_of, AreCounted, Beginning, SimulatesCounted, MachinesResume, first_beginning}
 use Rattle.crash_simulation.proofs.Common.{is_bound, begins, IsUnlocked, was_unlocked, Site, IsReadyToStep, calls, OwnStep, FragmentsStep, CoresStep, Nears}
 use Rattle.crash_simulation.proofs.Common.{EventsStand, RunsSimulate, SectionsEndAtPoints, loses_point, RecoveredAreCounted, sections_kept, one_if}
 use Rattle.crash_simulation.proofs.Common.{IsReleasedOf, ended_in_machine, SectionsAreKept, SimulatesBut, Simulates, anybody, System, IsSystem, thread_count}
 use Rattle.crash_simulation.proofs.Common.{flat_of, ThreadGhost}
+use Rattle.std.specs.Prelude.{if◌then◌else◌}
+use Rattle.ido_base.specs.declared.event.Event.TheVariants.{Start}
+use Rattle.source_machine.specs.Lives.{end_lives, ends_life}
+use Rattle.rv64_isa.specs.Schedule.{KeepsOn, begins_life, released_along}
+use Rattle.crash_simulation.specs.AccountRelation.{SimulatesLives, beginning_after, next_beginning}
+use Rattle.crash_simulation.specs.ReleasedSections.{ended_by}
 use Rattle.crash_simulation.specs.InstructionSteps.{on_fragment, at_core}
+use Rattle.crash_simulation.proofs.LifeAccounts.{begins_at, from_after, one_more, one_more_ends, schedule_is}
+use Rattle.crash_simulation.proofs.LifeStarts.{HasBegun, start_goes, start_then_counted}
 use Rattle.crash_simulation.proofs.AccountsBeforeCommit.{released_by, none_released, stays_done, phase_releases, kept_crashed, none_bound, recovered_counted}
 use Rattle.crash_simulation.proofs.AccountsBeforeCommit.{start_counted, crash_counted, evicted_counted, own_step_counted, GoesOnBy, led_now}
 use Rattle.crash_simulation.proofs.LastReleases.{holders_stay_none, describes_test, at_most_one}
@@ -68,20 +76,33 @@ abbrev pub begun_in : System → World → Event → List ℕ
 begun_in y w (Step h) = begun_by (passes_mark y.runs.marks y.runs.program w h) h []
 begun_in y w (Evict line mask) = []
 begun_in y w Crash = []
+begun_in y w Start = []
 
 -- the account of the steps then, but for those that are kept by it
 abbrev account_by : System → World → Event → Steps → Steps
 account_by y w (Step h) steps = with_step y.runs.marks y.runs.program w h steps
 account_by y w event steps = steps
 
--- what is kept by an event but a crash
-kept_by : (y : System) (w : World) (event : Event) (steps : Steps) → event ≢ Crash →
+-- what is kept by an event by which the life goes on
+kept_by : (y : System) (w : World) (event : Event) (steps : Steps) → KeepsOn event →
     with_all_kept w.log (after_event y.runs.program w event).words (length steps.harts) (account_by y w event steps)
     ≡ steps_after y.runs.marks y.runs.program w event steps
 unfolding steps_after
-kept_by y w (Step h) steps no_crash = refl
-kept_by y w (Evict line mask) steps no_crash = refl
-kept_by y w Crash steps no_crash = absurd (no_crash refl)
+kept_by y w (Step h) steps on = refl
+kept_by y w (Evict line mask) steps on = refl
+kept_by y w Crash steps on = absurd on
+kept_by y w Start steps on = absurd on
+
+-- it begins no other life
+pub none_begins : (w : World) (event : Event) → KeepsOn event → begins_life w event ≡ false
+none_begins w (Step h) on = refl
+none_begins w (Evict line mask) on = refl
+none_begins w Crash on = absurd on
+none_begins w Start on = absurd on
+
+-- where the account begins then
+abbrev pub beginning_by : (y : System) → World → Event → AbstractRun y → Beginning → Beginning
+beginning_by y w event b g = if begins_life w event then next_beginning y g b.schedule else g
 
 module _ (y : System) (s : IsSystem y) (w : World) (event : Event) (old : Simulates y s w) where
   open y.runs use {marks, program}
@@ -89,7 +110,7 @@ module _ (y : System) (s : IsSystem y) (w : World) (event : Event) (old : Simula
   abbrev later_world : World
   later_world = after_event program w event
 
-  -- while power stays on, the source goes on by these steps, and each attempt comes as far as any before; a thread has to give back what it had, or what its
+  -- while the life goes on, the source goes on by these steps, and each attempt comes as far as any before; a thread has to give back what it had, or what its
   -- step unlocks; and a hart that executes instructions is one step nearer to its next mark by its own steps
   pub record Continues {waiting : ℕ → Type 0} (new : SimulatesBut y s later_world waiting) : Type 0 where
     pub source : now new.abstract.config ≡ after_from (now old.abstract.config) (begun_in y w event)
@@ -104,7 +125,7 @@ module _ (y : System) (s : IsSystem y) (w : World) (event : Event) (old : Simula
   -- the steps are accounted so, and what the machine released
   abbrev IsCountedThen : {waiting : ℕ → Type 0} → SimulatesBut y s later_world waiting → (account : Steps → Steps) → Type 0
   IsCountedThen new account = (g : Beginning) (steps : Steps) (r : ℕ → ℕ) → AreCounted y g w old.abstract old.ghosts steps r →
-      AreCounted y g later_world new.abstract new.ghosts (account steps) (released_by program w event r)
+      AreCounted y (beginning_by y w event old.abstract g) later_world new.abstract new.ghosts (account steps) (released_by program w event r)
 
   -- the machine simulates an abstract run then, but commits may still be to be taken; sections are kept as they were
   record Moves : Type 0 where
@@ -113,26 +134,32 @@ module _ (y : System) (s : IsSystem y) (w : World) (event : Event) (old : Simula
     sections : (n : ℕ) → AreSameSections y old.abstract next.abstract n
     on : Continues next
 
-  -- the machine simulates an abstract run then, and sections of each thread end as it has left them
+  -- the machine simulates an abstract run then, and sections of each thread end as it has left them, in the life that goes on; where another one begins, the
+  -- one before has ended
   pub record GoesOn : Type 0 where
     pub next : Simulates y s later_world
     pub counted : IsCountedThen next (steps_after marks program w event)
-    pub ends : (n : ℕ) → EndAsLeft y old.abstract next.abstract n
-    pub on : event ≢ Crash → Continues next
+    pub ends : begins_life w event ≡ false → (n : ℕ) → EndAsLeft y old.abstract next.abstract n
+    pub on : KeepsOn event → Continues next
+    pub whole : begins_life w event ≡ true → ends_life old.abstract.origin.source old.abstract.schedule ≡ true
+    pub anew : begins_life w event ≡ true → HasBegun y s later_world next
 
   -- what is committed then is taken so
-  commits_move : event ≢ Crash → Moves → GoesOn
-  commits_move no_crash moves =
+  commits_move : KeepsOn event → Moves → GoesOn
+  commits_move keeps moves =
       let c = all_caught_up y s later_world moves.next in
       let logs = log_stays program w event old.machine.sound in
       record {
         next = none_waits y s later_world moves.next c;
         counted = λ g steps r counted.
-            subst (λ (z : Steps). AreCounted y g later_world c.stands.abstract c.stands.ghosts z (released_by program w event r))
-            ((λ i. with_all_kept (logs i) later_world.words ((sym counted.count) i) (account_by y w event steps)) ∙ kept_by y w event steps no_crash)
-            (c.counted g (account_by y w event steps) (released_by program w event r) (moves.counted g steps r counted));
-        ends = λ n. same_then_end y old.abstract moves.next.abstract n c.stands.abstract (moves.sections n) (c.ends n);
-        on = λ no_crash. record {
+            subst (λ (z : Steps). AreCounted y (beginning_by y w event old.abstract g) later_world c.stands.abstract c.stands.ghosts z
+            (released_by program w event r))
+            ((λ i. with_all_kept (logs i) later_world.words ((sym counted.count) i) (account_by y w event steps)) ∙ kept_by y w event steps keeps)
+            (c.counted (beginning_by y w event old.abstract g) (account_by y w event steps) (released_by program w event r) (moves.counted g steps r counted));
+        ends = λ none n. same_then_end y old.abstract moves.next.abstract n c.stands.abstract (moves.sections n) (c.ends n);
+        whole = λ begins. absurd (true≢false (sym begins ∙ none_begins w event keeps));
+        anew = λ begins. absurd (true≢false (sym begins ∙ none_begins w event keeps));
+        on = λ on. record {
           source = c.source ∙ moves.on.source;
           runs = moves.on.runs;
           tried = λ furthest. c.tried (moves.on.tried furthest);
@@ -283,44 +310,117 @@ module _ (fragments_step : FragmentsStep) (cores_step : CoresStep) where
     }
 
     pub event_goes_on : (y : System) (s : IsSystem y) (w : World) (event : Event) (old : Simulates y s w) → GoesOn y s w event old
-    event_goes_on y s w (Step h) old = commits_move y s w (Step h) old (λ e. cc) (step_moves y s w h old (slice_get w.harts h) refl)
-    event_goes_on y s w (Evict line mask) old = commits_move y s w (Evict line mask) old (λ e. cc) (eviction_moves y s w line mask old)
+    event_goes_on y s w (Step h) old = commits_move y s w (Step h) old tt (step_moves y s w h old (slice_get w.harts h) refl)
+    event_goes_on y s w (Evict line mask) old = commits_move y s w (Evict line mask) old tt (eviction_moves y s w line mask old)
     event_goes_on y s w Crash old = record {
       next = starting.stands_after y s w old;
       counted = λ g steps r counted. crash_counted y s w old steps r counted;
-      ends = λ n.
+      ends = λ none n.
           same_end y old.abstract (starting.stands_after y s w old).abstract n
           (record { sections = kept_crashed y s w old n; between = refl });
-      on = λ none. absurd (none refl);
+      on = λ on. absurd on;
+      whole = λ begins. absurd (true≢false (sym begins));
+      anew = λ begins. absurd (true≢false (sym begins));
     }
+    event_goes_on y s w Start old =
+        let o = start_goes y s w old in record {
+          next = o.next;
+          counted = start_then_counted y s w old;
+          ends = o.ends;
+          on = λ on. absurd on;
+          whole = o.whole;
+          anew = o.anew;
+        }
 
     pub events_stand : EventsStand
     events_stand y s w event old = (event_goes_on y s w event old).next
 
+    -- ---- The account goes on in its life, or in the one that begins
+
+    -- what the account is then
+    pub counted_then : (y : System) (s : IsSystem y) {g : Beginning} (w : World) (event : Event) (steps : Steps) (r : ℕ → ℕ) (is : SimulatesCounted y s g w steps r)
+        (begins : Bool) → begins_life w event ≡ begins →
+        AreCounted y (if begins then next_beginning y g is.stands.abstract.schedule else g) (after_event y.runs.program w event)
+        (event_goes_on y s w event is.stands).next.abstract (event_goes_on y s w event is.stands).next.ghosts
+        (steps_after y.runs.marks y.runs.program w event steps) (released_by y.runs.program w event r)
+    counted_then y s {g} w event steps r is begins e =
+        let o = event_goes_on y s w event is.stands in
+        subst (λ (b : Bool). AreCounted y (if b then next_beginning y g is.stands.abstract.schedule else g) (after_event y.runs.program w event) o.next.abstract
+        o.next.ghosts (steps_after y.runs.marks y.runs.program w event steps) (released_by y.runs.program w event r)) e (o.counted g steps r is.counted)
+
     abbrev pub event_carried : (y : System) (s : IsSystem y) {g : Beginning} (w : World) (event : Event) (steps : Steps) (r : ℕ → ℕ) →
-        SimulatesCounted y s g w steps r →
+        begins_life w event ≡ false → SimulatesCounted y s g w steps r →
         SimulatesCounted y s g (after_event y.runs.program w event) (steps_after y.runs.marks y.runs.program w event steps)
         (released_by y.runs.program w event r)
-    event_carried y s {g} w event steps r is =
-        let o = event_goes_on y s w event is.stands in record { stands = o.next; counted = o.counted g steps r is.counted }
+    event_carried y s w event steps r none is =
+        record { stands = (event_goes_on y s w event is.stands).next; counted = counted_then y s w event steps r is false none }
 
-    -- along events, with the releases up to then and those that come
-    events_carried : (y : System) (s : IsSystem y) {g : Beginning} (events : List Event) (w : World) (steps : Steps) (r later : ℕ → ℕ) →
-        ((n : ℕ) → r n + released_count y.runs.program w events n ≡ later n) → SimulatesCounted y s g w steps r →
-        SimulatesCounted y s g (after_events y.runs.program w events) (steps_along y.runs.marks y.runs.program w events steps) later
-    events_carried y s {g} [] w steps r later all is = subst (SimulatesCounted y s g w steps) (λ i n. (let e : r n ≡ later n = omega (arith, all n) in e) i) is
-    events_carried y s (event ∷ events) w steps r later all is =
-        events_carried y s events (after_event y.runs.program w event) _ (released_by y.runs.program w event r) later (λ n. omega (arith, all n))
-        (event_carried y s w event steps r is)
+    abbrev pub life_goes_on : (y : System) (s : IsSystem y) {first : Beginning} (w : World) (event : Event) (steps : Steps) (r : ℕ → ℕ) →
+        begins_life w event ≡ false → SimulatesLives y s first w steps r →
+        SimulatesLives y s first (after_event y.runs.program w event) (steps_after y.runs.marks y.runs.program w event steps)
+        (released_by y.runs.program w event r)
+    life_goes_on y s w event steps r none z = record { lives = z.lives; ended = z.ended; is = event_carried y s w event steps r none z.is }
+
+    -- the life before has ended with what its execution has kept
+    pub one_more_ended : (y : System) (s : IsSystem y) {first : Beginning} (w : World) (event : Event) (steps : Steps) (r : ℕ → ℕ) →
+        begins_life w event ≡ true → (z : SimulatesLives y s first w steps r) →
+        end_lives (flat_of y) first.from (z.lives ++ z.is.stands.abstract.schedule ∷ []) ≡ true
+    one_more_ended y s {first} w event steps r begins z =
+        let b = z.is.stands.abstract in
+        one_more_ends (flat_of y) first.from z.lives b.schedule z.ended
+        (ap (λ (from : State). ends_life from b.schedule) (sym (z.is.counted.begins ∙ from_after y first z.lives))
+        ∙ (event_goes_on y s w event z.is.stands).whole begins)
+
+    pub one_more_counted : (y : System) (s : IsSystem y) {first : Beginning} (w : World) (event : Event) (steps : Steps) (r : ℕ → ℕ) →
+        begins_life w event ≡ true → (z : SimulatesLives y s first w steps r) →
+        AreCounted y (beginning_after y first (z.lives ++ z.is.stands.abstract.schedule ∷ [])) (after_event y.runs.program w event)
+        (event_goes_on y s w event z.is.stands).next.abstract (event_goes_on y s w event z.is.stands).next.ghosts
+        (steps_after y.runs.marks y.runs.program w event steps) (released_by y.runs.program w event r)
+    one_more_counted y s {first} w event steps r begins z =
+        let o = event_goes_on y s w event z.is.stands in
+        subst (λ (g : Beginning). AreCounted y g (after_event y.runs.program w event) o.next.abstract o.next.ghosts
+        (steps_after y.runs.marks y.runs.program w event steps) (released_by y.runs.program w event r))
+        (sym (one_more y first z.lives z.is.stands.abstract.schedule)) (counted_then y s w event steps r z.is true begins)
+
+    abbrev pub life_begins : (y : System) (s : IsSystem y) {first : Beginning} (w : World) (event : Event) (steps : Steps) (r : ℕ → ℕ) →
+        begins_life w event ≡ true → SimulatesLives y s first w steps r →
+        SimulatesLives y s first (after_event y.runs.program w event) (steps_after y.runs.marks y.runs.program w event steps)
+        (released_by y.runs.program w event r)
+    life_begins y s w event steps r begins z = record {
+      lives = z.lives ++ z.is.stands.abstract.schedule ∷ [];
+      ended = one_more_ended y s w event steps r begins z;
+      is = record { stands = (event_goes_on y s w event z.is.stands).next; counted = one_more_counted y s w event steps r begins z };
+    }
+
+    pub life_carried : (y : System) (s : IsSystem y) {first : Beginning} (w : World) (event : Event) (steps : Steps) (r : ℕ → ℕ) →
+        SimulatesLives y s first w steps r →
+        SimulatesLives y s first (after_event y.runs.program w event) (steps_after y.runs.marks y.runs.program w event steps)
+        (released_by y.runs.program w event r)
+    life_carried y s {first} w event steps r z = by (begins_life w event) refl
+      where
+        by : (begins : Bool) → begins_life w event ≡ begins →
+            SimulatesLives y s first (after_event y.runs.program w event) (steps_after y.runs.marks y.runs.program w event steps)
+            (released_by y.runs.program w event r)
+        by true e = life_begins y s w event steps r e z
+        by false e = life_goes_on y s w event steps r e z
+
+    -- along events
+    lives_carried : (y : System) (s : IsSystem y) {first : Beginning} (events : List Event) (w : World) (steps : Steps) (r : ℕ → ℕ) →
+        SimulatesLives y s first w steps r →
+        SimulatesLives y s first (after_events y.runs.program w events) (steps_along y.runs.marks y.runs.program w events steps)
+        (λ n. released_along y.runs.program w events n (r n))
+    lives_carried y s [] w steps r z = z
+    lives_carried y s (event ∷ events) w steps r z =
+        lives_carried y s events (after_event y.runs.program w event) _ (released_by y.runs.program w event r) (life_carried y s w event steps r z)
 
     pub machines_resume : MachinesResume
     machines_resume y s events =
-        events_carried y s events _ _ (λ n. 0) (released_count y.runs.program (first_world y.runs) events) (λ n. omega arith) (start_counted y s)
+        lives_carried y s events (first_world y.runs) _ (λ n. 0) (record { lives = []; ended = refl; is = start_counted y s })
 
     pub recovered_are_counted : RecoveredAreCounted
     recovered_are_counted y s o words kept is events =
-        let w = after_crash_of y.runs.log y.runs.program y.runs.mutexes words in
-        events_carried y s events w _ (λ n. 0) (released_count y.runs.program w events) (λ n. omega arith) (recovered_counted y s o words kept is)
+        lives_carried y s events (after_crash_of y.runs.log y.runs.program y.runs.mutexes words) _ (λ n. 0)
+        (record { lives = []; ended = refl; is = recovered_counted y s o words kept is })
 
     -- ---- Its sections are kept
 
@@ -335,13 +435,13 @@ module _ (fragments_step : FragmentsStep) (cores_step : CoresStep) where
     pub sections_are_kept : SectionsAreKept
     sections_are_kept y s events h =
         let z = machines_resume y s events in
-        let t = z.stands in
+        let t = z.is.stands in
         let near : IsNear (ended_in_machine y events h) (sections_kept y t.abstract h) = elim (below_or_past h (thread_count y)) [
-          | inl below ↦ near_of y _ t.abstract h (t.ghosts h) (ended_in_machine y events h) (z.counted.each h below).released
-          | inr outside ↦ let same = z.counted.beyond h outside in (omega (arith, same), omega (arith, same))
+          | inl below ↦ near_of y _ t.abstract h (t.ghosts h) (ended_in_machine y events h) (z.is.counted.each h below).released
+          | inr outside ↦ let same = z.is.counted.beyond h outside in (omega (arith, same), omega (arith, same))
         ] in
         subst (IsNear (ended_in_machine y events h))
-        (ap₂ (λ (from : State) (us : List ℕ). ended_from from us h) z.counted.begins (sym z.counted.kept)) near
+        (ap₂ (λ (from : State) (us : List ℕ). ended_from from us h) (begins_at y s _ _ z) (sym (schedule_is y s _ _ z))) near
 
 -- ---- Along two lists of events
 
@@ -371,30 +471,29 @@ module _ (y : System) (s : IsSystem y) (w : World) (stands : Simulates y s w) (n
 
 module _ (fragments_step : FragmentsStep) (cores_step : CoresStep) (law : FragmentsGoOn) where
   module _ (y : System) (s : IsSystem y) (w : World) (steps : Steps) (r : ℕ → ℕ)
-      (was : SimulatesCounted y s (first_beginning y) w steps r) where
+      (was : SimulatesLives y s (first_beginning y) w steps r) where
     -- the sections that are kept, by the account's steps
-    kept_is : (v : World) (later : Steps) {releases : ℕ → ℕ} (is : SimulatesCounted y s (first_beginning y) v later releases) (n : ℕ) →
-        sections_kept y is.stands.abstract n ≡ ended_from (start (flat_of y)) later.kept n
-    kept_is v later is n = ap₂ (λ (from : State) (us : List ℕ). ended_from from us n) is.counted.begins (sym is.counted.kept)
+    kept_is : (v : World) (later : Steps) {releases : ℕ → ℕ} (z : SimulatesLives y s (first_beginning y) v later releases) (n : ℕ) →
+        sections_kept y z.is.stands.abstract n ≡ ended_by y later n
+    kept_is v later z n = ap₂ (λ (from : State) (us : List ℕ). ended_from from us n) (begins_at y s v later z) (sym (schedule_is y s v later z))
 
-    ends_at_point : (event : Event) (n : ℕ) → n < thread_count y →
-        ended_from (start (flat_of y)) (steps_after y.runs.marks y.runs.program w event steps).kept n
-        ≡ ended_from (start (flat_of y)) steps.kept n + one_if (loses_point w (after_event y.runs.program w event) n)
-    ends_at_point event n below =
-        let e = event_goes_on fragments_step cores_step law y s w event was.stands in
+    ends_at_point : (event : Event) (n : ℕ) → n < thread_count y → begins_life w event ≡ false →
+        ended_by y (steps_after y.runs.marks y.runs.program w event steps) n
+        ≡ ended_by y steps n + one_if (loses_point w (after_event y.runs.program w event) n)
+    ends_at_point event n below none =
+        let e = event_goes_on fragments_step cores_step law y s w event was.is.stands in
         let later = steps_after y.runs.marks y.runs.program w event steps in
-        let next : SimulatesCounted y s (first_beginning y) (after_event y.runs.program w event) later (released_by y.runs.program w event r) =
-        record { stands = e.next; counted = e.counted (first_beginning y) steps r was.counted } in
+        let next = life_goes_on fragments_step cores_step law y s w event steps r none was in
         let before = kept_is w steps was n in
-        let was_held = point_says y s w was.stands n below in
+        let was_held = point_says y s w was.is.stands n below in
         let is_held = point_says y s (after_event y.runs.program w event) e.next n below in
         sym (kept_is (after_event y.runs.program w event) later next n)
-        ∙ (e.ends n ∙ (λ i. before i + one_if (not (was_held i) && is_held i)))
+        ∙ (e.ends none n ∙ (λ i. before i + one_if (not (was_held i) && is_held i)))
 
   -- ---- Whatever has happened
 
   pub sections_end_at_points : SectionsEndAtPoints
-  sections_end_at_points y s events event h below =
+  sections_end_at_points y s events event h below none =
       let z = machines_resume fragments_step cores_step law y s events in
-      ap (λ (later : Steps). ended_from (start (flat_of y)) later.kept h)
-      (steps_join y.runs.marks y.runs.program events (event ∷ []) (first_world y.runs) _) ∙ ends_at_point y s _ _ _ z event h below
+      ap (λ (later : Steps). ended_by y later h)
+      (steps_join y.runs.marks y.runs.program events (event ∷ []) (first_world y.runs) _) ∙ ends_at_point y s _ _ _ z event h below none

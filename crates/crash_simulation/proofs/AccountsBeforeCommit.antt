@@ -11,6 +11,7 @@ use Rattle.crash_simulation.proofs.Common.{Gathers, same_there, same_or_other, h
 use Rattle.crash_simulation.proofs.Common.{counted_steps, last_stored, SimulatesCounted, first_beginning, is_bound, is_leaving, begins, OwnStep, Releases}
 use Rattle.crash_simulation.proofs.Common.{nothing_released, last_released, StepsOrStutters, with_ghost, IsRecoveredFrom, sections_kept, one_if, IsReleasedOf}
 use Rattle.crash_simulation.proofs.Common.{in_step, cut_off, Simulates, System, IsSystem, thread_count, flat_of, ThreadGhost}
+use Rattle.rv64_isa.specs.Schedule.{begins_life}
 use Rattle.c_tree.specs.Source as m
 use Rattle.crash_simulation.proofs.LastReleases.{no_release, holders_stay_none, other_release, none_leaving}
 use Rattle.crash_simulation.proofs.RecordsAfterCrash.{left, left_kept}
@@ -27,9 +28,9 @@ use Rattle.crash_simulation.proofs.SimulationAtStart as starting
 
 -- ---- Sections that are kept, and the machine's releases
 
--- the releases then_world an event
+-- the releases of the life that goes on, with an event
 abbrev pub released_by : List (List Slot) → World → Event → (released : ℕ → ℕ) → (thread : ℕ) → ℕ
-released_by program w event released n = released n + one_if (releases_last program w event n)
+released_by program w event released n = if begins_life w event then 0 else released n + one_if (releases_last program w event n)
 
 pub none_more : (n : ℕ) → n ≡ n + 0
 none_more n = omega arith
@@ -153,27 +154,33 @@ pub none_counted : (y : System) (w : World) (b : AbstractRun y) (n : ℕ) (c : T
 none_counted y w b n c one committed begun none = none ∙ (λ i. counted_steps ((sym (none_bound c committed)) i) (last_stored w n) ((sym begun) i))
 
 -- the account of a machine that begins, after what was kept before
+pub begun_counted : (y : System) (s : IsSystem y) (g : Beginning) {w : World} (stands : Simulates y s w) (threads : ℕ) → threads ≡ thread_count y →
+    stands.abstract.origin.source ≡ g.from → stands.abstract.schedule ≡ [] → stands.abstract.config.uncommitted ≡ [] →
+    ((n : ℕ) → ((stands.ghosts n).committed ≡ true) × ((stands.ghosts n).giving ≡ None)) →
+    AreCounted y g w stands.abstract stands.ghosts (first_steps threads (record { earlier = g.earlier; schedule = g.kept })) (λ n. 0)
+begun_counted y s g {w} stands threads many from none uncommitted fresh = record {
+  begins = from;
+  earlier = refl;
+  kept = sym (append-nil g.kept) ∙ ap (λ (us : List ℕ). g.kept ++ us) (sym none);
+  pending = sym uncommitted;
+  count = length-replicate threads no_steps ∙ many;
+  each = λ n below. record {
+    counted = none_counted y w stands.abstract n (stands.ghosts n) _ (fresh n).0
+        (ap (λ (us : List ℕ). steps_begun (record stands.abstract.config { uncommitted = us }) n) uncommitted)
+        (repeated_or threads n no_steps);
+    released = in_step (ap (λ (us : List ℕ). m.ended_from stands.abstract.origin.source us n) none
+        ∙ ap (λ (z : Bool). 0 + one_if z) (sym (none_leaving (stands.ghosts n) (fresh n).1)));
+  };
+  beyond = λ n outside. ap (λ (us : List ℕ). m.ended_from stands.abstract.origin.source us n) none;
+}
+
 abbrev pub first_counted : (y : System) (s : IsSystem y) (g : Beginning) {w : World} (stands : Simulates y s w) → stands.abstract.origin.source ≡ g.from →
     stands.abstract.schedule ≡ [] → stands.abstract.config.uncommitted ≡ [] →
     ((n : ℕ) → ((stands.ghosts n).committed ≡ true) × ((stands.ghosts n).giving ≡ None)) →
     SimulatesCounted y s g w (first_steps (length y.runs.program) (record { earlier = g.earlier; schedule = g.kept })) (λ n. 0)
 first_counted y s g {w} stands from none uncommitted fresh = record {
   stands = stands;
-  counted = record {
-    begins = from;
-    earlier = refl;
-    kept = sym (append-nil g.kept) ∙ ap (λ (us : List ℕ). g.kept ++ us) (sym none);
-    pending = sym uncommitted;
-    count = length-replicate (length y.runs.program) no_steps ∙ s.count;
-    each = λ n below. record {
-      counted = none_counted y w stands.abstract n (stands.ghosts n) _ (fresh n).0
-          (ap (λ (us : List ℕ). steps_begun (record stands.abstract.config { uncommitted = us }) n) uncommitted)
-          (repeated_or (length y.runs.program) n no_steps);
-      released = in_step (ap (λ (us : List ℕ). m.ended_from stands.abstract.origin.source us n) none
-          ∙ ap (λ (z : Bool). 0 + one_if z) (sym (none_leaving (stands.ghosts n) (fresh n).1)));
-    };
-    beyond = λ n outside. ap (λ (us : List ℕ). m.ended_from stands.abstract.origin.source us n) none;
-  };
+  counted = begun_counted y s g stands (length y.runs.program) s.count from none uncommitted fresh;
 }
 
 abbrev pub start_counted : (y : System) (s : IsSystem y) →

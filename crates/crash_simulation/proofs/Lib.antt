@@ -45,5 +45,7 @@ mod LongestAttempts
 mod CommitSimulation
 mod AccountUpdates
 mod AccountsBeforeCommit
+mod LifeAccounts
+mod LifeStarts
 mod AccountsAfterEvents
 mod NoStuckHarts

@@ -5,8 +5,7 @@ use Rattle.crash_simulation.proofs.Common.{is_between, holds_none, AreEntries, H
 use Rattle.crash_simulation.proofs.Common.{LogInv, nothing_recorded, Record, AbstractRun, Simulates, IsMachineOf, gathering, gathered, System, IsSystem}
 use Rattle.crash_simulation.proofs.Common.{thread_count, flat_of, places_of, InPhase, Origin, memory_in, word_count}
 use Rattle.rv64_isa.specs.declared.phase.Phase.TheVariants.{Done, Ended}
-use Rattle.rv64_isa.specs.Machine.{durable_point}
-use Rattle.rv64_isa.specs.Schedule.{are_settled, is_settled_hart}
+use Rattle.rv64_isa.specs.Machine.{are_settled, durable_point, is_settled_hart}
 use Rattle.recovery_semantics.specs.ElementHistories.{AreStable}
 use Rattle.region_attempts.proofs.Public.{life_origin, settled_may_begin}
 use Rattle.log_states.specs.Stages.{LogIs}
@@ -149,20 +148,20 @@ module _ (y : System) (s : IsSystem y) (w v : World) (old : Simulates y s w) (en
 
   -- ---- The abstract run
 
-  abbrev origin : Origin (flat_of y)
+  abbrev pub origin : Origin (flat_of y)
   origin = life_origin (flat_of y) b.origin b.schedule s.plan.formed s.disciplined
 
-  between : (thread : ℕ) → is_between (m.after_from b.origin.source b.schedule) thread ≡ true
-  between thread =
+  pub ends_between : (thread : ℕ) → is_between (m.after_from b.origin.source b.schedule) thread ≡ true
+  ends_between thread =
       ap (λ (z : m.State). is_between z thread) (resumed y s b).resumed.kept.is
       ∙ between_there y s w old points_are_none thread
 
   stable : AreStable origin.source (memory_in (places_of y) v.words)
   stable =
       subst (AreStable origin.source) (sym old.memory ∙ ap (memory_in (places_of y)) (sym anew.words))
-      (settled_may_begin (flat_of y) b.origin.source b.config b.schedule b.origin.keeps b.execution between)
+      (settled_may_begin (flat_of y) b.origin.source b.config b.schedule b.origin.keeps b.execution ends_between)
 
-  life : BeginsLife y origin v
+  pub life : BeginsLife y origin v
   life = record {
     machine = machine;
     stable = stable;
@@ -173,8 +172,11 @@ module _ (y : System) (s : IsSystem y) (w v : World) (old : Simulates y s w) (en
     unheld = λ lock n there. unheld lock n (ap (λ (hs : List (Option ℕ)). slice_get hs lock) (sym anew.holders) ∙ there);
   }
 
+  abbrev pub stands_anew : Simulates y s v
+  stands_anew = life_stands y s origin v life
+
   pub later_stands : SimulatesAnew y s old v
-  later_stands = record { stands = life_stands y s origin v life; begins = refl; none = refl }
+  later_stands = record { stands = stands_anew; begins = refl; none = refl }
 
 pub lives_simulate : LivesSimulate
 lives_simulate y s w v old ends anew = later_stands y s w v old ends anew

@@ -1,10 +1,12 @@
 -- What crates above may use of this crate's proofs, passed on from one place. Declares nothing.
 pub use Rattle.crash_simulation.proofs.AccountUpdates.{begun_by, count_same, counted_by, kept_same}
-pub use Rattle.crash_simulation.proofs.AccountsAfterEvents.{Continues, GoesOn, begun_in, event_carried, event_goes_on, not_running, not_there, own_by, step_of}
-pub use Rattle.crash_simulation.proofs.AccountsAfterEvents.{steps_join, worlds_join}
-pub use Rattle.crash_simulation.proofs.AccountsBeforeCommit.{released_by, start_counted}
+pub use Rattle.crash_simulation.proofs.AccountsAfterEvents.{Continues, GoesOn, begun_in, event_goes_on, not_running, not_there, own_by, step_of}
+pub use Rattle.crash_simulation.proofs.AccountsAfterEvents.{life_begins, life_carried, life_goes_on, none_begins, steps_join, worlds_join}
+pub use Rattle.crash_simulation.proofs.AccountsBeforeCommit.{none_more, released_by, start_counted}
 pub use Rattle.crash_simulation.proofs.DisjointStores.{next_store}
-pub use Rattle.crash_simulation.proofs.LifeBeginnings.{pending_free, row_of, start_simulates}
+pub use Rattle.crash_simulation.proofs.LifeAccounts.{begins_at, earlier_after, from_after, kept_after, lives_are, schedule_is}
+pub use Rattle.crash_simulation.proofs.LifeBeginnings.{first_life, first_origin, pending_free, row_of, start_simulates}
+pub use Rattle.crash_simulation.proofs.LifeStarts.{HasBegun, has_begun}
 pub use Rattle.crash_simulation.proofs.LastReleases.{and_none, at_most_one}
 pub use Rattle.crash_simulation.proofs.LockCallSteps.{fragment, lock}
 pub use Rattle.crash_simulation.proofs.LocksAfterStep.{runs_held}

@@ -1,8 +1,10 @@
 -- What stays so of a machine by every event, and what is so of each of its threads since it is so of one and of all others.
-use Rattle.crash_simulation.proofs.Common.{◌≡◌, ◌≢◌, ℕ, List, sym, ◌∙◌, ap, arith, subst, ◌<◌, length, inl, inr, slice_get, props, nat_tests, Event, Step}
+use Rattle.crash_simulation.proofs.Common.{◌≡◌, ◌≢◌, ℕ, List, sym, ◌∙◌, ap, arith, subst, ◌<◌, length, inl, inr, slice_get, props, nat_tests, refl, Event, Step}
 use Rattle.crash_simulation.proofs.Common.{Evict, Crash, IsWellFormedWorld, World, after_event, Slot, Phase, log_stays, evictions_touch, steps_touch}
 use Rattle.crash_simulation.proofs.Common.{queues_stand, IsInPhase, queues_stay_short, crashes_step, same_there, same_or_other, with_ghost, SimulatesBut}
 use Rattle.crash_simulation.proofs.Common.{IsMachineOf, System, IsSystem, thread_count, ThreadGhost, InPhase}
+use Rattle.ido_base.specs.declared.event.Event.TheVariants.{Start}
+use Rattle.rv64_isa.proofs.Public.{after_start}
 use Rattle.crash_simulation.proofs.LocksAfterStep.{own_ghost, other_ghost}
 
 -- ---- The machine
@@ -12,6 +14,7 @@ pub mutexes_stay : (program : List (List Slot)) (w : World) (event : Event) → 
 mutexes_stay program w (Step h) sound = (steps_touch program w h sound).locks
 mutexes_stay program w (Evict line mask) sound = ap (λ (v : World). length v.holders) (evictions_touch program w line mask).1
 mutexes_stay program w Crash sound = (crashes_step program w).locks
+mutexes_stay program w Start sound = after_start program w (λ (v : World). length v.holders ≡ length w.holders) refl refl
 
 pub machine_stays : (y : System) (s : IsSystem y) (w : World) (event : Event) → IsMachineOf y w → IsMachineOf y (after_event y.runs.program w event)
 machine_stays y s w event m =

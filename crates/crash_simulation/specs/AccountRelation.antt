@@ -2,7 +2,8 @@
 use Rattle.std.specs.Prelude.{◌≡◌, ℕ, ◌<◌, ◌≤◌, List, [], ◌∷◌, ◌++◌, length, Bool, true, false}
 use Rattle.ido_base.specs.declared.event.Event.{Event}
 use Rattle.ido_base.specs.Words.{last_position}
-use Rattle.c_tree.specs.Source.{State, start}
+use Rattle.c_tree.specs.Source.{State, after_from, start}
+use Rattle.source_machine.specs.Lives.{end_lives, restart}
 use Rattle.rv64_isa.specs.Executables.{first_world}
 use Rattle.rv64_isa.specs.Machine.{World, after_events}
 use Rattle.rv64_isa.specs.Schedule.{HartSteps, Steps, only_life, hart_steps, first_steps, steps_along, released_count}
@@ -38,6 +39,19 @@ pub record Beginning : Type 0 where
 abbrev pub first_beginning : System → Beginning
 first_beginning y = record { from = start (flat_of y); earlier = []; kept = [] }
 
+-- that of the life after it, where this life's execution has kept the schedule
+abbrev pub next_beginning : System → Beginning → (schedule : List ℕ) → Beginning
+next_beginning y g schedule = record {
+  from = restart (flat_of y) (after_from g.from schedule);
+  earlier = g.earlier ++ (g.kept ++ schedule) ∷ [];
+  kept = [];
+}
+
+-- that of the life after all those, by what the execution of each has kept
+abbrev pub beginning_after : System → Beginning → (lives : List (List ℕ)) → Beginning
+beginning_after y g [] = g
+beginning_after y g (schedule ∷ rest) = beginning_after y (next_beginning y g schedule) rest
+
 -- of a thread: its steps are counted, and the sections that its hart has left by a release
 pub record IsAccountedOf (y : System) (w : World) (b : AbstractRun y) (thread : ℕ) (c : ThreadGhost) (steps : HartSteps) (releases : ℕ) : Type 0 where
   pub counted : IsCountedOf y w b thread c steps
@@ -59,9 +73,16 @@ pub record SimulatesCounted (y : System) (s : IsSystem y) (g : Beginning) (w : W
   pub stands : Simulates y s w
   pub counted : AreCounted y g w stands.abstract stands.ghosts steps releases
 
+-- so it does in the life that goes on, and the lives before it have ended, the first of which began so
+pub record SimulatesLives (y : System) (s : IsSystem y) (first : Beginning) (w : World) (steps : Steps) (releases : ℕ → ℕ) : Type 0 where
+  -- what the execution of each has kept
+  pub lives : List (List ℕ)
+  pub ended : end_lives (flat_of y) first.from lives ≡ true
+  pub is : SimulatesCounted y s (beginning_after y first lives) w steps releases
+
 -- the machine simulates an abstract run and its steps are counted after all events that may happen, in whatever order
 abbrev pub MachinesResume : Type 0
 MachinesResume = (y : System) (s : IsSystem y) (events : List Event) →
-    SimulatesCounted y s (first_beginning y) (after_events y.runs.program (first_world y.runs) events)
+    SimulatesLives y s (first_beginning y) (after_events y.runs.program (first_world y.runs) events)
     (steps_along y.runs.marks y.runs.program (first_world y.runs) events (first_steps (length y.runs.program) (only_life [])))
     (released_count y.runs.program (first_world y.runs) events)

@@ -3,9 +3,8 @@ use Rattle.std.specs.Prelude.{◌≡◌, ◌⊎◌, ℕ, List, [], length, slice
 use Rattle.c_tree.specs.Source.{after_from}
 use Rattle.rv64_isa.specs.declared.object.Slot.{Slot}
 use Rattle.rv64_isa.specs.declared.phase.Phase.TheVariants.{Run, Done, Ended}
-use Rattle.rv64_isa.specs.Machine.{Hart, World, fresh_hart}
-use Rattle.rv64_isa.specs.Schedule.{is_settled}
-use Rattle.region_attempts.specs.Laws.{begun_anew}
+use Rattle.rv64_isa.specs.Machine.{Hart, World, fresh_hart, is_settled}
+use Rattle.source_machine.specs.Lives.{restart}
 use Rattle.crash_simulation.specs.Systems.{System, IsSystem, flat_of}
 use Rattle.crash_simulation.specs.SimulationRelation.{Simulates}
 
@@ -26,7 +25,7 @@ pub record IsBegunAnew (program : List (List Slot)) (w v : World) : Type 0 where
 -- the machine simulates an abstract run that begins with the variables that the one before it leaves by its kept schedule
 pub record SimulatesAnew (y : System) (s : IsSystem y) {w : World} (old : Simulates y s w) (v : World) : Type 0 where
   pub stands : Simulates y s v
-  pub begins : stands.abstract.origin.source ≡ begun_anew (flat_of y) (after_from old.abstract.origin.source old.abstract.schedule)
+  pub begins : stands.abstract.origin.source ≡ restart (flat_of y) (after_from old.abstract.origin.source old.abstract.schedule)
   pub none : stands.abstract.schedule ≡ []
 
 -- so it does whatever the life before was, and however often power was lost in it

@@ -10,7 +10,7 @@ use Rattle.region_attempts.specs.Origins.{Origin}
 use Rattle.recovered_threads.specs.Machines.{RecoversTo}
 use Rattle.crash_simulation.specs.Systems.{System, IsSystem, flat_of, thread_count}
 use Rattle.crash_simulation.specs.SimulationRelation.{Simulates}
-use Rattle.crash_simulation.specs.AccountRelation.{SimulatesCounted}
+use Rattle.crash_simulation.specs.AccountRelation.{SimulatesLives}
 
 -- as many words as the machine has, by whose records harts recover to the origin; and variables have its numbers
 pub record IsRecoveredFrom (y : System) (s : IsSystem y) (o : Origin (flat_of y)) (words : List ℕ) : Type 0 where
@@ -31,7 +31,7 @@ RecoveredWordsSimulate = (y : System) (s : IsSystem y) (o : Origin (flat_of y)) 
 abbrev pub RecoveredAreCounted : Type 0
 RecoveredAreCounted = (y : System) (s : IsSystem y) (o : Origin (flat_of y)) (words : List ℕ) (kept : LifeSchedules) → IsRecoveredFrom y s o words →
     (events : List Event) →
-    SimulatesCounted y s (record { from = o.source; earlier = kept.earlier; kept = kept.schedule })
+    SimulatesLives y s (record { from = o.source; earlier = kept.earlier; kept = kept.schedule })
     (after_events y.runs.program (after_crash_of y.runs.log y.runs.program y.runs.mutexes words) events)
     (steps_along y.runs.marks y.runs.program (after_crash_of y.runs.log y.runs.program y.runs.mutexes words) events (first_steps (length y.runs.program) kept))
     (released_count y.runs.program (after_crash_of y.runs.log y.runs.program y.runs.mutexes words) events)

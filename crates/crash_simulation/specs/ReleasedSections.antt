@@ -2,10 +2,11 @@
 use Rattle.std.specs.Prelude.{◌≡◌, ℕ, suc, ◌+◌, ◌≤◌, List, [], length, Bool, if◌then◌else◌}
 use Rattle.ido_base.specs.declared.event.Event.{Event}
 use Rattle.c_tree.specs.Source.{start, ended_from}
+use Rattle.source_machine.specs.Lives.{begun_after}
 use Rattle.rv64_isa.specs.declared.phase.Phase.TheVariants.{Done}
 use Rattle.rv64_isa.specs.Executables.{first_world}
 use Rattle.rv64_isa.specs.Machine.{World}
-use Rattle.rv64_isa.specs.Schedule.{only_life, first_steps, steps_along, released_count}
+use Rattle.rv64_isa.specs.Schedule.{Steps, only_life, first_steps, steps_along, released_count}
 use Rattle.hart_runs.specs.Calls.{IsInPhase}
 use Rattle.crash_simulation.specs.Systems.{System, IsSystem, flat_of}
 use Rattle.crash_simulation.specs.AbstractRuns.{AbstractRun}
@@ -24,11 +25,13 @@ pub data IsReleasedOf (y : System) (w : World) (b : AbstractRun y) (thread : ℕ
   in_step : sections_kept y b thread ≡ released + one_if (is_leaving c) → IsReleasedOf y w b thread c released
   cut_off : IsInPhase w thread Done → sections_kept y b thread ≡ suc released → IsReleasedOf y w b thread c released
 
--- the sections that have ended for the source, and for the machine
+-- the sections of this life that have ended for the source, by the kept schedules of all lives, and for the machine
+abbrev pub ended_by : (y : System) → Steps → (thread : ℕ) → ℕ
+ended_by y steps thread = ended_from (begun_after (flat_of y) (start (flat_of y)) steps.earlier) steps.kept thread
+
 abbrev pub ended_in_source : (y : System) → List Event → (thread : ℕ) → ℕ
 ended_in_source y events thread =
-    ended_from (start (flat_of y))
-    (steps_along y.runs.marks y.runs.program (first_world y.runs) events (first_steps (length y.runs.program) (only_life []))).kept thread
+    ended_by y (steps_along y.runs.marks y.runs.program (first_world y.runs) events (first_steps (length y.runs.program) (only_life []))) thread
 
 abbrev pub ended_in_machine : (y : System) → List Event → (hart : ℕ) → ℕ
 ended_in_machine y events hart = released_count y.runs.program (first_world y.runs) events hart

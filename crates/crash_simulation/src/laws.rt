@@ -102,7 +102,8 @@ pub fn events_stand()
     cores_step();
 }
 
-/// After every list of events it simulates an abstract run, and its account of begun and kept steps is that of the run's config.
+/// After every list of events it simulates an abstract run, which begins where this life does, after all lives before it have ended, and its account of begun
+/// and kept steps is that of the run's config.
 /// Kept steps are the kept schedule, pending ones those begun and not kept, in their order, and each thread's begun steps are free,
 /// or bound to the store of its point.
 pub fn machines_resume()
@@ -123,7 +124,7 @@ pub fn recovered_are_counted()
     cores_step();
 }
 
-/// The kept schedule holds each section that has ended, and at most one more of each thread.
+/// The kept schedule of a life holds each section that has ended in it, and at most one more of each thread.
 pub fn sections_are_kept()
     ensures { SectionsAreKept }
 {
@@ -132,8 +133,8 @@ pub fn sections_are_kept()
     cores_step();
 }
 
-/// An event ends a section of a thread by the kept schedule exactly where the durable point of its hart, which was not 0, becomes 0. What it takes from the
-/// events is the durable points alone, so that sections can be counted where steps are kept.
+/// An event of a life ends a section of a thread by its kept schedule exactly where the durable point of its hart, which was not 0, becomes 0. What it takes
+/// from the events is the durable points alone, so that sections can be counted where steps are kept.
 pub fn sections_end_at_points()
     ensures { SectionsEndAtPoints }
 {

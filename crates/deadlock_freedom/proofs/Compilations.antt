@@ -1,6 +1,6 @@
 -- Compilations whose sources keep the order of locks never deadlock.
 use Rattle.std.proofs.Common.{◌≡◌, inl, refl, ℕ, ◌<◌, List, [], ◌∷◌, ◌++◌, length, get_or, ap, ap₂, sym, ◌∙◌, subst, arith}
-use Rattle.std.proofs.Common.{true, false, Option, Some, None}
+use Rattle.std.proofs.Common.{Bool, true, false, Option, Some, None}
 use Rattle.std.specs.Prelude.{slice_get, not}
 use Rattle.std.proofs.lemmas.Option.{slice_get_within, slice_get-get_or}
 use Rattle.ido_base.specs.declared.event.Event.{Event}
@@ -8,10 +8,15 @@ use Rattle.ido_base.specs.declared.event.Event.TheVariants.{Step, Crash}
 use Rattle.ido_base.specs.declared.event.Reply.{Reply}
 use Rattle.ido_base.specs.declared.event.Reply.TheVariants.{Moved}
 use Rattle.ido_base.specs.Cores.{is_idle, is_enabled, least_enabled}
-use Rattle.rv64_isa.specs.Executables.{Executable, first_world}
-use Rattle.rv64_isa.specs.Schedule.{all_lives, first_steps, only_life}
-use Rattle.rv64_isa.proofs.Public.{along_earlier}
+use Rattle.rv64_isa.specs.Executables.{Executable}
+use Rattle.rv64_isa.specs.Schedule.{all_lives}
+use Rattle.std.specs.Prelude.{if◌then◌else◌}
+use Rattle.std.proofs.lemmas.Bool.{and_parts}
+use Rattle.c_tree.specs.Flats as f
+use Rattle.c_tree.specs.Source.{State, after_from, runs_from, start}
 use Rattle.source_machine.specs.Discipline.{IsReachedState}
+use Rattle.source_machine.specs.Lives.{after_lives, begun_after, end_lives, restart}
+use Rattle.source_machine.proofs.Public.{after_life, runs_life}
 use Rattle.rv64_isa.specs.declared.phase.Phase.TheVariants.{Take}
 use Rattle.rv64_isa.specs.Machine.{Hart, World, Outcome, reply_to}
 use Rattle.hart_runs.specs.HartsOnRuns.{instr_of}
@@ -30,6 +35,12 @@ use Rattle.deadlock_freedom.proofs.Holders.{holders_go_on, harts_stay}
 use Rattle.deadlock_freedom.proofs.EnabledHarts.{each_waits, none_least, not_false}
 use Rattle.deadlock_freedom.proofs.LockChains.{WaitsFor, all_stopped, stopped_idles}
 
+-- where a life begins, threads and locks are as at the source's start
+begins_as_start : (x : f.Flat) (s : State) (earlier : List (List ℕ)) → s ≡ record (start x) { variables = s.variables } →
+    begun_after x s earlier ≡ record (start x) { variables = (begun_after x s earlier).variables }
+begins_as_start x s [] is = is
+begins_as_start x s (schedule ∷ rest) is = begins_as_start x (restart x (after_from s schedule)) rest refl
+
 module _ (ascend : LocksAscend) (c : Translation) (is : IsCompilation c) (order : order_fault c.flat ≡ None) (events : List Event) where
   abbrev w : World
   w = world c events
@@ -41,13 +52,21 @@ module _ (ascend : LocksAscend) (c : Translation) (is : IsCompilation c) (order 
     in_order = order;
   }
 
-  -- no life came before this one
+  -- a life begins as the source's start, on what the lives before it have left
   reached : IsReachedState c.flat (source c (all_lives (now c events)))
-  reached = record {
-    schedule = (now c events).schedule;
-    is = ap (λ (earlier : List (List ℕ)). source c (earlier ++ (now c events).schedule ∷ []))
-        (along_earlier c.runs.marks c.runs.program events (first_world c.runs) (first_steps (length c.runs.program) (only_life [])));
-  }
+  reached =
+      let x = c.flat in
+      let earlier : List (List ℕ) = (now c events).earlier in
+      let last : List ℕ = (now c events).schedule in
+      let begun : State = begun_after x (start x) earlier in
+      let runs = and_parts (end_lives x (start x) earlier) (runs_from begun last) (sym (runs_life x (start x) earlier last) ∙ (is.records events).now_runs) in
+      record {
+        variables = begun.variables;
+        schedule = last;
+        is = after_life x (start x) earlier last
+            ∙ (ap (λ (ended : Bool). if ended then after_from begun last else after_lives x (start x) earlier) runs.0
+            ∙ ap (λ (from : State). after_from from last) (begins_as_start x (start x) earlier refl));
+      }
 
   -- a hart that waits for a lock holds lesser ones
   ascends : (h lock held : ℕ) → WaitsFor c.runs.program w h lock → slice_get w.holders held ≡ Some (Some h) → held < lock

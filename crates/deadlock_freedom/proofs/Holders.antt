@@ -5,16 +5,16 @@ use Rattle.std.specs.Prelude.{slice_get, is_none, ◌==◌}
 use Rattle.std.proofs.lemmas.Bool.{cases_eq, cond_both}
 use Rattle.ido_base.specs.declared.log.Log.{Log}
 use Rattle.ido_base.specs.declared.event.Event.{Event}
-use Rattle.ido_base.specs.declared.event.Event.TheVariants.{Step, Evict, Crash}
+use Rattle.ido_base.specs.declared.event.Event.TheVariants.{Step, Evict, Crash, Start}
 use Rattle.ido_base.specs.declared.event.Reply.TheVariants.{Waits}
 use Rattle.ido_base.specs.Locks.{is_held_by, held_from, holds_none, least_missing}
 use Rattle.rv64_isa.specs.declared.object.Slot.{Slot}
 use Rattle.rv64_isa.specs.declared.phase.Phase.{Phase}
 use Rattle.rv64_isa.specs.declared.phase.Phase.TheVariants.{Take, Wait, Resume, Run, Done, Ended}
 use Rattle.rv64_isa.specs.Machine.{Hart, World, Outcome, moved, with_hart, with_holder, happens, after_event, after_events, taken, waited, taking_from}
-use Rattle.rv64_isa.specs.Machine.{phase_step, record_of, run_step, start_of, after_crash_of}
+use Rattle.rv64_isa.specs.Machine.{anew, phase_step, record_of, run_step, start_of, started_anew, after_crash_of}
 use Rattle.rv64_isa.specs.Frames.{IsHeldOn, Stays, Takes, Gives, Touches, IsWellFormedWorld}
-use Rattle.rv64_isa.proofs.Public.{get-set_same, queues_stand, starts_simulate, steps_touch}
+use Rattle.rv64_isa.proofs.Public.{after_start, anew_there, get-set_same, queues_stand, starts_simulate, steps_touch}
 use Rattle.deadlock_freedom.proofs.HartReplies.{HasNotStopped, has_not_stopped, run_goes_on, run_leads, by_phase, none_there}
 
 -- each holder of a lock is a hart that goes on
@@ -133,6 +133,15 @@ other_by g h w v lock ne t on held (Takes free is) =
     absurd (ne (sym other))
 other_by g h w v lock ne t on held (Gives own is) = absurd (let no : Some None ≡ Some (Some h) = sym is ∙ held in cc)
 
+-- where another life begins, each hart goes on
+anew_on : (program : List (List Slot)) (w : World) → HoldersGoOn w → HoldersGoOn (started_anew program w)
+anew_on program w on = record {
+  each = λ lock h held.
+      let o = on.each lock h held in
+      let it : Hart = anew program (0 + h) o.0 in
+      (it, anew_there program 0 w.harts h o.0 o.1, has_not_stopped it Run refl (λ e. cc) (λ e. cc));
+}
+
 stays_on : (program : List (List Slot)) (w : World) (event : Event) → IsWellFormedWorld w → HoldersGoOn w → HoldersGoOn (after_event program w event)
 unfolding happens after_crash_of
 stays_on program w (Step g) sound on =
@@ -148,6 +157,7 @@ stays_on program w (Step g) sound on =
     }
 stays_on program w (Evict line mask) sound on = record { each = on.each }
 stays_on program w Crash sound on = record { each = λ lock h held. absurd (none_free (length w.holders) lock h held) }
+stays_on program w Start sound on = after_start program w HoldersGoOn (anew_on program w on) on
 
 along : (program : List (List Slot)) (w : World) (events : List Event) → length program ≡ length w.harts → IsWellFormedWorld w → HoldersGoOn w →
     HoldersGoOn (after_events program w events)

@@ -10,6 +10,7 @@ endless = record {
   next = λ m event. m;
   reply = λ m event. Moved;
   is_stopped = λ m hart. false;
+  can_start = λ m. false;
   stores_point = λ m hart event. false;
   finishes_fence = λ m hart event. false;
 }

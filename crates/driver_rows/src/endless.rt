@@ -89,6 +89,10 @@ impl Core for Endless {
         Some(0)
     }
 
+    fn can_start(&self) -> bool {
+        false
+    }
+
     type Local = NothingAhead;
 
     fn local(&self, _: Global, _: u32) -> Result<NothingAhead, OutOfMemory> {

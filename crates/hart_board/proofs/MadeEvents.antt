@@ -4,7 +4,7 @@ use Rattle.std.proofs.Common.{sym, ap, ◌∙◌, subst, inl, inr, ⊎_elim, ari
 use Rattle.std.proofs.lemmas.List.{append-nil, length-replicate, replicate-append-replicate}
 use mathlib.Core.List.{append_assoc}
 use Rattle.ido_base.specs.declared.event.Event.{Event}
-use Rattle.ido_base.specs.declared.event.Event.TheVariants.{Step, Evict, Crash}
+use Rattle.ido_base.specs.declared.event.Event.TheVariants.{Step, Evict, Crash, Start}
 use Rattle.ido_base.specs.declared.event.Reply.{Reply}
 use Rattle.ido_base.specs.declared.event.Reply.TheVariants.{Moved}
 use Rattle.ido_base.specs.Cores.{Behaviour, played, is_idle, EachMoves}
@@ -190,3 +190,4 @@ pub own_step : (harts seat : ℕ) (event : Event) → IsOwn harts seat event →
 own_step harts seat (Step hart) own inside = ap Step own.0
 own_step harts seat (Evict line mask) own inside = absurd (omega (arith, own, inside))
 own_step harts seat Crash own inside = absurd own
+own_step harts seat Start own inside = absurd own

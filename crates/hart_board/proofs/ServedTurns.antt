@@ -1,7 +1,7 @@
 -- What a seat in its turn may do, and what it knows after it.
 use Rattle.std.proofs.Common.{◌≡◌, ℕ, ◌+◌, ◌≤◌, List, [], ◌∷◌, ◌++◌, length, Some, None, Option, sym, refl, ap, ◌∙◌, subst, arith, length-append}
 use Rattle.ido_base.specs.declared.event.Event.{Event}
-use Rattle.ido_base.specs.declared.event.Event.TheVariants.{Step, Evict, Crash}
+use Rattle.ido_base.specs.declared.event.Event.TheVariants.{Step, Evict, Crash, Start}
 use Rattle.ido_base.specs.declared.machine.Core.{Ghosts}
 use Rattle.ido_base.specs.Cores.{Behaviour, IsValid}
 use Rattle.atomic_table.specs.Table.{Me}
@@ -36,6 +36,7 @@ pub still_valid : {C M : Type 0} (opening : C → M) (history : C → List Event
 still_valid opening history hart_count space evictable from to events (Step hart) p v = let h = p.harts in omega (arith, h, v)
 still_valid opening history hart_count space evictable from to events (Evict line mask) p v = (p.evicts line mask).1 v
 still_valid opening history hart_count space evictable from to events Crash p v = tt
+still_valid opening history hart_count space evictable from to events Start p v = absurd v
 
 module _ {C L : Type 0} (m : Ghosts C L) where
   open m use {behaviour as b, opening, history, hart_count, space, evictable}

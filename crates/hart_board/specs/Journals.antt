@@ -1,7 +1,7 @@
 -- Journals of turns, and which of them are legal.
 use Rattle.std.specs.Prelude.{◌≡◌, ◌⊎◌, ◌↔◌, ℕ, ◌+◌, ◌<◌, ◌≤◌, List, [], ◌∷◌, ◌++◌, length, Bool, true, false, All, ◌==◌, Option, Some, None, if◌then◌else◌}
 use Rattle.ido_base.specs.declared.event.Event.{Event}
-use Rattle.ido_base.specs.declared.event.Event.TheVariants.{Step, Evict, Crash}
+use Rattle.ido_base.specs.declared.event.Event.TheVariants.{Step, Evict, Crash, Start}
 use Rattle.ido_base.specs.declared.event.Reply.{Reply}
 use Rattle.ido_base.specs.Cores.{Behaviour, played, is_idle}
 use Rattle.hart_board.specs.declared.journal.Entry.{Entry}
@@ -49,6 +49,7 @@ abbrev pub IsOwn : (harts seat : ℕ) → Event → Type 0
 IsOwn harts seat (Step hart) = (hart ≡ seat) × (hart < harts)
 IsOwn harts seat (Evict line mask) = harts ≤ seat
 IsOwn harts seat Crash = ⊥
+IsOwn harts seat Start = ⊥
 
 module _ (p : Play) (turns ceiling : ℕ) where
   -- after these turns, and these events of one that isn't over, the seat has nothing more to do

@@ -47,6 +47,14 @@ impl Hart {
         self.queue.clear();
     }
 
+    /// Begins another life at the pc: all registers are 0, and what is queued stays.
+    pub fn begin_anew(&mut self, pc: u64)
+        ensures { self.new ≡ record self.old { registers = replicate 32 0; pc = pc } }
+    {
+        self.registers = [0; 32];
+        self.pc = pc;
+    }
+
     /// Writes a register; x0 stays as it is.
     pub(crate) fn write(&mut self, register: Register, value: u64)
         ensures { self.new ≡ record self.old { registers = written self.old.registers register value } }

@@ -6,7 +6,7 @@ use Rattle.std.proofs.lemmas.List.Elements.{All-nil, All-cons, All-head, All-tai
 use Rattle.std.proofs.lemmas.List.Sums.{sum_by-append, sum_by-cons}
 use mathlib.Core.List.{append_assoc}
 use Rattle.ido_base.specs.declared.event.Event.{Event}
-use Rattle.ido_base.specs.declared.event.Event.TheVariants.{Step, Evict, Crash}
+use Rattle.ido_base.specs.declared.event.Event.TheVariants.{Step, Evict, Crash, Start}
 use Rattle.hart_board.specs.declared.journal.Entry.{Entry}
 use Rattle.hart_board.specs.Journals.{Play, IsLegal, IsOwn, entries_by, events_of, made_by}
 use Rattle.hart_driver.specs.Legs.{is_event_of}
@@ -66,6 +66,7 @@ module _ (harts : ℕ) where
   own_event seat w (Step hart) few low own = ap (λ (z : ℕ). eqb z w) own.0
   own_event seat w (Evict line mask) few low own = let same : harts ≡ seat = omega (arith, few, own) in ap (λ (z : ℕ). eqb z w) same
   own_event seat w Crash few low own = absurd own
+  own_event seat w Start few low own = absurd own
 
   abbrev pub count_of : ℕ → List Event → ℕ
   count_of w events = count_by (is_event_of harts w) events

@@ -7,6 +7,7 @@ use Rattle.std.proofs.Math.Seq.{drop-append_seam}
 use mathlib.Core.List.{append_assoc}
 use Rattle.ido_base.specs.declared.event.Event.{Event}
 use Rattle.ido_base.specs.declared.event.Event.TheVariants.{Step, Evict, Crash}
+use Rattle.ido_base.specs.declared.event.Event.TheVariants as events
 use Rattle.ido_base.specs.declared.machine.Core.{Ghosts}
 use Rattle.ido_base.specs.Cores.{played}
 use Rattle.ido_base.proofs.Public.{played-append}
@@ -158,6 +159,7 @@ module _ {C L V : Type 0} (members : Ghosts C L) (coming : V → ℕ → ℕ × 
         let count = workers_is in let s = inside in
         (omega (arith, count, s, same), next_eviction same evict evict_left evictor line mask e refl, ap (λ (n : ℕ). stop_of leg n before) (sym same) ∙ goes)
     by_event Crash e mine = absurd mine
+    by_event events.Start e mine = absurd mine
 
     turns_at : IsTurn leg before event
     turns_at = by_event event refl event_own

@@ -9,8 +9,9 @@ use Rattle.std.proofs.Math.Seq.{drop-append_seam}
 use mathlib.Core.List.{append_assoc}
 use Rattle.ido_base.specs.declared.event.Event.{Event}
 use Rattle.ido_base.specs.declared.event.Event.TheVariants.{Step, Evict, Crash}
+use Rattle.ido_base.specs.declared.event.Event.TheVariants as events
 use Rattle.ido_base.specs.declared.machine.Core.{Ghosts}
-use Rattle.ido_base.specs.Cores.{played}
+use Rattle.ido_base.specs.Cores.{IsValid, played}
 use Rattle.ido_base.proofs.Public.{played-append}
 use Rattle.hart_board.specs.CoreTurns.{IsPlayed}
 use Rattle.hart_driver.specs.declared.start.Start.{Start}
@@ -24,6 +25,7 @@ other_event : (harts w v : ℕ) (event : Event) → is_event_of harts w event �
 other_event harts w v (Step hart) own other = ne_eqb hart v (λ e. other (sym e ∙ eqb-true hart w own))
 other_event harts w v (Evict line mask) own other = ne_eqb harts v (λ e. other (sym e ∙ eqb-true harts w own))
 other_event harts w v Crash own other = absurd (cc own)
+other_event harts w v events.Start own other = absurd (cc own)
 
 module _ {C L V : Type 0} (members : Ghosts C L) (coming : V → ℕ → ℕ × ℕ) (s : Start C V) where
   open members use {Meaning as M, behaviour as b, opening, history, hart_count, space, evictable}
@@ -36,6 +38,14 @@ module _ {C L V : Type 0} (members : Ghosts C L) (coming : V → ℕ → ℕ × 
 
   abbrev Plays : C → Type 0
   Plays core = IsPlayed opening history hart_count space evictable s.core.value (since history s core) core
+
+  -- an event that might be asked at first may be asked now
+  pub valid_now : (core : C) (event : Event) → Plays core → IsValid (hart_count s.core.value) (evictable s.core.value) event →
+      IsValid (hart_count core) (evictable core) event
+  valid_now core (Step hart) p v = let h = p.harts in omega (arith, h, v)
+  valid_now core (Evict line mask) p v = (p.evicts line mask).1 v
+  valid_now core Crash p v = tt
+  valid_now core events.Start p v = absurd v
 
   -- how many events the core has had
   pub events_now : (core : C) → Plays core → length (history core) ≡ length (history s.core.value) + length (since history s core)

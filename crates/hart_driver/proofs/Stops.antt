@@ -5,7 +5,7 @@ use Rattle.std.specs.Prelude.{nat_lt, map}
 use Rattle.std.proofs.lemmas.Bool.{cases_eq, cases_lt, ltb-true}
 use Rattle.std.proofs.lemmas.List.{map-append}
 use Rattle.ido_base.specs.declared.event.Event.{Event}
-use Rattle.ido_base.specs.declared.event.Event.TheVariants.{Step, Evict, Crash}
+use Rattle.ido_base.specs.declared.event.Event.TheVariants.{Step, Evict, Crash, Start}
 use Rattle.ido_base.specs.Cores.{played}
 use Rattle.hart_board.specs.BoardRule.{numbers_from}
 use Rattle.hart_board.proofs.Public.{cut_more, numbers_more}
@@ -60,6 +60,7 @@ module _ {M : Type 0} (leg : Leg M) where
   who_goes before (Step hart) t = (hart, t.1)
   who_goes before (Evict line mask) t = (leg.harts, t.2)
   who_goes before Crash t = absurd t
+  who_goes before Start t = absurd t
 
   -- a leg has no more events than it may have
   pub within_most : (journal : List Event) → AreTurns leg journal → length journal ≤ leg.most

@@ -2,7 +2,7 @@
 use Rattle.std.specs.Prelude.{◌≡◌, ◌≢◌, ℕ, ◌+◌, ◌<◌, List, ◌∷◌, ◌++◌, length, count_by, Bool, false, nat_lt, ◌==◌, ◌&&◌, Option, Some, None}
 use Rattle.std.specs.Prelude.{if◌then◌else◌}
 use Rattle.ido_base.specs.declared.event.Event.{Event}
-use Rattle.ido_base.specs.declared.event.Event.TheVariants.{Step, Evict, Crash}
+use Rattle.ido_base.specs.declared.event.Event.TheVariants.{Step, Evict, Crash, Start}
 use Rattle.ido_base.specs.Cores.{Behaviour, played}
 use Rattle.hart_driver.specs.declared.stop.Stop.{Stop}
 use Rattle.hart_driver.specs.declared.stop.Stop.TheVariants.{Ended, Turns, Moment}
@@ -12,6 +12,7 @@ abbrev pub is_event_of : (harts worker : ℕ) → Event → Bool
 is_event_of harts worker (Step hart) = hart == worker
 is_event_of harts worker (Evict line mask) = harts == worker
 is_event_of harts worker Crash = false
+is_event_of harts worker Start = false
 
 -- what a leg begins with
 pub record Leg (M : Type 0) : Type 0 where
@@ -53,6 +54,7 @@ module _ {M : Type 0} (leg : Leg M) where
   IsTurn before (Step hart) = (hart < leg.harts) × (stop_of hart before ≡ None)
   IsTurn before (Evict line mask) = (leg.harts < workers) × (eviction (made leg.harts before) ≡ Some (line, mask)) × (stop_of leg.harts before ≡ None)
   IsTurn before Crash = ⊥
+  IsTurn before Start = ⊥
 
   -- each event may come after those before it
   abbrev pub AreTurns : List Event → Type 0

@@ -6,7 +6,7 @@ use Rattle.std.specs.List.{list_any}
 use Rattle.std.proofs.lemmas.Bool.{cases_eq, cond_both}
 use Rattle.std.proofs.Math.ListN.{length-append}
 use Rattle.ido_base.specs.declared.event.Event.{Event}
-use Rattle.ido_base.specs.declared.event.Event.TheVariants.{Step, Evict, Crash}
+use Rattle.ido_base.specs.declared.event.Event.TheVariants.{Step, Evict, Crash, Start}
 use Rattle.ido_base.specs.Words.{Entry}
 use Rattle.rv64_isa.specs.declared.object.Slot.{Slot}
 use Rattle.rv64_isa.specs.Rows.{Effect, Continues, Loads, Stores, Cleans, Fences, Calls}
@@ -20,6 +20,7 @@ use Rattle.hart_runs.specs.RunSteps.{Contents, Changes, GoesForward, Drains, cle
 use Rattle.hart_runs.specs.Laws.{IsOfOthers, stretch, IsOnSameTrace, IsNearer, AreCrashless, is_step_of, own_steps, AgreesOnTheFragment, ComesTo}
 use Rattle.hart_runs.proofs.RunStepEffects.{steps_go_on}
 use Rattle.hart_runs.proofs.OtherEventsKeepRuns.{others_keep_runs}
+use Rattle.rv64_isa.specs.Schedule.{KeepsOn}
 
 -- ---- Cleans
 
@@ -104,13 +105,14 @@ agrees_later program w h s to event events a prefix suffix parts steps seen on =
     a (event ∷ prefix) suffix (ap (λ (x : List Event). event ∷ x) parts) steps seen on
 
 -- an event is a step of the hart, or leaves it as it is
-kind_of : (h : ℕ) (event : Event) → event ≢ Crash → (event ≡ Step h) ⊎ (IsOfOthers h event × (is_step_of h event ≡ false))
-kind_of h (Step g) n = elim (cases_eq g h) [
+kind_of : (h : ℕ) (event : Event) → KeepsOn event → (event ≡ Step h) ⊎ (IsOfOthers h event × (is_step_of h event ≡ false))
+kind_of h (Step g) on = elim (cases_eq g h) [
   | inl is ↦ inl (ap (λ (x : ℕ). Step x) is)
   | inr other ↦ inr (other, grind (arith, other))
 ]
-kind_of h (Evict line mask) n = inr (tt, refl)
-kind_of h Crash n = absurd (n refl)
+kind_of h (Evict line mask) on = inr (tt, refl)
+kind_of h Crash on = absurd on
+kind_of h Start on = absurd on
 
 own_test : (h : ℕ) → is_step_of h (Step h) ≡ true
 own_test h = grind arith

@@ -4,7 +4,7 @@ use Rattle.std.specs.Prelude.{slice_get}
 use Rattle.rv64_isa.proofs.Public.{log_stays}
 use Rattle.ido_base.specs.declared.log.Log.{Log}
 use Rattle.ido_base.specs.declared.event.Event.{Event}
-use Rattle.ido_base.specs.declared.event.Event.TheVariants.{Step, Evict, Crash}
+use Rattle.ido_base.specs.declared.event.Event.TheVariants.{Step, Evict, Crash, Start}
 use Rattle.rv64_isa.specs.declared.object.Slot.{Slot}
 use Rattle.rv64_isa.specs.declared.phase.Phase.TheVariants.{Run}
 use Rattle.rv64_isa.specs.Machine.{Hart, World, Outcome, moved, happens, after_event}
@@ -25,6 +25,7 @@ others_leave program w h (Step g) sound other =
     (t.others h (λ e. other (sym e)), t.count)
 others_leave program w h (Evict line mask) sound other = (refl, refl)
 others_leave program w h Crash sound other = absurd other
+others_leave program w h Start sound other = absurd other
 
 pub others_keep_runs : (program : List (List Slot)) (w : World) (h : ℕ) (event : Event) → IsWellFormedWorld w → IsOfOthers h event →
     (s : MarkedEnvironment) (steps : ℕ) (seen : List Observation) (to : LocalConfig) (on : IsOnTrace w h s steps seen to) →

@@ -3,7 +3,7 @@ use Rattle.std.proofs.Common.{◌≡◌, ℕ, ◌+◌, ◌*◌, ◌/◌, ◌<◌
 use Rattle.std.specs.Prelude.{length}
 use Rattle.std.proofs.lemmas.List.{append-nil}
 use Rattle.ido_base.specs.declared.event.Event.{Event}
-use Rattle.ido_base.specs.declared.event.Event.TheVariants.{Step, Evict, Crash}
+use Rattle.ido_base.specs.declared.event.Event.TheVariants.{Step, Evict, Crash, Start}
 use Rattle.ido_base.specs.Words.{Word, Entry, word_at, last_position, entry_of, stored, drained}
 use Rattle.ido_base.specs.Layout.{in_range, byte_number}
 use Rattle.ido_base.specs.Growth.{AreChanged, PersistsThrough}
@@ -94,3 +94,4 @@ others_reach program w h (Evict line mask) sound other queue j position r =
     changed_reaches w.words (after_event program w (Evict line mask)).words queue j position
     (changed_by_persisted w.words _ (evictions_touch program w line mask).0) r
 others_reach program w h Crash sound other queue j position r = absurd other
+others_reach program w h Start sound other queue j position r = absurd other

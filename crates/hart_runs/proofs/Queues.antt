@@ -6,7 +6,7 @@ use Rattle.std.proofs.lemmas.Bool.{cases_eq, cond_both, ltb-true}
 use Rattle.std.proofs.Math.ListN.{length-append}
 use Rattle.ido_base.specs.declared.log.Log.{Log}
 use Rattle.ido_base.specs.declared.event.Event.{Event}
-use Rattle.ido_base.specs.declared.event.Event.TheVariants.{Step, Evict, Crash}
+use Rattle.ido_base.specs.declared.event.Event.TheVariants.{Step, Evict, Crash, Start}
 use Rattle.ido_base.specs.Words.{Entry, entry_of, drained, stored, word_of, durable_value}
 use Rattle.ido_base.specs.Layout.{in_range, aligned, byte_number}
 use Rattle.ido_base.specs.Locks.{is_held_by, least_held, least_missing}
@@ -19,7 +19,7 @@ use Rattle.rv64_isa.specs.Programs.{fetched}
 use Rattle.rv64_isa.specs.Machine.{Hart, World, Outcome, with_hart, with_holder, drain_one, access, cleaned, fenced, acquired, released, ended, called}
 use Rattle.rv64_isa.specs.Machine.{applied, executed, hart_step, taken, waited, taking_from, record_of, resumed, over_after, done_if_over, phase_step}
 use Rattle.rv64_isa.specs.Machine.{stepped, happens, after_event, durable_point, phase_after_crash, start_of, after_crash_of, fresh_hart, numbers_from}
-use Rattle.rv64_isa.proofs.Public.{get-set_same, get-set_other}
+use Rattle.rv64_isa.proofs.Public.{after_start, anew_found, get-set_same, get-set_other}
 use Rattle.hart_runs.specs.Laws.{AreShort}
 use Rattle.hart_runs.proofs.Worlds.{none_some, some_same, same_there, took}
 
@@ -169,3 +169,8 @@ unfolding happens
 queues_stay_short program w (Step h) short = by_hart program h w short (slice_get w.harts h) refl
 queues_stay_short program w (Evict line mask) short = short
 queues_stay_short program w Crash short = crashes_are_short w.log program (length w.holders) (map durable_value w.words)
+queues_stay_short program w Start short =
+    after_start program w AreShort
+    (λ h hart there.
+    let one = anew_found program 0 w.harts h hart there in
+    subst (λ (x : Hart). length x.queue ≤ 16) (sym one.is) (short h one.was one.there)) short

@@ -3,7 +3,7 @@ use Rattle.std.specs.Prelude.{◌≡◌, ◌≢◌, ◌⊎◌, ℕ, suc, ◌+◌
 use Rattle.std.specs.Prelude.{slice_set, Option, Some, None, Bool, true, false, ◌==◌, ◌&&◌, if◌then◌else◌}
 use Rattle.ido_base.specs.declared.log.Log.{Log}
 use Rattle.ido_base.specs.declared.event.Event.{Event}
-use Rattle.ido_base.specs.declared.event.Event.TheVariants.{Step, Evict, Crash}
+use Rattle.ido_base.specs.declared.event.Event.TheVariants.{Step, Evict, Crash, Start}
 use Rattle.ido_base.specs.declared.event.Reply.TheVariants.{Waits, Still, Stuck}
 use Rattle.ido_base.specs.declared.event.Cause.{Cause}
 use Rattle.ido_base.specs.Words.{Entry, stored, word_at, word_of, durable_value, last_position}
@@ -18,7 +18,7 @@ use Rattle.rv64_isa.specs.Programs.{code_start, code_of}
 use Rattle.rv64_isa.specs.Machine.{Hart, World, queue_limit, after_event, after_events, reply_to, happens, moved, with_holder}
 use Rattle.rv64_isa.specs.Machine.{gone_on, start_of, after_crash_of, fresh_hart, phase_after_crash, durable_point}
 use Rattle.rv64_isa.specs.Frames.{IsWellFormedWorld}
-use Rattle.rv64_isa.specs.Schedule.{has_moved, is_running, is_mark, is_point_store, is_fence, passes_mark, stores_point, finishes_fence}
+use Rattle.rv64_isa.specs.Schedule.{KeepsOn, has_moved, is_running, is_mark, is_point_store, is_fence, passes_mark, stores_point, finishes_fence}
 use Rattle.code_runs.specs.ComputingRuns.{LocalConfig, config}
 use Rattle.code_runs.specs.CodeTraces.{MarkedEnvironment, Observation, Trace, Program, Meets, Answers}
 use Rattle.hart_runs.specs.HartsOnRuns.{environment_of, is_access, Agrees, MayGo, IsRunningAt, IsOnTrace, OnRun}
@@ -61,6 +61,7 @@ abbrev pub IsOfOthers : (h : ℕ) → Event → Type 0
 IsOfOthers h (Step g) = g ≢ h
 IsOfOthers h (Evict line mask) = Unit {0}
 IsOfOthers h Crash = ⊥
+IsOfOthers h Start = ⊥
 
 -- what others do leaves the hart as it is
 abbrev pub OthersLeave : Type 0
@@ -271,15 +272,16 @@ abbrev pub StepsLower : Type 0
 StepsLower = (program : List (List Slot)) (w : World) (h : ℕ) (run : OnRun w h) → Agrees program w h run.environment →
     IsNearer (after_event program w (Step h)) h run.environment run.to (steps_left (suc run.steps) run.seen run.on.hart.queue)
 
--- no event is a crash
+-- no event is a crash or a start
 abbrev pub AreCrashless : List Event → Type 0
 AreCrashless [] = Unit {0}
-AreCrashless (event ∷ events) = (event ≢ Crash) × AreCrashless events
+AreCrashless (event ∷ events) = KeepsOn event × AreCrashless events
 
 abbrev pub is_step_of : (h : ℕ) → Event → Bool
 is_step_of h (Step g) = g == h
 is_step_of h (Evict line mask) = false
 is_step_of h Crash = false
+is_step_of h Start = false
 
 -- how many of the events are steps of the hart
 abbrev pub own_steps : (h : ℕ) → List Event → ℕ

@@ -1,13 +1,14 @@
 -- No more steps are kept than there are events, whatever events they are.
-use Rattle.std.proofs.Common.{◌≡◌, ◌⊎◌, inl, inr, ℕ, ◌+◌, ◌<◌, ◌≤◌, List, [], ◌∷◌, length, Bool, true, false, refl, ap, ◌∙◌, arith}
+use Rattle.std.proofs.Common.{◌≡◌, ◌⊎◌, inl, inr, ℕ, ◌+◌, ◌<◌, ◌≤◌, List, [], ◌∷◌, length, Bool, true, false, refl, ap, ap₂, ◌∙◌}
+use Rattle.std.proofs.Common.{arith, flat_map, length-append}
 use Rattle.std.proofs.lemmas.Bool.{cases_lt}
 use Rattle.std.proofs.lemmas.List.{set_past}
 use Rattle.ido_base.specs.declared.event.Event.{Event}
-use Rattle.ido_base.specs.declared.event.Event.TheVariants.{Step, Evict, Crash}
+use Rattle.ido_base.specs.declared.event.Event.TheVariants.{Step, Evict, Crash, Start}
 use Rattle.ido_base.specs.Words.{Word, last_position, word_at}
 use Rattle.rv64_isa.specs.declared.object.Slot.{Slot}
 use Rattle.rv64_isa.specs.Machine.{World, after_event}
-use Rattle.rv64_isa.specs.Schedule.{HartSteps, Steps, first_steps, hart_steps, passes_mark, steps_after, LifeSchedules}
+use Rattle.rv64_isa.specs.Schedule.{HartSteps, Steps, first_steps, hart_steps, only_life, passes_mark, steps_after}
 use Rattle.rv64_isa.specs.Schedule.{steps_along, stores_point}
 use Rattle.run_tracker.specs.links.AccountRepresentation.{point_word, weight}
 use Rattle.run_tracker.proofs.Public.{begun_if, harts-noted, noted, weight-after, weightless, weight-all_kept}
@@ -31,9 +32,16 @@ module _ (s : Steps) (h : ℕ) (past : length s.harts ≤ h) where
   same_kept false true position = refl
   same_kept false false position = refl
 
+  same_earlier : (mark point : Bool) (position : ℕ) → (noted mark point h position s).earlier ≡ s.earlier
+  same_earlier true true position = refl
+  same_earlier true false position = refl
+  same_earlier false true position = refl
+  same_earlier false false position = refl
+
   weight_past : (mark point : Bool) (position : ℕ) → weight (noted mark point h position s) ≡ weight s
   weight_past mark point position =
-      ap (λ (ks : List ℕ). weight (record (noted mark point h position s) { kept = ks })) (same_kept mark point position)
+      ap₂ (λ (lives : List (List ℕ)) (ks : List ℕ). weight (record (noted mark point h position s) { earlier = lives; kept = ks }))
+      (same_earlier mark point position) (same_kept mark point position)
       ∙ ap (λ (hs : List HartSteps). weight (record s { harts = hs })) (noted_past mark point position)
 
 -- ---- An event
@@ -61,12 +69,21 @@ module _ (marks : List (List ℕ)) (program : List (List Slot)) where
           )
   one_event w (Evict line mask) s = omega (arith, weight-all_kept w.log (after_event program w (Evict line mask)).words (length s.harts) s (omega arith))
   one_event w Crash s = weight-after w.log marks program w Crash s tt
+  one_event w Start s = weight-after w.log marks program w Start s tt
 
   all_events : (w : World) (events : List Event) (s : Steps) → weight (steps_along marks program w events s) ≤ weight s + length events
   all_events w [] s = omega arith
   all_events w (e ∷ es) s =
       omega (arith, all_events (after_event program w e) es (steps_after marks program w e s), one_event w e s)
 
-  pub kept_few : (w : World) (events : List Event) (threads : ℕ) (kept : LifeSchedules) →
-      length (steps_along marks program w events (first_steps threads kept)).kept ≤ length kept.schedule + length events
-  kept_few w events threads kept = omega (arith, all_events w events (first_steps threads kept), weightless threads)
+  -- of this life, where none came before the first of them
+  pub kept_few : (w : World) (events : List Event) (threads : ℕ) (schedule : List ℕ) →
+      length (steps_along marks program w events (first_steps threads (only_life schedule))).kept ≤ length schedule + length events
+  kept_few w events threads schedule =
+      let s = steps_along marks program w events (first_steps threads (only_life schedule)) in
+      omega (
+        arith,
+        all_events w events (first_steps threads (only_life schedule)),
+        weightless threads,
+        length-append (flat_map (λ (steps : List ℕ). steps) s.earlier) s.kept,
+      )

@@ -5,9 +5,10 @@ use Rattle.std.specs.Prelude.{count_by, if◌then◌else◌}
 use Rattle.std.proofs.lemmas.Bool.{eq-eqb, ne_eqb}
 use Rattle.std.proofs.lemmas.List.Sums.{sum_by-cons}
 use Rattle.ido_base.specs.declared.event.Event.{Event}
-use Rattle.ido_base.specs.declared.event.Event.TheVariants.{Step, Evict, Crash}
+use Rattle.ido_base.specs.declared.event.Event.TheVariants.{Step, Evict, Crash, Start}
 use Rattle.hart_driver.specs.declared.stop.Stop.TheVariants.{Ended, Turns, Moment}
 use Rattle.hart_driver.specs.Legs.{Leg, AreTurns, IsTurn, has_ended, is_event_of, made, stop_of}
+use Rattle.rv64_isa.specs.Schedule.{HaveNoStart}
 use Rattle.ido_cli.specs.ThreadedRuns.{is_crash, is_eviction}
 
 count_more : (p : Event → Bool) (x : Event) (xs : List Event) → count_by p (x ∷ xs) ≡ cond (p x) 1 0 + count_by p xs
@@ -32,6 +33,7 @@ module _ {M : Type 0} (leg : Leg M) where
   not_last before (Step hart) turn = not_full hart before turn.1
   not_last before (Evict line mask) turn = not_full leg.harts before turn.2
   not_last before Crash turn = absurd turn
+  not_last before Start turn = absurd turn
 
   module _ (journal : List Event) (turns : AreTurns leg journal) where
     bounded_from : (before rest : List Event) → journal ≡ before ++ rest → length before ≤ leg.most → length journal ≤ leg.most
@@ -51,6 +53,18 @@ module _ {M : Type 0} (leg : Leg M) where
         none (Step hart) turn = refl
         none (Evict line mask) turn = refl
         none Crash turn = absurd turn
+        none Start turn = absurd turn
+
+    startless_from : (before rest : List Event) → journal ≡ before ++ rest → HaveNoStart rest
+    startless_from before [] is = tt
+    startless_from before (x ∷ xs) is =
+        none x (turns before xs x is) (startless_from (before ++ x ∷ []) xs (is ∙ sym (append_assoc before (x ∷ []) xs)))
+      where
+        none : (x : Event) → IsTurn leg before x → HaveNoStart xs → HaveNoStart (x ∷ xs)
+        none (Step hart) turn rest = rest
+        none (Evict line mask) turn rest = rest
+        none Crash turn rest = absurd turn
+        none Start turn rest = absurd turn
 
     evictions_from : (before rest : List Event) → journal ≡ before ++ rest → made leg leg.harts rest ≡ count_by is_eviction rest
     evictions_from before [] is = refl
@@ -64,6 +78,7 @@ module _ {M : Type 0} (leg : Leg M) where
         same (Step hart) turn = ne_eqb hart leg.harts (λ e. omega (arith, e, turn.0))
         same (Evict line mask) turn = eq-eqb leg.harts leg.harts refl
         same Crash turn = absurd turn
+        same Start turn = absurd turn
 
     -- a leg has no more events than it may
     pub leg_bounded : length journal ≤ leg.most
@@ -71,6 +86,10 @@ module _ {M : Type 0} (leg : Leg M) where
 
     pub leg_crashless : count_by is_crash journal ≡ 0
     leg_crashless = crashless_from [] journal refl
+
+    -- no life begins in it
+    pub leg_startless : HaveNoStart journal
+    leg_startless = startless_from [] journal refl
 
     -- its worker for evictions makes all of them
     pub leg_evictions : made leg leg.harts journal ≡ count_by is_eviction journal

@@ -7,7 +7,7 @@ use Rattle.std.proofs.lemmas.Bool.{eqb-true, eq-eqb, ne_eqb}
 use Rattle.std.proofs.lemmas.Bool.Decides.{nat_tests}
 use Rattle.std.proofs.lemmas.List.Sums.{sum_by-cons, sum_by_push}
 use Rattle.ido_base.specs.declared.event.Event.{Event}
-use Rattle.ido_base.specs.declared.event.Event.TheVariants.{Step, Evict, Crash}
+use Rattle.ido_base.specs.declared.event.Event.TheVariants.{Step, Evict, Crash, Start}
 use Rattle.ido_base.specs.Cores.{Behaviour}
 use Rattle.hart_driver.specs.declared.stop.Stop.TheVariants.{Ended, Turns, Moment}
 use Rattle.hart_driver.specs.Legs.{Leg, IsLeg, AreTurns, IsTurn, has_ended, is_event_of, made, stop_of}
@@ -19,6 +19,7 @@ abbrev step_below : ℕ → Event → Bool
 step_below n (Step hart) = nat_lt hart n
 step_below n (Evict line mask) = false
 step_below n Crash = false
+step_below n Start = false
 
 abbrev one : (Event → Bool) → Event → ℕ
 one p x = cond (p x) 1 0
@@ -30,6 +31,7 @@ module _ (harts : ℕ) where
       let none : one (is_event_of harts n) (Evict line mask) ≡ 0 = ap (λ (b : Bool). cond {A = ℕ} b 1 0) (ne_eqb harts n (λ e. omega (arith, e, within))) in
       omega (arith, none)
   one_more n Crash within = refl
+  one_more n Start within = refl
 
   below_more : (n : ℕ) (xs : List Event) → n < harts → count_by (step_below (suc n)) xs ≡ count_by (step_below n) xs + count_by (is_event_of harts n) xs
   below_more n [] within = refl
@@ -49,6 +51,7 @@ module _ (harts : ℕ) where
       by (Step hart) = grind (arith, nat_tests)
       by (Evict line mask) = refl
       by Crash = refl
+      by Start = refl
 
   few_below : (t n : ℕ) (xs : List Event) → n ≤ harts → ((w : ℕ) → count_by (is_event_of harts w) xs ≤ t) → count_by (step_below n) xs ≤ n * t
   few_below t zero xs few each = let none : count_by (step_below zero) xs ≡ 0 = none_below xs in omega (arith, none)
@@ -85,6 +88,7 @@ module _ {M : Type 0} (b : Behaviour M) (opening : M) (harts turns : ℕ) where
         subst (λ (v : ℕ). made (leg_with most) v before ≢ turns) (eqb-true hart w own) (goes_on hart before turn.1)
     own_turn w before (Evict line mask) turn own = absurd (cc turn.1)
     own_turn w before Crash turn own = absurd turn
+    own_turn w before Start turn own = absurd turn
 
     made_from : (w : ℕ) (before rest : List Event) → journal ≡ before ++ rest → made (leg_with most) w before ≤ turns → made (leg_with most) w journal ≤ turns
     made_from w before [] is few = subst (λ (xs : List Event). made (leg_with most) w xs ≤ turns) (sym (is ∙ append-nil before)) few
@@ -117,6 +121,7 @@ module _ {M : Type 0} (b : Behaviour M) (opening : M) (harts turns : ℕ) where
         by (Step hart) turn = let within = turn.0 in grind (arith, nat_tests, within)
         by (Evict line mask) turn = absurd (cc turn.1)
         by Crash turn = absurd turn
+        by Start turn = absurd turn
 
     -- no more than all turns
     few_events : length journal ≤ harts * turns
@@ -150,3 +155,4 @@ module _ {M : Type 0} (b : Behaviour M) (opening : M) (harts turns : ℕ) where
       by before (Step hart) less more_less turn = (turn.0, sym (same_stop most more hart before less more_less) ∙ turn.1)
       by before (Evict line mask) less more_less turn = absurd (cc turn.1)
       by before Crash less more_less turn = turn
+      by before Start less more_less turn = turn

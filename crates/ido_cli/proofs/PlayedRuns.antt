@@ -12,12 +12,12 @@ use Rattle.c_tree.specs.Source as m
 use Rattle.rv64_isa.specs.declared.object.Object.{Object}
 use Rattle.rv64_isa.specs.declared.object.Marks.{Marks}
 use Rattle.rv64_isa.specs.declared.object.Slot.{Slot}
-use Rattle.rv64_isa.specs.Executables.{Executable, first_world}
+use Rattle.rv64_isa.specs.Executables.{Executable}
 use Rattle.rv64_isa.specs.Machine.{World, after_event, after_events, machine_start, numbers_from, start_of}
 use Rattle.rv64_isa.specs.Frames.{IsWellFormedWorld}
 use Rattle.rv64_isa.specs.Programs.{program_of, slot_of}
-use Rattle.rv64_isa.specs.Schedule.{Steps, first_steps, steps_along, schedules, only_life}
-use Rattle.rv64_isa.proofs.Public.{queues_stand, starts_simulate, along_earlier}
+use Rattle.rv64_isa.specs.Schedule.{Steps, first_steps, steps_along, schedules}
+use Rattle.rv64_isa.proofs.Public.{queues_stand, starts_simulate}
 use Rattle.flow_graph.specs.declared.cuts.Cuts.{Cuts}
 use Rattle.flow_graph.specs.Nodes.{Graph}
 use Rattle.flow_graph.specs.Lowering.{parts, thread_count}
@@ -45,7 +45,7 @@ use Rattle.ido_cli.proofs.EndedSections.{are_ended}
 use Rattle.ido_cli.proofs.GatheredReports.{reported_is}
 use Rattle.ido_cli.proofs.ScriptEventCount.{events_fit, events_pass}
 use Rattle.ido_cli.proofs.SettledReports.{run_of}
-use Rattle.source_machine.specs.Lives.{ended_lives, begun_after}
+use Rattle.source_machine.specs.Lives.{ended_lives}
 
 -- ---- Harts of a machine
 
@@ -121,16 +121,10 @@ module _ (flat : f.Flat) (object : Object) (marks : Marks) (cuts : Cuts) (life :
           harts = many ∙ (length-map object.code.items (λ code. map slot_of code.items) ∙ threads);
           each = λ h below.
               let c = translation_to flat object marks cuts in
-              let kept : List ℕ = (steps c events).kept in
-              -- no life came before this one
-              let none : (steps c events).earlier ≡ [] =
-              along_earlier c.runs.marks c.runs.program events (first_world c.runs) (first_steps (length c.runs.program) (only_life [])) in
               ap₂ (λ (x : LifeConfig) (es : List Event). passed_count living (λ (n : LifeConfig) e. ends_at_point n.runs.program n.world e h) x es)
               p.begins p.journal
               ∙ (are_ended c compilation h (subst (λ (n : ℕ). h < n) many below) events
-              ∙ (ap (λ (earlier : List (List ℕ)). m.ended_from (begun_after flat (m.start flat) earlier) kept h) none
-              ∙ (ap (λ (earlier : List (List ℕ)). ended_lives flat (m.start flat) (earlier ++ kept ∷ []) h) (sym none)
-              ∙ ap (λ (s : Steps). ended_lives flat (m.start flat) (schedules s) h) (sym same_steps))));
+              ∙ ap (λ (s : Steps). ended_lives flat (m.start flat) (schedules s) h) (sym same_steps));
         }
 
 -- ---- The play of a script
@@ -201,14 +195,14 @@ ended_is stay x schedule short =
     (reported_is stay x schedule (unsettled_threads after) (counted (λ t. 0 + m.ended_from (m.start x) schedule t) (length after.threads))
     (taken x.variables (flat_map (λ ns. ns) after.variables)) refl refl refl short)
 
-pub machine_reported : (x : f.Flat) (w : World) (kept : List (List ℕ)) (unsettled ended schedule : List ℕ) (variables : List r.Variable) →
+pub machine_reported : (x : f.Flat) (w : World) (kept : List (List ℕ)) (unsettled ended : List ℕ) (lives : List (List ℕ)) (variables : List r.Variable) →
     unsettled ≡ unsettled_harts w → variables ≡ named x.variables (durable_variables w.words x.variables) →
-    ended ≡ map (ended_lives x (m.start x) kept) (numbers_from 0 (length x.threads)) → schedule ∷ [] ≡ kept →
-    (let s : r.ReportedState = record { unsettled = unsettled; variables = variables; ended = ended; schedules = schedule ∷ [] } in s) ≡ machine_state x w kept
+    ended ≡ map (ended_lives x (m.start x) kept) (numbers_from 0 (length x.threads)) → lives ≡ kept →
+    (let s : r.ReportedState = record { unsettled = unsettled; variables = variables; ended = ended; schedules = lives } in s) ≡ machine_state x w kept
 unfolding machine_state
-machine_reported x w kept unsettled ended schedule variables u v e k =
+machine_reported x w kept unsettled ended lives variables u v e k =
     ap₂ (λ (us : List ℕ) (vs : List r.Variable). let s : r.ReportedState =
-    record { unsettled = us; variables = vs; ended = ended; schedules = schedule ∷ [] } in
+    record { unsettled = us; variables = vs; ended = ended; schedules = lives } in
     s) u v
-    ∙ ap₂ (λ (es : List ℕ) (lives : List (List ℕ)). let s : r.ReportedState =
-    record { unsettled = unsettled_harts w; variables = named x.variables (durable_variables w.words x.variables); ended = es; schedules = lives } in s) e k
+    ∙ ap₂ (λ (es : List ℕ) (ls : List (List ℕ)). let s : r.ReportedState =
+    record { unsettled = unsettled_harts w; variables = named x.variables (durable_variables w.words x.variables); ended = es; schedules = ls } in s) e k

@@ -24,7 +24,7 @@ use Rattle.ido_cli.proofs.RunImageAnswers.{RunImage}
 
 few : (c : Translation) (events : List Event) → length events ≤ MOST_EVENTS → length (left_by c events).kept.schedule ≤ MOST_STEPS
 few c events short =
-    let kept = kept_few c.runs.marks c.runs.program (first_world c.runs) events (length c.runs.program) (only_life []) in omega (arith, kept, short)
+    let kept = kept_few c.runs.marks c.runs.program (first_world c.runs) events (length c.runs.program) [] in omega (arith, kept, short)
 
 module _ (law : RunImagesAreRead) (source image : List ℕ) (run : RunImage source image) (turns answer : ℕ) (output : List ℕ) where
   open run use {flat, object, marks, cuts, events as before}
@@ -37,11 +37,10 @@ module _ (law : RunImagesAreRead) (source image : List ℕ) (run : RunImage sour
 
   one_life : only_life (left_by c before).kept.schedule ≡ (left_by c before).kept
   one_life =
-      let none = along_earlier c.runs.marks c.runs.program before (first_world c.runs) (first_steps (length c.runs.program) (only_life [])) in
-      ap (λ (earlier : List (List ℕ)). let z : LifeSchedules = record { earlier = earlier; schedule = (left_by c before).kept.schedule } in z) (sym none)
+      ap (λ (earlier : List (List ℕ)). let z : LifeSchedules = record { earlier = earlier; schedule = (left_by c before).kept.schedule } in z) (sym run.alone)
 
   read : (result : Result Image ImageError) → IsImageAnswer image result → IsReadAgain source c (left_by c before) result
-  read result told = law source image flat object marks cuts before result run.accepted run.translated run.most run.spelled told
+  read result told = law source image flat object marks cuts before result run.accepted run.translated run.alone run.most run.spelled told
 
   not_read : (error : ImageError) → answer ≡ 6 → image_line error ≡ Some output → IsReadAgain source c (left_by c before) (Err error) → Recovered
   not_read error six line (elsewhere d x is differs fault) = refused d x is differs fault six line
@@ -59,7 +58,7 @@ module _ (law : RunImagesAreRead) (source image : List ℕ) (run : RunImage sour
   by (of_image found told on recovery) = is_read found recovery (read (Ok found) told)
 
 pub runs_are_recovered : RunImagesAreRead → RunsAreRecovered
-runs_are_recovered law source image flat c before turns status answer output accepted of short written told =
+runs_are_recovered law source image flat c before turns status answer output accepted of none short written told =
     let made = translation_to flat of.object of.marks of.cuts in
     let now : IsImageAfter source made before status image = subst (λ (z : Translation). IsImageAfter source z before status image) of.is written in
     let run : RunImage source image = record {
@@ -70,6 +69,7 @@ runs_are_recovered law source image flat c before turns status answer output acc
       events = before;
       accepted = accepted;
       translated = of.translated;
+      alone = along_earlier made.runs.marks made.runs.program before (first_world made.runs) (first_steps (length made.runs.program) (only_life [])) none;
       most = few made before short;
       spelled = now.read_as;
     } in

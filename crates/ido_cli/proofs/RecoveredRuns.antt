@@ -17,8 +17,8 @@ use Rattle.rv64_isa.specs.declared.object.Marks.{Marks}
 use Rattle.rv64_isa.specs.Frames.{IsWellFormedWorld}
 use Rattle.rv64_isa.specs.Machine.{World, after_events, machine_from}
 use Rattle.rv64_isa.specs.Programs.{program_of, slot_of}
-use Rattle.rv64_isa.specs.Schedule.{Steps, first_steps, only_life, steps_along, LifeSchedules, all_lives, schedules}
-use Rattle.rv64_isa.proofs.Public.{crashes_simulate}
+use Rattle.rv64_isa.specs.Schedule.{HaveNoStart, Steps, first_steps, only_life, steps_along, LifeSchedules, all_lives, schedules}
+use Rattle.rv64_isa.proofs.Public.{along_earlier, crashes_simulate}
 use Rattle.flow_graph.specs.declared.cuts.Cuts.{Cuts}
 use Rattle.flat_compile.specs.TranslatedForms.{IsTranslated}
 use Rattle.compiler_correctness.specs.Compilations.{IsCompilation}
@@ -42,6 +42,7 @@ use Rattle.ido_cli.specs.Reports.{machine_state}
 use Rattle.ido_cli.specs.Runs.{IsReport}
 use Rattle.ido_cli.specs.ThreadedRuns.{leg_after, moment_after, most_leg_events}
 use Rattle.ido_cli.specs.links.LegRuns.{leg_from}
+use Rattle.ido_cli.proofs.LegEvents.{leg_startless}
 use Rattle.ido_cli.proofs.LegRooms.{in_more_room}
 use Rattle.ido_cli.proofs.LegRuns.{IsLifeDriven, is_leg_after}
 use Rattle.ido_cli.proofs.PlayedRuns.{sound_along}
@@ -95,6 +96,16 @@ module _ (flat : f.Flat) (object : Object) (marks : Marks) (cuts : Cuts) (t : Is
 
   pub room_left : cap ≤ length begun.journal + (begun.cap - length begun.journal)
   room_left = omega (arith, ap (λ (x : Course). x.cap) is, ap length none_made)
+
+  -- no life begins in a leg
+  pub none_before : (turns moment : ℕ) (left : Course) (stops : List Stop) (evict : Option Evictor) →
+      IsLifeDriven begun turns moment None left stops evict → file.kept.earlier ≡ [] → (steps_in left).earlier ≡ []
+  none_before turns moment left stops evict d none =
+      let journal : left.journal ≡ d.journal = d.plays.events_are ∙ ap (λ (es : List Event). es ++ d.journal) none_made in
+      let free : HaveNoStart left.journal =
+      subst HaveNoStart (sym journal) (leg_startless (leg_from turns moment begun None) d.journal d.leg.each) in
+      along_earlier left.runs.marks left.runs.program left.journal left.opening (first_steps (length left.runs.program) left.kept_before) free
+      ∙ (ap (λ (m : LifeConfig). m.kept_before.earlier) d.plays.opens ∙ (ap (λ (x : Course). x.kept_before.earlier) is ∙ none))
 
   as_many_harts : length begun.runs.program ≡ length object.code.items
   as_many_harts = ap (λ (x : Course). length x.runs.program) is ∙ length-map object.code.items (λ code. map slot_of code.items)

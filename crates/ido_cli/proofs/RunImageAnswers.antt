@@ -1,5 +1,5 @@
 -- What bytes are answered that spell the file of a run.
-use Rattle.std.proofs.Common.{◌≡◌, ℕ, ◌≤◌, List, ◌++◌, length, map, ap, sym, subst, ◌∙◌, Result, Ok, Err}
+use Rattle.std.proofs.Common.{◌≡◌, ℕ, ◌≤◌, List, [], ◌++◌, length, map, ap, sym, subst, ◌∙◌, Result, Ok, Err}
 use Rattle.std.proofs.lemmas.List.{length-map, take-append-drop}
 use Rattle.ido_base.specs.declared.event.Event.{Event}
 use Rattle.ido_base.specs.declared.limits.TheConstants.{MOST_STEPS}
@@ -66,12 +66,13 @@ pub record RunImage (source bytes : List ℕ) : Type 0 where
   pub events : List Event
   pub accepted : IsAccepted source flat
   pub translated : IsTranslated flat object marks cuts
+  pub alone : (left_by (translation_to flat object marks cuts) events).kept.earlier ≡ []
   pub most : length (left_by (translation_to flat object marks cuts) events).kept.schedule ≤ MOST_STEPS
   pub spelled : IsReadAs (file_contents source (translation_to flat object marks cuts) (left_by (translation_to flat object marks cuts) events)) bytes
 
 module _ (one_flat : OneFlat) (not_both : NotBoth) (machines : MachinesResume) (records : MachinesRecord) (no_fault : RunsLeaveNoFault)
     (source bytes : List ℕ) (run : RunImage source bytes) where
-  open run use {flat, object, marks, cuts, events, accepted, translated as t, most, spelled}
+  open run use {flat, object, marks, cuts, events, accepted, translated as t, alone, most, spelled}
 
   abbrev c : Translation
   c = translation_to flat object marks cuts
@@ -92,7 +93,7 @@ module _ (one_flat : OneFlat) (not_both : NotBoth) (machines : MachinesResume) (
   Read answer = IsReadAgain source c file answer
 
   is_whole : IsWhole flat threads size state
-  is_whole = left_is_whole flat object marks cuts t events machines records most
+  is_whole = left_is_whole flat object marks cuts t events machines records alone most
 
   -- ---- The bytes
 
@@ -176,7 +177,9 @@ module _ (one_flat : OneFlat) (not_both : NotBoth) (machines : MachinesResume) (
         let x = d.translated in
         let few : length (left_by (translation_in d) events).kept.schedule ≤ MOST_STEPS =
         subst (λ (z : Translation). length (left_by z events).kept.schedule ≤ MOST_STEPS) (sym same) most in
-        let sound = no_fault (flat_of d.flat) x.object x.marks x.cuts x.resumes.items events is.resumable few in
+        let first : (left_by (translation_in d) events).kept.earlier ≡ [] =
+        subst (λ (z : Translation). (left_by z events).kept.earlier ≡ []) (sym same) alone in
+        let sound = no_fault (flat_of d.flat) x.object x.marks x.cuts x.resumes.items events is.resumable first few in
         none_if_sound (flat_of d.flat) x.resumes.items (file_state (translation_in d) (left_by (translation_in d) events)) error sound
         (subst (λ (z : Translation). IsStateFault (flat_of d.flat) x.resumes.items (file_state z (left_by z events)) error) (sym same) fault)
 
@@ -207,7 +210,18 @@ module _ (one_flat : OneFlat) (not_both : NotBoth) (machines : MachinesResume) (
   read answer answers.no_memory = reads.no_memory
 
 pub run_images_are_read : OneFlat → NotBoth → MachinesResume → MachinesRecord → RunsLeaveNoFault → RunImagesAreRead
-run_images_are_read one_flat not_both machines records no_fault source bytes flat object marks cuts events answer accepted t most spelled told =
+run_images_are_read one_flat not_both machines records no_fault source bytes flat object marks cuts events answer accepted t alone most spelled told =
     let run : RunImage source bytes =
-    record { flat = flat; object = object; marks = marks; cuts = cuts; events = events; accepted = accepted; translated = t; most = most; spelled = spelled } in
+    record {
+      flat = flat;
+      object = object;
+      marks = marks;
+      cuts = cuts;
+      events = events;
+      accepted = accepted;
+      translated = t;
+      alone = alone;
+      most = most;
+      spelled = spelled;
+    } in
     read one_flat not_both machines records no_fault source bytes run answer told

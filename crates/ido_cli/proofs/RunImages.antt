@@ -21,7 +21,6 @@ use Rattle.compiler_correctness.specs.Translations.{Translation, translation_to}
 use Rattle.crash_images.specs.Contents.{Contents, contents}
 use Rattle.crash_images.specs.ImageDecoder.{IsReadAs}
 use Rattle.crash_images.specs.ImageEncoder.{spelling}
-use Rattle.rv64_isa.specs.Schedule.{only_life}
 use Rattle.run_tracker.specs.ObjectLives.{Course, LifeConfig, left_words, steps_in, variable_words_in, world_of}
 use Rattle.image_checks.specs.RunImages.{left_by, file_contents}
 use Rattle.ido_cli.specs.Images.{IsImageAfter}
@@ -50,7 +49,7 @@ module _ (flat : f.Flat) (object : Object) (marks : Marks) (cuts : Cuts) (life :
   pub steps_few : length (steps_in life).kept ≤ length events
   steps_few =
       let c = made in
-      let few = kept_few c.runs.marks c.runs.program (first_world c.runs) events (length c.runs.program) (only_life []) in
+      let few = kept_few c.runs.marks c.runs.program (first_world c.runs) events (length c.runs.program) [] in
       omega (arith, ap length same_kept, few)
 
   module _ (t : IsTranslated flat object marks cuts) (compilation : IsCompilation made) where

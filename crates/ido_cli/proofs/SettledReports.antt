@@ -6,7 +6,8 @@ use Rattle.ido_base.specs.declared.event.Event.{Event}
 use Rattle.c_tree.specs.Flats as f
 use Rattle.c_tree.specs.Source as m
 use Rattle.rv64_isa.specs.Machine.{World, numbers_from}
-use Rattle.rv64_isa.specs.Schedule.{is_settled, is_settled_hart, are_settled, schedules}
+use Rattle.rv64_isa.specs.Schedule.{schedules}
+use Rattle.rv64_isa.specs.Machine.{is_settled, is_settled_hart, are_settled}
 use Rattle.source_machine.specs.Lives.{after_lives, ended_lives}
 use Rattle.variable_words.specs.Variables.{durable_variables}
 use Rattle.compiler_correctness.specs.Translations.{Translation, world, steps, source}

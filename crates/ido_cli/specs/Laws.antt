@@ -16,6 +16,7 @@ use Rattle.ido_cli.specs.Inputs.{source_of, rest_of}
 use Rattle.ido_cli.specs.Plays.{IsRunBy, IsTranslationOf}
 use Rattle.ido_cli.specs.Recoveries.{IsRecoveredRun}
 use Rattle.ido_cli.specs.Answers.{Answer, IsPastLimits, PlayAnswer, RecoverAnswer}
+use Rattle.rv64_isa.specs.Schedule.{HaveNoStart}
 
 -- what is written stands on no compilation, nor on how threads ran
 abbrev pub IsPlain : Option Command → Type 0
@@ -66,10 +67,10 @@ abbrev pub OneAnswer : Type 0
 OneAnswer = (words : List (List ℕ)) (input : List ℕ) (status other : ℕ) (output written : List ℕ) → IsUncompiled (command_of words) input status
     → Answer words input status output → Answer words input other written → (status ≡ other) × (output ≡ written)
 
--- what `image` writes of events of a source's translation, `recover` reads as what they left
+-- what `image` writes of events of a source's translation, none of them a start, `recover` reads as what they left
 abbrev pub RunsAreRecovered : Type 0
 RunsAreRecovered = (source image : List ℕ) (flat : Flat) (c : Translation) (before : List Event) (turns status answer : ℕ) (output : List ℕ) →
-    IsAccepted source flat → IsTranslationOf flat c → length before ≤ MOST_EVENTS → IsImageAfter source c before status image →
+    IsAccepted source flat → IsTranslationOf flat c → HaveNoStart before → length before ≤ MOST_EVENTS → IsImageAfter source c before status image →
     RecoverAnswer turns image answer output → IsRecoveredRun source c before turns answer output
 
 -- a source that ends with an LF, and in which no line is `%%`

@@ -2,7 +2,7 @@
 use Rattle.std.specs.Prelude.{◌≡◌, ℕ, ◌+◌, ◌-◌, ◌<◌, ◌≤◌, List, [], ◌∷◌, ◌++◌, length, count_by, min, Bool, true, false, Option, Some, None, option_map}
 use Rattle.std.specs.Prelude.{◌==◌, if◌then◌else◌}
 use Rattle.ido_base.specs.declared.event.Event.{Event}
-use Rattle.ido_base.specs.declared.event.Event.TheVariants.{Step, Evict, Crash}
+use Rattle.ido_base.specs.declared.event.Event.TheVariants.{Step, Evict, Crash, Start}
 use Rattle.ido_base.specs.Cores.{played}
 use Rattle.compiler_correctness.specs.Translations.{Translation}
 use Rattle.hart_driver.specs.Legs.{Leg, IsLeg}
@@ -22,11 +22,13 @@ abbrev pub is_crash : Event → Bool
 is_crash (Step hart) = false
 is_crash (Evict line mask) = false
 is_crash Crash = true
+is_crash Start = false
 
 abbrev pub is_eviction : Event → Bool
 is_eviction (Step hart) = false
 is_eviction (Evict line mask) = true
 is_eviction Crash = false
+is_eviction Start = false
 
 -- ---- Legs
 

@@ -40,6 +40,6 @@ pub fn image(
 {
     let words = life.durable_words(alloc)?;
     let (variables, logs) = words.split_at(object.initial.len() / 8);
-    let output = write_image(alloc, source, variables, logs, life.schedule())?;
+    let output = write_image(alloc, source, variables, logs, life.kept())?;
     Ok(Said { status: 0, output })
 }

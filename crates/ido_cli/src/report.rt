@@ -1,5 +1,5 @@
 //! The report of a life.
-ghost use Rattle.std.specs.Prelude.{◌≡◌, ◌≤◌, length, map, IfOk};
+ghost use Rattle.std.specs.Prelude.{◌≡◌, ◌≤◌, [], length, map, IfOk};
 ghost use Rattle.ido_base.specs.declared.limits.TheConstants.{MOST_THREADS};
 ghost use Rattle.c_tree.specs.Flats.{flat_of};
 ghost use Rattle.c_tree.specs.Source as m;
@@ -63,6 +63,18 @@ fn counted(alloc: Global, life: &Life) -> Result<Vec<u64>, OutOfMemory>
     Ok(sections)
 }
 
+/// The kept schedules of all lives.
+fn kept_schedules(alloc: Global, life: &Life) -> Result<Vec<Vec<u32>>, OutOfMemory>
+    ensures { IfOk result (λ kept. map views.steps_of kept.items ≡ schedules (steps_in life.now)) }
+{
+    let mut kept = Vec::new(alloc);
+    for number in 0..life.lives() {
+        let schedule = life.schedule(number).to_vec(alloc)?;
+        kept.push(schedule)?;
+    }
+    Ok(kept)
+}
+
 /// What is reported of a life, of whose threads so many sections have ended.
 fn gathered(
     alloc: Global,
@@ -78,13 +90,12 @@ fn gathered(
 {
     let unsettled = unsettled(alloc, life)?;
     let variables = durable(alloc, life, &flat.variables)?;
-    let kept = life.schedule();
-    let schedule = kept.to_vec(alloc)?;
+    let schedules = kept_schedules(alloc, life)?;
     Ok(Reported {
         unsettled,
         variables,
         ended,
-        schedule,
+        schedules,
     })
 }
 
@@ -99,14 +110,15 @@ pub fn reported(alloc: Global, flat: &Flat, life: &Life) -> Result<Reported, Out
     gathered(alloc, flat, life, ended)
 }
 
-/// What is reported of any life: the source is run by its kept schedule.
+/// What is reported of any life before which no other came: the source is run by its kept schedule.
 fn reported_by_source(alloc: Global, flat: &Flat, life: &Life) -> Result<Reported, OutOfMemory>
+    requires alone { (steps_in life.now).earlier ≡ [] }
     requires few { length flat.now.threads.items ≤ MOST_THREADS }
     requires room { HaveRoom (map shape_of (flat_of flat.now).variables) }
     requires harts { length (world_of life.now).harts ≡ length life.now.runs.program }
     ensures { IfOk result (λ state. views.state_of state ≡ machine_state (flat_of flat.now) (world_of life.now) (schedules (steps_in life.now))) }
 {
-    let kept = life.schedule();
+    let kept = life.kept();
     let ended = ended_by(alloc, flat, kept)?;
     gathered(alloc, flat, life, ended)
 }
@@ -132,8 +144,10 @@ pub fn say(alloc: Global, flat: &Flat, life: &Life) -> Result<Said, OutOfMemory>
     say_reported(alloc, &state)
 }
 
-/// What is said of any life, also of one that went on from an image that no run of this source left: nothing relates its kept schedule to its points.
+/// What is said of any life before which no other came, also of one that went on from an image that no run of this source left: nothing relates its kept
+/// schedule to its points.
 pub fn say_by_source(alloc: Global, flat: &Flat, life: &Life) -> Result<Said, OutOfMemory>
+    requires alone { (steps_in life.now).earlier ≡ [] }
     requires few { length flat.now.threads.items ≤ MOST_THREADS }
     requires room { HaveRoom (map shape_of (flat_of flat.now).variables) }
     requires harts { length (world_of life.now).harts ≡ length life.now.runs.program }

@@ -92,6 +92,15 @@ fn variables(
     Ok(found)
 }
 
+/// The schedule of the only life.
+fn only(alloc: Global, schedule: Vec<u32>) -> Result<Vec<Vec<u32>>, OutOfMemory>
+    ensures { IfOk result (λ schedules. map views.steps_of schedules.items ≡ schedule.items ∷ []) }
+{
+    let mut schedules = Vec::new(alloc);
+    schedules.push(schedule)?;
+    Ok(schedules)
+}
+
 /// What is reported of the state after a schedule.
 fn reported(
     alloc: Global,
@@ -108,11 +117,12 @@ fn reported(
     let unsettled = unsettled(alloc, state)?;
     let variables = variables(alloc, &flat.variables, state.variables())?;
     let ended = ended(alloc, state)?;
+    let schedules = only(alloc, schedule)?;
     Ok(Reported {
         unsettled,
         variables,
         ended,
-        schedule,
+        schedules,
     })
 }
 

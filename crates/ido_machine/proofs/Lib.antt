@@ -1,5 +1,6 @@
 pub mod Public
 mod Lists
 mod Starts
+mod BegunAnew
 mod MachineEvents
 mod LocalStates

@@ -29,6 +29,17 @@ pub record AreFresh (program : List (List Slot)) (harts : List Hart) (count : �
   pub size : length harts ≡ count
   pub each : (thread : ℕ) (it : Hart) → slice_get harts thread ≡ Some it → IsFresh program thread it
 
+-- the hart is at the first word of its code again, with what it had queued
+pub record IsAnew (program : List (List Slot)) (thread : ℕ) (was it : Hart) : Type 0 where
+  pub registers : it.registers ≡ replicate 32 0
+  pub pc : it.pc ≡ code_start program thread
+  pub queue : it.queue ≡ was.queue
+
+-- each of as many harts is
+pub record AreAnew (program : List (List Slot)) (old new : List Hart) : Type 0 where
+  pub size : length new ≡ length old
+  pub each : (thread : ℕ) (was it : Hart) → slice_get old thread ≡ Some was → slice_get new thread ≡ Some it → IsAnew program thread was it
+
 -- what local steps change of a hart
 abbrev pub local_state_of : HartModel → LocalState
 local_state_of model = record { registers = model.registers; pc = model.pc }

@@ -3,7 +3,7 @@ ghost use Rattle.std.specs.Prelude.{◌≡◌, ℕ, List, length, map, IfOk};
 ghost use Rattle.ido_base.specs.Words.{Word};
 ghost use Rattle.line_memory.specs.links.MemoryRepresentation.{Represents, log_in, threads_of};
 ghost use Rattle.rv64_isa.specs.Machine.{phase_after_crash, durable_point, numbers_from};
-ghost use Rattle.ido_machine.specs.Harts.{AreFresh};
+ghost use Rattle.ido_machine.specs.Harts.{AreAnew, AreFresh};
 
 use hart_core::hart::Hart;
 use hart_core::program::Program;
@@ -31,6 +31,17 @@ pub(crate) fn restart(program: &Program, harts: &mut [Hart])
 {
     for thread in 0..program.threads() {
         harts[thread as usize].restart(program.start_of(thread));
+    }
+}
+
+/// The harts where another life begins: each is at the first word of its code again, with what it had queued.
+pub(crate) fn begin_anew(program: &Program, harts: &mut [Hart])
+    requires { length harts.old ≡ length program.now }
+    ensures { AreAnew program.now harts.old harts.new }
+{
+    for thread in 0..program.threads() {
+        let at = thread as usize;
+        harts[at].begin_anew(program.start_of(thread));
     }
 }
 

@@ -35,15 +35,15 @@ pub struct Machine {
 }
 
 impl Machine {
-    ghost use Rattle.std.specs.Prelude.{◌≡◌, ℕ, ◌+◌, ◌*◌, ◌/◌, ◌^◌, ◌<◌, ◌≤◌, List, [], length, not, slice_get, Some, None, IfOk, IfSome, IfNone, IsTrue, ◌↔◌};
-    ghost use Rattle.ido_base.specs.declared.event.Event.TheVariants.{Step, Evict, Crash};
+    ghost use Rattle.std.specs.Prelude.{◌≡◌, ◌⊎◌, ℕ, ◌+◌, ◌*◌, ◌/◌, ◌^◌, ◌<◌, ◌≤◌, List, [], length, not, true, slice_get, Some, None, IfOk, IfSome, IfNone, IsTrue, ◌↔◌};
+    ghost use Rattle.ido_base.specs.declared.event.Event.TheVariants.{Step, Evict, Crash, Start};
     ghost use Rattle.ido_base.specs.Words.{word_at, last_position, live_value, durable_value};
     ghost use Rattle.ido_base.specs.Layout.{line_count, log_words};
     ghost use Rattle.ido_base.specs.Locks.{holds_none};
     ghost use Rattle.ido_base.specs.Cores.{is_idle};
     ghost use Rattle.rv64_isa.specs.declared.object.Slot.TheVariants.{Row};
     ghost use Rattle.rv64_isa.specs.Programs.{fetched, program_of};
-    ghost use Rattle.rv64_isa.specs.Machine.{Hart as HartModel, World, IsValidEvent, happens, reply_to, with_hart, machine_start, machine_from};
+    ghost use Rattle.rv64_isa.specs.Machine.{Hart as HartModel, World, IsValidAt, IsValidEvent, can_start, happens, reply_to, with_hart, machine_start, machine_from};
     ghost use Rattle.rv64_isa.specs.declared.phase.Phase.TheVariants.{Run};
     ghost use Rattle.hart_core.specs.LocalSteps.{local_step, placed_code, after_write};
     ghost use Rattle.hart_core.specs.Objects.{IsWithinLimits};
@@ -127,9 +127,9 @@ impl Machine {
     /// Makes an event.
     /// By induction a machine that was started from an object represents `machine object events`, crashes and recovery among them.
     pub fn event(&mut self, event: Event) -> Reply
-        requires valid { IsValidEvent (log_by self.old) (length (program_in self.old)) event }
+        requires valid { IsValidEvent (log_by self.old) (length (program_in self.old)) event ⊎ (event ≡ Start) }
         requires room { events_of self.old < 2 ^ 63 }
-        ensures world { (w : World) → RepresentsMachine self.old w → IsAfter self.new result (happens (program_in self.old) w event) }
+        ensures world { (w : World) → RepresentsMachine self.old w → IsValidAt w event → IsAfter self.new result (happens (program_in self.old) w event) }
         ensures program { program_in self.new ≡ program_in self.old }
         ensures log { log_by self.new ≡ log_by self.old }
         ensures events { events_of self.new ≡ events_of self.old + 1 }
@@ -138,6 +138,7 @@ impl Machine {
             Event::Step(hart) => self.step(hart),
             Event::Evict { line, mask } => self.evict(line, mask),
             Event::Crash => self.crash(),
+            Event::Start => self.start_anew(),
         }
     }
 
@@ -192,6 +193,21 @@ impl Machine {
         harts::restart(&self.program, &mut self.harts);
         harts::set_phases(&mut self.phases, &self.memory);
         self.recovering = true;
+        self.events += 1;
+        Reply::Device
+    }
+
+    /// A start: what `event` does for it, where another life may begin.
+    pub fn start_anew(&mut self) -> Reply
+        requires room { events_of self.old < 2 ^ 63 }
+        ensures world { (w : World) → RepresentsMachine self.old w → can_start w ≡ true → IsAfter self.new result (happens (program_in self.old) w Start) }
+        ensures program { program_in self.new ≡ program_in self.old }
+        ensures log { log_by self.new ≡ log_by self.old }
+        ensures events { events_of self.new ≡ events_of self.old + 1 }
+    {
+        harts::begin_anew(&self.program, &mut self.harts);
+        self.phases.fill(Phase::Run);
+        self.recovering = false;
         self.events += 1;
         Reply::Device
     }

@@ -66,7 +66,7 @@ module _ (machines : MachinesResume) (records : MachinesRecord) (y : System) (s 
   left = file_state c (left_by c events)
 
   stands : Simulates y s (world c events)
-  stands = (machines y s events).stands
+  stands = (machines y s events).is.stands
 
   logs : (world c events).log ≡ V1
   logs = sym stands.machine.log ∙ first
@@ -94,34 +94,34 @@ module _ (machines : MachinesResume) (records : MachinesRecord) (y : System) (s 
       subst (λ (logs : List ℕ). IsUnshared logs threads lock) (sym logs_are)
       (subst (λ (k : ℕ). IsUnshared (logs_left words) k lock) (sym (is ∙ s.count)) (are_unshared y s (world c events) stands logs lock))
 
-  -- no life came before this one
-  kept_runs : runs_from (start (flat_of y)) kept ≡ true
-  kept_runs =
-      subst (λ (earlier : List (List ℕ)). IsRunnable c (earlier ++ kept ∷ [])) (machines y s events).counted.earlier (records y s events).kept
+  -- where no life came before this one
+  kept_runs : (steps c events).earlier ≡ [] → runs_from (start (flat_of y)) kept ≡ true
+  kept_runs none = subst (λ (earlier : List (List ℕ)). IsRunnable c (earlier ++ kept ∷ [])) none (records y s events).kept
 
-  scheduled : length kept ≤ MOST_STEPS → IsSchedule (flat_of y) (runs_of kept) (schedule_of (runs_of kept))
-  scheduled most = record {
+  scheduled : (steps c events).earlier ≡ [] → length kept ≤ MOST_STEPS → IsSchedule (flat_of y) (runs_of kept) (schedule_of (runs_of kept))
+  scheduled none most = record {
     formed = record {
       is = refl;
       merged = runs_merged kept;
       few = subst (λ (steps : List ℕ). length steps ≤ MOST_STEPS) (sym (each_step kept)) most;
     };
-    made = subst (λ (steps : List ℕ). runs_from (start (flat_of y)) steps ≡ true) (sym (each_step kept)) kept_runs;
+    made = subst (λ (steps : List ℕ). runs_from (start (flat_of y)) steps ≡ true) (sym (each_step kept)) (kept_runs none);
   }
 
-  whole : length kept ≤ MOST_STEPS → IsWhole (flat_of y) (length y.runs.program) (8 * n) left
-  whole most = record {
+  whole : (steps c events).earlier ≡ [] → length kept ≤ MOST_STEPS → IsWhole (flat_of y) (length y.runs.program) (8 * n) left
+  whole none most = record {
     variables = omega (arith, ap length variables_are, prefix);
     logs = omega (arith, ap length logs_are, length-drop 8192 ws, size);
     unshared = unshared (length y.runs.program) refl;
-    schedule = scheduled most;
+    schedule = scheduled none most;
   }
 
-  sound : (table : List (Vec Resume Global)) → IsResumeTable y.plan s.codes table → length kept ≤ MOST_STEPS → IsWellFormedState (flat_of y) table left
-  sound table is most = record {
+  sound : (table : List (Vec Resume Global)) → IsResumeTable y.plan s.codes table → (steps c events).earlier ≡ [] → length kept ≤ MOST_STEPS →
+      IsWellFormedState (flat_of y) table left
+  sound table is none most = record {
     logs = subst (λ (logs : List ℕ). AreSound (flat_of y).variables table logs) (sym logs_are) (are_sound y s (world c events) stands logs table is);
     mutexes = unshared (length table) (is.count ∙ sym s.count);
-    schedule = scheduled most;
+    schedule = scheduled none most;
   }
 
 -- ---- As a translation of a flat form
@@ -147,12 +147,15 @@ module _ (flat : f.Flat) (object : Object) (marks : Marks) (cuts : Cuts) (t : Is
   few_of : length (left_by made events).kept.schedule ≤ MOST_STEPS → length (left_by (translation_of t.system) events).kept.schedule ≤ MOST_STEPS
   few_of most = subst (λ (c : Translation). length (left_by c events).kept.schedule ≤ MOST_STEPS) (sym same) most
 
+  alone_of : (left_by made events).kept.earlier ≡ [] → (left_by (translation_of t.system) events).kept.earlier ≡ []
+  alone_of none = subst (λ (c : Translation). (left_by c events).kept.earlier ≡ []) (sym same) none
+
   programs : length t.system.runs.program ≡ length object.code.items
   programs = ap (λ (x : Executable). length x.program) t.runs ∙ length-map object.code.items (λ code. map slot_of code.items)
 
-  pub left_is_whole : MachinesResume → MachinesRecord → length (left_by made events).kept.schedule ≤ MOST_STEPS →
+  pub left_is_whole : MachinesResume → MachinesRecord → (left_by made events).kept.earlier ≡ [] → length (left_by made events).kept.schedule ≤ MOST_STEPS →
       IsWhole flat (length object.code.items) (length object.initial.items) (file_state made (left_by made events))
-  left_is_whole machines records most =
+  left_is_whole machines records none most =
       let size : 8 * variable_words (translation_of t.system) ≡ length object.initial.items = omega (arith, begins, t.limits.whole_words) in
       subst (λ (c : Translation). IsWhole flat (length object.code.items) (length object.initial.items) (file_state c (left_by c events))) same
       (subst (λ (x : f.Flat). IsWhole x (length object.code.items) (length object.initial.items)
@@ -161,12 +164,12 @@ module _ (flat : f.Flat) (object : Object) (marks : Marks) (cuts : Cuts) (t : Is
       (file_state (translation_of t.system) (left_by (translation_of t.system) events))) programs
       (subst (λ (k : ℕ). IsWhole (flat_of t.system) (length t.system.runs.program) k
       (file_state (translation_of t.system) (left_by (translation_of t.system) events))) size
-      (whole machines records t.system t.is events fits first_of (few_of most)))))
+      (whole machines records t.system t.is events fits first_of (alone_of none) (few_of most)))))
 
 pub runs_leave_no_fault : MachinesResume → MachinesRecord → RunsLeaveNoFault
-runs_leave_no_fault machines records flat object marks cuts table events r most =
+runs_leave_no_fault machines records flat object marks cuts table events r none most =
     let t = r.translated in
     subst (λ (c : Translation). IsWellFormedState flat table (file_state c (left_by c events))) (same flat object marks cuts t events)
     (subst (λ (x : f.Flat). IsWellFormedState x table (file_state (translation_of t.system) (left_by (translation_of t.system) events))) t.of_flat
     (sound machines records t.system t.is events (fits flat object marks cuts t events) (first_of flat object marks cuts t events) table r.are
-    (few_of flat object marks cuts t events most)))
+    (alone_of flat object marks cuts t events none) (few_of flat object marks cuts t events most)))

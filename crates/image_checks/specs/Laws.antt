@@ -1,5 +1,5 @@
 -- What stands after a source is well formed, or has one fault; and what a run of the source has left has none.
-use Rattle.std.specs.Prelude.{◌≡◌, ◌≤◌, ℕ, List, length, Vec}
+use Rattle.std.specs.Prelude.{◌≡◌, ◌≤◌, ℕ, List, [], length, Vec}
 use Rattle.std.specs.Global.{Global}
 use Rattle.ido_base.specs.declared.event.Event.{Event}
 use Rattle.ido_base.specs.declared.limits.TheConstants.{MOST_STEPS}
@@ -25,8 +25,8 @@ NoneIfSound = (flat : Flat) (table : List (Vec Resume Global)) (s : State) (erro
 
 -- ---- Images that runs leave
 
--- nothing is at fault in what a crash leaves of a run, where its table tells where the translation's threads are resumed
+-- nothing is at fault in what a crash leaves of a run in its first life, where its table tells where the translation's threads are resumed
 abbrev pub RunsLeaveNoFault : Type 0
 RunsLeaveNoFault = (flat : Flat) (object : Object) (marks : Marks) (cuts : Cuts) (table : List (Vec Resume Global)) (events : List Event) →
     IsResumable flat object marks cuts table → let c = translation_to flat object marks cuts in
-    length (left_by c events).kept.schedule ≤ MOST_STEPS → IsWellFormedState flat table (file_state c (left_by c events))
+    (left_by c events).kept.earlier ≡ [] → length (left_by c events).kept.schedule ≤ MOST_STEPS → IsWellFormedState flat table (file_state c (left_by c events))

@@ -211,4 +211,4 @@ module _ (y : System) (s : IsSystem y) (w : World) (stands : Simulates y s w) wh
   }
 
 pub crashes_leave_shape : MachinesResume → CrashesLeaveShape
-crashes_leave_shape machines y s events = has_shape y s (world (translation_of y) events) (machines y s events).stands
+crashes_leave_shape machines y s events = has_shape y s (world (translation_of y) events) (machines y s events).is.stands

@@ -1,13 +1,12 @@
 -- In a run, what is left to do locks only what is above all that is held there.
 use Rattle.std.proofs.Common.{◌≡◌, ◌<◌, inl, inr, ℕ, zero, suc, Bool, true, false, cond, List, [], ◌∷◌, ◌++◌, map, length, Option, Some, None}
-use Rattle.std.proofs.Common.{All, refl, sym, ap, ◌∙◌, subst, arith, ◌&&◌, ◌==◌}
+use Rattle.std.proofs.Common.{All, refl, sym, ap, ◌∙◌, subst, arith}
 use Rattle.std.specs.Prelude.{slice_get, slice_set, ℤ}
 use Rattle.std.proofs.lemmas.Bool.{cases_eq}
 use Rattle.std.proofs.lemmas.Option.{slice_get_within, get_or_from_slice_get}
 use Rattle.ido_base.specs.declared.place.Place.{Place}
 use Rattle.c_tree.specs.Exprs as e
 use Rattle.std.specs.List.{AllByRecursion}
-use Rattle.std.proofs.lemmas.Bool.{eqb-true}
 use Rattle.std.proofs.lemmas.List.{length-replicate}
 use Rattle.c_tree.specs.Values.{lock_number}
 use Rattle.c_tree.specs.WellFormed.{IsSingle}
@@ -17,7 +16,7 @@ use Rattle.c_tree.specs.Flats as f
 use Rattle.c_tree.specs.Source as m
 use Rattle.c_tree.specs.Source.{source_step, opened, opened_all, tested}
 use Rattle.c_tree.specs.LockDiscipline as l
-use Rattle.c_tree.specs.LockNames.{Held, holds, none_held, number_in, plain_names, same_key, same_lock}
+use Rattle.c_tree.specs.LockNames.{Held, holds, none_held, number_in, plain_names}
 use Rattle.c_tree.specs.LockDiscipline.{Keeps, KeepAll, KeepArms, IsDisciplined}
 use Rattle.source_machine.specs.Mutexes.{lock_ahead, first_lock, held_by}
 use Rattle.source_machine.specs.Discipline.{KeepList, StateKeeps}
@@ -364,7 +363,11 @@ module _ (x : f.Flat) (s : m.State) (t wanted held : ℕ) (single : AllByRecursi
 
 pub locks_ascend : OthersStay → LocksAscend
 locks_ascend others x s t wanted held o reached stands owns =
-    let keeps : StateKeeps x s = subst (StateKeeps x) (sym reached.is) (run_keeps x (m.start x) reached.schedule (start_keeps x o.disciplined)) in
-    let rises : ThreadsRise x s = subst (ThreadsRise x) (sym reached.is)
-    (run_rises x others (m.start x) reached.schedule (start_rises x o.single o.disciplined o.in_order)) in
+    let begins : m.State = record (m.start x) { variables = reached.variables } in
+    let first = start_keeps x o.disciplined in
+    let keeps : StateKeeps x s =
+    subst (StateKeeps x) (sym reached.is) (run_keeps x begins reached.schedule (record { locks = first.locks; each = first.each })) in
+    let rises : ThreadsRise x s =
+    subst (ThreadsRise x) (sym reached.is)
+    (run_rises x others begins reached.schedule (record { each = (start_rises x o.single o.disciplined o.in_order).each })) in
     by_thread x s t wanted held o.single keeps rises owns (slice_get s.threads t) refl stands

@@ -104,7 +104,7 @@ fn look(life: &Life) -> Seen {
     Seen {
         settled: life.settled(),
         word: life.durable_word(0, 0),
-        steps: life.schedule().len(),
+        steps: life.kept().len(),
         ended: if life.harts() > 0 { life.ended(0) } else { 0 },
     }
 }

@@ -4,7 +4,7 @@ use Rattle.std.specs.Prelude.{slice_get, nat_lt}
 use Rattle.std.proofs.lemmas.Bool.{cond_both}
 use Rattle.std.proofs.lemmas.Option.{none-some, same_Some}
 use Rattle.ido_base.specs.declared.event.Event.{Event}
-use Rattle.ido_base.specs.declared.event.Event.TheVariants.{Step, Evict, Crash}
+use Rattle.ido_base.specs.declared.event.Event.TheVariants.{Step, Evict, Crash, Start}
 use Rattle.ido_base.specs.Words.{Entry, entry_of, drained, stored}
 use Rattle.ido_base.specs.Locks.{is_held_by, has_lock, least_held}
 use Rattle.ido_base.specs.Layout.{in_range, aligned, byte_number}
@@ -33,6 +33,7 @@ use Rattle.recovered_threads.specs.RecoveryStates.{Awaits, all_have, one_takes}
 use Rattle.recovered_threads.specs.Laws.{AreRecordsApart, EventsRecover}
 use Rattle.recovered_threads.proofs.ChangedWorlds.{same_there, same_or_other}
 use Rattle.recovered_threads.proofs.GatheringSteps.{gathers_on, gathered_on, takes_never_wait, waits_for_takers, gathered_go_on}
+use Rattle.rv64_isa.specs.Schedule.{KeepsOn}
 
 -- ---- A step of a hart that executes instructions leaves it executing, or done, or ended
 
@@ -256,15 +257,16 @@ module _ (program : List (List Slot)) (w : World) (records : ℕ → Record) (so
   unfolding happens
   no_hart g none are = subst (λ (v : World). AreRecovering v records) (sym (ap (λ (o : Option Hart). (stepped program w g o).0) none)) are
 
-  by_event : (event : Event) → AreRecordsApart (length w.harts) records → event ≢ Crash → StoresApart program w event → AreRecovering w records →
+  by_event : (event : Event) → AreRecordsApart (length w.harts) records → KeepsOn event → StoresApart program w event → AreRecovering w records →
       AreRecovering (after_event program w event) records
-  by_event (Step g) apart some elsewhere are = elim (get_cases w.harts g) [
+  by_event (Step g) apart on elsewhere are = elim (get_cases w.harts g) [
     | inl none ↦ no_hart g none are
     | inr found ↦ steps g found.0 found.1 apart (λ h. elsewhere g h refl) are
   ]
-  by_event (Evict line mask) apart some elsewhere (gathering are) = gathering (evicted_gathering line mask are)
-  by_event (Evict line mask) apart some elsewhere (gathered are) = gathered (evicted_gathered line mask are)
-  by_event Crash apart some elsewhere are = absurd (some refl)
+  by_event (Evict line mask) apart on elsewhere (gathering are) = gathering (evicted_gathering line mask are)
+  by_event (Evict line mask) apart on elsewhere (gathered are) = gathered (evicted_gathered line mask are)
+  by_event Crash apart on elsewhere are = absurd on
+  by_event Start apart on elsewhere are = absurd on
 
 pub events_recover : EventsRecover
-events_recover program w records event sound apart some elsewhere are = by_event program w records sound event apart some elsewhere are
+events_recover program w records event sound apart on elsewhere are = by_event program w records sound event apart on elsewhere are

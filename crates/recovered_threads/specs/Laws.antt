@@ -30,6 +30,7 @@ use Rattle.thread_code.specs.NodeCodeEffects.{keeping}
 use Rattle.recovered_threads.specs.RecordDescriptions.{Code, Codes, IsOrderly, ResumesAt, Describes, AllDescribe, locks_of}
 use Rattle.recovered_threads.specs.Machines.{LogDescribes, LogsDescribe, RecoversTo}
 use Rattle.recovered_threads.specs.RecoveryStates.{IsRecoveredHart, AreGathering, AreGathered, AreRecovering, StoresApart, Awaits, ResumesThread}
+use Rattle.rv64_isa.specs.Schedule.{KeepsOn}
 
 -- ---- States
 
@@ -104,7 +105,7 @@ GatheredGoOn = (program : List (List Slot)) (w : World) (records : ℕ → Recor
 abbrev pub EventsRecover : Type 0
 EventsRecover =
     (program : List (List Slot)) (w : World) (records : ℕ → Record) (event : Event) → IsWellFormedWorld w → AreRecordsApart (length w.harts) records →
-    event ≢ Crash → StoresApart program w event → AreRecovering w records → AreRecovering (after_event program w event) records
+    KeepsOn event → StoresApart program w event → AreRecovering w records → AreRecovering (after_event program w event) records
 
 -- once none takes locks any more, the machine's locks are held exactly as the kept state's
 abbrev pub GatheredAreKept : Type 0

@@ -16,8 +16,9 @@ use Rattle.flow_graph.proofs.Public.{Good, at_nodes, begins_lockstep, good_after
 use Rattle.recovery_semantics.specs.ElementHistories.{AreStable}
 use Rattle.recovery_semantics.proofs.Public.{between_is_stable, executions_resume}
 use Rattle.region_attempts.specs.Origins.{Origin}
-use Rattle.region_attempts.specs.Laws.{FreeAtBoundaries, HoldsNothing, LivesAreOrigins, SettledMayBegin, StartsAreOrigins, begun_anew}
+use Rattle.region_attempts.specs.Laws.{FreeAtBoundaries, HoldsNothing, LivesAreOrigins, SettledMayBegin, StartsAreOrigins}
 use Rattle.region_attempts.proofs.GraphRuns.{matched_run}
+use Rattle.source_machine.specs.Lives.{restart}
 
 -- no thread has a mutex that is free
 pub all_free : (n k t : ℕ) → slice_get (replicate n None) k ≡ Some (Some t) → ⊥
@@ -78,7 +79,7 @@ module _ (x : f.Flat) (o : Origin x) (schedule : List ℕ) (w : IsWellFormed x) 
           holders = flow.holders;
           graph_threads = flow.graph_threads;
         };
-        source = begun_anew x (m.after_from o.source schedule);
+        source = restart x (m.after_from o.source schedule);
         matches = record { variables = left.variables; holders = matches.holders; count = matches.count; each = matches.each };
         keeps = record { locks = (start_keeps x disciplined).locks; each = (start_keeps x disciplined).each };
         formed = record {
@@ -102,4 +103,4 @@ pub settled_may_begin : SettledMayBegin
 settled_may_begin x from old schedule keeps execution between =
     let r = executions_resume x from old schedule keeps execution in
     let stable = between_is_stable x old r.invariant (λ u. ap (λ (z : m.State). m.is_between z u) (sym r.kept.is) ∙ between u) in
-    subst (λ (z : m.State). AreStable (begun_anew x z) old.memory) (sym r.kept.is) (record { size = stable.size; each = stable.each })
+    subst (λ (z : m.State). AreStable (restart x z) old.memory) (sym r.kept.is) (record { size = stable.size; each = stable.each })

@@ -23,6 +23,7 @@ use Rattle.region_attempts.specs.Origins.{Origin}
 use Rattle.region_attempts.specs.GraphStates.{flow_kept, flow_now, flow_solo, node_of, node_after, FollowsEvent}
 use Rattle.region_attempts.specs.AttemptsInRegion.{StaysInside, HasCome, IsBeforeBoundary, BeginsAtBoundaries, RespectsBoundaries, RespectsAll}
 use Rattle.region_attempts.specs.PendingCleans.{line_of, AreLeftOut, CleansSince}
+use Rattle.source_machine.specs.Lives.{restart}
 
 -- an attempt that stands before a boundary has come as far as any
 abbrev pub AttemptsAreWhole : Type 0
@@ -212,13 +213,9 @@ pub record IsStart (x : f.Flat) (o : Origin x) : Type 0 where
 abbrev pub StartsAreOrigins : Type 0
 StartsAreOrigins = (x : f.Flat) → IsWellFormed x → All (IsDisciplined x) x.threads → (o : Origin x) × IsStart x o
 
--- all threads begin once more, with the variables of the state
-abbrev pub begun_anew : f.Flat → State → State
-begun_anew x s = record { variables = s.variables; holders = (start x).holders; threads = (start x).threads }
-
 -- the execution begins with the variables that another one has left, and nothing else of it
 pub record IsAnew (x : f.Flat) (o later : Origin x) (schedule : List ℕ) : Type 0 where
-  pub source : later.source ≡ begun_anew x (after_from o.source schedule)
+  pub source : later.source ≡ restart x (after_from o.source schedule)
   pub free : HoldsNothing x later
 
 abbrev pub LivesAreOrigins : Type 0
@@ -228,4 +225,4 @@ LivesAreOrigins = (x : f.Flat) (o : Origin x) (schedule : List ℕ) → IsWellFo
 -- where the kept steps of an execution leave all threads between sections, another one may begin with its memory as it is
 abbrev pub SettledMayBegin : Type 0
 SettledMayBegin = (x : f.Flat) (from : State) (m : Config) (schedule : List ℕ) → StateKeeps x from → Execution x from m schedule →
-    ((thread : ℕ) → is_between (after_from from schedule) thread ≡ true) → AreStable (begun_anew x (after_from from schedule)) m.memory
+    ((thread : ℕ) → is_between (after_from from schedule) thread ≡ true) → AreStable (restart x (after_from from schedule)) m.memory

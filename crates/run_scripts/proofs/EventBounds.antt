@@ -8,7 +8,7 @@ use Rattle.ido_base.specs.Cores.{Behaviour, played, least_enabled}
 use Rattle.ido_base.specs.declared.limits.TheConstants.{MOST_STEPS_TO}
 use Rattle.run_scripts.specs.Bounds.{line_bound, lines_bound}
 use Rattle.run_scripts.specs.declared.script.Command.{Command}
-use Rattle.run_scripts.specs.declared.script.Command.TheVariants.{Steps, Point, Fence, Enabled, Evict, Crash}
+use Rattle.run_scripts.specs.declared.script.Command.TheVariants.{Steps, Point, Fence, Enabled, Evict, Crash, Start}
 use Rattle.run_scripts.specs.Plays.{steps_until, enabled_steps, line_events, script_events}
 use Rattle.run_scripts.specs.Scripts.{Line}
 use Rattle.run_scripts.specs.declared.script.Line as declared
@@ -44,6 +44,7 @@ module _ {M : Type 0} (b : Behaviour M) where
   line_few harts m (Enabled count) = enabled_few harts count m
   line_few harts m (Evict line mask) = omega arith
   line_few harts m Crash = omega arith
+  line_few harts m Start = omega arith
 
   pub events_few : (harts : ℕ) (m : M) (lines : List Line) → length (script_events b harts m lines) ≤ lines_bound lines
   events_few harts m [] = omega arith

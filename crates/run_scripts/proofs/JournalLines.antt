@@ -7,7 +7,7 @@ use Rattle.std.proofs.lemmas.Bool.{eqb-true, eq-eqb}
 use Rattle.std.proofs.Math.Numerals.{add-one, one-add}
 use Rattle.std.specs.List.{prefix_len}
 use Rattle.ido_base.specs.declared.event.Event.{Event}
-use Rattle.ido_base.specs.declared.event.Event.TheVariants.{Step, Evict, Crash}
+use Rattle.ido_base.specs.declared.event.Event.TheVariants.{Step, Evict, Crash, Start}
 use Rattle.run_scripts.specs.declared.script.Command.{Command}
 use Rattle.run_scripts.specs.declared.script.Command.TheVariants.{Steps}
 use Rattle.run_scripts.specs.Journals.{command_text, commands_of, with_step}
@@ -19,6 +19,7 @@ first_steps : (hart : ℕ) (es : List Event) → with_step hart (commands_of es)
 first_steps hart [] = refl
 first_steps hart (Evict line mask ∷ es) = refl
 first_steps hart (Crash ∷ es) = refl
+first_steps hart (Start ∷ es) = refl
 first_steps hart (Step other ∷ es) = by_test (other == hart) refl (first_steps hart es) (first_steps other es)
   where
     goes_on : (n : ℕ) (rest : List Command) → with_step hart (Steps hart n ∷ rest) ≡ Steps hart (n + 1) ∷ rest

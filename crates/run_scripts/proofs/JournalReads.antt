@@ -17,7 +17,7 @@ use Rattle.ido_base.specs.declared.event.Event.TheVariants as events
 use Rattle.ido_base.specs.Cores.{Behaviour, IsValid, played}
 use Rattle.ido_base.specs.declared.limits.TheConstants.{MOST_THREADS}
 use Rattle.run_scripts.specs.declared.script.Command.{Command}
-use Rattle.run_scripts.specs.declared.script.Command.TheVariants.{Steps, Point, Fence, Enabled, Evict, Crash}
+use Rattle.run_scripts.specs.declared.script.Command.TheVariants.{Steps, Point, Fence, Enabled, Evict, Crash, Start}
 use Rattle.run_scripts.specs.Journals.{command_text, commands_of, with_step}
 use Rattle.run_scripts.specs.Laws.{ArePlayedBack}
 use Rattle.run_scripts.specs.Pieces.{begins_line_end, lines_at, with_byte}
@@ -42,6 +42,7 @@ Fits harts most (Fence hart) = ⊥
 Fits harts most (Enabled count) = ⊥
 Fits harts most (Evict evicted mask) = IsEviction harts evicted mask
 Fits harts most Crash = Unit {0}
+Fits harts most Start = ⊥
 
 abbrev made : List Command → List Event
 made [] = []
@@ -51,6 +52,7 @@ made (Fence hart ∷ cs) = made cs
 made (Enabled count ∷ cs) = made cs
 made (Evict evicted mask ∷ cs) = events.Evict evicted mask ∷ made cs
 made (Crash ∷ cs) = events.Crash ∷ made cs
+made (Start ∷ cs) = events.Start ∷ made cs
 
 made-with_step : (hart : ℕ) (cs : List Command) → made (with_step hart cs) ≡ events.Step hart ∷ made cs
 made-with_step hart [] = refl
@@ -59,6 +61,7 @@ made-with_step hart (Fence other ∷ cs) = refl
 made-with_step hart (Enabled count ∷ cs) = refl
 made-with_step hart (Evict evicted mask ∷ cs) = refl
 made-with_step hart (Crash ∷ cs) = refl
+made-with_step hart (Start ∷ cs) = refl
 made-with_step hart (Steps other count ∷ cs) = by (other == hart) refl
   where
     by : (b : Bool) → (other == hart) ≡ b → made (if b then Steps hart (count + 1) ∷ cs else Steps hart 1 ∷ Steps other count ∷ cs)
@@ -73,6 +76,7 @@ made-commands_of [] = refl
 made-commands_of (events.Step hart ∷ es) = made-with_step hart (commands_of es) ∙ ap (λ xs. events.Step hart ∷ xs) (made-commands_of es)
 made-commands_of (events.Evict evicted mask ∷ es) = ap (λ xs. events.Evict evicted mask ∷ xs) (made-commands_of es)
 made-commands_of (events.Crash ∷ es) = ap (λ xs. events.Crash ∷ xs) (made-commands_of es)
+made-commands_of (events.Start ∷ es) = ap (λ xs. events.Start ∷ xs) (made-commands_of es)
 
 module _ {M : Type 0} (b : Behaviour M) (harts most : ℕ) where
   script_made : (m : M) (place : ℕ) (cs : List Command) → AllByRecursion (Fits harts most) cs → script_events b harts m (placed place cs) ≡ made cs
@@ -88,6 +92,7 @@ module _ {M : Type 0} (b : Behaviour M) (harts most : ℕ) where
       (script_made (b.next m (events.Evict evicted mask)) (place + length (command_text (Evict evicted mask))) cs fit.1)
   script_made m place (Crash ∷ cs) fit =
       ap (λ xs. events.Crash ∷ xs) (script_made (b.next m events.Crash) (place + length (command_text Crash)) cs fit.1)
+  script_made m place (Start ∷ cs) fit = absurd fit.0
 
 module _ (harts : ℕ) where
   fits_more : (most more : ℕ) → most ≤ more → (c : Command) → Fits harts most c → Fits harts more c
@@ -97,6 +102,7 @@ module _ (harts : ℕ) where
   fits_more most more h (Enabled count) fit = fit
   fits_more most more h (Evict evicted mask) fit = fit
   fits_more most more h Crash fit = fit
+  fits_more most more h Start fit = fit
 
   all_fit_more : (most more : ℕ) → most ≤ more → (cs : List Command) → AllByRecursion (Fits harts most) cs → AllByRecursion (Fits harts more) cs
   all_fit_more most more h [] fit = tt
@@ -110,6 +116,7 @@ module _ (harts : ℕ) where
   with_step_fits most hart below (Enabled count ∷ cs) fit = absurd fit.0
   with_step_fits most hart below (Evict evicted mask ∷ cs) fit = ((below, omega arith), (fit.0, all_fit_more most (suc most) (omega arith) cs fit.1))
   with_step_fits most hart below (Crash ∷ cs) fit = ((below, omega arith), (tt, all_fit_more most (suc most) (omega arith) cs fit.1))
+  with_step_fits most hart below (Start ∷ cs) fit = absurd fit.0
   with_step_fits most hart below (Steps other count ∷ cs) fit = by (other == hart)
     where
       few : count ≤ most
@@ -128,6 +135,7 @@ module _ (harts : ℕ) where
   journal_fits (events.Evict evicted mask ∷ es) valid =
       (valid.0, all_fit_more (length es) (suc (length es)) (omega arith) (commands_of es) (journal_fits es valid.1))
   journal_fits (events.Crash ∷ es) valid = (tt, all_fit_more (length es) (suc (length es)) (omega arith) (commands_of es) (journal_fits es valid.1))
+  journal_fits (events.Start ∷ es) valid = absurd valid.0
 
 -- ---- Lines, byte by byte
 
@@ -215,6 +223,7 @@ body (Fence hart) = codes "f " ++ decimal hart
 body (Enabled count) = codes "g " ++ decimal count
 body (Evict evicted mask) = codes "e " ++ decimal evicted ++ codes " " ++ decimal mask
 body Crash = codes "c"
+body Start = codes "r"
 
 line_text : (c : Command) → command_text c ≡ line (body c)
 unfolding command_text
@@ -224,6 +233,7 @@ line_text (Fence hart) = refl
 line_text (Enabled count) = refl
 line_text (Evict evicted mask) = refl
 line_text Crash = refl
+line_text Start = refl
 
 -- two numbers, with a space between them
 two_numbers : (a b : ℕ) → decimal a ++ codes " " ++ decimal b ≡ decimal a ++ 32 ∷ (decimal b ++ [])
@@ -266,6 +276,7 @@ module _ (harts most : ℕ) (machine : harts ≤ MOST_THREADS) (few : most < 429
       ∙ number_read mask_number (place + 1 + 1 + length (decimal evicted) + 1) mask [] (ends evicted) (omega (arith, within))
       (mask_allowed (place + 1 + 1 + length (decimal evicted) + 1) mask within) tt
   line_read place Crash fit = refl
+  line_read place Start fit = absurd fit
 
   plain_both : (xs ys : List ℕ) → AllByRecursion Plain xs → AllByRecursion Plain ys → AllByRecursion Plain (xs ++ ys)
   plain_both [] ys left right = right
@@ -311,6 +322,7 @@ module _ (harts most : ℕ) (machine : harts ≤ MOST_THREADS) (few : most < 429
           line_first place (Evict evicted mask) 101 (32 ∷ (decimal evicted ++ codes " " ++ decimal mask)) (flat_map command_text cs) refl
           ((refl, refl), ((refl, refl), plain_numbers evicted mask (omega (arith, below, machine)) (omega (arith, within)))) f
       by Crash f = line_first place Crash 99 [] (flat_map command_text cs) refl ((refl, refl), tt) f
+      by Start f = absurd f
 
 -- ---- Whole journals
 

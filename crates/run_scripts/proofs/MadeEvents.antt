@@ -2,7 +2,7 @@
 use Rattle.std.proofs.Common.{◌≡◌, ℕ, ◌<◌, subst, sym}
 use Rattle.std.specs.Prelude.{◌↔◌}
 use Rattle.ido_base.specs.declared.event.Event.{Event}
-use Rattle.ido_base.specs.declared.event.Event.TheVariants.{Step, Evict, Crash}
+use Rattle.ido_base.specs.declared.event.Event.TheVariants.{Step, Evict, Crash, Start}
 use Rattle.ido_base.specs.Cores.{IsValid}
 
 pub still_valid : (harts other : ℕ) (P Q : ℕ → ℕ → Type 0) → other ≡ harts → ((line mask : ℕ) → Q line mask ↔ P line mask) → (e : Event) →
@@ -10,3 +10,4 @@ pub still_valid : (harts other : ℕ) (P Q : ℕ → ℕ → Type 0) → other �
 still_valid harts other P Q same both (Step hart) valid = subst (λ n. hart < n) (sym same) valid
 still_valid harts other P Q same both (Evict line mask) valid = (both line mask).1 valid
 still_valid harts other P Q same both Crash valid = tt
+still_valid harts other P Q same both Start valid = absurd valid

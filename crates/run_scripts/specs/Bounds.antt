@@ -2,7 +2,7 @@
 use Rattle.std.specs.Prelude.{ℕ, ◌+◌, List, [], ◌∷◌}
 use Rattle.ido_base.specs.declared.limits.TheConstants.{MOST_STEPS_TO}
 use Rattle.run_scripts.specs.declared.script.Command.{Command}
-use Rattle.run_scripts.specs.declared.script.Command.TheVariants.{Steps, Point, Fence, Enabled, Evict, Crash}
+use Rattle.run_scripts.specs.declared.script.Command.TheVariants.{Steps, Point, Fence, Enabled, Evict, Crash, Start}
 use Rattle.run_scripts.specs.Scripts.{Line}
 
 abbrev pub line_bound : Command → ℕ
@@ -12,6 +12,7 @@ line_bound (Fence hart) = MOST_STEPS_TO
 line_bound (Enabled count) = count
 line_bound (Evict line mask) = 1
 line_bound Crash = 1
+line_bound Start = 1
 
 abbrev pub lines_bound : List Line → ℕ
 lines_bound [] = 0

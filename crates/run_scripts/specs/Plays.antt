@@ -5,7 +5,7 @@ use Rattle.ido_base.specs.declared.event.Event.TheVariants as events
 use Rattle.ido_base.specs.Cores.{Behaviour, played, least_enabled}
 use Rattle.ido_base.specs.declared.limits.TheConstants.{MOST_STEPS_TO}
 use Rattle.run_scripts.specs.declared.script.Command.{Command}
-use Rattle.run_scripts.specs.declared.script.Command.TheVariants.{Steps, Point, Fence, Enabled, Evict, Crash}
+use Rattle.run_scripts.specs.declared.script.Command.TheVariants.{Steps, Point, Fence, Enabled, Evict, Crash, Start}
 use Rattle.run_scripts.specs.Scripts.{Line}
 
 -- steps of a hart up to the first that passes the test, at most so many; none or no more once the hart is stopped
@@ -32,6 +32,7 @@ line_events b harts m (Fence hart) = steps_until b (λ m. b.finishes_fence m har
 line_events b harts m (Enabled count) = enabled_steps b harts count m
 line_events b harts m (Evict line mask) = events.Evict line mask ∷ []
 line_events b harts m Crash = events.Crash ∷ []
+line_events b harts m Start = events.Start ∷ []
 
 -- the events of lines, each by what the core represents before it
 abbrev pub script_events : {M : Type 0} → Behaviour M → (harts : ℕ) → M → List Line → List Event

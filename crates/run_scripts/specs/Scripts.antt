@@ -7,7 +7,7 @@ use Rattle.ido_base.specs.Layout.{line_count}
 use Rattle.run_scripts.specs.Pieces.{Piece, lines_at}
 use Rattle.run_scripts.specs.Schedules.{is_digit, number_limit}
 use Rattle.run_scripts.specs.declared.script.Command.{Command}
-use Rattle.run_scripts.specs.declared.script.Command.TheVariants.{Steps, Point, Fence, Enabled, Evict, Crash}
+use Rattle.run_scripts.specs.declared.script.Command.TheVariants.{Steps, Point, Fence, Enabled, Evict, Crash, Start}
 
 -- a fault of a script
 pub data Fault : Type 0 where
@@ -130,6 +130,8 @@ IsDoable harts evictable (Fence hart) = hart < harts
 IsDoable harts evictable (Enabled count) = Unit {0}
 IsDoable harts evictable (Evict line mask) = evictable line mask
 IsDoable harts evictable Crash = Unit {0}
+-- no script is read with such a line
+IsDoable harts evictable Start = ⊥
 
 -- the line exists, and the mask has eight bits
 abbrev pub IsEviction : (harts line mask : ℕ) → Type 0

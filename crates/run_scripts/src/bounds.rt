@@ -14,7 +14,7 @@ fn line_bound(command: Command) -> u64
     match command {
         Command::Steps { count, .. } | Command::Enabled { count } => u64::from(count),
         Command::Point { .. } | Command::Fence { .. } => MOST_STEPS_TO,
-        Command::Evict { .. } | Command::Crash => 1,
+        Command::Evict { .. } | Command::Crash | Command::Start => 1,
     }
 }
 

@@ -54,6 +54,14 @@ fn put_crash(text: &mut Vec<u8>) -> Result<(), OutOfMemory>
     put(text, b"c\n")
 }
 
+/// Adds the line of a start.
+#[tactic(auto, unfolding(crate::specs::Journals::command_text))]
+fn put_start(text: &mut Vec<u8>) -> Result<(), OutOfMemory>
+    ensures { OnOk result (text.new.items ≡ text.old.items ++ command_text c.Start) }
+{
+    put(text, b"r\n")
+}
+
 /// Adds the line of the first events, at least one of them. Answers those after them.
 fn put_first<'a>(
     alloc: Global,
@@ -77,6 +85,10 @@ fn put_first<'a>(
         }
         Event::Crash => {
             put_crash(text)?;
+            Ok(after)
+        }
+        Event::Start => {
+            put_start(text)?;
             Ok(after)
         }
     }
@@ -106,7 +118,7 @@ fn put_source(text: &mut Vec<u8>, source: &[u8]) -> Result<(), OutOfMemory>
 }
 
 /// An input that plays the events of a run of a source again: the source, with an LF at its end, a line `%%`, and then `s H N` for each longest run of steps of
-/// one hart, `e LINE MASK` and `c`.
+/// one hart, `e LINE MASK`, `c` and `r`.
 #[tactic(auto, unfolding(crate::specs::Journals::journal_text))]
 pub fn journal_text(alloc: Global, source: &[u8], events: &[Event]) -> Result<Vec<u8>, OutOfMemory>
     ensures { IfOk result (λ text. text.items ≡ journal_text source.now events.now) }

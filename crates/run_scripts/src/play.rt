@@ -175,6 +175,7 @@ pub(crate) fn play_line<C: Core>(core: &mut C, command: Command, floor: u64) -> 
         Command::Enabled { count } => play_enabled(core, count, floor),
         Command::Evict { line, mask } => play_event(core, Event::Evict { line, mask }, floor),
         Command::Crash => play_event(core, Event::Crash, floor),
+        Command::Start => play_event(core, Event::Start, floor),
     }
 }
 

@@ -3,7 +3,7 @@ ghost use Rattle.std.specs.Prelude.{◌≡◌, ◌++◌, map, OnOk, IfOk, flat_m
 ghost use Rattle.run_scripts.specs.Reports.{element_text, variable_line, ended_line, ended_lines, run_text};
 ghost use Rattle.run_scripts.specs.Reports.{schedule_line, hart_text, unsettled_line, settled_report, report};
 ghost use Rattle.run_scripts.specs.Runs.{runs_of};
-ghost use Rattle.run_scripts.specs.links.ReportViews.{variable_of, state_of};
+ghost use Rattle.run_scripts.specs.links.ReportViews.{steps_of, variable_of, state_of};
 ghost use Rattle.run_scripts.specs.links.RunViews.{run_of};
 
 use crate::runs::{Run, first_run};
@@ -26,8 +26,8 @@ pub struct Reported {
     pub variables: Vec<Variable>,
     /// How many sections of each thread have ended.
     pub ended: Vec<u64>,
-    /// The schedule: the number of the thread of each step.
-    pub schedule: Vec<u32>,
+    /// A schedule for each life: the number of the thread of each step.
+    pub schedules: Vec<Vec<u32>>,
 }
 
 /// Adds bytes.
@@ -138,6 +138,20 @@ fn put_schedule(alloc: Global, report: &mut Vec<u8>, schedule: &[u32]) -> Result
     put(report, b"\n")
 }
 
+/// Adds the lines of schedules.
+fn put_schedules(
+    alloc: Global,
+    report: &mut Vec<u8>,
+    schedules: &[Vec<u32>],
+) -> Result<(), OutOfMemory>
+    ensures { OnOk result (report.new.items ≡ report.old.items ++ flat_map schedule_line (map steps_of schedules.now)) }
+{
+    for schedule in schedules {
+        put_schedule(alloc, report, schedule)?;
+    }
+    Ok(())
+}
+
 /// Adds ` H`.
 #[tactic(auto, unfolding(crate::specs::Reports::hart_text))]
 fn put_hart(alloc: Global, report: &mut Vec<u8>, hart: u32) -> Result<(), OutOfMemory>
@@ -177,12 +191,12 @@ fn settled_report(alloc: Global, state: &Reported) -> Result<Vec<u8>, OutOfMemor
     let mut output = Vec::new(alloc);
     put_variables(alloc, &mut output, &state.variables)?;
     put_all_ended(alloc, &mut output, &state.ended)?;
-    put_schedule(alloc, &mut output, &state.schedule)?;
+    put_schedules(alloc, &mut output, &state.schedules)?;
     Ok(output)
 }
 
 /// The report of a state: a line for each variable, as `x = 6` or `a = 1 2 3`, a line `ended T N` for
-/// each thread, and the line of the schedule with its longest runs, as `schedule 0*4 1*2`; or, where a
+/// each thread, and a line of the schedule of each life with its longest runs, as `schedule 0*4 1*2`; or, where a
 /// hart isn't settled, the line `unsettled H ..` alone. Each line ends with LF.
 #[tactic(auto, unfolding(crate::specs::Reports::report))]
 pub fn report(alloc: Global, state: &Reported) -> Result<Vec<u8>, OutOfMemory>

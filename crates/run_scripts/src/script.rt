@@ -35,6 +35,8 @@ pub enum Command {
     Evict { line: u32, mask: u32 },
     /// `c`: a crash.
     Crash,
+    /// `r`: another life begins. Journals have such lines; no script is read with one.
+    Start,
 }
 
 /// A line of a script, and where its first byte stands.

@@ -1,7 +1,7 @@
 -- The account where one hart's steps change.
 use Rattle.std.proofs.Common.{◌≡◌, ◌≢◌, ◌⊎◌, ℕ, zero, suc, ◌<◌, ◌≤◌, List, [], ◌∷◌, ◌++◌, length, drop, slice_index_or}
 use Rattle.std.proofs.Common.{slice_set, get_or, replicate, Bool, true, false, ◌==◌, if◌then◌else◌, refl, ap, sym, subst}
-use Rattle.std.proofs.Common.{◌∙◌, arith, inl, inr, length-set, length-append, get_or-set_same, get_or-set_other, append-nil}
+use Rattle.std.proofs.Common.{◌∙◌, arith, inl, inr, length-set, length-append, get_or-set_same, get_or-set_other, append-nil, append_assoc, flat_map}
 use Rattle.std.proofs.lemmas.Bool.{cases_eq, eq-eqb, eqb-true}
 use Rattle.std.proofs.lemmas.List.{drop-append-le}
 use Rattle.ido_base.specs.declared.log.Log.{Log}
@@ -10,7 +10,7 @@ use Rattle.rv64_isa.specs.Schedule.{Steps, HartSteps, Bound, hart_steps, no_step
 use Rattle.run_tracker.specs.declared.account.PointStore.{PointStore}
 use Rattle.run_tracker.specs.declared.account.OpenSteps.{OpenSteps}
 use Rattle.run_tracker.specs.declared.account.Account.{Account}
-use Rattle.run_tracker.specs.links.AccountRepresentation.{AccountInv, bound_of, bound_in, open_at, nothing_open, point_word, steps_of}
+use Rattle.run_tracker.specs.links.AccountRepresentation.{AccountInv, all_kept, bound_of, bound_in, open_at, nothing_open, point_word, steps_of}
 use Rattle.run_tracker.proofs.BoundSteps.{later}
 
 -- ---- What is bound to stores
@@ -45,7 +45,7 @@ bound_push stores x first h within =
 -- the account stands where the hart's steps are those of its part, and all others have stayed
 pub updated : (before after : Account) (s t : Steps) (h : ℕ) (part : OpenSteps) (x : HartSteps)
     → AccountInv before s → h < length before.harts.items
-    → t.kept ≡ after.kept.items → t.harts ≡ slice_set s.harts h x → after.harts.items ≡ slice_set before.harts.items h part
+    → all_kept t ≡ after.kept.items → t.harts ≡ slice_set s.harts h x → after.harts.items ≡ slice_set before.harts.items h part
     → x ≡ steps_of after.stores.items h part → part.first ≤ length after.stores.items → length before.stores.items ≤ length after.stores.items
     → ((g : ℕ) → g ≢ h → g < length before.harts.items → steps_of after.stores.items g (open_at before g) ≡ steps_of before.stores.items g (open_at before g))
     → AccountInv after t
@@ -151,8 +151,13 @@ kept-stands before after log words s h durable free first was_first count stands
     count_is : durable_steps (word_at words (point_word log h)).durable (hart_steps s h).bound ≡ count
     count_is = ap (λ (d : ℕ). durable_steps d (hart_steps s h).bound) (sym durable_is) ∙ ap (λ (x : HartSteps). durable_steps durable x.bound) had ∙ sym counted
 
-    kept_is : s.kept ++ replicate (durable_steps (word_at words (point_word log h)).durable (hart_steps s h).bound) h ≡ after.kept.items
-    kept_is = ap (λ (n : ℕ). s.kept ++ replicate n h) count_is ∙ ap (λ (ks : List ℕ). ks ++ replicate count h) stands.kept ∙ sym kept
+    earlier : List ℕ
+    earlier = flat_map (λ steps. steps) s.earlier
+
+    kept_is : earlier ++ (s.kept ++ replicate (durable_steps (word_at words (point_word log h)).durable (hart_steps s h).bound) h) ≡ after.kept.items
+    kept_is =
+        ap (λ (n : ℕ). earlier ++ (s.kept ++ replicate n h)) count_is ∙ sym (append_assoc earlier s.kept (replicate count h))
+        ∙ ap (λ (ks : List ℕ). ks ++ replicate count h) stands.kept ∙ sym kept
 
     rest_is : later (word_at words (point_word log h)).durable (hart_steps s h).bound ≡ bound_in (drop first after.stores.items) h
     rest_is =

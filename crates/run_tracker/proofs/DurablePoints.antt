@@ -3,10 +3,10 @@ use Rattle.std.proofs.Common.{◌≡◌, ℕ, zero, suc, ◌+◌, ◌<◌, ◌==
 use Rattle.std.proofs.Common.{inl, inr, refl, ap, ap₂, sym, subst, ◌∙◌, arith}
 use Rattle.std.proofs.lemmas.Bool.{cond_both, eqb-true}
 use Rattle.std.proofs.lemmas.List.{get_or_append_left}
-use Rattle.rv64_isa.proofs.Public.{log_stays}
+use Rattle.rv64_isa.proofs.Public.{after_start, log_stays}
 use Rattle.ido_base.specs.declared.log.Log.{Log}
 use Rattle.ido_base.specs.declared.event.Event.{Event}
-use Rattle.ido_base.specs.declared.event.Event.TheVariants.{Step, Evict, Crash}
+use Rattle.ido_base.specs.declared.event.Event.TheVariants.{Step, Evict, Crash, Start}
 use Rattle.ido_base.specs.declared.event.Reply.{Reply}
 use Rattle.ido_base.specs.declared.event.Reply.TheVariants.{Moved, Drained, Waits, Barrier, Still, Stuck, Device}
 use Rattle.ido_base.specs.Words.{Word, word_of, word_at, durable_value}
@@ -63,6 +63,8 @@ point_stays program w (Step g) h sound there quiet =
     (undrained program g w (undrained_by (reply_to program w (Step g)) quiet) (point_word w.log h))
 point_stays program w (Evict line mask) h sound there quiet = cc
 point_stays program w Crash h sound there quiet = cc
+point_stays program w Start h sound there quiet =
+    after_start program w (λ (v : World). durable_point v.log v.words h ≡ durable_point w.log w.words h) refl refl
 
 -- so do their positions
 position_stays : (program : List (List Slot)) (w : World) (event : Event) (h : ℕ) → IsWellFormedWorld w → may_persist (reply_to program w event) ≡ false →
@@ -73,6 +75,8 @@ position_stays program w (Step g) h sound quiet =
     ∙ undrained program g w (undrained_by (reply_to program w (Step g)) quiet) (point_word w.log h)
 position_stays program w (Evict line mask) h sound quiet = cc
 position_stays program w Crash h sound quiet = cc
+position_stays program w Start h sound quiet =
+    after_start program w (λ (v : World). (word_at v.words (point_word v.log h)).durable ≡ (word_at w.words (point_word w.log h)).durable) refl refl
 
 -- a crash leaves the durable value
 crash_keeps : (words : List Word) (j : ℕ) → durable_value (word_at (map word_of (map durable_value words)) j) ≡ durable_value (word_at words j)
@@ -96,6 +100,8 @@ point_kept program w (Evict line mask) h sound there same =
     same_durable (word_at w.words (point_word w.log h)) (word_at (after_event program w (Evict line mask)).words (point_word w.log h)) there
     ((changed_by_eviction program w line mask).each (point_word w.log h)) same
 point_kept program w Crash h sound there same = crash_keeps w.words (point_word w.log h)
+point_kept program w Start h sound there same =
+    after_start program w (λ (v : World). durable_point v.log v.words h ≡ durable_point w.log w.words h) refl refl
 
 -- no steps are bound up to where points were seen
 pub above_seen : (sections : Sections) (harts : ℕ) (w : World) (s : Steps) → AreSeen sections harts w → AreOpen w.log w.words s → AreAbove sections harts s

@@ -3,10 +3,11 @@ use Rattle.std.proofs.Common.{◌≡◌, ℕ, zero, suc, ◌+◌, ◌<◌, ◌�
 use Rattle.std.proofs.Common.{Bool, true, false, cond, if◌then◌else◌, refl, ap, ◌∙◌, arith, inl, length-set}
 use Rattle.std.proofs.lemmas.List.{length-replicate}
 use Rattle.std.proofs.lemmas.List.Sums.{sum_by-cons}
-use Rattle.rv64_isa.proofs.Public.{log_stays}
+use Rattle.rv64_isa.proofs.Public.{log_stays, outcome_of}
+use Rattle.run_tracker.proofs.LivesEnd.{next_keeps}
 use Rattle.ido_base.specs.declared.log.Log.{Log}
 use Rattle.ido_base.specs.declared.event.Event.{Event}
-use Rattle.ido_base.specs.declared.event.Event.TheVariants.{Step, Evict, Crash}
+use Rattle.ido_base.specs.declared.event.Event.TheVariants.{Step, Evict, Crash, Start}
 use Rattle.ido_base.specs.Words.{Word, word_at, last_position}
 use Rattle.ido_base.specs.Growth.{AreChanged}
 use Rattle.ido_base.specs.Cores.{played, passed_count, point_stores, finished_fences}
@@ -14,11 +15,12 @@ use Rattle.ido_base.proofs.Public.{passed_count-more}
 use Rattle.rv64_isa.specs.declared.object.Slot.{Slot}
 use Rattle.rv64_isa.specs.Frames.{IsWellFormedWorld}
 use Rattle.rv64_isa.proofs.Public.{steps_touch, evictions_touch}
-use Rattle.rv64_isa.specs.Machine.{World, IsValidEvent, after_event, after_events}
-use Rattle.rv64_isa.specs.Schedule.{Steps, no_steps, with_begun, with_bound, with_step, with_all_kept}
+use Rattle.rv64_isa.specs.Machine.{World, after_event, after_events, can_start, happens}
+use Rattle.rv64_isa.specs.Schedule.{Steps, next_life, no_steps, with_begun, with_bound, with_step, with_all_kept}
 use Rattle.rv64_isa.specs.Schedule.{steps_after, steps_along, passes_mark, stores_point, finishes_fence}
 use Rattle.run_tracker.specs.links.AccountRepresentation.{AreOrdered, weight, hart_weight, point_word}
 use Rattle.run_tracker.specs.ObjectLives.{LifeConfig, living, ends_at_point}
+use Rattle.run_tracker.specs.links.LifeParts.{IsAmong}
 use Rattle.run_tracker.proofs.StepTotals.{weight-begun, weight-bound, weight-all_kept, harts-all_kept}
 use Rattle.run_tracker.proofs.BoundStepOrder.{ordered_later, ordered-begun, ordered-bound, ordered-all_kept, ordered-none}
 
@@ -109,13 +111,18 @@ harts-after marks program w (Step h) s =
     ∙ harts-noted (passes_mark marks program w h) (stores_point program w (Step h) h) h _ s
 harts-after marks program w (Evict line mask) s = harts-all_kept w.log _ (length s.harts) s
 harts-after marks program w Crash s = length-replicate (length s.harts) no_steps
+harts-after marks program w Start s = by (can_start w)
+  where
+    by : (may : Bool) → length (if may then next_life s else s).harts ≡ length s.harts
+    by true = length-replicate (length s.harts) no_steps
+    by false = refl
 
 pub weightless : (count : ℕ) → sum_by hart_weight (replicate count no_steps) ≡ 0
 weightless zero = refl
 weightless (suc count) = sum_by-cons hart_weight no_steps (replicate count no_steps) ∙ omega (arith, weightless count)
 
 pub weight-after : (log : Log) (marks : List (List ℕ)) (program : List (List Slot)) (w : World) (event : Event) (s : Steps) →
-    IsValidEvent log (length s.harts) event →
+    IsAmong log (length s.harts) event →
     weight (steps_after marks program w event s) ≤ weight s + 1
 unfolding steps_after
 weight-after log marks program w (Step h) s valid =
@@ -131,6 +138,11 @@ weight-after log marks program w (Step h) s valid =
 weight-after log marks program w (Evict line mask) s valid =
     omega (arith, weight-all_kept w.log (after_event program w (Evict line mask)).words (length s.harts) s (omega arith))
 weight-after log marks program w Crash s valid = omega (arith, weightless (length s.harts))
+weight-after log marks program w Start s valid = by (can_start w)
+  where
+    by : (may : Bool) → weight (if may then next_life s else s) ≤ weight s + 1
+    by true = omega (arith, ap length (next_keeps s), weightless (length s.harts))
+    by false = omega arith
 
 pub changed_by_step : (program : List (List Slot)) (w : World) (h : ℕ) → IsWellFormedWorld w → AreChanged w.words (after_event program w (Step h)).words
 changed_by_step program w h sound = (steps_touch program w h sound).words
@@ -143,7 +155,7 @@ changed_by_eviction program w line mask =
 pub ordered-after : (marks : List (List ℕ)) (program : List (List Slot)) (w : World) (event : Event) (s : Steps) → IsWellFormedWorld w →
     AreOrdered w.log w.words s →
     AreOrdered (after_event program w event).log (after_event program w event).words (steps_after marks program w event s)
-unfolding steps_after
+unfolding steps_after happens
 ordered-after marks program w (Step h) s sound ordered =
     let words = (after_event program w (Step h)).words in
     subst (λ (l : Log). AreOrdered l words (steps_after marks program w (Step h) s)) (sym (log_stays program w (Step h) sound))
@@ -157,6 +169,11 @@ ordered-after marks program w (Evict line mask) s sound ordered =
 ordered-after marks program w Crash s sound ordered =
     ordered-none (after_event program w Crash).log (after_event program w Crash).words (record s { pending = []; harts = replicate (length s.harts) no_steps })
     (length s.harts) refl
+ordered-after marks program w Start s sound ordered = by (can_start w)
+  where
+    by : (may : Bool) → AreOrdered (outcome_of program w may).0.log (outcome_of program w may).0.words (if may then next_life s else s)
+    by true = ordered-none w.log w.words (next_life s) (length s.harts) refl
+    by false = ordered
 
 -- ---- What was noted of an event is what the definition says
 

@@ -5,10 +5,11 @@ mod EventCounts
 mod DurablePoints
 mod DurableWordsStay
 mod DurableWords
+mod LivesEnd
+mod StoppedHarts
 mod Events
 mod PointPositions
 mod KeptStepBounds
-mod KeptSchedules
 mod LifeChanges
 mod LifeAfterEvent
 mod LifeOpenings

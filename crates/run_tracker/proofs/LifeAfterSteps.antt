@@ -1,6 +1,8 @@
 -- A life stands after the steps that it adopts.
 use Rattle.std.proofs.Common.{◌≡◌, ℕ, ◌<◌, ◌≤◌, List, [], length, replicate}
 use Rattle.std.proofs.Common.{slice_get, slice_index_or, Some, ap, sym, subst, ◌∙◌, arith}
+use Rattle.std.specs.Prelude.{Vec}
+use Rattle.std.specs.Global.{Global}
 use Rattle.std.proofs.lemmas.List.{length-replicate}
 use Rattle.ido_base.specs.declared.event.Event.{Event}
 use Rattle.ido_base.specs.declared.event.Event.TheVariants.{Step}
@@ -17,14 +19,14 @@ use Rattle.ido_machine.specs.Machines.{RepresentsMachine, program_in}
 use Rattle.run_tracker.specs.declared.counts.Counts.{Counts}
 use Rattle.run_tracker.specs.declared.life.Life.TheInside.{Inside}
 use Rattle.run_tracker.specs.declared.sections.Sections.{Sections}
-use Rattle.run_tracker.specs.links.AccountRepresentation.{AccountInv}
+use Rattle.run_tracker.specs.links.AccountRepresentation.{AccountInv, ends_from}
 use Rattle.run_tracker.specs.links.SectionRepresentation.{AreSections}
 use Rattle.run_tracker.specs.links.LocalRepresentation.{marks_passed, with_more_begun}
 use Rattle.run_tracker.specs.ObjectLives.{ended_sections, living, opening_of, steps_in, world_of}
 use Rattle.run_tracker.specs.links.LifeRepresentation.{course_of, AreCounts, LifeInv}
 use Rattle.run_tracker.proofs.LifeChanges.{AreAt, Grows, Parts, course_with, hart_count, lasts, steps_count, with_parts}
 use Rattle.run_tracker.proofs.LocalRuns.{HasRunLocally, has_run_locally}
-use Rattle.run_tracker.proofs.MoreBegun.{length-more, open-more, ordered-more, weight-more}
+use Rattle.run_tracker.proofs.MoreBegun.{earlier-more, length-more, open-more, ordered-more, weight-more}
 
 -- so many local instructions of a hart of a life: its registers and pc after them, and how many of them have passed a mark
 pub record LocalSteps (life : Inside) : Type 0 where
@@ -50,6 +52,7 @@ pub record AreAdopted (life : Inside) (steps : LocalSteps life) (parts : Parts) 
   pub grown : Grows life (events_in steps) parts
   pub world : RepresentsMachine parts.machine (with_hart (world_of (course_of life)) steps.h (with_local_state steps.hart steps.last))
   pub account : AccountInv parts.account (with_more_begun steps.h steps.passed (steps_in (course_of life)))
+  pub ends : parts.ends ≡ life.ends
   pub counts : parts.counts ≡ life.counts
   pub sections : parts.sections ≡ life.sections
 
@@ -79,6 +82,8 @@ module _ (life : Inside) (stands : LifeInv life) (steps : LocalSteps life) (part
         machine = adopted.world;
         sound = subst IsWellFormedWorld ahead.world ahead.sound;
         account = adopted.account;
+        ends = ap (λ (v : Vec ℕ Global). v.items) adopted.ends ∙ (stands.ends
+            ∙ ap (ends_from 0) (sym (earlier-more steps.h steps.passed s)));
         harts = length-more steps.h steps.passed s;
         ordered = ordered-more before.log before.words steps.h steps.passed s stands.ordered;
         are_open = open-more before.log before.words steps.h steps.passed s stands.are_open;

@@ -1,13 +1,16 @@
 -- The fields of a life that events change, and that the life stands with these fields after more events.
-use Rattle.std.proofs.Common.{◌≡◌, ◌+◌, ◌≤◌, List, ◌++◌, length, ap, sym, subst, ◌∙◌, arith, length-append}
+use Rattle.std.proofs.Common.{◌≡◌, ℕ, ◌+◌, ◌≤◌, List, ◌++◌, length, ap, sym, subst, ◌∙◌, arith, inl, inr, Bool, length-append}
+use Rattle.std.specs.Prelude.{Vec}
+use Rattle.std.specs.Global.{Global}
 use Rattle.std.specs.Vec.{vec_capacity, vec_len}
 use Rattle.ido_base.specs.declared.log.Log.{Log}
 use Rattle.ido_base.specs.declared.event.Event.{Event}
-use Rattle.ido_base.specs.Cores.{point_stores, finished_fences}
+use Rattle.ido_base.specs.declared.event.Event.TheVariants.{Step, Evict, Crash, Start}
+use Rattle.ido_base.specs.Cores.{IsValid, IsValidNow, point_stores, finished_fences}
 use Rattle.rv64_isa.specs.declared.object.Slot.{Slot}
 use Rattle.rv64_isa.specs.Executables.{node_marks}
 use Rattle.rv64_isa.specs.Frames.{IsWellFormedWorld}
-use Rattle.rv64_isa.specs.Machine.{World}
+use Rattle.rv64_isa.specs.Machine.{World, IsEviction, IsValidAt, can_start}
 use Rattle.rv64_isa.specs.Schedule.{Steps, only_life}
 use Rattle.ido_machine.specs.declared.machine.Machine.{Machine}
 use Rattle.ido_machine.specs.Machines.{RepresentsMachine, log_by, program_in, events_of}
@@ -16,16 +19,18 @@ use Rattle.run_tracker.specs.declared.counts.Counts.{Counts}
 use Rattle.run_tracker.specs.declared.life.Life.TheInside.{Inside}
 use Rattle.run_tracker.specs.declared.sections.Sections.{Sections}
 use Rattle.run_tracker.specs.links.Journals.{Recorded}
-use Rattle.run_tracker.specs.links.AccountRepresentation.{AccountInv, AreOpen, AreOrdered, weight}
+use Rattle.run_tracker.specs.links.LifeParts.{IsAmong}
+use Rattle.run_tracker.specs.links.AccountRepresentation.{AccountInv, AreOpen, AreOrdered, ends_from, weight}
 use Rattle.run_tracker.specs.links.SectionRepresentation.{AreSections}
 use Rattle.run_tracker.specs.links.SignTables.{AreTables}
-use Rattle.run_tracker.specs.ObjectLives.{Course, world_of, steps_in, living, opening_of, ended_sections}
+use Rattle.run_tracker.specs.ObjectLives.{Course, IsValidIn, world_of, steps_in, living, opening_of, ended_sections}
 use Rattle.run_tracker.specs.links.LifeRepresentation.{course_of, executable_by, opening_by, AreCounts, LifeInv}
 
 -- what events change of a life
 pub record Parts : Type 0 where
   pub machine : Machine
   pub account : Account
+  pub ends : Vec ℕ Global
   pub journal : Recorded
   pub counts : Counts
   pub sections : Sections
@@ -34,6 +39,7 @@ abbrev pub with_parts : Inside → Parts → Inside
 with_parts life parts = record life {
   machine = parts.machine;
   account = parts.account;
+  ends = parts.ends;
   journal = parts.journal;
   counts = parts.counts;
   sections = parts.sections;
@@ -53,12 +59,15 @@ pub record Grows (life : Inside) (more : List Event) (parts : Parts) : Type 0 wh
   pub kept_room : vec_capacity parts.account.kept ≡ vec_capacity life.account.kept
   pub stores_room : vec_capacity parts.account.stores ≡ vec_capacity life.account.stores
   pub stores : vec_len parts.account.stores ≤ vec_len life.account.stores + length more
+  pub ends_room : vec_capacity parts.ends ≡ vec_capacity life.ends
+  pub few_ends : vec_len parts.ends ≤ vec_len life.ends + length more
 
 -- machine, account, counts and sections are those at this world and these steps
 pub record AreAt (life : Inside) (more : List Event) (parts : Parts) (w : World) (s : Steps) : Type 0 where
   pub machine : RepresentsMachine parts.machine w
   pub sound : IsWellFormedWorld w
   pub account : AccountInv parts.account s
+  pub ends : parts.ends.items ≡ ends_from 0 s.earlier
   pub harts : length s.harts ≡ length (steps_in (course_of life)).harts
   pub ordered : AreOrdered w.log w.words s
   pub are_open : AreOpen w.log w.words s
@@ -69,12 +78,30 @@ pub record AreAt (life : Inside) (more : List Event) (parts : Parts) (w : World)
       (finished_fences living (opening_of (course_of life)) (course_with life more).journal)
   pub sections : AreSections parts.sections (length (program_in life.machine)) w (ended_sections (course_with life more))
 
+-- an event that may be asked is one of the harts
+pub is_among : (log : Log) (harts : ℕ) (may : Bool) (event : Event) → IsValidNow harts (IsEviction log harts) may event → IsAmong log harts event
+is_among log harts may event (inl any) = by event any
+  where
+    by : (x : Event) → IsValid harts (IsEviction log harts) x → IsAmong log harts x
+    by (Step h) valid = valid
+    by (Evict line mask) valid = valid
+    by Crash valid = tt
+    by Start valid = tt
+is_among log harts may event (inr starts) = subst (IsAmong log harts) (sym starts.0) tt
+
 module _ (life : Inside) (stands : LifeInv life) where
   pub hart_count : length (world_of (course_of life)).harts ≡ length (program_in life.machine)
   hart_count = omega (arith, stands.machine.standing.count, life.machine.sized, life.machine.harts.ok.0)
 
   pub steps_count : length (steps_in (course_of life)).harts ≡ length (program_in life.machine)
   steps_count = stands.account.count ∙ stands.harts
+
+  -- an event that may be asked of it may be asked of its machine
+  pub valid_at : (event : Event) → IsValidIn (course_of life) event → IsValidAt (world_of (course_of life)) event
+  valid_at event valid =
+      let w : World = world_of (course_of life) in
+      subst (λ (l : Log). IsValidNow (length w.harts) (IsEviction l (length w.harts)) (can_start w) event) (sym stands.machine.log)
+      (subst (λ (n : ℕ). IsValidNow n (IsEviction (log_by life.machine) n) (can_start w) event) (sym hart_count) valid)
 
   module _ (more : List Event) (parts : Parts) (grown : Grows life more parts) where
     course_is : course_of (with_parts life parts) ≡ course_with life more
@@ -120,4 +147,7 @@ module _ (life : Inside) (stands : LifeInv life) where
       kept_room = omega (arith, grown.kept_room, stands.kept_room);
       stores_room = omega (arith, grown.stores_room, stands.stores_room);
       stores = omega (arith, grown.stores, stands.stores, longer);
+      ends = moved (λ (x : Course). parts.ends.items ≡ ends_from 0 (steps_in x).earlier) at.ends;
+      ends_room = omega (arith, grown.ends_room, stands.ends_room);
+      few_ends = omega (arith, grown.few_ends, stands.few_ends, longer);
     }

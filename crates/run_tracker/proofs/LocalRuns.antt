@@ -20,7 +20,8 @@ use Rattle.ido_machine.specs.Harts.{local_state_of, with_local_state}
 use Rattle.run_tracker.specs.links.AccountRepresentation.{AreOpen}
 use Rattle.run_tracker.specs.links.LocalRepresentation.{marks_at, marks_passed, with_more_begun}
 use Rattle.run_tracker.specs.LocalRuns.{with_steps}
-use Rattle.run_tracker.specs.ObjectLives.{Course, LifeConfig, ended_sections, is_stopped, is_stopped_phase, living, opening_of, steps_in, world_of}
+use Rattle.run_tracker.specs.ObjectLives.{Course, LifeConfig, ended_sections, is_stopped, living, opening_of, steps_in, world_of}
+use Rattle.rv64_isa.specs.Machine.{has_stopped}
 use Rattle.run_tracker.proofs.DurablePoints.{none_at_point}
 use Rattle.run_tracker.proofs.Events.{after_more, along_more, begun_if, fences_more, played_is, points_more, sections_more}
 use Rattle.run_tracker.proofs.MoreBegun.{open-more}
@@ -192,10 +193,10 @@ module _ (life : Course) (h : ℕ) (hart : Hart) (there : slice_get (world_of li
       let ahead : HasRunLocally life h hart n before.0 = has_run_locally n before.0 (λ _. runs) before.1 in
       let played_to = played_is (opening_of life) (life.journal ++ replicate n (Step h)) in
       let stopped : Option Hart → Bool = λ found. elim found [
-        | Some it ↦ is_stopped_phase it.phase
+        | Some it ↦ has_stopped it.phase
         | None ↦ false
       ] in (
         ap (λ (m : LifeConfig). reply_to m.runs.program m.world (Step h)) played_to ∙ moves runs n before.0 upto.0 ahead before.1 before.2,
         ap (λ (m : LifeConfig). is_stopped m.world h) played_to ∙ ap stopped (at_there runs n before.0 upto.0 ahead before.1 before.2)
-            ∙ ap is_stopped_phase runs,
+            ∙ ap has_stopped runs,
       )

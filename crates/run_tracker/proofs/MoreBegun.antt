@@ -9,16 +9,20 @@ use Rattle.rv64_isa.specs.Schedule.{Steps, HartSteps, hart_steps, no_steps}
 use Rattle.run_tracker.specs.declared.account.PointStore.{PointStore}
 use Rattle.run_tracker.specs.declared.account.OpenSteps.{OpenSteps}
 use Rattle.run_tracker.specs.declared.account.Account.{Account}
-use Rattle.run_tracker.specs.links.AccountRepresentation.{AccountInv, AreOpen, AreOrdered, hart_weight, open_at, steps_of, weight}
+use Rattle.run_tracker.specs.links.AccountRepresentation.{AccountInv, AreOpen, AreOrdered, all_kept, hart_weight, open_at, steps_of, weight}
 use Rattle.run_tracker.specs.links.LocalRepresentation.{with_more_begun}
 use Rattle.run_tracker.proofs.AccountUpdates.{updated}
 use Rattle.run_tracker.proofs.BoundStepOrder.{ordered-begun}
 use Rattle.run_tracker.proofs.StepTotals.{weight-begun}
 use Rattle.run_tracker.proofs.StepsStayOpen.{open-noted}
 
-kept-more : (h count : ℕ) (s : Steps) → (with_more_begun h count s).kept ≡ s.kept
+kept-more : (h count : ℕ) (s : Steps) → all_kept (with_more_begun h count s) ≡ all_kept s
 kept-more h zero s = refl
 kept-more h (suc count) s = kept-more h count s
+
+pub earlier-more : (h count : ℕ) (s : Steps) → (with_more_begun h count s).earlier ≡ s.earlier
+earlier-more h zero s = refl
+earlier-more h (suc count) s = earlier-more h count s
 
 pub length-more : (h count : ℕ) (s : Steps) → length (with_more_begun h count s).harts ≡ length s.harts
 length-more h zero s = refl

@@ -1,5 +1,5 @@
 -- How many steps an account has, as they are begun, bound and kept.
-use Rattle.std.proofs.Common.{◌≡◌, ℕ, zero, suc, ◌+◌, ◌<◌, ◌≤◌, List, [], ◌∷◌, ◌++◌, length, replicate, refl, ◌∙◌, arith, length-set, length-append}
+use Rattle.std.proofs.Common.{◌≡◌, ℕ, zero, suc, ◌+◌, ◌<◌, ◌≤◌, List, [], ◌∷◌, ◌++◌, length, replicate, flat_map, refl, ◌∙◌, arith, length-set, length-append}
 use Rattle.std.proofs.lemmas.List.{length-replicate}
 use Rattle.std.proofs.lemmas.List.Sums.{sum_by-set, sum_by_push}
 use Rattle.ido_base.specs.declared.log.Log.{Log}
@@ -28,10 +28,13 @@ weight-kept log words h s within =
     let it = hart_steps s h in
     let durable = (word_at words (point_word log h)).durable in
     let count = durable_steps durable it.bound in
+    let earlier : List ℕ = flat_map (λ steps. steps) s.earlier in
     omega (
       arith,
       sum_by-set hart_weight s.harts h (record { free = it.free; bound = later durable it.bound }) no_steps within,
       total_split durable it.bound,
+      length-append earlier (s.kept ++ replicate count h),
+      length-append earlier s.kept,
       length-append s.kept (replicate count h),
       length-replicate count h,
     )

@@ -1,17 +1,18 @@
 -- Where no bound steps are durable none are kept, and after each event none are.
 use Rattle.std.proofs.Common.{◌≡◌, ◌⊎◌, ℕ, zero, suc, ◌+◌, ◌<◌, ◌≤◌, List, [], ◌∷◌, ◌++◌, length, replicate, slice_set, get_or}
+use Rattle.std.specs.Prelude.{if◌then◌else◌}
 use Rattle.std.proofs.Common.{Bool, true, false, inl, inr, refl, ap, sym, subst, ◌∙◌, arith, get_or-set_same, get_or-set_other}
 use Rattle.std.proofs.lemmas.Bool.{cases_eq, cases_lt}
 use Rattle.std.proofs.lemmas.List.{append-nil, set-get_or, get_or_past}
 use Rattle.rv64_isa.specs.Frames.{IsWellFormedWorld}
-use Rattle.rv64_isa.proofs.Public.{log_stays}
+use Rattle.rv64_isa.proofs.Public.{outcome_of, log_stays}
 use Rattle.ido_base.specs.declared.log.Log.{Log}
 use Rattle.ido_base.specs.declared.event.Event.{Event}
-use Rattle.ido_base.specs.declared.event.Event.TheVariants.{Step, Evict, Crash}
+use Rattle.ido_base.specs.declared.event.Event.TheVariants.{Step, Evict, Crash, Start}
 use Rattle.ido_base.specs.Words.{Word, word_at}
 use Rattle.rv64_isa.specs.declared.object.Slot.{Slot}
-use Rattle.rv64_isa.specs.Machine.{World, after_event}
-use Rattle.rv64_isa.specs.Schedule.{Steps, HartSteps, Bound, hart_steps, no_steps, with_kept, with_all_kept}
+use Rattle.rv64_isa.specs.Machine.{World, after_event, can_start, happens}
+use Rattle.rv64_isa.specs.Schedule.{Steps, HartSteps, Bound, hart_steps, next_life, no_steps, with_kept, with_all_kept}
 use Rattle.rv64_isa.specs.Schedule.{with_step, without, durable_steps, steps_after, passes_mark, stores_point}
 use Rattle.run_tracker.specs.links.AccountRepresentation.{AllFrom, AreOpen, point_word}
 use Rattle.run_tracker.proofs.BoundSteps.{later, later_yes, later_no, none_durable, all_later, from_push}
@@ -97,19 +98,24 @@ open-none log words s count e h =
     subst (λ (x : HartSteps). AllFrom ((word_at words (point_word log h)).durable + 1) x.bound)
     (sym (ap (λ (xs : List HartSteps). get_or xs h no_steps) e ∙ no_steps_anywhere count h)) tt
 
-pub open-after : (marks : List (List ℕ)) (program : List (List Slot)) (w : World) (event : Event) (s : Steps) → IsWellFormedWorld w →
+pub open-after : (marks : List (List ℕ)) (program : List (List Slot)) (w : World) (event : Event) (s : Steps) → IsWellFormedWorld w → AreOpen w.log w.words s →
     AreOpen (after_event program w event).log (after_event program w event).words (steps_after marks program w event s)
-unfolding steps_after
-open-after marks program w (Step h) s sound =
+unfolding steps_after happens
+open-after marks program w (Step h) s sound is_open =
     subst (λ (l : Log). AreOpen l (after_event program w (Step h)).words (steps_after marks program w (Step h) s)) (sym (log_stays program w (Step h) sound))
     (open-kept w.log (after_event program w (Step h)).words (length s.harts) (with_step marks program w h s)
     (sym (harts-noted (passes_mark marks program w h) (stores_point program w (Step h) h) h _ s)))
-open-after marks program w (Evict line mask) s sound =
+open-after marks program w (Evict line mask) s sound is_open =
     subst (λ (l : Log). AreOpen l (after_event program w (Evict line mask)).words (steps_after marks program w (Evict line mask) s))
     (sym (log_stays program w (Evict line mask) sound)) (open-kept w.log (after_event program w (Evict line mask)).words (length s.harts) s refl)
-open-after marks program w Crash s sound =
+open-after marks program w Crash s sound is_open =
     open-none (after_event program w Crash).log (after_event program w Crash).words (record s { pending = []; harts = replicate (length s.harts) no_steps })
     (length s.harts) refl
+open-after marks program w Start s sound is_open = by (can_start w)
+  where
+    by : (may : Bool) → AreOpen (outcome_of program w may).0.log (outcome_of program w may).0.words (if may then next_life s else s)
+    by true = open-none w.log w.words (next_life s) (length s.harts) refl
+    by false = is_open
 
 -- ---- A step that writes nothing back
 

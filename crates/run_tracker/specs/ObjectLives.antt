@@ -3,14 +3,12 @@ use Rattle.std.specs.Prelude.{ℕ, ◌*◌, ◌/◌, List, [], ◌∷◌, ◌++�
 use Rattle.ido_base.specs.declared.event.Event.{Event}
 use Rattle.ido_base.specs.Words.{Word, durable_value}
 use Rattle.ido_base.specs.Layout.{variable_lines}
-use Rattle.ido_base.specs.Cores.{Behaviour, passed_count}
+use Rattle.ido_base.specs.Cores.{Behaviour, IsValidNow, passed_count}
 use Rattle.rv64_isa.specs.declared.object.Slot.{Slot}
 use Rattle.rv64_isa.specs.declared.object.Object.{Object}
 use Rattle.rv64_isa.specs.declared.object.Marks.{Marks}
-use Rattle.rv64_isa.specs.declared.phase.Phase.{Phase}
-use Rattle.rv64_isa.specs.declared.phase.Phase.TheVariants.{Take, Wait, Resume, Run, Done, Ended}
 use Rattle.rv64_isa.specs.Executables.{Executable, executable_of}
-use Rattle.rv64_isa.specs.Machine.{World, after_event, after_events, reply_to, machine_start, machine_from, durable_point}
+use Rattle.rv64_isa.specs.Machine.{World, IsEviction, can_start, has_stopped, after_event, after_events, reply_to, machine_start, machine_from, durable_point}
 use Rattle.rv64_isa.specs.Schedule.{Steps, LifeSchedules, only_life, stores_point, finishes_fence, first_steps, steps_along}
 
 -- ---- What a life is
@@ -34,6 +32,10 @@ variable_words_in life = length life.runs.initial / 8
 -- the world now
 abbrev pub world_of : Course → World
 world_of life = after_events life.runs.program life.opening life.journal
+
+-- the event may be asked of the life now
+abbrev pub IsValidIn : Course → Event → Type 0
+IsValidIn life event = IsValidNow (length life.runs.program) (IsEviction life.runs.log (length life.runs.program)) (can_start (world_of life)) event
 
 -- the steps begun and kept by now
 abbrev pub steps_in : Course → Steps
@@ -74,17 +76,9 @@ pub record LifeConfig : Type 0 where
   pub world : World
 
 -- the hart has ended, or its recovery is done
-abbrev pub is_stopped_phase : Phase → Bool
-is_stopped_phase Done = true
-is_stopped_phase Ended = true
-is_stopped_phase Take = false
-is_stopped_phase Wait = false
-is_stopped_phase Resume = false
-is_stopped_phase Run = false
-
 abbrev pub is_stopped : World → (h : ℕ) → Bool
 is_stopped w h = elim (slice_get w.harts h) [
-  | Some hart ↦ is_stopped_phase hart.phase
+  | Some hart ↦ has_stopped hart.phase
   | None ↦ false
 ]
 
@@ -93,6 +87,7 @@ living = record {
   next = λ m event. record m { world = after_event m.runs.program m.world event };
   reply = λ m event. reply_to m.runs.program m.world event;
   is_stopped = λ m h. is_stopped m.world h;
+  can_start = λ m. can_start m.world;
   stores_point = λ m h event. stores_point m.runs.program m.world event h;
   finishes_fence = λ m h event. finishes_fence m.runs.program m.world event h;
 }

@@ -31,7 +31,7 @@ pub(crate) struct OpenSteps {
 /// Steps begun and kept.
 #[derive(Debug, Drop)]
 pub(crate) struct Account {
-    /// The kept schedule.
+    /// The kept schedules, one life's after another's.
     pub kept: Vec<u32>,
     /// The stores of points since the start or the last crash, of all harts.
     pub stores: Vec<PointStore>,
@@ -176,9 +176,10 @@ impl Account {
         self.harts[hart as usize].first = kept.first;
     }
 
-    /// A crash: what isn't kept is lost.
+    /// A crash, or the end of a life: what isn't kept is lost.
     pub fn lose(&mut self)
         ensures stands { (s : Steps) → AccountInv self.old s → AccountInv self.new (without_open s) }
+        ensures kept { self.new.kept ≡ self.old.kept }
         ensures stores { vec_len self.new.stores ≡ 0 }
         ensures reserved { vec_capacity self.new.stores ≡ vec_capacity self.old.stores }
         ensures capacity { vec_capacity self.new.kept ≡ vec_capacity self.old.kept }

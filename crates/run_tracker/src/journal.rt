@@ -16,6 +16,7 @@ enum Entry {
     Steps { hart: u32, count: u32 },
     Evict { line: u32, mask: u32 },
     Crash,
+    Start,
 }
 
 /// Events in the order in which they were made. It has room for them from the start.
@@ -59,6 +60,7 @@ fn push_entry(events: &mut Vec<Event>, entry: Entry) -> Result<(), OutOfMemory>
         Entry::Steps { hart, count } => push_equal(events, Event::Step(hart), count),
         Entry::Evict { line, mask } => push_equal(events, Event::Evict { line, mask }, 1),
         Entry::Crash => push_equal(events, Event::Crash, 1),
+        Entry::Start => push_equal(events, Event::Start, 1),
     }
 }
 
@@ -159,6 +161,7 @@ impl Journal {
             Event::Step(hart) => self.add_step(hart),
             Event::Evict { line, mask } => self.add_entry(Entry::Evict { line, mask }),
             Event::Crash => self.add_entry(Entry::Crash),
+            Event::Start => self.add_entry(Entry::Start),
         }
     }
 }

@@ -1,21 +1,23 @@
 //! A life: a machine that runs a compiled object, with the journal of its events and the kept schedule.
 ghost use Rattle.std.specs.Prelude.{◌≡◌, [], ◌∷◌, ◌+◌, ◌-◌, ◌*◌, ◌/◌, ◌<◌, ◌≤◌, ◌^◌, ◌++◌, ℕ, Some, length, map, not, slice_get};
-ghost use Rattle.std.specs.Prelude.{if◌then◌else◌, IfOk, IsTrue, ◌↔◌};
+ghost use Rattle.std.specs.Prelude.{if◌then◌else◌, IfOk, IsTrue, ◌↔◌, slice_index_or, take, drop};
 ghost use Rattle.std.specs.Bool.{OnTrue};
 ghost use Rattle.std.specs.Vec.{vec_capacity, vec_len};
 ghost use Rattle.ido_base.specs.Words.{word_at, live_value, durable_value};
 ghost use Rattle.ido_base.specs.Layout.{line_count, log_words};
 ghost use Rattle.ido_base.specs.Cores.{point_stores, finished_fences, least_enabled, EachMoves};
-ghost use Rattle.rv64_isa.specs.Machine.{Hart, World, IsValidEvent, reply_to, numbers_from};
+ghost use Rattle.rv64_isa.specs.Machine.{Hart, World, can_start, has_stopped, have_stopped, reply_to, numbers_from};
 ghost use Rattle.ido_machine.specs.Machines.{RepresentsMachine, program_in, log_by, events_of};
 ghost use Rattle.rv64_isa.specs.Programs.{program_of};
 ghost use Rattle.rv64_isa.specs.Frames.{IsWellFormedWorld};
-ghost use Rattle.rv64_isa.specs.Schedule.{is_settled, is_settled_hart, only_life, schedules};
+ghost use Rattle.rv64_isa.specs.Schedule.{only_life, schedules};
+ghost use Rattle.rv64_isa.specs.Machine.{is_settled, is_settled_hart};
 ghost use Rattle.hart_core.specs.Objects.{IsWithinLimits};
 ghost use Rattle.run_tracker.specs.ObjectLives.{Course, new_life, life_at, life_from, with_event, world_of, steps_in, left_words, variable_words_in};
-ghost use Rattle.run_tracker.specs.ObjectLives.{LifeConfig, ended_sections, is_stopped, is_stopped_phase, living, opening_of};
+ghost use Rattle.run_tracker.specs.ObjectLives.{IsValidIn, LifeConfig, ended_sections, is_stopped, living, opening_of};
 ghost use Rattle.run_tracker.specs.LocalRuns.{IsLocalOf, IsAtBeginning, local_at, with_steps};
-ghost use Rattle.run_tracker.specs.links.LifeParts.{may_persist};
+ghost use Rattle.run_tracker.specs.links.AccountRepresentation.{ends_then, life_place};
+ghost use Rattle.run_tracker.specs.links.LifeParts.{is_start, may_persist};
 ghost use Rattle.run_tracker.specs.links.LifeRepresentation.{opening_by};
 
 use crate::account::Account;
@@ -54,6 +56,8 @@ pub struct Life {
     tables: Vec<SignTable>,
     machine: Machine,
     account: Account,
+    /// How many steps the lives up to each one that has ended have kept.
+    ends: Vec<u64>,
     journal: Journal,
     counts: Counts,
     sections: Sections,
@@ -73,10 +77,69 @@ impl Model for Life {
 }
 
 /// The hart has ended, or its recovery is done.
-fn is_stopped_phase(phase: Phase) -> bool
-    ensures { result ≡ is_stopped_phase phase }
+fn has_stopped(phase: Phase) -> bool
+    ensures { result ≡ has_stopped phase }
 {
     matches!(phase, Phase::Done | Phase::Ended)
+}
+
+/// No life has ended yet; there is room for so many that do.
+fn no_ends(alloc: Global, cap: u64) -> Result<Vec<u64>, OutOfMemory>
+    requires { cap < 2 ^ 63 }
+    ensures none { IfOk result (λ ends. ends.items ≡ []) }
+    ensures room { IfOk result (λ ends. vec_capacity ends ≡ cap) }
+    ensures len { IfOk result (λ ends. vec_len ends ≡ 0) }
+{
+    Ok(Vec::with_capacity(alloc, cap as usize)?)
+}
+
+/// The event is a start.
+fn is_start(event: Event) -> bool
+    ensures { result ≡ is_start event }
+{
+    matches!(event, Event::Start)
+}
+
+/// Notes that a life ends behind so many kept steps, if it does.
+fn end_if(ends: &mut Vec<u64>, ended: bool, kept: usize)
+    requires { vec_len ends.old < vec_capacity ends.old }
+    ensures items { ends.new.items ≡ ends_then ended ends.old.items kept }
+    ensures len { vec_len ends.new ≤ vec_len ends.old + 1 }
+    ensures capacity { vec_capacity ends.new ≡ vec_capacity ends.old }
+{
+    if ended {
+        ends.push_reserved(kept as u64);
+    }
+}
+
+/// Where the steps of a life begin among all kept ones, by where lives end.
+fn begins_at(ends: &[u64], life: usize) -> usize
+    requires { life ≤ length ends.now }
+    ensures { result ≡ life_place 0 ends.now life }
+{
+    if life == 0 {
+        return 0;
+    }
+    ends[life - 1] as usize
+}
+
+/// Where they end: those of the life that goes on end with all that are kept.
+fn ends_at(ends: &[u64], life: usize, kept: usize) -> usize
+    ensures { result ≡ slice_index_or ends.now life kept }
+{
+    match ends.get(life) {
+        Some(end) => *end as usize,
+        None => kept,
+    }
+}
+
+/// The steps from one place to another.
+fn steps_between(kept: &[u32], from: usize, to: usize) -> &[u32]
+    requires order { from ≤ to }
+    requires within { to ≤ length kept.now }
+    ensures { result.now ≡ take (to - from) (drop from kept.now) }
+{
+    &kept[from..to]
 }
 
 /// The reply is one to an event by which more of memory may be durable: the write-back of a queued line, an eviction or a crash.
@@ -108,6 +171,18 @@ fn are_settled(machine: &Machine) -> bool
 {
     for hart in 0..machine.harts() {
         if !is_settled_hart(machine, hart) {
+            return false;
+        }
+    }
+    true
+}
+
+/// Each hart has ended, or its recovery is done.
+fn have_stopped(machine: &Machine) -> bool
+    ensures { (w : World) → RepresentsMachine machine.now w → result ≡ have_stopped w.harts }
+{
+    for hart in 0..machine.harts() {
+        if !has_stopped(machine.phase(hart)) {
             return false;
         }
     }
@@ -198,6 +273,7 @@ impl Life {
             (only_life before.now) cap) }
     {
         let harts = machine.harts();
+        let ends = no_ends(alloc, cap)?;
         let sections = Sections::new(alloc, &machine)?;
         Ok(Life {
             initial: object.initial.to_vec(alloc)?,
@@ -208,6 +284,7 @@ impl Life {
             tables: tables_of(alloc, object, machine.program(), marks)?,
             machine,
             account: Account::new(alloc, harts, before, cap)?,
+            ends,
             journal: Journal::new(alloc, cap)?,
             counts: Counts::new(alloc, harts)?,
             sections,
@@ -243,12 +320,28 @@ impl Life {
         self.journal.events(alloc)
     }
 
-    /// The kept schedule: a number of a hart for each step of the source that is kept. It is the only one: no other life came before.
-    pub fn schedule(&self) -> &[u32]
-        ensures kept { result.now ≡ (steps_in self.now).kept }
-        ensures only { schedules (steps_in self.now) ≡ result.now ∷ [] }
+    /// How many lives there have been, with the one that goes on.
+    pub fn lives(&self) -> usize
+        ensures { result ≡ length (schedules (steps_in self.now)) }
     {
-        &self.account.kept
+        self.ends.len() + 1
+    }
+
+    /// The kept schedule of a life: a number of a hart for each step of the source that is kept.
+    pub fn schedule(&self, life: usize) -> &[u32]
+        requires { life < length (schedules (steps_in self.now)) }
+        ensures { slice_get (schedules (steps_in self.now)) life ≡ Some result.now }
+    {
+        let from = begins_at(&self.ends, life);
+        let to = ends_at(&self.ends, life, self.account.kept.len());
+        steps_between(&self.account.kept, from, to)
+    }
+
+    /// The kept schedule of the life that goes on.
+    pub fn kept(&self) -> &[u32]
+        ensures { result.now ≡ (steps_in self.now).kept }
+    {
+        self.schedule(self.ends.len())
     }
 
     /// Each hart stands between sections: it holds nothing, and its live and durable points are 0.
@@ -299,12 +392,13 @@ impl Life {
     /// Makes an event.
     #[inline(always)]
     pub fn event(&mut self, event: Event) -> Reply
-        requires valid { IsValidEvent self.old.runs.log (length self.old.runs.program) event }
+        requires valid { IsValidIn self.old event }
         requires room { length self.old.journal < self.old.cap }
         ensures reply { result ≡ reply_to self.old.runs.program (world_of self.old) event }
         ensures life { self.new ≡ with_event self.old event }
     {
         self.journal.push(event);
+        end_if(&mut self.ends, is_start(event), self.account.kept.len());
         let reply = make(
             event,
             &mut self.machine,
@@ -315,6 +409,13 @@ impl Life {
         );
         self.sections.look_if(may_persist(reply), &self.machine);
         reply
+    }
+
+    /// Each hart has stopped between sections, so that another life may begin.
+    pub fn can_start(&self) -> bool
+        ensures { result ≡ can_start (world_of self.now) }
+    {
+        are_settled(&self.machine) && have_stopped(&self.machine)
     }
 
     /// The least hart whose next step would be replied to neither by `Waits` nor by `Barrier` nor by `Still`.
@@ -381,7 +482,7 @@ impl Life {
         requires { hart < length self.now.runs.program }
         ensures { result ≡ is_stopped (world_of self.now) hart }
     {
-        is_stopped_phase(self.machine.phase(hart))
+        has_stopped(self.machine.phase(hart))
     }
 
     /// How often the hart has stored its point.
@@ -464,6 +565,10 @@ impl Core for Life {
 
     fn can_step(&self) -> Option<u32> {
         Life::can_step(self)
+    }
+
+    fn can_start(&self) -> bool {
+        Life::can_start(self)
     }
 
     type Local = LocalRun;

@@ -2,13 +2,13 @@
 //! makes millions of them.
 ghost use Rattle.std.specs.Prelude.{◌≡◌, ◌+◌, ◌<◌, ◌≤◌, ◌^◌, List, true, false, ℕ, length, slice_get, None, Some, IfSome, IfNone};
 ghost use Rattle.std.specs.Vec.{vec_capacity, vec_len};
-ghost use Rattle.ido_base.specs.declared.event.Event.TheVariants.{Step, Evict, Crash};
+ghost use Rattle.ido_base.specs.declared.event.Event.TheVariants.{Step, Evict, Crash, Start};
 ghost use Rattle.ido_base.specs.declared.event.Reply.TheVariants.{Moved};
 ghost use Rattle.ido_base.specs.Layout.{line_count};
 ghost use Rattle.ido_base.specs.Words.{word_at, last_position};
 ghost use Rattle.rv64_isa.specs.declared.object.Slot.{Slot};
 ghost use Rattle.rv64_isa.specs.declared.phase.Phase.TheVariants.{Run};
-ghost use Rattle.rv64_isa.specs.Machine.{Hart, World, IsValidEvent, happens};
+ghost use Rattle.rv64_isa.specs.Machine.{Hart, World, IsValidAt, can_start, happens};
 ghost use Rattle.rv64_isa.specs.Schedule.{Steps, hart_steps, is_running, with_step, steps_after, with_all_kept, with_kept};
 ghost use Rattle.hart_core.specs.LocalSteps.{local_step, placed_code};
 ghost use Rattle.ido_machine.specs.Harts.{local_state_of, GoesLocally};
@@ -16,7 +16,8 @@ ghost use Rattle.ido_machine.specs.Machines.{RepresentsMachine, IsAfter, program
 ghost use Rattle.run_tracker.specs.links.AccountRepresentation.{AccountInv, AllFrom, AreOpen, point_word};
 ghost use Rattle.run_tracker.specs.links.SectionRepresentation.{AreAbove, AreSeen, section_at};
 ghost use Rattle.run_tracker.specs.links.SignTables.{AreTables, sign_at};
-ghost use Rattle.run_tracker.specs.links.LifeParts.{IsSeen, IsNextEntry, seen_step, HasStepped, WasTracked, IsTrackerReady, HasSteps, HasCounts, HaveCounted};
+ghost use Rattle.run_tracker.specs.links.LifeParts.{IsAmong, IsSeen, IsNextEntry, seen_step, HasStepped, WasTracked, IsTrackerReady, HasSteps, HasCounts};
+ghost use Rattle.run_tracker.specs.links.LifeParts.{HaveCounted};
 ghost use Rattle.run_tracker.specs.declared.signs.SignTable.{SignTable};
 
 use crate::account::Account;
@@ -309,6 +310,25 @@ fn crash(machine: &mut Machine, account: &mut Account) -> Reply
     reply
 }
 
+/// A start: another life begins, with no step.
+fn start(machine: &mut Machine, account: &mut Account) -> Reply
+    requires events { events_of machine.old < 2 ^ 63 }
+    ensures world { (w : World) → RepresentsMachine machine.old w → can_start w ≡ true
+        → IsAfter machine.new result (happens (program_in machine.old) w Start) }
+    ensures steps { (marks : List (List ℕ)) (w : World) (s : Steps) → can_start w ≡ true → AccountInv account.old s
+        → AccountInv account.new (steps_after marks (program_in machine.old) w Start s) }
+    ensures program { program_in machine.new ≡ program_in machine.old }
+    ensures log { log_by machine.new ≡ log_by machine.old }
+    ensures events { events_of machine.new ≡ events_of machine.old + 1 }
+    ensures stores { vec_len account.new.stores ≡ 0 }
+    ensures reserved { vec_capacity account.new.stores ≡ vec_capacity account.old.stores }
+    ensures capacity { vec_capacity account.new.kept ≡ vec_capacity account.old.kept }
+{
+    let reply = machine.start_anew();
+    account.lose();
+    reply
+}
+
 /// Makes an event.
 #[inline(always)]
 pub(crate) fn make(
@@ -319,16 +339,17 @@ pub(crate) fn make(
     sections: &Sections,
     tables: &[SignTable],
 ) -> Reply
-    requires valid { IsValidEvent (log_by machine.old) (length (program_in machine.old)) event }
+    requires valid { IsAmong (log_by machine.old) (length (program_in machine.old)) event }
     requires harts { length account.old.harts.items ≡ length (program_in machine.old) }
     requires counts { HasCounts counts.old (length (program_in machine.old)) }
     requires events { events_of machine.old < 2 ^ 63 }
     requires room { vec_len account.old.stores < vec_capacity account.old.stores }
     requires at { IsTrackerReady tables.now machine.old account.old }
     requires seen { length sections.now.harts.items ≡ length (program_in machine.old) }
-    ensures world { (w : World) → RepresentsMachine machine.old w → IsAfter machine.new result (happens (program_in machine.old) w event) }
+    ensures world { (w : World) → RepresentsMachine machine.old w → IsValidAt w event
+        → IsAfter machine.new result (happens (program_in machine.old) w event) }
     ensures steps { (marks : List (List ℕ)) (w : World) (s : Steps) → AreTables tables.now (program_in machine.old) marks
-        → RepresentsMachine machine.old w → AccountInv account.old s → AreOpen w.log w.words s
+        → RepresentsMachine machine.old w → IsValidAt w event → AccountInv account.old s → AreOpen w.log w.words s
         → AreSeen sections.now (length (program_in machine.old)) w
         → AccountInv account.new (steps_after marks (program_in machine.old) w event s) }
     ensures counts { (w : World) → RepresentsMachine machine.old w → HaveCounted counts.old counts.new (program_in machine.old) w event }
@@ -343,5 +364,6 @@ pub(crate) fn make(
         Event::Step(hart) => step(machine, account, counts, sections, tables, hart),
         Event::Evict { line, mask } => evict(machine, account, sections, line, mask),
         Event::Crash => crash(machine, account),
+        Event::Start => start(machine, account),
     }
 }

@@ -8,7 +8,7 @@ use Rattle.std.proofs.lemmas.List.{length-map, length-replicate, set_past}
 use Rattle.ido_base.specs.declared.event.Event.{Event}
 use Rattle.ido_base.specs.declared.log.Log.{Log}
 use Rattle.ido_base.specs.declared.log.Log.TheVariants.{V1, V2}
-use Rattle.ido_base.specs.declared.event.Event.TheVariants.{Step, Evict, Crash}
+use Rattle.ido_base.specs.declared.event.Event.TheVariants.{Step, Evict, Crash, Start}
 use Rattle.ido_base.specs.declared.event.Reply.TheVariants.{Waits}
 use Rattle.ido_base.specs.Words.{Word, Entry, entry_of, stored, drained, evicted, word_of, durable_value}
 use Rattle.ido_base.specs.Locks.{is_held_by, least_held, least_missing}
@@ -26,6 +26,7 @@ use Rattle.rv64_isa.specs.Machine.{Hart, World, Outcome, moved, with_hart, with_
 use Rattle.rv64_isa.specs.Machine.{applied, executed, hart_step, taken, waited, taking_from, record_of, over_after, done_if_over, run_step, phase_step}
 use Rattle.rv64_isa.specs.Machine.{stepped, happens, after_event, durable_point, phase_after_crash, start_of, after_crash_of, fresh_hart, numbers_from}
 use Rattle.rv64_isa.specs.Frames.{IsHeldOn, Stays, Takes, Gives, Touches, IsWellFormedWorld, StepsTouch}
+use Rattle.rv64_isa.proofs.StartedWorlds.{after_start, start_sound}
 use Rattle.rv64_isa.specs.Frames.{EvictionsTouch, LogStays, QueuesStand, StartsStand, CrashesStand}
 
 -- ---- Lists
@@ -343,6 +344,7 @@ unfolding happens after_crash_of
 log_stays program w (Step h) sound = (steps_touch program w h sound).log
 log_stays program w (Evict line mask) sound = refl
 log_stays program w Crash sound = refl
+log_stays program w Start sound = after_start program w (λ (v : World). v.log ≡ w.log) refl refl
 
 -- ---- Queues along every event
 
@@ -440,3 +442,4 @@ queues_stand program w Crash count sound =
     let size : length words ≡ word_count w.log (length program) = length-map w.words durable_value ∙ sound.size ∙ ap (word_count w.log) (sym count) in
     let stand = crashes_simulate w.log program (length w.holders) words size in
     (stand.0, stand.1 ∙ count)
+queues_stand program w Start count sound = start_sound program w sound

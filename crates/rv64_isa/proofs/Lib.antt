@@ -6,5 +6,6 @@ mod Tables
 mod EncodeThenDecode
 mod DecodeThenEncode
 mod Words
+mod StartedWorlds
 mod Frames
 mod EarlierLives

@@ -2,9 +2,9 @@
 use Rattle.std.proofs.Common.{◌≡◌, ℕ, zero, suc, ◌+◌, ◌-◌, ◌*◌, List, [], ◌∷◌, ◌++◌, length, map, refl, Bool, true, false, cond, take, drop, replicate}
 use Rattle.ido_base.specs.declared.event.Event.{Event}
 use Rattle.ido_base.specs.declared.log.Log.TheVariants.{V1}
-use Rattle.ido_base.specs.declared.event.Event.TheVariants.{Step, Evict, Crash}
+use Rattle.ido_base.specs.declared.event.Event.TheVariants.{Step, Evict, Crash, Start}
 use Rattle.ido_base.specs.declared.event.Reply.{Reply}
-use Rattle.ido_base.specs.declared.event.Reply.TheVariants.{Moved, Barrier}
+use Rattle.ido_base.specs.declared.event.Reply.TheVariants.{Moved, Barrier, Still, Device}
 use Rattle.ido_base.specs.Words.{word_at, durable_value, live_value}
 use Rattle.ido_base.specs.Layout.{initial_words, spread_words}
 use Rattle.ido_base.specs.Locks.{locks_in}
@@ -19,8 +19,8 @@ use Rattle.rv64_isa.specs.declared.object.Slot.{Slot}
 use Rattle.rv64_isa.specs.declared.object.Slot.TheVariants.{Row}
 use Rattle.rv64_isa.specs.Arithmetic.{result_of}
 use Rattle.rv64_isa.specs.Rows.{row}
-use Rattle.rv64_isa.specs.Machine.{World, start_of, after_event, after_events, reply_to, happens, after_crash_of}
-use Rattle.rv64_isa.specs.Schedule.{Steps, steps_after, first_steps, only_life, is_settled, stores_point, finishes_fence, released_count}
+use Rattle.rv64_isa.specs.Machine.{World, is_settled, can_start, start_of, after_event, after_events, reply_to, happens, after_crash_of}
+use Rattle.rv64_isa.specs.Schedule.{Steps, schedules, steps_after, first_steps, only_life, stores_point, finishes_fence, released_count}
 
 -- ---- The code of the nodes
 
@@ -169,6 +169,43 @@ run_whole : told (many p1 p1_marks 100 (Step 0) p1_start) ≡ record { x = 6; y 
 unfolding told many make p1_start p1_marks p1 programs marks_from marks_of one_section node node_acquire node_store code_of acquire add store last_release end
     boundary log point move start_of initial_words happens row result_of steps_after
 run_whole = refl
+
+-- what is told of several lives: the first variable as it is durable and as it is live, their kept schedules, and whether another may begin
+record ToldLives : Type 0 where
+  x : ℕ
+  now : ℕ
+  lives : List (List ℕ)
+  may : Bool
+
+told_lives : Run → ToldLives
+told_lives r = record {
+  x = durable_value (word_at r.world.words 0);
+  now = live_value (word_at r.world.words 0);
+  lives = schedules r.steps;
+  may = can_start r.world;
+}
+
+-- a life, and another one
+two_lives : told_lives (many p1 p1_marks 100 (Step 0) (make p1 p1_marks Start (many p1 p1_marks 100 (Step 0) p1_start)))
+    ≡ record { x = 7; now = 7; lives = (0 ∷ 0 ∷ 0 ∷ 0 ∷ []) ∷ (0 ∷ 0 ∷ 0 ∷ 0 ∷ []) ∷ []; may = true }
+unfolding told_lives many make p1_start p1_marks p1 programs marks_from marks_of one_section node node_acquire node_store code_of acquire add store
+    last_release end boundary log point move start_of initial_words happens row result_of steps_after
+two_lives = refl
+
+-- a life that a crash has ended, one in which a crash comes before any point, and another one
+lives_after_crashes :
+    told_lives (many p1 p1_marks 100 (Step 0) (make p1 p1_marks Start (make p1 p1_marks Crash (to_point p1 p1_marks 100 0 (make p1 p1_marks Start
+    (many p1 p1_marks 120 (Step 0) (make p1 p1_marks Crash (make p1 p1_marks (Evict 1024 1) (to_point p1 p1_marks 100 0 p1_start)))))))))
+    ≡ record { x = 7; now = 7; lives = (0 ∷ 0 ∷ 0 ∷ 0 ∷ []) ∷ [] ∷ (0 ∷ 0 ∷ 0 ∷ 0 ∷ []) ∷ []; may = true }
+unfolding told_lives to_point many make p1_start p1_marks p1 programs marks_from marks_of one_section node node_acquire node_store code_of acquire add store
+    release last_release end boundary log point move start_of after_crash_of locks_in initial_words spread_words happens row result_of steps_after
+lives_after_crashes = refl
+
+-- in the middle of a life a start changes nothing
+none_begins : reply_to p1 (make p1 p1_marks (Step 0) p1_start).world Start ≡ Still
+unfolding make p1_start p1_marks p1 programs marks_from marks_of one_section node node_acquire node_store code_of acquire add store last_release end
+    boundary log point move start_of initial_words happens row result_of steps_after
+none_begins = refl
 
 -- up to the first point's store, and a crash: the point was lost
 point_lost : told (make p1 p1_marks Crash (to_point p1 p1_marks 100 0 p1_start)) ≡ record { x = 5; y = 0; kept = []; settled = true }

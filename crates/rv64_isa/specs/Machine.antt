@@ -4,13 +4,13 @@ use Rattle.std.specs.Prelude.{slice_set, Option, Some, None, Bool, true, false, 
 use Rattle.ido_base.specs.declared.event.Event.{Event}
 use Rattle.ido_base.specs.declared.log.Log.{Log}
 use Rattle.ido_base.specs.declared.log.Log.TheVariants.{V1, V2}
-use Rattle.ido_base.specs.declared.event.Event.TheVariants.{Step, Evict, Crash}
+use Rattle.ido_base.specs.declared.event.Event.TheVariants.{Step, Evict, Crash, Start}
 use Rattle.ido_base.specs.declared.event.Reply.{Reply}
 use Rattle.ido_base.specs.declared.event.Reply.TheVariants.{Moved, Drained, Waits, Barrier, Still, Stuck, Device}
 use Rattle.ido_base.specs.declared.event.Cause.{Cause}
 use Rattle.ido_base.specs.declared.event.Cause.TheVariants.{Illegal, Outside, Unaligned, NoCode, NoCall, NoLock, NotHeld, EndHolding}
 use Rattle.ido_base.specs.Words.{Word, Entry, word_of, word_at, live_value, durable_value, loaded, stored, entry_of, drained, evicted}
-use Rattle.ido_base.specs.Cores.{IsValid}
+use Rattle.ido_base.specs.Cores.{IsValid, IsValidNow}
 use Rattle.ido_base.specs.Locks.{is_held_by, least_held, holds_none, least_missing, locks_in}
 use Rattle.ido_base.specs.Layout.{in_range, aligned, byte_number, word_number, point_at, slot_at}
 use Rattle.ido_base.specs.Layout.{bank_bytes, line_bytes, line_count, initial_words, spread_words}
@@ -34,7 +34,7 @@ pub record World : Type 0 where
   pub harts : List Hart
   -- of each lock the hart that holds it, or none
   pub holders : List (Option ℕ)
-  -- whether there was a crash
+  -- whether there was a crash in this life
   pub recovering : Bool
   -- how its threads log
   pub log : Log
@@ -270,6 +270,51 @@ start_of log program locks initial = record {
   log = log;
 }
 
+-- ---- Settled worlds, and lives that begin on them
+
+-- the hart holds nothing, and its live and durable points are 0
+abbrev pub is_settled_hart : World → (h : ℕ) → Bool
+is_settled_hart w h = holds_none w.holders h && ((durable_point w.log w.words h == 0) && (live_at w.words (point_at w.log h) == 0))
+
+-- the first `count` harts hold nothing, and their live and durable points are 0
+abbrev pub are_settled : World → (count : ℕ) → Bool
+are_settled w zero = true
+are_settled w (suc h) = are_settled w h && is_settled_hart w h
+
+-- each hart stands between sections
+abbrev pub is_settled : World → Bool
+is_settled w = are_settled w (length w.harts)
+
+abbrev pub has_stopped : Phase → Bool
+has_stopped Done = true
+has_stopped Ended = true
+has_stopped Take = false
+has_stopped Wait = false
+has_stopped Resume = false
+has_stopped Run = false
+
+-- each hart has ended, or its recovery is done
+abbrev pub have_stopped : List Hart → Bool
+have_stopped [] = true
+have_stopped (hart ∷ harts) = has_stopped hart.phase && have_stopped harts
+
+-- another life may begin: each hart stands between sections, and has stopped
+abbrev pub can_start : World → Bool
+can_start w = is_settled w && have_stopped w.harts
+
+-- a hart at the first word of its code again, with what it has queued
+abbrev pub anew : List (List Slot) → (thread : ℕ) → Hart → Hart
+anew program thread hart = record (fresh_hart program Run thread) { queue = hart.queue }
+
+-- harts from the number on
+abbrev pub all_anew : List (List Slot) → (at : ℕ) → List Hart → List Hart
+all_anew program at [] = []
+all_anew program at (hart ∷ harts) = anew program at hart ∷ all_anew program (at + 1) harts
+
+-- the world in which another life begins: memory is left alone, and so are queues
+abbrev pub started_anew : List (List Slot) → World → World
+started_anew program w = record w { harts = all_anew program 0 w.harts; recovering = false }
+
 -- ---- Events
 
 -- what an event does, and the reply
@@ -277,6 +322,7 @@ unfoldable pub happens : List (List Slot) → World → Event → Outcome
 happens program w (Step h) = stepped program w h (slice_get w.harts h)
 happens program w (Evict line mask) = (record w { words = evicted w.words line mask }, Device)
 happens program w Crash = (after_crash_of w.log program (length w.holders) (map durable_value w.words), Device)
+happens program w Start = if can_start w then (started_anew program w, Device) else (w, Still)
 
 abbrev pub after_event : List (List Slot) → World → Event → World
 after_event program w event = (happens program w event).0
@@ -293,9 +339,13 @@ after_events program w (event ∷ events) = after_events program (after_event pr
 abbrev pub IsEviction : Log → (threads line mask : ℕ) → Type 0
 IsEviction log threads line mask = (line < line_count log threads) × (mask ≤ 255)
 
--- the event may happen to a machine of so many threads
+-- the event may happen at any time to a machine of so many threads
 abbrev pub IsValidEvent : Log → (threads : ℕ) → Event → Type 0
 IsValidEvent log threads event = IsValid threads (IsEviction log threads) event
+
+-- the event may happen at the world
+abbrev pub IsValidAt : World → Event → Type 0
+IsValidAt w event = IsValidNow (length w.harts) (IsEviction w.log (length w.harts)) (can_start w) event
 
 -- the machine of an object at its start
 abbrev pub machine_start : Object → World

@@ -4,7 +4,7 @@ use Rattle.std.specs.Prelude.{None, Bool, true, false, not, nat_lt, nat_le, ◌=
 use Rattle.std.specs.List.{list_any}
 use Rattle.ido_base.specs.declared.event.Event.{Event}
 use Rattle.ido_base.specs.declared.log.Log.{Log}
-use Rattle.ido_base.specs.declared.event.Event.TheVariants.{Step, Evict, Crash}
+use Rattle.ido_base.specs.declared.event.Event.TheVariants.{Step, Evict, Crash, Start}
 use Rattle.ido_base.specs.declared.event.Reply.{Reply}
 use Rattle.ido_base.specs.declared.event.Reply.TheVariants.{Moved, Drained, Waits, Barrier, Still, Stuck, Device}
 use Rattle.ido_base.specs.Words.{Word, word_at, last_position}
@@ -16,7 +16,7 @@ use Rattle.rv64_isa.specs.declared.phase.Phase.{Phase}
 use Rattle.rv64_isa.specs.declared.phase.Phase.TheVariants.{Take, Wait, Resume, Run, Done, Ended}
 use Rattle.rv64_isa.specs.Rows.{Effect, Continues, Loads, Stores, Cleans, Fences, Calls, row}
 use Rattle.rv64_isa.specs.Programs.{fetched}
-use Rattle.rv64_isa.specs.Machine.{Hart, World, after_event, reply_to, durable_point, live_at}
+use Rattle.rv64_isa.specs.Machine.{Hart, World, after_event, reply_to, can_start}
 
 -- ---- What a step of a hart does
 
@@ -62,6 +62,7 @@ completes test program w (Step g) h = (g == h) && elim (completing program w h) 
 ]
 completes test program w (Evict line mask) h = false
 completes test program w Crash h = false
+completes test program w Start h = false
 
 -- stores into the word of the thread's point
 abbrev pub is_point_store : Log → (thread : ℕ) → Effect → Bool
@@ -117,7 +118,7 @@ only_life schedule = record { earlier = []; schedule = schedule }
 pub record Steps : Type 0 where
   -- a number of a hart for each mark passed in this life
   pub begun : List ℕ
-  -- the kept schedules of the lives before this one, which no event changes
+  -- the kept schedules of the lives before this one: a start puts this life's behind them, and no other event changes them
   pub earlier : List (List ℕ)
   -- this life's
   pub kept : List ℕ
@@ -194,11 +195,38 @@ with_step marks program w h s =
     if stores_point program w (Step h) h
     then with_bound h (last_position (word_at (after_event program w (Step h)).words (word_number (point_at w.log h)))) started else started
 
+-- the event begins another life
+abbrev pub begins_life : World → Event → Bool
+begins_life w Start = can_start w
+begins_life w (Step h) = false
+begins_life w (Evict line mask) = false
+begins_life w Crash = false
+
+-- the life goes on by the event: it neither takes power away nor begins another one
+abbrev pub KeepsOn : Event → Type 0
+KeepsOn (Step h) = Unit {0}
+KeepsOn (Evict line mask) = Unit {0}
+KeepsOn Crash = ⊥
+KeepsOn Start = ⊥
+
+-- none of the events is a start
+abbrev pub HaveNoStart : List Event → Type 0
+HaveNoStart [] = Unit {0}
+HaveNoStart (Step h ∷ events) = HaveNoStart events
+HaveNoStart (Evict line mask ∷ events) = HaveNoStart events
+HaveNoStart (Crash ∷ events) = HaveNoStart events
+HaveNoStart (Start ∷ events) = ⊥
+
+-- the steps of another life, before any: those that the last life has not kept are dropped
+abbrev pub next_life : Steps → Steps
+next_life s = record { begun = []; earlier = s.earlier ++ s.kept ∷ []; kept = []; pending = []; harts = replicate (length s.harts) no_steps }
+
 -- the steps after an event
 unfoldable pub steps_after : List (List ℕ) → List (List Slot) → World → Event → Steps → Steps
 steps_after marks program w (Step h) s = with_all_kept w.log (after_event program w (Step h)).words (length s.harts) (with_step marks program w h s)
 steps_after marks program w (Evict line mask) s = with_all_kept w.log (after_event program w (Evict line mask)).words (length s.harts) s
 steps_after marks program w Crash s = record s { pending = []; harts = replicate (length s.harts) no_steps }
+steps_after marks program w Start s = if can_start w then next_life s else s
 
 -- the steps after a list of events
 abbrev pub steps_along : List (List ℕ) → List (List Slot) → World → List Event → Steps → Steps
@@ -209,28 +237,23 @@ steps_along marks program w (event ∷ events) s = steps_along marks program (af
 abbrev pub first_steps : (threads : ℕ) → (kept : LifeSchedules) → Steps
 first_steps threads kept = record { begun = []; earlier = kept.earlier; kept = kept.schedule; pending = []; harts = replicate threads no_steps }
 
--- ---- Settled states, and releases
-
--- the hart holds nothing, and its live and durable points are 0
-abbrev pub is_settled_hart : World → (h : ℕ) → Bool
-is_settled_hart w h = holds_none w.holders h && ((durable_point w.log w.words h == 0) && (live_at w.words (point_at w.log h) == 0))
-
--- the first `count` harts hold nothing, and their live and durable points are 0
-abbrev pub are_settled : World → (count : ℕ) → Bool
-are_settled w zero = true
-are_settled w (suc h) = are_settled w h && is_settled_hart w h
-
--- each hart stands between sections
-abbrev pub is_settled : World → Bool
-is_settled w = are_settled w (length w.harts)
+-- ---- Releases
 
 -- the event is a release that leaves hart h with nothing
 abbrev pub releases_last : List (List Slot) → World → Event → (h : ℕ) → Bool
 releases_last program w (Step g) h = (g == h) && (not (holds_none w.holders h) && holds_none (after_event program w (Step h)).holders h)
 releases_last program w (Evict line mask) h = false
 releases_last program w Crash h = false
+releases_last program w Start h = false
 
--- how many releases among the events left hart h with nothing
+-- how often hart h was left with nothing by releases of the life that goes on after the event, where it was so often before
+abbrev pub released_after : List (List Slot) → World → Event → (h before : ℕ) → ℕ
+released_after program w event h before = if begins_life w event then 0 else before + (if releases_last program w event h then 1 else 0)
+
+abbrev pub released_along : List (List Slot) → World → List Event → (h before : ℕ) → ℕ
+released_along program w [] h before = before
+released_along program w (event ∷ events) h before = released_along program (after_event program w event) events h (released_after program w event h before)
+
+-- how many releases of the life that goes on after the events left hart h with nothing
 abbrev pub released_count : List (List Slot) → World → List Event → (h : ℕ) → ℕ
-released_count program w [] h = 0
-released_count program w (event ∷ events) h = (if releases_last program w event h then 1 else 0) + released_count program (after_event program w event) events h
+released_count program w events h = released_along program w events h 0

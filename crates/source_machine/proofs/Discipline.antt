@@ -473,4 +473,7 @@ run_keeps x s [] keeps = keeps
 run_keeps x s (t ∷ ts) keeps = run_by x s t ts (source_step s t) refl keeps (λ next h. run_keeps x next ts h)
 
 pub reached_keeps : ReachedKeeps
-reached_keeps x s keep r = subst (λ (z : m.State). StateKeeps x z) (sym r.is) (run_keeps x (m.start x) r.schedule (start_keeps x keep))
+reached_keeps x s keep r =
+    let first = start_keeps x keep in
+    subst (λ (z : m.State). StateKeeps x z) (sym r.is)
+    (run_keeps x (record (m.start x) { variables = r.variables }) r.schedule (record { locks = first.locks; each = first.each }))

@@ -1,4 +1,5 @@
 -- What crates above may use of this crate's proofs, passed on from one place. Declares nothing.
+pub use Rattle.source_machine.proofs.AppendedLives.{after_life, ended_life, runs_life}
 pub use Rattle.source_machine.proofs.AppendedScheduleRuns.{after_appended, ended_appended, runs_appended}
 pub use Rattle.source_machine.proofs.Discipline.{apart, run_keeps, set_long, start_keeps, step_keeps, stepped}
 pub use Rattle.source_machine.proofs.DisciplinedContinuations.{keep_append, keep_opened_all, keeps_arm, keeps_assign, keeps_if, keeps_lock, keeps_unlock}

@@ -54,10 +54,11 @@ pub record StateKeeps (x : f.Flat) (s : State) : Type 0 where
   pub locks : length s.holders ≡ length x.mutexes
   pub each : (number : ℕ) (thread : m.Thread) → slice_get s.threads number ≡ Some thread → ThreadKeeps x number s.holders thread
 
--- a run of the flat form reaches the state
+-- a run of the flat form reaches the state, whatever numbers its variables begin with: in the first life or in a later one
 pub record IsReachedState (x : f.Flat) (s : State) : Type 0 where
+  pub variables : List (List ℤ)
   pub schedule : List ℕ
-  pub is : s ≡ after_from (start x) schedule
+  pub is : s ≡ after_from (record (start x) { variables = variables }) schedule
 
 -- a form whose threads keep the discipline begins with such a state
 abbrev pub StartKeeps : Type 0

@@ -5,7 +5,7 @@ use Rattle.std.specs.Prelude.{slice_get, nat_lt}
 use Rattle.std.proofs.lemmas.List.{length-map}
 use Rattle.std.proofs.lemmas.Bool.{cond_both, cases_eq, both_ways, eq-eqb, ltb-false}
 use Rattle.ido_base.specs.declared.event.Event.{Event}
-use Rattle.ido_base.specs.declared.event.Event.TheVariants.{Step, Evict, Crash}
+use Rattle.ido_base.specs.declared.event.Event.TheVariants.{Step, Evict, Crash, Start}
 use Rattle.ido_base.specs.Words.{Word, Entry, word_at, last_position, entry_of, stored}
 use Rattle.ido_base.specs.Growth as growth
 use Rattle.ido_base.specs.Growth.{AreChanged, IsEntry, AreEntries, PersistsThrough}
@@ -17,9 +17,9 @@ use Rattle.rv64_isa.specs.declared.phase.Phase.{Phase}
 use Rattle.rv64_isa.specs.declared.phase.Phase.TheVariants.{Done}
 use Rattle.rv64_isa.specs.Rows.{Effect, next}
 use Rattle.rv64_isa.specs.Machine.{Hart, World, Outcome, with_hart, access, applied, executed, hart_step, over_after, done_if_over, phase_step, stepped}
-use Rattle.rv64_isa.specs.Machine.{happens, after_event, after_events}
+use Rattle.rv64_isa.specs.Machine.{anew, happens, after_event, after_events}
 use Rattle.rv64_isa.specs.Frames.{IsWellFormedWorld}
-use Rattle.rv64_isa.proofs.Public.{get-set_same, steps_touch, step_goes, queues_stand}
+use Rattle.rv64_isa.proofs.Public.{after_start, anew_there, get-set_same, steps_touch, step_goes, queues_stand}
 use Rattle.recovery_semantics.specs.ElementHistories.{ArePersisted, History}
 use Rattle.recovery_semantics.specs.Elements.{number_in}
 use Rattle.recovery_semantics.specs.VariableSpots.{Spot, memory_in}
@@ -167,6 +167,9 @@ unfolding happens
 events_raise program w spots (Step h) sound beside = by_hart program w spots sound h (slice_get w.harts h) refl beside
 events_raise program w spots (Evict line mask) sound beside = memory_persisted spots w.words _ (evictions_raise w.words line mask)
 events_raise program w spots Crash sound beside = absurd beside
+events_raise program w spots Start sound beside =
+    let same = memory_persisted spots w.words w.words (are_persisted_refl w.words) in
+    after_start program w (λ (v : World). ArePersisted (memory_in spots w.words) (memory_in spots v.words)) same same
 
 -- ---- Positions
 
@@ -182,6 +185,7 @@ unfolding happens
 changed_by program w (Step h) sound p = (steps_touch program w h sound).words
 changed_by program w (Evict line mask) sound p = changed_by_persisted w.words _ (evictions_raise w.words line mask)
 changed_by program w Crash sound p = absurd p
+changed_by program w Start sound p = after_start program w (λ (v : World). AreChanged w.words v.words) (changed_refl w.words) (changed_refl w.words)
 
 pub positions_grow : PositionsGrow
 positions_grow program w [] j count sound p = record { last = omega arith; durable = omega arith }
@@ -245,6 +249,10 @@ module _ (program : List (List Slot)) (w : World) (h j position : ℕ) (reached 
     reaches = same_reach w.words _ hart.queue j position (changed_by_persisted w.words _ (evictions_raise w.words line mask)) reached.reaches;
   }
   by_event Crash sound p = absurd p
+  by_event Start sound p =
+      after_start program w (λ (v : World). PersistsAsOf v h j position)
+      (let number : 0 + h ≡ h = omega arith in
+      record { hart = anew program (0 + h) hart; there = anew_there program 0 w.harts h hart reached.there; reaches = reached.reaches }) reached
 
 pub reach_lasts : ReachLasts
 reach_lasts program w [] h j position count sound p r = r

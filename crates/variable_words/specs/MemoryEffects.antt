@@ -2,7 +2,7 @@
 use Rattle.std.specs.Prelude.{◌≡◌, ◌≢◌, ℕ, ◌/◌, ◌<◌, ◌≤◌, List, [], ◌∷◌, ◌++◌, length, slice_get, Some, true}
 use Rattle.std.specs.List.{AllByRecursion}
 use Rattle.ido_base.specs.declared.event.Event.{Event}
-use Rattle.ido_base.specs.declared.event.Event.TheVariants.{Step, Evict, Crash}
+use Rattle.ido_base.specs.declared.event.Event.TheVariants.{Step, Evict, Crash, Start}
 use Rattle.ido_base.specs.Words.{Word, Entry, word_at, last_position, entry_of, stored, drained}
 use Rattle.ido_base.specs.Growth.{PersistsThrough}
 use Rattle.ido_base.specs.Layout.{in_range, aligned, byte_number, line_bytes}
@@ -56,11 +56,12 @@ pub record Works (program : List (List Slot)) (w : World) (h : ℕ) (before : Ha
   pub there : slice_get (after_event program w (Step h)).harts h ≡ Some after
   pub work : IsWork program w h (after_event program w (Step h)).words before.queue after.queue
 
--- power stays on
+-- power stays on, or another life begins
 abbrev pub IsPowered : Event → Type 0
 IsPowered (Step hart) = Unit {0}
 IsPowered (Evict line mask) = Unit {0}
 IsPowered Crash = ⊥
+IsPowered Start = Unit {0}
 
 -- the event stores to no word that has an element
 abbrev pub IsBeside : List (List Slot) → World → List Spot → Event → Type 0
@@ -68,6 +69,7 @@ IsBeside program w spots (Step hart) = (address bytes value variable element : �
     IsAtSpot spots variable element kind number → number / 8 ≢ byte_number address / 8
 IsBeside program w spots (Evict line mask) = Unit {0}
 IsBeside program w spots Crash = ⊥
+IsBeside program w spots Start = Unit {0}
 
 -- ---- Laws
 

@@ -1,5 +1,6 @@
 -- What the account of begun and kept steps represents.
-use Rattle.std.specs.Prelude.{◌≡◌, ℕ, ◌+◌, ◌<◌, ◌≤◌, List, [], ◌∷◌, length, slice_index_or, drop, replicate, sum_by, ◌==◌, if◌then◌else◌}
+use Rattle.std.specs.Prelude.{◌≡◌, ℕ, zero, suc, ◌+◌, ◌<◌, ◌≤◌, List, [], ◌∷◌, ◌++◌, length, flat_map, slice_index, slice_index_or, drop, replicate, sum_by}
+use Rattle.std.specs.Prelude.{Bool, true, false, ◌==◌, if◌then◌else◌}
 use Rattle.ido_base.specs.declared.log.Log.{Log}
 use Rattle.ido_base.specs.Words.{Word, word_at, last_position}
 use Rattle.ido_base.specs.Layout.{word_number, point_at}
@@ -33,9 +34,28 @@ bound_at account h = bound_in (drop (open_at account h).first account.stores.ite
 abbrev pub steps_of : List PointStore → (h : ℕ) → OpenSteps → HartSteps
 steps_of stores h left = record { free = left.free; bound = bound_in (drop left.first stores) h }
 
--- the account has these steps: the kept schedule, and what of each hart is free or bound
+-- all steps that are kept, one life's after another's
+abbrev pub all_kept : Steps → List ℕ
+all_kept s = flat_map (λ steps. steps) s.earlier ++ s.kept
+
+-- where each of these lives ends among all kept steps, where the first of them begins there
+abbrev pub ends_from : (at : ℕ) → List (List ℕ) → List ℕ
+ends_from at [] = []
+ends_from at (life ∷ lives) = (at + length life) ∷ ends_from (at + length life) lives
+
+-- where lives end among them, with one more that ends behind so many, if so
+abbrev pub ends_then : (ends : Bool) → List ℕ → (kept : ℕ) → List ℕ
+ends_then false places kept = places
+ends_then true places kept = places ++ kept ∷ []
+
+-- where a life begins among all kept steps, by where lives end: at the place, or where the life before it ends
+abbrev pub life_place : (at : ℕ) → (ends : List ℕ) → (life : ℕ) → ℕ
+life_place at ends zero = at
+life_place at ends (suc life) = slice_index ends life
+
+-- the account has these steps: those that are kept, of all lives, and what of each hart is free or bound
 pub record AccountInv (account : Account) (s : Steps) : Type 0 where
-  pub kept : s.kept ≡ account.kept.items
+  pub kept : all_kept s ≡ account.kept.items
   pub count : length s.harts ≡ length account.harts.items
   pub each : (h : ℕ) → h < length account.harts.items → hart_steps s h ≡ steps_of account.stores.items h (open_at account h)
   pub within : (h : ℕ) → h < length account.harts.items → (open_at account h).first ≤ length account.stores.items
@@ -54,7 +74,7 @@ hart_weight steps = steps.free + total steps.bound
 
 -- steps that are kept, free or bound
 abbrev pub weight : Steps → ℕ
-weight s = length s.kept + sum_by hart_weight s.harts
+weight s = length (all_kept s) + sum_by hart_weight s.harts
 
 -- ---- The order of positions
 

@@ -4,7 +4,7 @@ use Rattle.std.specs.Vec.{vec_capacity}
 use Rattle.ido_base.specs.declared.event.Event.{Event}
 use Rattle.ido_base.specs.declared.event.Event.TheVariants as events
 use Rattle.run_tracker.specs.declared.journal.Entry.{Entry}
-use Rattle.run_tracker.specs.declared.journal.Entry.TheVariants.{Steps, Evict, Crash}
+use Rattle.run_tracker.specs.declared.journal.Entry.TheVariants.{Steps, Evict, Crash, Start}
 use Rattle.run_tracker.specs.declared.journal.Journal.TheInside.{Inside}
 
 -- the events of an entry
@@ -12,6 +12,7 @@ abbrev pub events_in : Entry → List Event
 events_in (Steps hart count) = replicate count (events.Step hart)
 events_in (Evict line mask) = events.Evict line mask ∷ []
 events_in Crash = events.Crash ∷ []
+events_in Start = events.Start ∷ []
 
 -- events that were made, and how many there is room for in all
 pub record Recorded : Type 0 where

@@ -1,13 +1,14 @@
 -- What the parts of a life represent before and after an event.
 use Rattle.std.specs.Prelude.{◌≡◌, ℕ, ◌+◌, ◌<◌, ◌≤◌, ◌^◌, List, length, slice_get, slice_index, Option, Some, Bool, true, false, if◌then◌else◌}
 use Rattle.std.specs.Vec.{vec_capacity}
+use Rattle.ido_base.specs.declared.log.Log.{Log}
 use Rattle.ido_base.specs.declared.event.Event.{Event}
-use Rattle.ido_base.specs.declared.event.Event.TheVariants.{Step}
+use Rattle.ido_base.specs.declared.event.Event.TheVariants.{Step, Evict, Crash, Start}
 use Rattle.ido_base.specs.declared.event.Reply.{Reply}
 use Rattle.ido_base.specs.declared.event.Reply.TheVariants.{Moved, Drained, Waits, Barrier, Still, Stuck, Device}
 use Rattle.ido_base.specs.Words.{word_at, last_position}
 use Rattle.rv64_isa.specs.declared.object.Slot.{Slot}
-use Rattle.rv64_isa.specs.Machine.{Hart, World, after_event, reply_to}
+use Rattle.rv64_isa.specs.Machine.{Hart, World, IsEviction, after_event, reply_to}
 use Rattle.rv64_isa.specs.Schedule.{Steps, hart_steps, is_running, stores_point, finishes_fence}
 use Rattle.rv64_isa.specs.Frames.{IsWellFormedWorld}
 use Rattle.ido_machine.specs.declared.machine.Machine.{Machine}
@@ -19,6 +20,19 @@ use Rattle.run_tracker.specs.declared.signs.SignTable.{SignTable}
 use Rattle.run_tracker.specs.declared.stepping.Observation.{Observation}
 use Rattle.run_tracker.specs.links.SignTables.{AreTables, entry_at, sign_at}
 use Rattle.run_tracker.specs.links.AccountRepresentation.{AccountInv, AreOrdered, weight, IsAscending, point_word}
+
+-- the event is a step of one of so many harts, an eviction of their words, a crash or a start
+abbrev pub IsAmong : Log → (harts : ℕ) → Event → Type 0
+IsAmong log harts (Step h) = h < harts
+IsAmong log harts (Evict line mask) = IsEviction log harts line mask
+IsAmong log harts Crash = Unit {0}
+IsAmong log harts Start = Unit {0}
+
+abbrev pub is_start : Event → Bool
+is_start (Step h) = false
+is_start (Evict line mask) = false
+is_start Crash = false
+is_start Start = true
 
 -- a queued entry was written back
 abbrev pub is_drained : Reply → Bool

@@ -13,7 +13,7 @@ use Rattle.rv64_isa.specs.Frames.{IsWellFormedWorld}
 use Rattle.rv64_isa.specs.Schedule.{only_life}
 use Rattle.ido_machine.specs.Machines.{RepresentsMachine, program_in, log_by, events_of}
 use Rattle.run_tracker.specs.declared.life.Life.TheInside.{Inside}
-use Rattle.run_tracker.specs.links.AccountRepresentation.{AccountInv, AreOpen, AreOrdered, weight}
+use Rattle.run_tracker.specs.links.AccountRepresentation.{AccountInv, AreOpen, AreOrdered, ends_from, weight}
 use Rattle.run_tracker.specs.links.SectionRepresentation.{AreSections}
 use Rattle.run_tracker.specs.links.SignTables.{AreTables}
 use Rattle.run_tracker.specs.ObjectLives.{Course, world_of, steps_in, living, opening_of, ended_sections}
@@ -69,3 +69,6 @@ pub record LifeInv (life : Inside) : Type 0 where
   pub kept_room : length life.before.items + life.cap ≤ vec_capacity life.account.kept
   pub stores_room : life.cap ≤ vec_capacity life.account.stores
   pub stores : vec_len life.account.stores ≤ length life.journal.events
+  pub ends : life.ends.items ≡ ends_from 0 (steps_in (course_of life)).earlier
+  pub ends_room : life.cap ≤ vec_capacity life.ends
+  pub few_ends : vec_len life.ends ≤ length life.journal.events

@@ -1,4 +1,4 @@
-use Rattle.std.proofs.Common.{arith, rules, subst, sym, ◌∙◌, replicate, Option}
+use Rattle.std.proofs.Common.{arith, inl, rules, subst, sym, ◌∙◌, replicate, Option}
 use Rattle.hart_board.specs.declared.core_turn.Made.{Made}
 use Rattle.hart_board.specs.CoreTurns.{IsPlayed, TurnGives, events_made}
 use Rattle.hart_board.proofs.MadeEvents.{makes_more, plays_more, done_after, room_more, reply_next}
@@ -25,8 +25,8 @@ event-last-requires g c = let i = c.loop-count.invariant in record {
       c.args.quota c.args.event c.args.most c.loop-count.count c.loop-count.last i.played i.makes
       (λ d. cc (c.is_done.ensures.1 d, c.if-is_done.false)) c.requires.ceiling.1;
   valid =
-      still_valid g.C.Core.opening g.C.Core.history g.C.Core.hart_count g.C.Core.space g.C.Core.evictable c.args.core.now c.loop-count.core
-      (replicate c.loop-count.count c.args.event) c.args.event i.played c.requires.valid;
+      inl (still_valid g.C.Core.opening g.C.Core.history g.C.Core.hart_count g.C.Core.space g.C.Core.evictable c.args.core.now c.loop-count.core
+      (replicate c.loop-count.count c.args.event) c.args.event i.played c.requires.valid);
 }
 
 pub loop-count-preserved : goal.loop-count-preserved

@@ -1,4 +1,4 @@
-use Rattle.std.proofs.Common.{refl, arith}
+use Rattle.std.proofs.Common.{refl, arith, inl}
 use Rattle.hart_board.proofs.MadeEvents.{makes_first, plays_first, room_first}
 use Rattle.hart_board.proofs.FirstState.{played_self}
 use Rattle.hart_board.proofs.core_turn.make_one.Goals as goal
@@ -8,7 +8,7 @@ event-last-requires g c = record {
   room =
       room_first g.C.Core.behaviour g.C.Core.opening g.C.Core.history g.C.Core.hart_count g.C.Core.space g.C.Core.evictable c.args.core.now c.args.quota
       (λ d. cc (c.is_done.ensures.1 d, c.if-is_done.false)) c.requires.ceiling.0 c.requires.ceiling.1;
-  valid = c.requires.valid;
+  valid = inl c.requires.valid;
 }
 
 pub returns-then-is_done : goal.returns-then-is_done

@@ -1,5 +1,11 @@
-use Rattle.hart_driver.proofs.Rounds.{goes_on}
+use Rattle.std.proofs.Common.{inl}
+use Rattle.hart_driver.proofs.Rounds.{goes_on, valid_now}
 use Rattle.hart_driver.proofs.finishing.make_event.Goals as goal
+
+pub event-requires-clause-valid : goal.event-requires-clause-valid
+event-requires-clause-valid g c =
+    inl (valid_now g.C.Core g.V.Evictions.coming c.args.start.now c.args.core.now c.next_event-event.result c.requires.under_way.plays
+    c.next_event-event.ensures.valid)
 
 pub returns-clause-under_way : goal.returns-clause-under_way
 returns-clause-under_way g c = let e = c.event.ensures in

@@ -1,7 +1,10 @@
-use Rattle.std.proofs.Common.{◌≡◌, ◌+◌, ℕ, length, min, arith, subst}
+use Rattle.std.proofs.Common.{◌≡◌, ◌+◌, ℕ, length, min, arith, inl, subst}
 use Rattle.ido_cli.specs.links.LegRuns.{HasCrashed}
 use Rattle.ido_cli.proofs.LegRuns.{crash_fits, has_crashed}
 use Rattle.ido_cli.proofs.live.crashed_leg.Goals as goal
+
+pub event-requires-clause-valid : goal.event-requires-clause-valid
+event-requires-clause-valid g c = inl tt
 
 pub event-requires-clause-room : goal.event-requires-clause-room
 event-requires-clause-room g c =

@@ -1,7 +1,7 @@
 use Rattle.std.proofs.Common.{◌≡◌, ℕ, ◌⊎◌, ◌<◌, ◌≤◌, ◌+◌, true, false, [], length, refl, ap, sym, ◌∙◌, ◌∷◌, ◌-◌, subst, arith, inl, inr, rules, length-append}
 use Rattle.std.proofs.lemmas.Bool.{ltb-false, ltb-true}
 use Rattle.ido_base.specs.declared.event.Event.TheVariants.{Step}
-use Rattle.run_tracker.specs.ObjectLives.{Course, opening_of, with_event}
+use Rattle.run_tracker.specs.ObjectLives.{Course, LifeConfig, opening_of, with_event}
 use Rattle.ido_cli.specs.ThreadedRuns.{is_stopped_after}
 use Rattle.ido_cli.specs.links.LegRuns.{IsQuiet, LeadsTo, quiet, stopped}
 use Rattle.ido_cli.proofs.RoundRuns.{ends_quiet, goes_more, leads_none, leads_round, past_leads, past_quiet, step_leads, step_more, stopped_is}
@@ -18,6 +18,11 @@ loop-hart-init c = record {
   leads = leads_none (opening_of c.args.life.now) 0 c.args.life.now.journal;
   quiet = quiet refl (stopped (λ h below. absurd (omega (arith, below))));
 }
+
+pub event-requires-clause-valid : goal.event-requires-clause-valid
+event-requires-clause-valid c =
+    let inv = c.loop-hart.invariant in
+    inl (omega (arith, c.loop-hart-test.true, inv.end, ap (λ (m : LifeConfig). length m.runs.program) inv.opening))
 
 pub loop-hart-preserved : goal.loop-hart-preserved
 loop-hart-preserved c =

@@ -1,4 +1,4 @@
-use Rattle.std.proofs.Common.{ℕ, List, ap, sym, length, map, ◌∙◌}
+use Rattle.std.proofs.Common.{ℕ, List, [], ◌∷◌, ◌++◌, ap, ap₂, sym, length, map, ◌∙◌}
 use Rattle.std.proofs.lemmas.List.{length-map}
 use Rattle.c_tree.specs.Flats.{flat_of, thread_of}
 use Rattle.c_tree.specs.Source as m
@@ -14,5 +14,5 @@ gathered-requires-clause-ended c =
     let kept : List (List ℕ) = schedules (steps_in c.args.life.now) in
     c.in_ok-ended.ensures
     ∙ (ap (λ (lives : List (List ℕ)). map (ended_lives x (m.start x) lives) (numbers_from 0 (length c.args.flat.now.threads.items)))
-    (sym c.schedule-kept.ensures.only)
+    (ap₂ (λ (earlier : List (List ℕ)) (schedule : List ℕ). earlier ++ schedule ∷ []) (sym c.requires.alone) c.kept-kept.ensures)
     ∙ ap (λ (n : ℕ). map (ended_lives x (m.start x) kept) (numbers_from 0 n)) (sym (length-map c.args.flat.now.threads.items thread_of)))

@@ -1,7 +1,8 @@
-use Rattle.std.proofs.Common.{◌+◌, ℕ, rules, map, arith}
+use Rattle.std.proofs.Common.{◌+◌, ℕ, List, rules, map, ap, ◌∙◌, arith}
 use Rattle.std.proofs.lemmas.List.{length-map}
 use Rattle.c_tree.specs.Flats.{flat_of, thread_of}
 use Rattle.c_tree.specs.Source as m
+use Rattle.run_scripts.specs.Reports as r
 use Rattle.run_scripts.specs.links.ReportViews as views
 use Rattle.ido_cli.proofs.GatheredReports.{reported_is}
 use Rattle.ido_cli.proofs.source.reported.Goals as goal
@@ -32,8 +33,12 @@ pub returns : goal.returns
 returns c =
     let s = m.after_from (m.start (flat_of c.args.flat.now)) c.args.schedule.items in
     let ended : ℕ → ℕ = λ thread. 0 + m.ended_from (m.start (flat_of c.args.flat.now)) c.args.schedule.items thread in
-    reported_is c.sizes_stay.ensures (flat_of c.args.flat.now) c.args.schedule.items c.in_ok-unsettled.unsettled.items c.in_ok-ended.ended.items
-    (map views.variable_of c.in_ok-variables.variables.items)
+    let named : List r.Variable = map views.variable_of c.in_ok-variables.variables.items in
+    ap (λ (lives : List (List ℕ)). let s : r.ReportedState =
+    record { unsettled = c.in_ok-unsettled.unsettled.items; variables = named; ended = c.in_ok-ended.ended.items; schedules = lives } in
+    s) c.in_ok-schedules.ensures
+    ∙ reported_is c.sizes_stay.ensures (flat_of c.args.flat.now) c.args.schedule.items c.in_ok-unsettled.unsettled.items c.in_ok-ended.ended.items
+    named
     (c.in_ok-unsettled.ensures s ended c.requires.stands)
     (search (rules, c.in_ok-variables.ensures, c.variables.ensures s ended c.requires.stands))
     (c.in_ok-ended.ensures s ended c.requires.stands)

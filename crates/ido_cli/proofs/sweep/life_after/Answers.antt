@@ -1,9 +1,12 @@
-use Rattle.std.proofs.Common.{sym, ap, ◌∙◌, length, map}
+use Rattle.std.proofs.Common.{sym, ap, ◌∙◌, inl, length, map}
 use Rattle.std.proofs.lemmas.List.{length-map}
 use Rattle.rv64_isa.specs.Programs.{slot_of}
 use Rattle.run_tracker.specs.ObjectLives.{Course}
 use Rattle.ido_cli.proofs.ScriptAnswers.{all_doable}
 use Rattle.ido_cli.proofs.sweep.life_after.Goals as goal
+
+pub event-requires-clause-valid : goal.event-requires-clause-valid
+event-requires-clause-valid c = inl tt
 
 pub play-all-requires-clause-lines : goal.play-all-requires-clause-lines
 play-all-requires-clause-lines c = λ _.

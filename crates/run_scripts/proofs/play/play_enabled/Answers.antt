@@ -1,4 +1,4 @@
-use Rattle.std.proofs.Common.{◌≡◌, ◌+◌, ◌-◌, ◌<◌, length, Some, None, sym, ◌∙◌, ap, subst, arith, length-append}
+use Rattle.std.proofs.Common.{◌≡◌, ◌+◌, ◌-◌, ◌<◌, length, Some, None, sym, ◌∙◌, ap, subst, arith, length-append, inl}
 use Rattle.ido_base.specs.Cores.{played, least_enabled}
 use Rattle.run_scripts.proofs.EventsWithinRoom.{whole, whole_fits}
 use Rattle.run_scripts.proofs.EnabledSteps as s
@@ -81,7 +81,7 @@ event-requires-clause-valid g c =
     sym (c.can_step.ensures ∙ ap (λ o. least_enabled b (played b o now) (g.C.Core.hart_count c.loop.core)) inv.0
     ∙ ap (least_enabled b (played b opening now)) inv.4) in
     let goes : least_enabled b (played b opening now) harts ≡ Some c.in-Some.hart = asked ∙ c.in-Some.is in
-    subst (λ n. c.in-Some.hart < n) (sym inv.4) (s.is_hart b harts (played b opening now) harts c.in-Some.hart goes)
+    inl (subst (λ n. c.in-Some.hart < n) (sym inv.4) (s.is_hart b harts (played b opening now) harts c.in-Some.hart goes))
 
 pub loop-preserved : goal.loop-preserved
 loop-preserved g c =

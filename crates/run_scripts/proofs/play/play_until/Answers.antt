@@ -1,4 +1,4 @@
-use Rattle.std.proofs.Common.{◌≡◌, ◌+◌, ◌-◌, length, true, false, sym, ◌∙◌, ap, arith, length-append}
+use Rattle.std.proofs.Common.{◌≡◌, ◌+◌, ◌-◌, length, true, false, sym, ◌∙◌, ap, arith, inl, length-append}
 use Rattle.ido_base.specs.declared.limits.TheConstants.{MOST_STEPS_TO}
 use Rattle.ido_base.specs.declared.event.Event.TheVariants.{Step}
 use Rattle.ido_base.specs.Cores.{played, passed_count}
@@ -6,6 +6,9 @@ use Rattle.run_scripts.specs.links.Goals.{reaches}
 use Rattle.run_scripts.proofs.EventsWithinRoom.{whole, whole_fits}
 use Rattle.run_scripts.proofs.GoalSteps as s
 use Rattle.run_scripts.proofs.play.play_until.Goals as goal
+
+pub event-requires-clause-valid : goal.event-requires-clause-valid
+event-requires-clause-valid g c = inl (omega (arith, c.requires.hart, c.loop.invariant.5))
 
 pub returns-then-stopped-clause-history : goal.returns-then-stopped-clause-history
 returns-then-stopped-clause-history g c =

@@ -72,6 +72,7 @@ invariant_of-self c =
     (record {
       machine = c.go_to.new.self;
       account = c.begin_more.new.self;
+      ends = life.ends;
       journal = c.push_steps.new.self;
       counts = life.counts;
       sections = life.sections;
@@ -86,9 +87,12 @@ invariant_of-self c =
         kept_room = c.begin_more.ensures.capacity;
         stores_room = ap vec_capacity c.begin_more.ensures.stores;
         stores = omega (arith, ap vec_len c.begin_more.ensures.stores);
+        ends_room = refl;
+        few_ends = omega arith;
       };
       world = c.go_to.ensures.world (world_of now) it stands.machine some.1;
       account = c.begin_more.ensures.stands (steps_in now) stands.account;
+      ends = refl;
       counts = refl;
       sections = refl;
     })

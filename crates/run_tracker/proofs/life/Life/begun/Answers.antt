@@ -10,7 +10,7 @@ use Rattle.rv64_isa.specs.Schedule.{first_steps, only_life, no_steps}
 use Rattle.ido_base.specs.Cores.{point_stores, finished_fences}
 use Rattle.ido_machine.specs.Machines.{RepresentsMachine, program_in}
 use Rattle.run_tracker.specs.links.Journals.{Recorded}
-use Rattle.run_tracker.specs.links.AccountRepresentation.{AccountInv, AreOpen, AreOrdered, weight}
+use Rattle.run_tracker.specs.links.AccountRepresentation.{AccountInv, AreOpen, AreOrdered, ends_from, weight}
 use Rattle.run_tracker.specs.declared.sections.HartSections.{HartSections}
 use Rattle.run_tracker.specs.links.SectionRepresentation.{AreSections}
 use Rattle.run_tracker.specs.links.SignTables.{AreTables}
@@ -45,6 +45,7 @@ invariant_of-result c =
       tables = c.in_ok-tables_of.field-0;
       machine = machine;
       account = account;
+      ends = c.in_ok-ends.ends;
       journal = journal;
       counts = c.in_ok-new-3.field-0;
       sections = c.in_ok-sections.sections;
@@ -109,4 +110,7 @@ invariant_of-result c =
       kept_room = omega (arith, c.in_ok-new.ensures.kept, same_before);
       stores_room = omega (arith, c.in_ok-new.ensures.reserved);
       stores = omega (arith, c.in_ok-new.ensures.stores);
+      ends = subst (λ (x : Course). c.in_ok-ends.ends.items ≡ ends_from 0 (steps_in x).earlier) is c.in_ok-ends.ensures.none;
+      ends_room = omega (arith, c.in_ok-ends.ensures.room);
+      few_ends = omega (arith, c.in_ok-ends.ensures.len);
     }
