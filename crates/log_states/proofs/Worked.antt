@@ -62,10 +62,6 @@ left m = left_in (crashed m.words)
         durable_point V1 words 0 ∷ mask_with (record_of V1 words 0) ∷ resumed_register V1 words 0 8 ∷ resumed_register V1 words 0 9
         ∷ resumed_register V1 words 0 3 ∷ []
 
-evicted_after : (count : ℕ) → Bool → LogConfig
-unfolding after first effects with_eviction
-evicted_after count evicts = with_eviction evicts (after count effects first)
-
 nothing : List ℕ
 nothing = 0 ∷ 0 ∷ 0 ∷ 0 ∷ 0 ∷ []
 
@@ -73,30 +69,42 @@ everything : List ℕ
 everything = 0x1_0041 ∷ 1 ∷ 7 ∷ 5 ∷ 256 ∷ []
 
 -- after none of the effects, the first, and so on to all nine
-counts : List ℕ
-counts = 0 ∷ 1 ∷ 2 ∷ 3 ∷ 4 ∷ 5 ∷ 6 ∷ 7 ∷ 8 ∷ 9 ∷ []
+states : List Effect → LogConfig → List LogConfig
+unfolding made
+states [] m = m ∷ []
+states (e ∷ es) m = m ∷ states es (made m e es)
 
--- with no eviction the last fence commits
-without_evictions : map (λ count. left (evicted_after count false)) counts ≡
-    nothing ∷ nothing ∷ nothing ∷ nothing ∷ nothing ∷ nothing ∷ nothing ∷ nothing ∷ nothing ∷ everything ∷ []
-unfolding left locks_in evicted_after after made first effects b registers with_eviction nothing everything counts
-without_evictions = refl
+-- what a crash leaves and whether the boundary is committed, with no eviction and with one
+record Told : Type 0 where
+  left_plainly : List ℕ
+  committed_plainly : Bool
+  left_evicted : List ℕ
+  committed_evicted : Bool
 
--- with an eviction, the boundary may be committed as soon as the point is stored
-with_evictions : map (λ count. left (evicted_after count true)) counts ≡
-    nothing ∷ nothing ∷ nothing ∷ nothing ∷ nothing ∷ nothing ∷ nothing ∷ everything ∷ everything ∷ everything ∷ []
-unfolding left locks_in evicted_after after made first effects b registers with_eviction nothing everything counts
-with_evictions = refl
+told : LogConfig → Told
+unfolding left
+told m = record {
+  left_plainly = left m;
+  committed_plainly = is_committed V1 0 m;
+  left_evicted = left (with_eviction true m);
+  committed_evicted = is_committed V1 0 (with_eviction true m);
+}
 
-uncommitted_without : map
-    (λ count. is_committed V1 0 (evicted_after count false)) counts ≡ false ∷ false ∷ false ∷ false ∷ false ∷ false ∷ false ∷ false ∷ false ∷ true ∷ []
-unfolding evicted_after after made first effects b registers with_eviction counts
-uncommitted_without = refl
+before_point : Told
+before_point = record { left_plainly = nothing; committed_plainly = false; left_evicted = nothing; committed_evicted = false }
 
-committed_with : map (λ count. is_committed V1 0 (evicted_after count true)) counts
-    ≡ false ∷ false ∷ false ∷ false ∷ false ∷ false ∷ false ∷ true ∷ true ∷ true ∷ []
-unfolding evicted_after after made first effects b registers with_eviction counts
-committed_with = refl
+-- with an eviction the boundary may be committed as soon as the point is stored
+at_point : Told
+at_point = record { left_plainly = nothing; committed_plainly = false; left_evicted = everything; committed_evicted = true }
+
+-- with none the last fence commits
+at_end : Told
+at_end = record { left_plainly = everything; committed_plainly = true; left_evicted = everything; committed_evicted = true }
+
+each_crash : map told (states effects first)
+    ≡ before_point ∷ before_point ∷ before_point ∷ before_point ∷ before_point ∷ before_point ∷ before_point ∷ at_point ∷ at_point ∷ at_end ∷ []
+unfolding told left locks_in states made first effects b registers with_eviction nothing everything before_point at_point at_end
+each_crash = refl
 
 resumes_there : resume_of (recorded_by b 0 0x1_0040 registers).point ≡ 0x1_0040
 unfolding b registers
@@ -115,13 +123,13 @@ mask_evicted : (line : ℕ) → LogConfig → LogConfig
 mask_evicted line m = record { words = evicted m.words line 1; queue = m.queue; rest = m.rest }
 
 -- where the next mask is in the other bank, its eviction changes nothing
-other_bank : left (mask_evicted 1025 (after 1 (next 1) (evicted_after 9 false))) ≡ everything
-unfolding left locks_in evicted_after after made first effects b registers with_eviction next mask_evicted everything
+other_bank : left (mask_evicted 1025 (after 1 (next 1) (after 9 effects first))) ≡ everything
+unfolding left locks_in after made first effects b registers with_eviction next mask_evicted everything
 other_bank = refl
 
 -- where the next mask is in the same bank, the old point would have the new mask
-same_bank : left (mask_evicted 1029 (after 1 (next 0) (evicted_after 9 false))) ≡ 0x1_0041 ∷ 3 ∷ 7 ∷ 5 ∷ 256 ∷ []
-unfolding left locks_in evicted_after after made first effects b registers with_eviction next mask_evicted
+same_bank : left (mask_evicted 1029 (after 1 (next 0) (after 9 effects first))) ≡ 0x1_0041 ∷ 3 ∷ 7 ∷ 5 ∷ 256 ∷ []
+unfolding left locks_in after made first effects b registers with_eviction next mask_evicted
 same_bank = refl
 
 -- ---- A log that lists its locks: locks 5 and 9 are held, and x8 and x9 kept

@@ -9,7 +9,7 @@ use std::alloc::Global;
 const KIND: Kind = Kind::Int;
 
 /// A variable's value.
-pub fn value() -> Placed {
+pub(crate) fn value() -> Placed {
     Placed {
         place: Place(0),
         expr: Expr::Variable {
@@ -21,7 +21,7 @@ pub fn value() -> Placed {
 }
 
 /// A local as a target.
-pub fn target() -> Lvalue {
+pub(crate) fn target() -> Lvalue {
     Lvalue::Local {
         place: Place(0),
         local: 0,
@@ -30,7 +30,7 @@ pub fn target() -> Lvalue {
 }
 
 /// A step that reads and writes nothing.
-pub fn step(a: Global, action: Action<'_>) -> Node<'_> {
+pub(crate) fn step(a: Global, action: Action<'_>) -> Node<'_> {
     Node {
         place: Place(0),
         action,
@@ -42,7 +42,7 @@ pub fn step(a: Global, action: Action<'_>) -> Node<'_> {
 }
 
 /// A store into the location.
-pub fn store<'a>(a: Global, written: Location, next: usize) -> Node<'a> {
+pub(crate) fn store<'a>(a: Global, written: Location, next: usize) -> Node<'a> {
     let mut node = step(
         a,
         Action::Store {
