@@ -21,6 +21,8 @@ use Rattle.c_tree.specs.Ranges.{Index, Interval, AllFit, index_fits, range_of, l
 use Rattle.c_tree.specs.Elaboration.{kind_of}
 use Rattle.c_tree.specs.WellFormed.{IsExpr, IsPlaced, IsTarget, Fits, TargetFits, IndexFits, IsResult, IsStatement, AreStatements, AreArms, HasProgramArm}
 use Rattle.c_tree.specs.WellFormed.{IsReturned, IsFunction, IsProgram, HasArm, IsFlatPlaced, IsFlatTarget, AreFlatStatements, AreFlatArms, IsWellFormed}
+use Rattle.c_tree.specs.WellFormed.{IsFlatLockName}
+use Rattle.c_tree.proofs.Public.{single_there}
 use Rattle.c_inline.specs.links.KnownWeights.{Low}
 use Rattle.c_inline.proofs.CallDepth.{low_all}
 use Rattle.c_inline.proofs.WeightsByDepth.{calls_of_some}
@@ -201,6 +203,12 @@ module _ (x : p.Program) (prog : IsProgram x) (fit : AllFit x) where
   both_formed final f.no_statement ys h k = k
   both_formed final (f.statement_and y xs) ys h k = (h.0, both_formed final xs ys h.1 k)
 
+  -- a name has no key in the program, and none in the flat form
+  name_formed : (n : ℕ) (ks : List Kind) (mutex : ℕ) (key : Option e.Placed) → (mutex < length x.mutexes) × (key ≡ None) →
+      IsFlatLockName x.mutexes ks (i.shifted_lock n (record { mutex = mutex; key = key }))
+  name_formed n ks mutex None h = single_there x.mutexes mutex prog.single h.0
+  name_formed n ks mutex (Some key) h = absurd (none-some key (sym h.1))
+
   placed_formed : (n : ℕ) (js ks : List Kind) → At n js ks → (y : e.Placed) → IsPlaced x.variables js y → AllIn x.variables x.mutexes (r.placed_indexes y) →
       IsFlatPlaced z ks (shifted_placed n y)
   placed_formed n js ks at y h k = (expr_shifted x.variables x.mutexes n js ks at y.expr h, fits_shifted x.variables x.mutexes n y.expr k)
@@ -367,9 +375,9 @@ module _ (x : p.Program) (prog : IsProgram x) (fit : AllFit x) where
               );
             }
         statement_formed ks (p.Lock place name) at h k c =
-            record { grows = into_self ks; formed = λ final into. ((h.0, ap (option_map (shifted_placed n)) h.1), tt) }
+            record { grows = into_self ks; formed = λ final into. (name_formed n final name.mutex name.key h, tt) }
         statement_formed ks (p.Unlock place name) at h k c =
-            record { grows = into_self ks; formed = λ final into. ((h.0, ap (option_map (shifted_placed n)) h.1), tt) }
+            record { grows = into_self ks; formed = λ final into. (name_formed n final name.mutex name.key h, tt) }
 
         statements_formed : (ks : List Kind) (ys : p.Statements) → At n js ks → AreStatements x js ys → AllIn x.variables x.mutexes (r.statements_indexes ys) →
             Called (i.statements_calls ys) → Good ks (i.statements fs bodies n ks ys)

@@ -1,5 +1,5 @@
 -- What crates above may use of this crate's proofs, passed on from one place. Declares nothing.
 pub use Rattle.c_ranges.proofs.HeldNumberLists.{Pair, all_held, elements_is, zip_at, zip_found}
 pub use Rattle.c_ranges.proofs.RunsKeepInvariants.{begins_so, stays_so}
-pub use Rattle.c_ranges.proofs.StepEvaluations.{stops}
+pub use Rattle.c_ranges.proofs.StepEvaluations.{key_expr, key_fits, lock_below, stops}
 pub use Rattle.c_ranges.proofs.ValuesInRanges.{fits_element, foreseen}

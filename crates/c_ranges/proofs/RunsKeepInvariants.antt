@@ -11,7 +11,7 @@ use Rattle.ido_ints.specs.Kinds.{Holds}
 use Rattle.ido_ints.specs.Reduction.{reduced}
 use Rattle.ido_ints.proofs.Public.{Holds-reduced}
 use Rattle.c_tree.specs.Exprs as e
-use Rattle.c_tree.specs.Programs.{Variable}
+use Rattle.c_tree.specs.Programs.{Mutex, Variable}
 use Rattle.c_tree.specs.Flats as f
 use Rattle.c_tree.specs.Ranges.{elements_of}
 use Rattle.c_tree.specs.Source as m
@@ -25,16 +25,16 @@ use Rattle.c_ranges.proofs.HeldNumberLists.{all_held, one_element, elements_is, 
 
 -- ---- The start
 
-numbers_start : (mutexes : ℕ) (v : Variable) → IsVariable mutexes v → AreNumbersOf v v.initial
-numbers_start mutexes v h = record { count = h.count; held = h.held }
+numbers_start : (ms : List Mutex) (v : Variable) → IsVariable ms v → AreNumbersOf v v.initial
+numbers_start ms v h = record { count = h.count; held = h.held }
 
 thread_start : (x : f.Flat) (t : f.Thread) → AreFlatStatements x t.locals t.body → IsThreadOf x t.locals (m.thread_start t)
 thread_start x t h = record { left = left_opened_all x t.locals t.body h; locals = zeros_held t.locals; pending = λ q e. absurd (none-some q e) }
 
 pub begins_so : (x : f.Flat) → IsWellFormed x → IsStateOf x (m.start x)
 begins_so x w = record {
-  variables = zip_map AreNumbersOf (λ (v : Variable). v.initial) (IsVariable (length x.mutexes))
-      (numbers_start (length x.mutexes)) x.variables w.shared.variables;
+  variables = zip_map AreNumbersOf (λ (v : Variable). v.initial) (IsVariable x.mutexes)
+      (numbers_start x.mutexes) x.variables w.shared.variables;
   holders = length-replicate (length x.mutexes) None;
   threads = zip_map (λ (t : f.Thread) (thread : m.Thread). IsThreadOf x t.locals thread) m.thread_start
       (λ (t : f.Thread). AreFlatStatements x t.locals t.body) (thread_start x) x.threads w.threads;

@@ -2,19 +2,20 @@
 use Rattle.std.proofs.Common.{◌≡◌, refl, sym, ◌∙◌, subst, ◌⊎◌, inl, inr, ℕ, ◌<◌, List, [], ◌∷◌, ◌++◌, length, Bool, true, false, Option, Some, None, arith}
 use Rattle.std.specs.Prelude.{ℤ, slice_get, if◌then◌else◌}
 use Rattle.std.specs.List.{AllByRecursion, AllZip}
-use Rattle.std.proofs.lemmas.Option.{none-some, slice_get-get_or}
+use Rattle.std.proofs.lemmas.Option.{none-some, slice_get-get_or, slice_get_within}
 use Rattle.ido_base.specs.declared.place.Place.{Place}
 use Rattle.ido_ints.specs.declared.kinds.Kind.{Kind}
 use Rattle.ido_ints.specs.Kinds.{Holds}
 use Rattle.c_tree.specs.Exprs as e
+use Rattle.c_tree.specs.Programs.{Mutex, Variable}
 use Rattle.c_tree.specs.Flats as f
-use Rattle.c_tree.specs.Ranges.{elements_of, expr_indexes, lock_indexes}
+use Rattle.c_tree.specs.Ranges.{elements_of, mutexes_of, expr_indexes, lock_indexes}
 use Rattle.c_tree.specs.Temporaries.{key_exprs}
 use Rattle.c_tree.specs.Source as m
 use Rattle.c_tree.specs.Source.{source_step}
-use Rattle.c_tree.specs.WellFormed.{IsExpr, Fits, IsFlatPlaced, IsFlatStatement, IsLockName}
+use Rattle.c_tree.specs.WellFormed.{IsExpr, Fits, IsFlatPlaced, IsFlatStatement, IsFlatLockName}
 use Rattle.c_tree.specs.Values.{lock_number}
-use Rattle.c_tree.proofs.Public.{plain_lock}
+use Rattle.c_tree.proofs.Public.{array_within}
 use Rattle.c_ranges.specs.Laws.{IsForeseen}
 use Rattle.c_ranges.specs.RunInvariants.{AreNumbersOf, IsStatementLeft, IsThreadOf, IsStateOf, IsElement}
 use Rattle.c_ranges.specs.RunInvariants.{IsNext, IsOver, IsAtHeldLock, step_exprs, step_indexes}
@@ -22,15 +23,58 @@ use Rattle.c_ranges.proofs.ValuesInRanges.{foreseen, fits_element}
 use Rattle.c_ranges.proofs.HeldNumberLists.{Pair, zip_found, all_append, all_held}
 use Rattle.c_ranges.proofs.RunsKeepInvariants.{step_is}
 
+-- ---- Keys
+
+-- an expression that is formed where there are no variables is formed where there are some, and has no indexes
+pub key_expr : (vs : List Variable) (ks : List Kind) (z : e.Expr) → IsExpr [] ks z → IsExpr vs ks z
+key_expr vs ks (e.Constant value) h = tt
+key_expr vs ks (e.Local local kind) h = h
+key_expr vs ks (e.Variable place variable kind) h = absurd (none-some h.it h.found)
+key_expr vs ks (e.Element place variable kind index_place index) h = absurd (none-some h.0.it h.0.found)
+key_expr vs ks (e.Address variable index_place index) h = absurd h
+key_expr vs ks (e.Referent place last local) h = absurd h
+key_expr vs ks (e.Unary op operand) h = key_expr vs ks operand h
+key_expr vs ks (e.Cast kind operand) h = key_expr vs ks operand h
+key_expr vs ks (e.Converted kind operand) h = key_expr vs ks operand h
+key_expr vs ks (e.Binary op left right) h = (key_expr vs ks left h.0, key_expr vs ks right h.1)
+key_expr vs ks (e.Conditional kind condition chosen otherwise) h =
+    (key_expr vs ks condition h.0, key_expr vs ks chosen h.1, key_expr vs ks otherwise h.2)
+
+pub key_fits : (vs : List Variable) (ks : List Kind) (z : e.Expr) → IsExpr [] ks z → Fits vs z
+key_fits vs ks (e.Constant value) h = tt
+key_fits vs ks (e.Local local kind) h = tt
+key_fits vs ks (e.Variable place variable kind) h = tt
+key_fits vs ks (e.Element place variable kind index_place index) h = absurd (none-some h.0.it h.0.found)
+key_fits vs ks (e.Address variable index_place index) h = absurd h
+key_fits vs ks (e.Referent place last local) h = absurd h
+key_fits vs ks (e.Unary op operand) h = key_fits vs ks operand h
+key_fits vs ks (e.Cast kind operand) h = key_fits vs ks operand h
+key_fits vs ks (e.Converted kind operand) h = key_fits vs ks operand h
+key_fits vs ks (e.Binary op left right) h = (key_fits vs ks left h.0, key_fits vs ks right h.1)
+key_fits vs ks (e.Conditional kind condition chosen otherwise) h =
+    (key_fits vs ks condition h.0, key_fits vs ks chosen h.1, key_fits vs ks otherwise h.2)
+
+below_by : (ms : List Mutex) (ks : List Kind) (ls : List ℤ) (mutex : ℕ) (key : Option e.Placed) → AllZip Holds ks ls →
+    IsFlatLockName ms ks (record { mutex = mutex; key = key }) → lock_number ls (record { mutex = mutex; key = key }) < length ms
+below_by ms ks ls mutex None locals h = slice_get_within ms mutex h.it h.found
+below_by ms ks ls mutex (Some key) locals h =
+    let named = fits_element (mutexes_of ms mutex) key.expr h.fits ls [] (all_held [] ks ls [] locals tt key.expr h.reads) in
+    omega (arith, named.below, array_within ms mutex h.array)
+
+-- the lock of a name is there, whatever its key's locals hold
+pub lock_below : (ms : List Mutex) (ks : List Kind) (ls : List ℤ) (name : e.LockName) → AllZip Holds ks ls → IsFlatLockName ms ks name →
+    lock_number ls name < length ms
+lock_below ms ks ls name locals h = below_by ms ks ls name.mutex name.key locals h
+
 -- ---- What is evaluated
 
 module _ (x : f.Flat) (ks : List Kind) (ls : List ℤ) (ns : List (List ℤ)) (locals : AllZip Holds ks ls) (variables : AllZip AreNumbersOf x.variables ns) where
   -- a name without a key evaluates nothing
-  no_key_seen : (name : e.LockName) → name.key ≡ None → AllByRecursion (λ (z : e.Placed). IsForeseen ls ns z.expr) (key_exprs name)
-  no_key_seen name none = rw none tt
-
-  no_key_indexed : (name : e.LockName) → name.key ≡ None → AllByRecursion (IsElement x.variables x.mutexes ls ns) (lock_indexes name)
-  no_key_indexed name none = rw none tt
+  key_seen : (mutex : ℕ) (key : Option e.Placed) → IsFlatLockName x.mutexes ks (record { mutex = mutex; key = key }) →
+      AllByRecursion (λ (z : e.Placed). IsForeseen ls ns z.expr) (key_exprs (record { mutex = mutex; key = key }))
+  key_seen mutex None h = tt
+  key_seen mutex (Some key) h =
+      (foreseen ls ns key.expr (all_held x.variables ks ls ns locals variables key.expr (key_expr x.variables ks key.expr h.reads)), tt)
 
   seen : (z : e.Placed) → IsFlatPlaced x ks z → IsForeseen ls ns z.expr
   seen z h = foreseen ls ns z.expr (all_held x.variables ks ls ns locals variables z.expr h.0)
@@ -43,8 +87,8 @@ module _ (x : f.Flat) (ks : List Kind) (ls : List ℤ) (ns : List (List ℤ)) (l
   all_seen (f.If place (f.arm_and condition body arms) otherwise) h = (seen condition h.1.0, tt)
   all_seen (f.While place condition body) h = (seen condition h.0, tt)
   all_seen (f.Do place body condition) h = tt
-  all_seen (f.Lock place name) h = no_key_seen name h.1
-  all_seen (f.Unlock place name) h = no_key_seen name h.1
+  all_seen (f.Lock place name) h = key_seen name.mutex name.key h
+  all_seen (f.Unlock place name) h = key_seen name.mutex name.key h
 
   elements : (z : e.Expr) → IsExpr x.variables ks z → Fits x.variables z → AllByRecursion (IsElement x.variables x.mutexes ls ns) (expr_indexes z)
   elements (e.Constant value) h g = tt
@@ -67,6 +111,16 @@ module _ (x : f.Flat) (ks : List Kind) (ls : List ℤ) (ns : List (List ℤ)) (l
       (all_append (IsElement x.variables x.mutexes ls ns) (expr_indexes condition) (expr_indexes chosen) (elements condition h.0 g.0) (elements chosen h.1 g.1))
       (elements otherwise h.2 g.2)
 
+  -- a key is the number of a mutex of its array
+  key_indexed : (mutex : ℕ) (key : Option e.Placed) → IsFlatLockName x.mutexes ks (record { mutex = mutex; key = key }) →
+      AllByRecursion (IsElement x.variables x.mutexes ls ns) (lock_indexes (record { mutex = mutex; key = key }))
+  key_indexed mutex None h = tt
+  key_indexed mutex (Some key) h =
+      let formed = key_expr x.variables ks key.expr h.reads in (
+        fits_element (mutexes_of x.mutexes mutex) key.expr h.fits ls ns (all_held x.variables ks ls ns locals variables key.expr formed),
+        elements key.expr formed (key_fits x.variables ks key.expr h.reads),
+      )
+
   all_elements : (y : f.Statement) → IsFlatStatement x ks y → AllByRecursion (IsElement x.variables x.mutexes ls ns) (step_indexes y)
   all_elements (f.Assign place (e.ToLocal name local kind) value) h = elements value.expr h.1.0 h.1.1
   all_elements (f.Assign place (e.ToVariable at variable kind) value) h = elements value.expr h.1.0 h.1.1
@@ -80,8 +134,8 @@ module _ (x : f.Flat) (ks : List Kind) (ls : List ℤ) (ns : List (List ℤ)) (l
   all_elements (f.If place (f.arm_and condition body arms) otherwise) h = elements condition.expr h.1.0.0 h.1.0.1
   all_elements (f.While place condition body) h = elements condition.expr h.0.0 h.0.1
   all_elements (f.Do place body condition) h = tt
-  all_elements (f.Lock place name) h = no_key_indexed name h.1
-  all_elements (f.Unlock place name) h = no_key_indexed name h.1
+  all_elements (f.Lock place name) h = key_indexed name.mutex name.key h
+  all_elements (f.Unlock place name) h = key_indexed name.mutex name.key h
 
 module _ (x : f.Flat) (s : m.State) (t : ℕ) (it : m.Thread) (is : IsStateOf x s) where
   abbrev Own : Type 0
@@ -120,9 +174,9 @@ module _ (x : f.Flat) (s : m.State) (t : ℕ) (it : m.Thread) (is : IsStateOf x 
     at_end false e done h = absurd (none-some _ (sym h))
 
     at_lock : (place : Place) (name : e.LockName) (rest : List f.Statement) (o : Option (Option ℕ)) → slice_get s.holders (lock_number it.locals name) ≡ o →
-        it.left ≡ f.Lock place name ∷ rest → IsLockName (length x.mutexes) name → m.statement_step s t it (f.Lock place name) rest ≡ None → Stops
+        it.left ≡ f.Lock place name ∷ rest → lock_number it.locals name < length x.mutexes → m.statement_step s t it (f.Lock place name) rest ≡ None → Stops
     at_lock place name rest None e first below h =
-        let low : lock_number it.locals name < length s.holders = omega (arith, below.0, is.holders, plain_lock it.locals name below.1) in
+        let low : lock_number it.locals name < length s.holders = omega (arith, below, is.holders) in
         absurd (none-some _ (sym e ∙ slice_get-get_or s.holders (lock_number it.locals name) None low))
     at_lock place name rest (Some None) e first below h =
         let yes : m.statement_step s t it (f.Lock place name) rest ≡ Some
@@ -148,7 +202,9 @@ module _ (x : f.Flat) (s : m.State) (t : ℕ) (it : m.Thread) (is : IsStateOf x 
     at_statement own (f.If place (f.arm_and condition body arms) otherwise) rest first k h = absurd (none-some _ (sym h))
     at_statement own (f.While place condition body) rest first k h = absurd (none-some _ (sym h))
     at_statement own (f.Do place body condition) rest first k h = absurd k.0.0
-    at_statement own (f.Lock place name) rest first k h = at_lock place name rest (slice_get s.holders (lock_number it.locals name)) refl first k.0.1 h
+    at_statement own (f.Lock place name) rest first k h =
+        at_lock place name rest (slice_get s.holders (lock_number it.locals name)) refl first
+        (lock_below x.mutexes own.it.locals it.locals name own.related.locals k.0.1) h
     at_statement own (f.Unlock place name) rest first k h = absurd (none-some _ (sym h))
 
     at_left : (own : Own) (left : List f.Statement) → it.left ≡ left → m.left_step s t it left ≡ None → Stops

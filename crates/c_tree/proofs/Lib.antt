@@ -4,6 +4,7 @@ mod ProgramRows
 mod FlatRows
 mod PlainNames
 mod SameNames
+mod NamesInTables
 mod KnownNames
 mod HeldPrices
 mod Samples

@@ -1,14 +1,20 @@
 -- The names of a thread's locks where no mutex is in an array: number of name, of mutex and of lock are one.
-use Rattle.std.proofs.Common.{◌≡◌, ◌==◌, ◌<◌, ℕ, zero, suc, ◌+◌, List, [], ◌∷◌, length, slice_get, Option, Some, None, false}
-use Rattle.std.proofs.Common.{refl, ap, ◌∙◌, arith, tests, rules}
+use Rattle.std.proofs.Common.{◌≡◌, ◌==◌, ◌<◌, ◌≤◌, ℕ, zero, suc, ◌+◌, ◌-◌, min, List, [], ◌∷◌, length, take, drop, slice_get, Option, Some, None}
+use Rattle.std.proofs.Common.{true, false, is_some, refl, sym, ap, subst, ◌∙◌, arith, tests, rules}
 use Rattle.std.specs.List.{AllByRecursion}
+use Rattle.std.proofs.lemmas.Bool.{true≢false}
+use Rattle.std.proofs.lemmas.List.{length-take, length-drop, length-replicate}
+use Rattle.std.proofs.lemmas.Option.{none-some, same_Some, slice_get_within}
+use Rattle.ido_ints.specs.declared.kinds.Kind.{Kind}
 use Rattle.c_tree.specs.Exprs as e
-use Rattle.c_tree.specs.Programs.{Mutex}
+use Rattle.c_tree.specs.Programs.{Mutex, Variable, Guard, By, Each}
 use Rattle.c_tree.specs.Flats as f
 use Rattle.c_tree.specs.LockNames.{plain_from, plain_names, names_from, once, locks_in_all, lock_names, number_in}
 use Rattle.std.specs.Prelude.{ℤ}
 use Rattle.c_tree.specs.Values.{lock_number}
-use Rattle.c_tree.specs.WellFormed.{IsSingle}
+use Rattle.c_tree.specs.Ranges.{mutexes_of}
+use Rattle.c_tree.specs.LockDiscipline.{variable_guard}
+use Rattle.c_tree.specs.WellFormed.{IsSingle, IsSingleAt, IsArrayAt, IsGuard, IsVariable, IsFlatLockName}
 
 -- ---- The table
 
@@ -55,6 +61,71 @@ past_from n m (suc count) h =
 -- one that isn't has the number past all
 pub plain_past : (count mutex : ℕ) → (mutex < count → ⊥) → number_in (plain_names count) (named mutex) ≡ count
 plain_past count mutex h = past_from 0 mutex count (λ l. h (omega (arith, l)))
+
+-- ---- Names of well formed flat forms
+
+there_by : (ms : List Mutex) (ks : List Kind) (mutex : ℕ) (key : Option e.Placed) → IsFlatLockName ms ks (record { mutex = mutex; key = key }) →
+    mutex < length ms
+there_by ms ks mutex None h = slice_get_within ms mutex h.it h.found
+there_by ms ks mutex (Some key) h = slice_get_within ms mutex h.array.it h.array.found
+
+-- the mutex of a name is there
+pub name_there : (ms : List Mutex) (ks : List Kind) (x : e.LockName) → IsFlatLockName ms ks x → x.mutex < length ms
+name_there ms ks x h = there_by ms ks x.mutex x.key h
+
+-- an array ends among the mutexes
+pub array_within : (ms : List Mutex) (first : ℕ) → IsArrayAt ms first → first + mutexes_of ms first ≤ length ms
+array_within ms first a =
+    let count : ℕ = mutexes_of ms first in
+    let inside : first < length ms = slice_get_within ms first a.it a.found in
+    let cut : length (take count (drop first ms)) ≡ min count (length ms - first) = length-take count (drop first ms) ∙ ap (min count) (length-drop first ms) in
+    let whole : length (take count (drop first ms)) ≡ count = ap length a.whole ∙ length-replicate count a.it in
+    omega (arith, inside, cut, whole)
+
+single_found : (ms : List Mutex) (n : ℕ) (it : Mutex) → AllByRecursion IsSingle ms → slice_get ms n ≡ Some it → IsSingle it
+single_found [] n it h g = absurd (none-some it g)
+single_found (m ∷ ms) zero it h g = subst IsSingle (same_Some m it g) h.0
+single_found (m ∷ ms) (suc n) it h g = single_found ms n it h.1 g
+
+-- where no mutex is in an array, there is none
+no_array : (ms : List Mutex) (first : ℕ) → AllByRecursion IsSingle ms → IsArrayAt ms first → ⊥
+no_array ms first single a =
+    let array : is_some a.it.length ≡ true = a.array in
+    true≢false (sym array ∙ ap (λ (o : Option ℕ). is_some o) (single_found ms first a.it single a.found))
+
+keyless_by : (ms : List Mutex) (ks : List Kind) (mutex : ℕ) (key : Option e.Placed) → AllByRecursion IsSingle ms →
+    IsFlatLockName ms ks (record { mutex = mutex; key = key }) → key ≡ None
+keyless_by ms ks mutex None single h = refl
+keyless_by ms ks mutex (Some key) single h = absurd (no_array ms mutex single h.array)
+
+-- and no name has a key
+pub plain_name : (ms : List Mutex) (ks : List Kind) (x : e.LockName) → AllByRecursion IsSingle ms → IsFlatLockName ms ks x → x.key ≡ None
+plain_name ms ks x single h = keyless_by ms ks x.mutex x.key single h
+
+-- and each mutex that is there is in none
+pub single_there : (ms : List Mutex) (n : ℕ) → AllByRecursion IsSingle ms → n < length ms → IsSingleAt ms n
+single_there [] n h low = absurd (omega (arith, low))
+single_there (m ∷ ms) zero h low = record { it = m; found = refl; single = h.0 }
+single_there (m ∷ ms) (suc n) h low =
+    let less : n < length ms = omega (arith, low) in
+    let s = single_there ms n h.1 less in
+    record { it = s.it; found = s.found; single = s.single }
+
+one_guard : (ms : List Mutex) (v : Variable) (guard : Guard) → v.guard ≡ guard → AllByRecursion IsSingle ms → IsGuard ms v →
+    (mutex : ℕ) × (v.guard ≡ By mutex)
+one_guard ms v (By mutex) is single formed = (mutex, is)
+one_guard ms v (Each first) is single formed =
+    let each : IsGuard ms (record v { guard = Each first }) = subst (λ (guard : Guard). IsGuard ms (record v { guard = guard })) is formed in
+    absurd (no_array ms first single each.0)
+
+-- and one mutex guards each variable
+pub one_mutex : (ms : List Mutex) (vs : List Variable) (v : ℕ) → AllByRecursion IsSingle ms → AllByRecursion (IsVariable ms) vs →
+    (mutex : ℕ) × (variable_guard vs v ≡ By mutex)
+one_mutex ms [] v single formed = (0, refl)
+one_mutex ms (x ∷ vs) zero single formed = one_guard ms x x.guard refl single formed.0.guarded
+one_mutex ms (x ∷ vs) (suc v) single formed = one_mutex ms vs v single formed.1
+
+-- ---- The lock of a name
 
 -- a name without key has its mutex for its lock
 pub plain_lock : (ls : List ℤ) (x : e.LockName) → x.key ≡ None → lock_number ls x ≡ x.mutex

@@ -1,5 +1,5 @@
 -- Well formed programs and flat forms: each number names what it is used as, and every element has an initial number of its kind.
-use Rattle.std.specs.Prelude.{◌≡◌, ℕ, ◌<◌, ◌≤◌, List, length, map, slice_get, Option, Some, None, Bool, true, false, is_some, ℤ}
+use Rattle.std.specs.Prelude.{◌≡◌, ℕ, ◌<◌, ◌≤◌, List, [], length, map, take, drop, replicate, slice_get, Option, Some, None, Bool, true, false, is_some, ℤ}
 use Rattle.std.specs.List.{AllByRecursion}
 use Rattle.ido_base.specs.declared.place.Place.{Place}
 use Rattle.ido_base.specs.declared.location.Shape.{Shape}
@@ -10,7 +10,26 @@ use Rattle.ido_ints.specs.Kinds.{bytes_of, Holds}
 use Rattle.c_tree.specs.Exprs as e
 use Rattle.c_tree.specs.Programs as p
 use Rattle.c_tree.specs.Flats as f
-use Rattle.c_tree.specs.Ranges.{is_below, elements_of}
+use Rattle.c_tree.specs.Ranges.{is_below, elements_of, mutexes_of}
+
+-- ---- Mutexes
+
+-- a mutex that is in no array
+abbrev pub IsSingle : p.Mutex → Type 0
+IsSingle m = m.length ≡ None
+
+-- that of this number is in none
+pub record IsSingleAt (ms : List p.Mutex) (mutex : ℕ) : Type 0 where
+  pub it : p.Mutex
+  pub found : slice_get ms mutex ≡ Some it
+  pub single : IsSingle it
+
+-- all of an array of mutexes stands from that one on
+pub record IsArrayAt (ms : List p.Mutex) (first : ℕ) : Type 0 where
+  pub it : p.Mutex
+  pub found : slice_get ms first ≡ Some it
+  pub array : is_some it.length ≡ true
+  pub whole : take (mutexes_of ms first) (drop first ms) ≡ replicate (mutexes_of ms first) it
 
 -- ---- Variables
 
@@ -19,20 +38,16 @@ abbrev pub elements_in : (length : Option ℕ) → ℕ
 elements_in None = 1
 elements_in (Some n) = n
 
--- a mutex that is in no array
-abbrev pub IsSingle : p.Mutex → Type 0
-IsSingle m = m.length ≡ None
-
--- what guards a variable is a mutex that is there
-abbrev pub IsGuard : (mutexes : ℕ) → p.Variable → Type 0
-IsGuard mutexes v = elim v.guard [
-  | p.By mutex ↦ mutex < mutexes
-  | p.Each first ↦ ⊥
+-- what guards a variable is a mutex that is in no array, or an array of mutexes, one for each of its elements
+abbrev pub IsGuard : List p.Mutex → p.Variable → Type 0
+IsGuard ms v = elim v.guard [
+  | p.By mutex ↦ IsSingleAt ms mutex
+  | p.Each first ↦ IsArrayAt ms first × (v.length ≡ Some (mutexes_of ms first))
 ]
 
--- a variable, where there are so many mutexes
-pub record IsVariable (mutexes : ℕ) (v : p.Variable) : Type 0 where
-  pub guarded : IsGuard mutexes v
+-- a variable, where these mutexes are
+pub record IsVariable (ms : List p.Mutex) (v : p.Variable) : Type 0 where
+  pub guarded : IsGuard ms v
   pub not_empty : 0 < elements_in v.length
   pub not_too_long : elements_in v.length ≤ MOST_ELEMENTS
   -- a number for each element, which the kind holds
@@ -47,10 +62,10 @@ abbrev pub initial_numbers : p.Variable → List ℤ
 initial_numbers v = v.initial
 
 -- what the threads share
-pub record AreShared (mutex_count thread_count : ℕ) (vs : List p.Variable) : Type 0 where
-  pub mutexes : mutex_count ≤ MOST_MUTEXES
+pub record AreShared (ms : List p.Mutex) (thread_count : ℕ) (vs : List p.Variable) : Type 0 where
+  pub mutexes : length ms ≤ MOST_MUTEXES
   pub threads : thread_count ≤ MOST_THREADS
-  pub variables : AllByRecursion (IsVariable mutex_count) vs
+  pub variables : AllByRecursion (IsVariable ms) vs
   pub bytes : end_from 0 (map shape_of vs) ≤ MOST_VARIABLE_BYTES
 
 -- ---- Expressions, over variables and locals of these kinds
@@ -111,9 +126,22 @@ module _ (vs : List p.Variable) where
 
 -- ---- Names of locks
 
--- a mutex, where there are so many, and no key
+-- of a program: a mutex, where there are so many, and no key
 abbrev pub IsLockName : (mutexes : ℕ) → e.LockName → Type 0
 IsLockName mutexes x = (x.mutex < mutexes) × (x.key ≡ None)
+
+-- the key reads locals alone, and is the number of a mutex of the array, whatever they hold
+pub record IsKey (ms : List p.Mutex) (ks : List Kind) (first : ℕ) (key : e.Expr) : Type 0 where
+  pub array : IsArrayAt ms first
+  pub reads : IsExpr [] ks key
+  pub fits : is_below key (mutexes_of ms first) ≡ true
+
+-- of a flat form: a mutex that is in no array and no key, or the first one of an array and a key
+abbrev pub IsFlatLockName : (ms : List p.Mutex) → (ks : List Kind) → e.LockName → Type 0
+IsFlatLockName ms ks x = elim x.key [
+  | None ↦ IsSingleAt ms x.mutex
+  | Some key ↦ IsKey ms ks x.mutex key.expr
+]
 
 -- ---- Programs, with calls; whether indexes fit is asked apart, by `AllFit`
 
@@ -163,7 +191,7 @@ pub record IsFunction (x : p.Program) (g : p.Function) : Type 0 where
   pub result : IsReturned x g.locals g.result
 
 pub record IsProgram (x : p.Program) : Type 0 where
-  pub shared : AreShared (length x.mutexes) (length x.threads) x.variables
+  pub shared : AreShared x.mutexes (length x.threads) x.variables
   pub single : AllByRecursion IsSingle x.mutexes
   pub functions : AllByRecursion (IsFunction x) x.functions
   pub threads : AllByRecursion (λ (t : p.Thread). AreStatements x t.locals t.body) x.threads
@@ -187,8 +215,8 @@ module _ (x : f.Flat) (ks : List Kind) where
     IsFlatStatement (f.If place arms otherwise) = HasArm arms × AreFlatArms arms × AreFlatStatements otherwise
     IsFlatStatement (f.While place condition body) = IsFlatPlaced condition × AreFlatStatements body
     IsFlatStatement (f.Do place body condition) = AreFlatStatements body × IsFlatPlaced condition
-    IsFlatStatement (f.Lock place lock) = IsLockName (length x.mutexes) lock
-    IsFlatStatement (f.Unlock place lock) = IsLockName (length x.mutexes) lock
+    IsFlatStatement (f.Lock place lock) = IsFlatLockName x.mutexes ks lock
+    IsFlatStatement (f.Unlock place lock) = IsFlatLockName x.mutexes ks lock
 
     pub AreFlatStatements : f.Statements → Type 0
     AreFlatStatements f.no_statement = Unit {0}
@@ -199,6 +227,6 @@ module _ (x : f.Flat) (ks : List Kind) where
     AreFlatArms (f.arm_and condition body rest) = IsFlatPlaced condition × AreFlatStatements body × AreFlatArms rest
 
 pub record IsWellFormed (x : f.Flat) : Type 0 where
-  pub shared : AreShared (length x.mutexes) (length x.threads) x.variables
+  pub shared : AreShared x.mutexes (length x.threads) x.variables
   pub single : AllByRecursion IsSingle x.mutexes
   pub threads : AllByRecursion (λ (t : f.Thread). AreFlatStatements x t.locals t.body) x.threads

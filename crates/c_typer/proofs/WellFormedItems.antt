@@ -26,7 +26,10 @@ use Rattle.c_tree.specs.TypeRules as rules
 use Rattle.c_tree.specs.TypeRules.{broken, broken_if, type_faults}
 use Rattle.c_tree.specs.Elaboration as made
 use Rattle.c_tree.specs.Elaboration.{typed_program}
-use Rattle.c_tree.specs.WellFormed.{elements_in, shape_of, IsVariable, IsGuard, AreStatements, IsReturned, IsFunction, IsProgram, IsSingle}
+use Rattle.c_tree.specs.Ranges.{mutexes_of}
+use Rattle.c_tree.specs.WellFormed.{elements_in, shape_of, IsSingle, IsSingleAt, IsArrayAt, IsVariable, IsGuard, AreStatements}
+use Rattle.c_tree.specs.WellFormed.{IsReturned, IsFunction, IsProgram}
+use Rattle.c_tree.proofs.Public.{single_there}
 use Rattle.c_typer.proofs.LocalKindsGrow.{Into, into_self, into_length, Known, grow_statements, known_parameters}
 use Rattle.c_typer.proofs.WellFormedStatements.{nil_left, nil_right, not_broken, unbroken, SortIn, lock_formed, expr_formed, known_all, statements_formed}
 
@@ -137,20 +140,21 @@ bounds (Some x) h =
 
 -- ---- Items, in a program in which their names stand
 
-module _ (q : p.Program) (gs : List n.Global) (sorts : AllByRecursion (λ (y : n.Global). SortIn q y.sort) gs) where
+module _ (q : p.Program) (gs : List n.Global) (sorts : AllByRecursion (λ (y : n.Global). SortIn q y.sort) gs)
+    (single : AllByRecursion IsSingle q.mutexes) where
   -- where there are no brackets, one mutex guards all of the variable
   guard_formed : (x : t.Persistent) (each : Bool) (us : List Token) → x.guard.each ≡ each → g.brackets Plain each us →
-      rules.mutex_faults gs n.no_locals x.guard.mutex x.guard.each ≡ [] → IsGuard (length q.mutexes) (made.variable gs x)
+      rules.mutex_faults gs n.no_locals x.guard.mutex x.guard.each ≡ [] → IsGuard q.mutexes (made.variable gs x)
   guard_formed x true us e d h = absurd d
   guard_formed x false us e d h =
       let number = made.mutex_number gs n.no_locals x.guard.mutex in
       subst (λ (b : Bool). elim (if b then p.Each number else p.By number) as (λ _. Type 0) [
-        | p.By mutex ↦ mutex < length q.mutexes
-        | p.Each first ↦ ⊥
-      ]) (sym e) (lock_formed q gs sorts [] n.no_locals tt x.guard.mutex x.guard.each h)
+        | p.By mutex ↦ IsSingleAt q.mutexes mutex
+        | p.Each first ↦ IsArrayAt q.mutexes first × ((made.variable gs x).length ≡ Some (mutexes_of q.mutexes first))
+      ]) (sym e) (single_there q.mutexes number single (lock_formed q gs sorts [] n.no_locals tt x.guard.mutex x.guard.each h))
 
   variable_formed : (x : t.Persistent) (us : List Token) → g.brackets Plain x.guard.each us → rules.item_faults gs (t.PersistentItem x) ≡ [] →
-      IsVariable (length q.mutexes) (made.variable gs x)
+      IsVariable q.mutexes (made.variable gs x)
   variable_formed x us d h =
       let a = rules.mutex_faults gs n.no_locals x.guard.mutex x.guard.each in
       let b = rules.each_faults gs x in
@@ -211,7 +215,7 @@ module _ (q : p.Program) (gs : List n.Global) (sorts : AllByRecursion (λ (y : n
 
   -- the parts of a program that are made of the items
   record Parts (made_of : p.Program) : Type 0 where
-    variables : AllByRecursion (IsVariable (length q.mutexes)) made_of.variables
+    variables : AllByRecursion (IsVariable q.mutexes) made_of.variables
     functions : AllByRecursion (IsFunction q) made_of.functions
     threads : AllByRecursion (λ (y : p.Thread). AreStatements q y.locals y.body) made_of.threads
 
@@ -345,14 +349,15 @@ formed xs ts d h =
       functions = λ k v l. subst (λ (i : ℕ). slice_get q.functions i ≡ Some v) (omega arith) l;
     } in
     let sorts = sorts_formed q gs n.none_yet xs whole items in
-    let parts = parts_formed q gs sorts xs ts d items in record {
+    let single = single_items gs xs ts d in
+    let parts = parts_formed q gs sorts single xs ts d items in record {
       shared = record {
         mutexes = omega (arith, mutexes_within gs MOST_MUTEXES 0 xs (omega arith) (nil_right (a ++ b) m h3));
         threads = omega (arith, threads_named gs xs, past_most rule.Threads MOST_THREADS (rules.thread_names xs) (nil_right a b h2));
         variables = parts.variables;
         bytes = ends_within gs 0 xs (omega arith) (nil_right ((a ++ b) ++ m) e h4);
       };
-      single = single_items gs xs ts d;
+      single = single;
       functions = parts.functions;
       threads = parts.threads;
     }

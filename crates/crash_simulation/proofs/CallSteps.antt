@@ -20,7 +20,7 @@ use Rattle.crash_simulation.proofs.LockCallSteps.{holders_after, memory_after, d
 use Rattle.crash_simulation.proofs.StatesMatchSource.{kept_matches}
 use Rattle.crash_simulation.proofs.KeptThreads.{phase_moves}
 use Rattle.crash_simulation.proofs.LoadFreeEnvironment.{bare_answers, placed}
-use Rattle.crash_simulation.proofs.LocksAtCalls.{not_held, ends_free}
+use Rattle.crash_simulation.proofs.LocksAtCalls.{ends_free}
 use Rattle.crash_simulation.proofs.StepsAfterMarks.{less_soon}
 use Rattle.crash_simulation.proofs.FragmentSteps.{not_twice}
 
@@ -73,7 +73,7 @@ module _ {y : System} {s : IsSystem y} {w : World} {h from mutex : ℕ} (at : At
   given_move = record { u = with_holder w mutex None; new = given_hart; does = given.does; words = refl; harts = refl; queue = given_queue }
 
   not_now : slice_get (now_of y b).holders mutex ≢ Some (Some n)
-  not_now = not_held y s b code graph_thread t.walks from mutex unlock
+  not_now = at.held.given mutex n (exists_now at) gives_it
 
   abbrev is_over : Bool
   is_over = w.recovering && holds_none left_holders n

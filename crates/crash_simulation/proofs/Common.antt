@@ -34,25 +34,20 @@ pub use Rattle.ido_ints.specs.declared.kinds.Kind.{Kind}
 pub use Rattle.ido_ints.proofs.Public.{register_below, Same_sym, Holds-reduced, Same-reduced, residue-is, Holds-zero}
 pub use Rattle.c_tree.specs.Exprs.{LockName}
 pub use Rattle.c_tree.specs.Flats.{Flat, Statement}
-pub use Rattle.c_tree.specs.LockDiscipline.{IsDisciplined}
-pub use Rattle.c_tree.specs.LockNames.{Held, holds, none_held, lock_names, number_in, plain_names}
+pub use Rattle.c_tree.specs.LockNames.{Held, holds, none_held, lock_names, number_in}
 pub use Rattle.c_tree.specs.Programs.{Variable}
 pub use Rattle.c_tree.specs.Ranges.{elements_of}
 pub use Rattle.c_tree.specs.Source.{State, after_from, runs_from, ended_from, start, Pending, source_step, ends_section, is_between}
 pub use Rattle.c_tree.specs.Values.{value, element_at, lock_number, element_number}
 pub use Rattle.c_tree.specs.WellFormed.{shape_of, elements_in, IsWellFormed, IsDeclared, IsExpr, Fits, IsTarget, TargetFits, IsFlatStatement, IsFlatPlaced}
-pub use Rattle.c_tree.specs.WellFormed.{IsSingle}
-pub use Rattle.c_tree.proofs.Public.{length-plain_names, names_are_plain, plain_known, plain_lock}
 pub use Rattle.source_machine.specs.Discipline.{Guards, KeepList, StateKeeps}
 pub use Rattle.source_machine.specs.ElementLocks.{element_lock}
 pub use Rattle.source_machine.specs.Mutexes.{unlocks, unlock_ahead, held_by, locks, first_lock, first_unlock}
 pub use Rattle.source_machine.specs.StepExchanges.{without_first, without, steps_of, IsSameTo}
-pub use Rattle.source_machine.proofs.Public.{goes_on, run_keeps, leaves_held, locks_same, keeps_unlock, keep_list_length, holds_within, plain_is_given}
+pub use Rattle.source_machine.proofs.Public.{goes_on, run_keeps, leaves_held, locks_same}
 pub use Rattle.source_machine.proofs.Public.{locks_found, unlocks_found, Passed, apart, unlocks_held, mutex_passed, ends_by, unlocks_same}
 pub use Rattle.c_ranges.specs.RunInvariants.{IsThreadOf, IsStoreInRange, AreNumbersOf, IsStatementLeft}
-pub use Rattle.c_ranges.proofs.Public.{zip_found, fits_element, Pair, all_held, elements_is, zip_at}
-pub use Rattle.lock_discipline.specs.StepContinuations.{thread_lefts}
-pub use Rattle.lock_discipline.proofs.Public.{set_left}
+pub use Rattle.c_ranges.proofs.Public.{zip_found, fits_element, lock_below, Pair, all_held, elements_is, zip_at}
 pub use Rattle.rv64_isa.specs.Executables.{first_world}
 pub use Rattle.rv64_isa.specs.Frames.{IsWellFormedWorld}
 pub use Rattle.rv64_isa.specs.Machine.{Hart, World, after_event, reply_to, stepped, after_events, durable_point, Outcome, with_holder, moved, gone_on}
@@ -75,14 +70,14 @@ pub use Rattle.rv64_isa.proofs.Public.{queues_stand}
 pub use Rattle.flow_graph.specs.Actions.{Seen, GraphThread, FlowState, seen_by, effect_of, graph_step, effect_step, graph_after, graph_thread_start}
 pub use Rattle.flow_graph.specs.IdempotentCuts.{IsChosen, IsUnlock, AreCuts, at_boundary}
 pub use Rattle.flow_graph.specs.Liveness.{NodeAt}
-pub use Rattle.flow_graph.specs.Lockstep.{Matches, Standing, free, threads_standings, thread_standings, GraphThreadMatches, HasStandingAt}
+pub use Rattle.flow_graph.specs.Lockstep.{Matches, Standing, free, threads_standings, HasStandingAt}
 pub use Rattle.flow_graph.specs.Lowering.{parts, threads_nodes, part, plain_node, statements_nodes, statements_count, thread_nodes}
 unfoldable pub use Rattle.flow_graph.specs.Lowering.{lowered}
 pub use Rattle.flow_graph.specs.Nodes.{Action, Store, Node, Graph, Eval, Test, Lock, End, successors, Unlock}
 pub use Rattle.flow_graph.specs.Paths.{Element, expr_elements, target_elements, reads_of}
 pub use Rattle.flow_graph.specs.declared.graph.Part.{Part}
 pub use Rattle.flow_graph.proofs.Public.{below_or_past, Good, found_in, get_cases, set_same, graph_threads_after, set_other, ActionLeads, chooses, repeats}
-pub use Rattle.flow_graph.proofs.Public.{no_more, Agree, Locks, Unlocks, agrees, lowered_nodes, lowered_threads, node_at, graph_is, steps_lockstep, at_nodes}
+pub use Rattle.flow_graph.proofs.Public.{no_more, Agree, Locks, Unlocks, agrees, node_at, graph_is, steps_lockstep, at_nodes}
 pub use Rattle.flow_graph.proofs.Public.{matched, contains_none, nodes_at, node_shaped, begins_lockstep, good_after, length-statements_nodes}
 pub use Rattle.flow_graph.proofs.Public.{length-thread_nodes}
 pub use Rattle.rv64_link.specs.LinkedCode.{IsInstructionAt}
@@ -163,7 +158,7 @@ pub use Rattle.recovered_threads.specs.RecordDescriptions.{Code, IsOrderly, Resu
 pub use Rattle.recovered_threads.specs.RecordDescriptions.{inside}
 pub use Rattle.recovered_threads.specs.RecoveryStates.{Gathers, HasGathered, AreGathered, AreGathering, Awaits, IsRecoveredHart, ResumesThread, HasRecord}
 pub use Rattle.recovered_threads.proofs.Public.{same_there, same_or_other, holds_none_is, boundaries_recover, commits_describe, others_describe, gathered_on}
-pub use Rattle.recovered_threads.proofs.Public.{ready_stays, left_at, standing_at, takes_never_wait, points_settle, none_where, crashes_gather}
+pub use Rattle.recovered_threads.proofs.Public.{ready_stays, takes_never_wait, points_settle, none_where, crashes_gather}
 pub use Rattle.recovered_threads.proofs.Public.{waits_for_takers, gathered_go_on, records_are_apart, gathered_are_kept, harts_go_on, steps_orderly, gathers_on}
 pub use Rattle.recovered_threads.proofs.Public.{unlocks_enter}
 pub use Rattle.crash_simulation.specs.AbstractRuns.{AbstractRun, kept_of, now_of, attempts_of}

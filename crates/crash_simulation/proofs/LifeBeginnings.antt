@@ -187,6 +187,7 @@ module _ (y : System) (s : IsSystem y) (o : Origin (flat_of y)) (v : World) (lif
       held = λ lock n there. absurd (life.unheld lock n there);
       holds = λ lock n there. absurd (flow_free lock n there);
       giving = λ lock n inside gives. absurd (none-some lock gives);
+      given = λ lock n inside gives there. none-some lock gives;
     });
     caught_up = λ n below all. over_is_caught y v abstract (s.codes.each n below) (ghosts n) (thread n below) refl refl;
   }

@@ -147,6 +147,9 @@ module _ (y : System) (s : IsSystem y) (w : World) (h : ℕ) (stands : Simulates
           giving = λ lock n exists gives.
               let inside : n < thread_count y = omega (arith, exists, ap (λ (z : FlowState). length z.graph_threads) now_is, kept.count) in
               absurd (none-some lock (sym (all_rest n inside).giving ∙ gives));
+          given = λ lock n exists gives there.
+              let inside : n < thread_count y = omega (arith, exists, ap (λ (z : FlowState). length z.graph_threads) now_is, kept.count) in
+              none-some lock (sym (all_rest n inside).giving ∙ gives);
         }
 
   -- a hart that waits is let through

@@ -1,5 +1,5 @@
 -- What is true of a machine that runs a compiled program, at each moment: it simulates an abstract run of the source.
-use Rattle.std.specs.Prelude.{◌≡◌, ◌⊎◌, ℕ, ◌<◌, [], length, slice_get, Some, None}
+use Rattle.std.specs.Prelude.{◌≡◌, ◌≢◌, ◌⊎◌, ℕ, ◌<◌, [], length, slice_get, Some, None}
 use Rattle.rv64_isa.specs.Machine.{World}
 use Rattle.rv64_isa.specs.Frames.{IsWellFormedWorld}
 use Rattle.flow_graph.specs.Actions.{FlowState}
@@ -26,6 +26,8 @@ pub record AreHeld (w : World) (ghosts : ℕ → ThreadGhost) (now : FlowState) 
   pub holds : (lock thread : ℕ) → slice_get now.holders lock ≡ Some (Some thread) → slice_get w.holders lock ≡ Some (Some thread)
   -- a mutex that is being given back is the thread's until then
   pub giving : (lock thread : ℕ) → thread < length now.graph_threads → (ghosts thread).giving ≡ Some lock → slice_get w.holders lock ≡ Some (Some thread)
+  -- its thread has unlocked a mutex that is being given back, and not taken it again
+  pub given : (lock thread : ℕ) → thread < length now.graph_threads → (ghosts thread).giving ≡ Some lock → slice_get now.holders lock ≢ Some (Some thread)
 
 -- the records of all threads
 abbrev pub records_of : (ℕ → ThreadGhost) → ℕ → Record

@@ -210,7 +210,7 @@ all_at P (x ∷ xs) zero y h e = let is : x ≡ y = cc in subst P is h.0
 all_at P (x ∷ xs) (suc k) y h e = all_at P xs k y h.1 e
 
 pub bounded : (x : f.Flat) → IsWellFormed x → (variable : ℕ) (it : Variable) → slice_get x.variables variable ≡ Some it → elements_in it.length ≤ MOST_ELEMENTS
-bounded x w variable it h = (all_at (IsVariable (length x.mutexes)) x.variables variable it w.shared.variables h).not_too_long
+bounded x w variable it h = (all_at (IsVariable x.mutexes) x.variables variable it w.shared.variables h).not_too_long
 
 module _ (x : f.Flat) (w : IsWellFormed x) (s : FlowState) (good : Good x s) (t : ℕ) (graph_thread : GraphThread)
     (found : slice_get s.graph_threads t ≡ Some graph_thread) where
@@ -348,7 +348,7 @@ module _ (x : f.Flat) (w : IsWellFormed x) (s : FlowState) (good : Good x s) (t 
       record {
         location = h.location;
         of = h.of;
-        lies = plain_lies (length x.mutexes) x.variables (lock_names x text) graph_thread.locals h.location one w.shared.variables h.lies;
+        lies = plain_lies x.mutexes x.variables (lock_names x text) graph_thread.locals h.location one w.single w.shared.variables h.lies;
       }
 
   pub writes_lie_here : (node : Node) (one : Element) → slice_get nodes graph_thread.at ≡ Some node → write_of node.action (seen_by s graph_thread) ≡ Some one →
@@ -358,7 +358,7 @@ module _ (x : f.Flat) (w : IsWellFormed x) (s : FlowState) (good : Good x s) (t 
       record {
         location = h.location;
         of = h.of;
-        lies = plain_lies (length x.mutexes) x.variables (lock_names x text) graph_thread.locals h.location one w.shared.variables h.lies;
+        lies = plain_lies x.mutexes x.variables (lock_names x text) graph_thread.locals h.location one w.single w.shared.variables h.lies;
       }
 
   -- ---- The store that is pending after a step

@@ -10,12 +10,12 @@ use Rattle.std.proofs.lemmas.Bool.Decides.{nat_tests}
 use Rattle.ido_base.specs.declared.place.Place.{Place}
 use Rattle.ido_base.specs.declared.location.Location.{Location}
 use Rattle.c_tree.specs.Exprs as e
-use Rattle.c_tree.specs.Programs.{Variable, Guard, By, Each}
+use Rattle.c_tree.specs.Programs.{Mutex, Variable, Guard, By, Each}
 use Rattle.c_tree.specs.Values.{value, element_at, key_element, lock_number}
 use Rattle.c_tree.specs.LockNames.{Held, holds, number_in, same_key}
 use Rattle.c_tree.specs.LockDiscipline.{variable_guard, name_under, is_guarded, freezing}
-use Rattle.c_tree.specs.WellFormed.{IsGuard, IsVariable}
-use Rattle.c_tree.proofs.Public.{number_found, same_index, held_number_stays}
+use Rattle.c_tree.specs.WellFormed.{IsSingle, IsVariable}
+use Rattle.c_tree.proofs.Public.{number_found, one_mutex, same_index, held_number_stays}
 use Rattle.flow_graph.specs.HeldKeys.{key_number, is_key_of, named_by, names_in, names_by}
 use Rattle.flow_graph.specs.Paths.{Element, AreApart, no_names, Lies}
 
@@ -167,36 +167,28 @@ naming_stays vs names h ls local n variable key free =
 
 -- ---- Where one mutex guards each variable
 
-one_guard : (count : ℕ) (v : Variable) (guard : Guard) → v.guard ≡ guard → IsGuard count v → (mutex : ℕ) × (v.guard ≡ By mutex)
-one_guard count v (By mutex) is formed = (mutex, is)
-one_guard count v (Each first) is formed = absurd (subst (λ (guard : Guard). IsGuard count (record v { guard = guard })) is formed)
-
-one_mutex : (count : ℕ) (vs : List Variable) (v : ℕ) → AllByRecursion (IsVariable count) vs → (mutex : ℕ) × (variable_guard vs v ≡ By mutex)
-one_mutex count [] v formed = (0, refl)
-one_mutex count (x ∷ vs) zero formed = one_guard count x x.guard refl formed.0.guarded
-one_mutex count (x ∷ vs) (suc v) formed = one_mutex count vs v formed.1
-
 plain_by : (mutex : ℕ) (ls : List ℤ) (o : Option e.LockName) → named_by (By mutex) true ls o ≡ None
 plain_by mutex ls None = refl
 plain_by mutex ls (Some x) = refl
 
 -- no key names an element
-pub plain_names_none : (count : ℕ) (vs : List Variable) (names : List e.LockName) (ls : List ℤ) (variable key : ℕ) → AllByRecursion (IsVariable count) vs →
-    names_in vs names ls variable key ≡ None
-plain_names_none count vs names ls variable key formed =
-    let one = one_mutex count vs variable formed in
+pub plain_names_none : (ms : List Mutex) (vs : List Variable) (names : List e.LockName) (ls : List ℤ) (variable key : ℕ) → AllByRecursion IsSingle ms →
+    AllByRecursion (IsVariable ms) vs → names_in vs names ls variable key ≡ None
+plain_names_none ms vs names ls variable key single formed =
+    let one = one_mutex ms vs variable single formed in
     ap (λ (guard : Guard). named_by guard true ls (slice_get names key)) one.1 ∙ plain_by one.0 ls (slice_get names key)
 
 -- what lies in a location lies there whatever keys name
-pub plain_lies : (count : ℕ) (vs : List Variable) (names : List e.LockName) (ls : List ℤ) (l : Location) (one : Element) →
-    AllByRecursion (IsVariable count) vs →
+pub plain_lies : (ms : List Mutex) (vs : List Variable) (names : List e.LockName) (ls : List ℤ) (l : Location) (one : Element) →
+    AllByRecursion IsSingle ms → AllByRecursion (IsVariable ms) vs →
     Lies (names_in vs names ls) l one → Lies no_names l one
-plain_lies count vs names ls l one formed h = record {
+plain_lies ms vs names ls l one single formed h = record {
   within = h.within;
-  by_key = λ key is. let none = plain_names_none count vs names ls one.variable key formed in let some = h.by_key key is in cc;
+  by_key = λ key is. let none = plain_names_none ms vs names ls one.variable key single formed in let some = h.by_key key is in cc;
 }
 
 -- no element has a key
-pub plain_key : (count : ℕ) (vs : List Variable) (names : List e.LockName) (variable : ℕ) (index : e.Placed) → AllByRecursion (IsVariable count) vs →
-    key_number names (variable_guard vs variable) index ≡ None
-plain_key count vs names variable index formed = ap (λ (guard : Guard). key_number names guard index) (one_mutex count vs variable formed).1
+pub plain_key : (ms : List Mutex) (vs : List Variable) (names : List e.LockName) (variable : ℕ) (index : e.Placed) → AllByRecursion IsSingle ms →
+    AllByRecursion (IsVariable ms) vs → key_number names (variable_guard vs variable) index ≡ None
+plain_key ms vs names variable index single formed =
+    ap (λ (guard : Guard). key_number names guard index) (one_mutex ms vs variable single formed).1

@@ -96,14 +96,12 @@ pub record Locks (all : List Standing) (lock : e.LockName) (next : ℕ) (s : Sta
   pub place : Place
   pub rest : List f.Statement
   pub is : s ≡ free (f.Lock place lock ∷ rest)
-  pub keyless : lock.key ≡ None
   pub follows : At all next (free rest)
 
 pub record Unlocks (all : List Standing) (lock : e.LockName) (next : ℕ) (s : Standing) : Type 0 where
   pub place : Place
   pub rest : List f.Statement
   pub is : s ≡ free (f.Unlock place lock ∷ rest)
-  pub keyless : lock.key ≡ None
   pub follows : At all next (free rest)
 
 abbrev pub ActionLeads : List Standing → Action → Standing → Type 0
@@ -276,8 +274,8 @@ module _ (x : f.Flat) (ks : List Kind) (all : List Standing) where
               (enters_all body first test again w.0 inner there)) a,
           tt,
         )
-    agree table (f.Lock place name) first next rest w h a = (record { place = place; rest = rest; is = refl; keyless = w.1; follows = a }, tt)
-    agree table (f.Unlock place name) first next rest w h a = (record { place = place; rest = rest; is = refl; keyless = w.1; follows = a }, tt)
+    agree table (f.Lock place name) first next rest w h a = (record { place = place; rest = rest; is = refl; follows = a }, tt)
+    agree table (f.Unlock place name) first next rest w h a = (record { place = place; rest = rest; is = refl; follows = a }, tt)
 
     agree_all : (table : Table) (ys : f.Statements) (first next : ℕ) (rest : List f.Statement) → AreFlatStatements x ks ys →
         Has all first (all_standings ys rest) →

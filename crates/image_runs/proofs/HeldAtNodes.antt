@@ -1,7 +1,7 @@
 -- What a thread of a plan holds at its nodes, and that something is held where it may be resumed.
 use Rattle.std.proofs.Common.{◌≡◌, ◌≢◌, refl, ℕ, zero, suc, ◌-◌, ◌<◌, List, [], ◌∷◌, length, ap, sym, ◌∙◌, subst, arith, Option, Some, None}
 use Rattle.std.proofs.Common.{true, false}
-use Rattle.std.specs.Prelude.{slice_get, slice_set, slice_index_or}
+use Rattle.std.specs.Prelude.{slice_get, slice_index_or}
 use Rattle.std.specs.List.{AllByRecursion, AllZip}
 use Rattle.std.proofs.lemmas.Bool.{true≢false}
 use Rattle.std.proofs.lemmas.List.{get_or-set_same}
@@ -14,7 +14,7 @@ use Rattle.c_tree.specs.LockNames.{Held, holds, none_held, lock_names, number_in
 use Rattle.c_tree.specs.LockDiscipline.{Use, guard_name, is_guarded}
 use Rattle.c_tree.specs.WellFormed.{AreFlatStatements}
 use Rattle.c_ranges.specs.RunInvariants.{IsStatementLeft}
-use Rattle.c_tree.proofs.Public.{length-plain_names, names_are_plain, plain_number}
+use Rattle.c_tree.proofs.Public.{length-plain_names, names_are_plain}
 use Rattle.source_machine.specs.ElementLocks.{element_lock}
 use Rattle.source_machine.specs.Discipline.{KeepList, KeepsLeft}
 use Rattle.source_machine.proofs.Public.{keeps_lock, set_is_one}
@@ -144,35 +144,20 @@ module _ (p : Plan) (plan : IsPlan p) (t : Thread) (of : IsThread p t) where
     pub free_after_lock : (stands node own).0 ≡ free leads.rest
     free_after_lock = same_Some _ _ (sym (stands node own).1 ∙ leads.follows)
 
-    abbrev mutex : ℕ
-    mutex = lock.mutex
+    keeps_from : KeepsLeft p.flat names (set_before p t from) (f.Lock leads.place lock ∷ leads.rest)
+    keeps_from = subst (λ (s : Standing). KeepsLeft p.flat names (set_before p t from) s.left) leads.is (keeps from own_from)
 
-    abbrev named : e.LockName
-    named = record { mutex = mutex; key = None }
-
-    -- it has no key
-    name_is : lock ≡ named
-    name_is = ap (λ (key : Option e.Placed). let x : e.LockName = record { mutex = mutex; key = key } in x) leads.keyless
-
-    keeps_from : KeepsLeft p.flat names (set_before p t from) (f.Lock leads.place named ∷ leads.rest)
-    keeps_from = subst (λ (name : e.LockName). KeepsLeft p.flat names (set_before p t from) (f.Lock leads.place name ∷ leads.rest)) name_is
-        (subst (λ (s : Standing). KeepsLeft p.flat names (set_before p t from) s.left) leads.is (keeps from own_from))
-
-    below : mutex < length p.flat.mutexes
-    below = (subst (λ (s : Standing). AllByRecursion (IsStatementLeft p.flat of.text.locals) s.left) leads.is (left_is from own_from)).0.1.0
-
-    pub held_after_lock : holds (set_before p t node) lock.mutex ≡ true
+    -- the set after it has its name
+    pub held_after_lock : holds (set_before p t node) (number_in names lock) ≡ true
     held_after_lock =
-        let n = number_in names named in
-        let number_is : n ≡ mutex = ap (λ (ns : List e.LockName). number_in ns named) plain ∙ plain_number count mutex below in
+        let n = number_in names lock in
         let here : KeepsLeft p.flat names (set_before p t node) leads.rest =
         subst (λ (s : Standing). KeepsLeft p.flat names (set_before p t node) s.left) free_after_lock (keeps node own) in
         let between : keeps_from.0 ≡ set_before p t node =
         set_is_one p.flat.variables names leads.rest keeps_from.0 (set_before p t node) (none_held (length names)) keeps_from.2 here in
-        let taken : keeps_from.0 ≡ slice_set (set_before p t from) mutex true =
-        (keeps_lock p.flat.variables names keeps_from.1).1 ∙ ap (λ (k : ℕ). slice_set (set_before p t from) k true) number_is in
-        let inside : mutex < length (set_before p t from) = (let l = long from own_from in let b = below in omega (arith, l, b)) in
-        ap (λ (h : Held). holds h mutex) (sym between ∙ taken) ∙ get_or-set_same (set_before p t from) mutex true false inside
+        let taken = keeps_lock p.flat.variables names keeps_from.1 in
+        let inside : n < length (set_before p t from) = slice_get_within (set_before p t from) n false taken.0 in
+        ap (λ (h : Held). holds h n) (sym between ∙ taken.1) ∙ get_or-set_same (set_before p t from) n true false inside
 
   -- no store is pending after an unlock either
   pub free_after_unlock : (from : ℕ) (lock : e.LockName) (node : ℕ) (is : Node) (own_from : IsNodeOf t from) (own : IsNodeOf t node) → NodeAt p.graph from is →
@@ -198,7 +183,8 @@ module _ (locked : ChosenAreLocked) (p : Plan) (plan : IsPlan p) (code : Code p)
       let s = locked_here p plan t code.of node own locked chosen in
       some_locks (set_before p t node) (number_in (lock_names p.flat s.text) (guard_name p.flat.variables s.used)) s.locked
   resumed_hold node address own (past_lock from lock is own_from at locks) =
-      some_locks (set_before p t node) lock.mutex (held_after_lock p plan t code.of from lock node is own_from own at locks)
+      some_locks (set_before p t node) (number_in (lock_names p.flat code.of.text) lock)
+      (held_after_lock p plan t code.of from lock node is own_from own at locks)
   resumed_hold node address own (past_unlock from lock is own_from at unlocks some) = some
 
   -- a guard that is held by its name is held by its number
@@ -209,7 +195,7 @@ module _ (locked : ChosenAreLocked) (p : Plan) (plan : IsPlan p) (code : Code p)
       let h = set_before p t node in
       let as_plain : lock_names p.flat text ≡ plain_names (length h) =
       names_are_plain p.flat text plan.formed.single ∙ ap plain_names (sym (long p plan t code.of node own)) in
-      element_held (length p.flat.mutexes) p.flat.variables h u n plan.formed.shared.variables
+      element_held p.flat.mutexes p.flat.variables h u n plan.formed.single plan.formed.shared.variables
       (subst (λ (ns : List e.LockName). is_guarded p.flat.variables ns h u ≡ true) as_plain g)
 
   -- where a store is pending the lock that guards its element is held: no boundary but the chosen one before it leads there

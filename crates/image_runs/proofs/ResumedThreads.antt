@@ -263,7 +263,7 @@ module _ (locked : ChosenAreLocked) (p : Plan) (plan : IsPlan p) (code : Code p)
     }
 
     module _ (variable : ℕ) (kind : Kind) (next : ℕ) (does : is.action ≡ Store variable kind next) (owing : st.owes ≡ true)
-        (stores : StoresElements x plan.formed.shared.variables is variable kind) where
+        (stores : StoresElements x plan.formed.shared.variables plan.formed.single is variable kind) where
       at_element : IsElementOf x.variables stores.location (read registers pending_address)
       at_element = g.pending is stores.location here stores.writes
 
@@ -322,7 +322,7 @@ module _ (locked : ChosenAreLocked) (p : Plan) (plan : IsPlan p) (code : Code p)
             (λ q there. subst (λ (z : Pending). HasPending p z variable kind registers) (same_Some store q (sym e ∙ there)) has);
       }
 
-    owed_by : (a : Action) → is.action ≡ a → ActionLeads (all p plan t code.of) a st → StoresAs x plan.formed.shared.variables is a → Owed
+    owed_by : (a : Action) → is.action ≡ a → ActionLeads (all p plan t code.of) a st → StoresAs x plan.formed.shared.variables plan.formed.single is a → Owed
     owed_by (Eval target value next) does leads stores =
         nothing_owed (ap (λ (z : Standing). z.owes) leads.is) (λ seen. subst (λ (a : Action). IsPendingIn p a seen registers) (sym does) tt)
     owed_by (Store variable kind next) does leads stores = store_owed variable kind next does (ap (λ (z : Standing). z.owes) leads.is) stores
@@ -337,7 +337,7 @@ module _ (locked : ChosenAreLocked) (p : Plan) (plan : IsPlan p) (code : Code p)
 
     owed : Owed
     owed = owed_by is.action refl (stands p plan t code.of node g.own).2
-        (stores_elements x plan.formed.shared.variables node is plan.formed.threads
+        (stores_elements x plan.formed.shared.variables plan.formed.single node is plan.formed.threads
         (nodes_at x node is (lowered_is p plan t code.of node g.own)))
 
     -- ---- The threads

@@ -11,7 +11,7 @@ use Rattle.c_tree.specs.Flats as f
 use Rattle.c_tree.specs.Programs.{Variable}
 use Rattle.c_tree.specs.Ranges as ranges
 use Rattle.c_tree.specs.Ranges.{Interval, range_of}
-use Rattle.c_tree.specs.WellFormed.{elements_in, IsDeclared, IsVariable, IndexFits, IsFlatTarget, IsFlatStatement, AreFlatStatements, AreFlatArms}
+use Rattle.c_tree.specs.WellFormed.{elements_in, IsDeclared, IsSingle, IsVariable, IndexFits, IsFlatTarget, IsFlatStatement, AreFlatStatements, AreFlatArms}
 use Rattle.c_ranges.proofs.Public.{elements_is}
 use Rattle.flow_graph.specs.Nodes.{Action, Eval, Store, Test, Lock, Unlock, End, Node}
 use Rattle.c_tree.specs.LockNames.{lock_names}
@@ -36,7 +36,7 @@ one_element (Some n) h = cc
 
 -- ---- Nodes
 
-module _ (x : f.Flat) (variables : AllByRecursion (IsVariable (length x.mutexes)) x.variables) where
+module _ (x : f.Flat) (variables : AllByRecursion (IsVariable x.mutexes) x.variables) (single : AllByRecursion IsSingle x.mutexes) where
   -- the node writes these elements of the variable, which is of the kind
   pub record StoresElements (n : Node) (variable : ℕ) (kind : Kind) : Type 0 where
     pub location : Location
@@ -69,7 +69,7 @@ module _ (x : f.Flat) (variables : AllByRecursion (IsVariable (length x.mutexes)
       let n = ranges.elements_of x.variables variable in
       let count : n ≡ elements_in d.it.length = elements_is x.variables variable d.it d.found d.array in
       let some : 0 < elements_in d.it.length =
-      (all_at (IsVariable (length x.mutexes)) x.variables variable d.it variables d.found).not_empty in
+      (all_at (IsVariable x.mutexes) x.variables variable d.it variables d.found).not_empty in
       let high = upper_end (range_of index) (ranges.interval (pos 0) (pos n -ℤ pos 1)) fit in
       let small : element_number (range_of index).hi < n = below_count (range_of index).hi n high (omega (arith, count, some)) in
       omega (arith, small, count)
@@ -108,7 +108,7 @@ module _ (x : f.Flat) (variables : AllByRecursion (IsVariable (length x.mutexes)
           found = t.0.0.found;
           kind_is = t.0.0.kind;
           within = element_within variable kind index.place index.expr t.0.0 t.1.0;
-          no_key = plain_key (length x.mutexes) x.variables names variable index variables;
+          no_key = plain_key x.mutexes x.variables names variable index single variables;
         },
         tt,
       ),

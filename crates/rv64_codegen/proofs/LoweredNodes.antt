@@ -18,6 +18,7 @@ use Rattle.c_tree.specs.Ranges as ranges
 use Rattle.c_tree.specs.Ranges.{Interval, range_of}
 use Rattle.c_tree.specs.WellFormed.{elements_in, shape_of, IsDeclared, IsVariable, IndexFits, IsFlatTarget, IsFlatPlaced, IsFlatStatement, AreFlatStatements}
 use Rattle.c_tree.specs.WellFormed.{AreFlatArms}
+use Rattle.c_tree.proofs.Public.{name_there}
 use Rattle.c_ranges.proofs.Public.{elements_is}
 use Rattle.memory_layout.specs.Variables.{elements_of}
 use Rattle.flow_graph.specs.declared.graph.Part.{Part}
@@ -148,7 +149,7 @@ below_count : (hi : ℤ) (count : ℕ) → hi ≤ℤ (pos count -ℤ pos 1) → 
 below_count (pos m) count h some = let less : m < count = omega (arith, ints) in omega arith
 below_count (negsuc m) count h some = some
 
-module _ (x : f.Flat) (ks : List Kind) (lo hi : ℕ) (variables : AllByRecursion (IsVariable (length x.mutexes)) x.variables) where
+module _ (x : f.Flat) (ks : List Kind) (lo hi : ℕ) (variables : AllByRecursion (IsVariable x.mutexes) x.variables) where
   -- ---- Nodes
 
   abbrev pub Within : ℕ → Type 0
@@ -177,7 +178,7 @@ module _ (x : f.Flat) (ks : List Kind) (lo hi : ℕ) (variables : AllByRecursion
   entry_within zero first next w a b = w
   entry_within (suc n) first next w a b = (a, omega (arith, b))
 
-  variable_at : (vs : List p.Variable) (v : ℕ) (it : p.Variable) → AllByRecursion (IsVariable (length x.mutexes)) vs → slice_get vs v ≡ Some it →
+  variable_at : (vs : List p.Variable) (v : ℕ) (it : p.Variable) → AllByRecursion (IsVariable x.mutexes) vs → slice_get vs v ≡ Some it →
       0 < elements_in it.length
   variable_at [] v it h g = cc
   variable_at (w ∷ vs) zero it h g = let same : w ≡ it = cc in
@@ -253,8 +254,8 @@ module _ (x : f.Flat) (ks : List Kind) (lo hi : ℕ) (variables : AllByRecursion
         let there : Within test = (omega (arith, a), omega (arith, b)) in
         let here : Within first = (a, omega (arith, b)) in
         joined _ _ (sound_all table body first test g.0 a (omega (arith, b)) there) (sound_test table place condition first next g.1 here w, tt)
-    sound table (f.Lock place name) first next g a b w = (record { formed = (g.0, w); writes = none_written _ _ refl }, tt)
-    sound table (f.Unlock place name) first next g a b w = (record { formed = (g.0, w); writes = none_written _ _ refl }, tt)
+    sound table (f.Lock place name) first next g a b w = (record { formed = (name_there x.mutexes ks name g, w); writes = none_written _ _ refl }, tt)
+    sound table (f.Unlock place name) first next g a b w = (record { formed = (name_there x.mutexes ks name g, w); writes = none_written _ _ refl }, tt)
 
     sound_all : (table : Table) (ys : f.Statements) (first next : ℕ) → AreFlatStatements x ks ys → lo ≤ first → first + statements_count ys ≤ hi → Within next →
         AllSound (statements_nodes table ys first next)
@@ -285,7 +286,7 @@ module _ (x : f.Flat) (ks : List Kind) (lo hi : ℕ) (variables : AllByRecursion
       joined _ _ (sound_all table t.body first end g a (omega (arith, b)) (omega (arith, a), omega (arith, b)))
       (record { formed = tt; writes = none_written _ _ refl }, tt)
 
-pub sound_at : (x : f.Flat) (ks : List Kind) (lo hi : ℕ) (v : AllByRecursion (IsVariable (length x.mutexes)) x.variables) (ns : List Node) (k : ℕ) (n : Node) →
+pub sound_at : (x : f.Flat) (ks : List Kind) (lo hi : ℕ) (v : AllByRecursion (IsVariable x.mutexes) x.variables) (ns : List Node) (k : ℕ) (n : Node) →
     AllSound x ks lo hi v ns → slice_get ns k ≡ Some n → IsLoweredNode x ks lo hi v n
 sound_at x ks lo hi v [] k n h g = cc
 sound_at x ks lo hi v (m ∷ ns) zero n h g = let same : m ≡ n = cc in subst (IsLoweredNode x ks lo hi v) same h.0

@@ -1,6 +1,6 @@
 -- The code of one node is its piece's.
 use Rattle.std.proofs.Common.{◌≡◌, ◌↔◌, ℕ, ◌+◌, ◌-◌, ◌*◌, ◌≤◌, List, [], ◌∷◌, ◌++◌, length, map, refl, ap, arith, sym, ◌∙◌, subst, Bool, false}
-use Rattle.c_tree.proofs.Public.{plain_lock}
+use Rattle.c_tree.proofs.Public.{plain_lock, plain_name}
 use Rattle.std.proofs.Common.{Option, Some, None, if◌then◌else◌}
 use Rattle.std.specs.Prelude.{slice_index_or, pos, sum_by}
 use Rattle.std.proofs.lemmas.List.Sums.{sum_by-append}
@@ -197,11 +197,13 @@ module _ {p : Plan} {t : Thread} {c : Choices} (places : Places) (it : PlacedNod
         subst By (same_Some (a.Goes (if is_zero (number_in seen condition.expr) then fails else holds)) effect eq)
         (performs.tests_it places it has s meets seen side x enters condition holds fails same known answered d)
     does_it (Lock lock next) same known d call answered effect eq =
-        subst By (same_Some (a.Takes lock.mutex next) effect (ap (λ (k : ℕ). Some (a.Takes k next)) (sym (plain_lock seen.locals lock known.keyless)) ∙ eq))
+        let keyless = plain_name p.flat.mutexes t.kinds lock plan.formed.single known.name in
+        subst By (same_Some (a.Takes lock.mutex next) effect (ap (λ (k : ℕ). Some (a.Takes k next)) (sym (plain_lock seen.locals lock keyless)) ∙ eq))
         (performs.takes_it places it has s meets seen side x enters lock next same known (d.0.at (site_of s meets))
         (call ∙ sym (lock_call lock next d s meets)))
     does_it (Unlock lock next) same known d call answered effect eq =
-        subst By (same_Some (a.Gives lock.mutex next) effect (ap (λ (k : ℕ). Some (a.Gives k next)) (sym (plain_lock seen.locals lock known.keyless)) ∙ eq))
+        let keyless = plain_name p.flat.mutexes t.kinds lock plan.formed.single known.name in
+        subst By (same_Some (a.Gives lock.mutex next) effect (ap (λ (k : ℕ). Some (a.Gives k next)) (sym (plain_lock seen.locals lock keyless)) ∙ eq))
         (performs.gives_it places it has s meets seen side x enters lock next same known (d.0.at (site_of s meets))
         (call ∙ sym (unlock_call lock next d s meets)) agrees.after)
     does_it End same known d call answered effect eq =

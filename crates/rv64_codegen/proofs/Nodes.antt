@@ -8,7 +8,7 @@ use Rattle.ido_ints.specs.declared.kinds.Kind.{Kind}
 use Rattle.c_tree.specs.Exprs as e
 use Rattle.c_tree.specs.LockDiscipline.{expr_locals}
 use Rattle.c_tree.specs.Flats as f
-use Rattle.c_tree.specs.WellFormed.{IsFlatPlaced, IsFlatTarget, IsFlatStatement, AreFlatStatements, AreFlatArms, IsDeclared, IsWellFormed}
+use Rattle.c_tree.specs.WellFormed.{IsFlatPlaced, IsFlatTarget, IsFlatLockName, IsFlatStatement, AreFlatStatements, AreFlatArms, IsDeclared, IsWellFormed}
 use Rattle.flow_graph.specs.declared.graph.Part.{Part}
 use Rattle.flow_graph.specs.Nodes.{Action, Eval, Store, Test, Lock, Unlock, End, Node}
 use Rattle.flow_graph.specs.Lowering.{table_of, Table, target_locals, target_local, test_node, plain_node, assign_nodes, assign_count, count, statements_count}
@@ -98,7 +98,7 @@ module _ (x : f.Flat) (ks : List Kind) (lo hi : ℕ) (all : List Node) where
     pub fails_inside : IsInside fails
 
   pub record CallKnown (lock : e.LockName) (next : ℕ) (n : Node) : Type 0 where
-    pub keyless : lock.key ≡ None
+    pub name : IsFlatLockName x.mutexes ks lock
     pub assigns : n.assigns ≡ None
     pub inside : IsInside next
 
@@ -190,8 +190,8 @@ module _ (x : f.Flat) (ks : List Kind) (lo hi : ℕ) (all : List Node) where
         (has_prefix all first prefix (test_node table place condition first next ∷ []) h) a
         (omega (arith, whole)) (omega arith) (omega (arith, whole)))
         (record { condition_is = w.1; uses = refl; assigns = refl; holds_inside = (a, omega (arith, whole)); fails_inside = (c, d) }, tt)
-    statement_known table (f.Lock place name) first next w h a b c d = (record { keyless = w.1; assigns = refl; inside = (c, d) }, tt)
-    statement_known table (f.Unlock place name) first next w h a b c d = (record { keyless = w.1; assigns = refl; inside = (c, d) }, tt)
+    statement_known table (f.Lock place name) first next w h a b c d = (record { name = w; assigns = refl; inside = (c, d) }, tt)
+    statement_known table (f.Unlock place name) first next w h a b c d = (record { name = w; assigns = refl; inside = (c, d) }, tt)
 
     statements_known : (table : Table) (ys : f.Statements) (first next : ℕ) → AreFlatStatements x ks ys →
         Has all first (statements_nodes table ys first next) → lo ≤ first →

@@ -28,12 +28,12 @@ use Rattle.expr_code.specs.declared.home.Home.{Home}
 
 -- ---- Variables
 
-counted : (mutexes : ℕ) (vs : List p.Variable) → AllByRecursion (IsVariable mutexes) vs → AreCounted (map shape_of vs) (map initial_numbers vs)
+counted : (mutexes : List p.Mutex) (vs : List p.Variable) → AllByRecursion (IsVariable mutexes) vs → AreCounted (map shape_of vs) (map initial_numbers vs)
 counted mutexes [] h = tt
 counted mutexes (v ∷ vs) h = (h.0.count, counted mutexes vs h.1)
 
 pub all_counted : (q : Plan) → IsPlan q → AreCounted (map shape_of q.flat.variables) (map initial_numbers q.flat.variables)
-all_counted q plan = counted (length q.flat.mutexes) q.flat.variables plan.formed.shared.variables
+all_counted q plan = counted q.flat.mutexes q.flat.variables plan.formed.shared.variables
 
 pub have_room : (q : Plan) → IsPlan q → HaveRoom (map shape_of q.flat.variables)
 have_room q plan = plan.formed.shared.bytes

@@ -17,7 +17,7 @@ use Rattle.ido_base.specs.declared.location.Shape.{Shape}
 use Rattle.ido_base.specs.Words as w
 use Rattle.ido_base.specs.Words.{Word, word_of, word_at, durable_value, after_crash, part}
 use Rattle.ido_base.specs.Layout.{log_words, start_from, words_of_bytes, initial_words, end_from, spread_words}
-use Rattle.c_tree.specs.Programs.{Variable}
+use Rattle.c_tree.specs.Programs.{Mutex, Variable}
 use Rattle.c_tree.specs.WellFormed.{elements_in, IsVariable, shape_of, initial_numbers}
 use Rattle.memory_layout.specs.Variables.{HaveRoom, AreInitial, bits_of}
 use Rattle.variable_words.proofs.VariableBounds.{shapes, some_bytes, address_is}
@@ -153,7 +153,7 @@ all_variables ss words number (v ∷ vs) h =
     ap (λ (n : ℕ). variable_in words (spot ss n is)) more ∙ h (suc j) is there) in
     λ i. first i ∷ rest i
 
-variable_of : (mutexes : ℕ) (vs : List Variable) (v : ℕ) (is : Variable) → AllByRecursion (IsVariable mutexes) vs → slice_get vs v ≡ Some is →
+variable_of : (mutexes : List Mutex) (vs : List Variable) (v : ℕ) (is : Variable) → AllByRecursion (IsVariable mutexes) vs → slice_get vs v ≡ Some is →
     IsVariable mutexes is
 variable_of mutexes [] v is h there = cc
 variable_of mutexes (x ∷ vs) zero is h there = let same : x ≡ is = cc in subst (λ (y : Variable). IsVariable mutexes y) same h.0

@@ -9,7 +9,7 @@ use Rattle.ido_ints.specs.Kinds.{bytes_of}
 use Rattle.ido_base.specs.declared.location.Shape.{Shape}
 use Rattle.ido_base.specs.Layout.{aligned_up, start_from, end_from, variable_at, variables_base}
 use Rattle.c_tree.specs.declared.program.Variable as variable
-use Rattle.c_tree.specs.Programs.{Variable, variable_of}
+use Rattle.c_tree.specs.Programs.{Mutex, Variable, variable_of}
 use Rattle.c_tree.specs.WellFormed.{shape_of, initial_numbers, elements_in, AreShared, IsVariable}
 use Rattle.memory_layout.specs.Variables.{AreCounted, is_size, are_sizes}
 use Rattle.variable_words.specs.VariablesInWords.{ArePlaced}
@@ -75,11 +75,11 @@ starts_from n vs v is h =
 
 -- ---- What well-formedness gives
 
-counted : (mutexes : ℕ) (vs : List Variable) → AllByRecursion (IsVariable mutexes) vs → AreCounted (map shape_of vs) (map initial_numbers vs)
+counted : (mutexes : List Mutex) (vs : List Variable) → AllByRecursion (IsVariable mutexes) vs → AreCounted (map shape_of vs) (map initial_numbers vs)
 counted mutexes [] h = tt
 counted mutexes (v ∷ vs) h = (h.0.count, counted mutexes vs h.1)
 
-pub shared_placed : (mutexes threads : ℕ) (vs : List Variable) → AreShared mutexes threads vs → ArePlaced vs
+pub shared_placed : (mutexes : List Mutex) (threads : ℕ) (vs : List Variable) → AreShared mutexes threads vs → ArePlaced vs
 shared_placed mutexes threads vs h = record { room = h.bytes; counted = counted mutexes vs h.variables }
 
 -- ---- Variables of the code
