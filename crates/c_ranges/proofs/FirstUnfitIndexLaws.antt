@@ -1,18 +1,18 @@
 -- The first fault of a list of indexes is what it is to be.
-use Rattle.std.proofs.Common.{◌≡◌, refl, sym, ◌∙◌, ap, subst, ◌<◌, ◌≤◌, List, [], ◌∷◌, Option, Some, None, Bool, true, false, cond, ⊎_elim, inl, inr, arith}
+use Rattle.std.proofs.Common.{◌≡◌, refl, sym, ◌∙◌, ap, subst, ◌≤◌, List, [], ◌∷◌, Option, Some, None, Bool, true, false, cond, ⊎_elim, inl, inr, arith}
 use Rattle.std.specs.Prelude.{◌⊎◌, Contains}
 use Rattle.std.proofs.lemmas.Bool.{cases_lt, false≢true}
 use Rattle.std.proofs.lemmas.List.Elements.{Contains-append_cases, Contains-append_right, Contains-push_cases}
 use Rattle.ido_base.specs.declared.place.Place.{Place}
 use Rattle.c_tree.specs.Programs as p
-use Rattle.c_tree.specs.Ranges.{Index, index_fits, program_indexes, AllFit, IsFirstUnfit}
+use Rattle.c_tree.specs.Ranges.{Index, index_fits, program_indexes, AllFit}
 use Rattle.c_ranges.specs.Bounds.{interval_of}
-use Rattle.c_ranges.specs.Faults.{IsFaultOf}
+use Rattle.c_ranges.specs.Faults.{TellsOfIndex}
 use Rattle.c_ranges.specs.links.FirstUnfitIndex.{error_at, elements_for, earlier, first_fault}
 use Rattle.c_ranges.specs.declared.indexes.IndexError.{IndexError}
 use Rattle.c_ranges.proofs.Faults.{earlier_first, earlier_second}
 
-none_in : {X : Type 0} (x : X) → Contains [] x → ⊥
+pub none_in : {X : Type 0} (x : X) → Contains [] x → ⊥
 none_in x h = omega (arith, h.1)
 
 one_in : {X : Type 0} (x y : X) → Contains (x ∷ []) y → x ≡ y
@@ -29,7 +29,7 @@ is_first x rest = (0, omega arith, refl)
 
 -- ---- What a list's answer says, whatever the test is and the error that is made of an index
 
-contrary : {A : Type 0} (b : Bool) → b ≡ true → b ≡ false → A
+pub contrary : {A : Type 0} (b : Bool) → b ≡ true → b ≡ false → A
 contrary b h k = absurd (false≢true (sym k ∙ h))
 
 place_same : (i j : Index) → i ≡ j → i.place.0 ≡ j.place.0
@@ -121,20 +121,21 @@ tells z (x ∷ rest) = one_before (fits_in z) (error_of z) (λ i. refl) x rest (
 pub all_fit : (x : p.Program) → first_fault x (program_indexes x) ≡ None → AllFit x
 all_fit x e = subst (FindsFirstOf x (program_indexes x)) e (tells x (program_indexes x))
 
-same_place : (a b : Place) → a.0 ≡ b.0 → a ≡ b
-same_place a b e = λ t. record { 0 = e t }
+-- what the error tells, and that no index before it doesn't fit
+pub record FirstUnfit (x : p.Program) (e : IndexError) : Type 0 where
+  pub tells : TellsOfIndex x e
+  pub first : (j : Index) → Contains (program_indexes x) j → index_fits x.variables x.mutexes j ≡ false → e.place.0 ≤ j.place.0
 
-in_order : (a b : Place) → a.0 ≤ b.0 → (a.0 < b.0) ⊎ (a ≡ b)
-in_order a b h = ⊎_elim (λ l. inl l) (λ g. inr (same_place a b (omega arith))) (cases_lt a.0 b.0)
-
-pub first_unfit : (x : p.Program) (e : IndexError) → first_fault x (program_indexes x) ≡ Some e → IsFaultOf x e
+pub first_unfit : (x : p.Program) (e : IndexError) → first_fault x (program_indexes x) ≡ Some e → FirstUnfit x e
 first_unfit x e h =
     let f : FirstIn (fits_in x) (error_of x) (λ i. refl) (program_indexes x) e = subst (FindsFirstOf x (program_indexes x)) h (tells x (program_indexes x)) in
-    let unfit : IsFirstUnfit x f.index = record { found = f.found; unfit = f.unfit; first = λ j c u. in_order f.index.place j.place (f.first j c u) } in
-    record {
+    let there : e.place ≡ f.index.place = ap (λ (e : IndexError). e.place) f.is in
+    let told : TellsOfIndex x e = record {
       index = f.index;
-      first = unfit;
-      place = ap (λ (e : IndexError). e.place) f.is;
+      found = f.found;
+      unfit = f.unfit;
+      place = there;
       range = ap (λ (e : IndexError). interval_of e.range) f.is;
       length = ap (λ (e : IndexError). e.length) f.is;
-    }
+    } in
+    record { tells = told; first = λ j c u. omega (arith, ap (λ (q : Place). q.0) there, f.first j c u) }

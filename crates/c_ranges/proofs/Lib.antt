@@ -2,6 +2,8 @@ pub mod Public
 mod ExactArithmetic
 mod Faults
 mod FirstUnfitIndexLaws
+mod FirstFaults
+mod NullLists
 mod IntervalsOfKinds
 mod ValuesInRanges
 mod HeldRanges

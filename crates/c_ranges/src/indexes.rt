@@ -1,11 +1,10 @@
-//! The check of a program's indexes.
-ghost use Rattle.std.specs.Prelude.{◌≡◌, map, flat_map, MatchResult};
+//! The indexes of a program that may not name elements of their arrays.
+ghost use Rattle.std.specs.Prelude.{◌≡◌, map, flat_map};
 ghost use Rattle.std.specs.Option.{option_map};
 ghost use Rattle.c_tree.specs.Exprs.{expr_of, placed_of, lvalue_of, lock_name_of};
 ghost use Rattle.c_tree.specs.Programs.{program_of, statement_of, statements_of, arms_list_of, returned_of};
 ghost use Rattle.c_tree.specs.Ranges.{elements_of, mutexes_of, expr_indexes, placed_indexes, target_indexes, lock_indexes};
-ghost use Rattle.c_tree.specs.Ranges.{statement_indexes, statements_indexes, arms_indexes, result_indexes, returned_indexes, AllFit};
-ghost use Rattle.c_ranges.specs.Faults.{IsFaultOf};
+ghost use Rattle.c_tree.specs.Ranges.{statement_indexes, statements_indexes, arms_indexes, result_indexes, returned_indexes, program_indexes};
 ghost use Rattle.c_ranges.specs.links.FirstUnfitIndex.{functions_indexes, threads_indexes, fault_at, earlier, first_fault};
 
 use crate::expression::range;
@@ -27,17 +26,13 @@ pub struct IndexError {
     pub length: u32,
 }
 
-/// Whether each index of the program names an element of its array, whatever its value is; else
-/// the first by place that may not.
-pub fn check(program: &Program) -> Result<(), IndexError>
-    ensures { MatchResult result (λ _. AllFit (program_of program.now)) (λ e. IsFaultOf (program_of program.now) e) }
+/// The first index by place that may not name an element of its array, if there is one.
+pub(crate) fn first_unfit(program: &Program) -> Option<IndexError>
+    ensures { result ≡ first_fault (program_of program.now) (program_indexes (program_of program.now)) }
 {
     let functions = of_functions(program, &program.functions);
     let threads = of_threads(program, &program.threads);
-    match earlier(functions, threads) {
-        None => Ok(()),
-        Some(error) => Err(error),
-    }
+    earlier(functions, threads)
 }
 
 /// Of two answers, the one of the lesser place.

@@ -13,6 +13,7 @@ mod WorkedValues
 mod WorkedTyping
 mod WorkedRanges
 mod WorkedReferences
+mod WorkedNulls
 mod WorkedInlining
 mod WorkedSource
 mod WorkedLocking

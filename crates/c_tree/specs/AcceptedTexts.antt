@@ -10,7 +10,8 @@ use Rattle.c_tree.specs.Flats as f
 use Rattle.c_tree.specs.TextReadings.{IsRead, IsRefused}
 use Rattle.c_tree.specs.TypeRules.{IsFirst, type_faults}
 use Rattle.c_tree.specs.Elaboration.{typed_program}
-use Rattle.c_tree.specs.Ranges.{AllFit, Index, IsFirstUnfit}
+use Rattle.c_tree.specs.Ranges.{AllFit}
+use Rattle.c_tree.specs.NullReferences.{IsFirstOutside, program_nulls}
 use Rattle.c_tree.specs.Inlining.{Call, IsFirstBack, LeadsBack, flat_form}
 use Rattle.c_tree.specs.LockDiscipline as d
 use Rattle.c_tree.specs.LockDiscipline.{lock_fault}
@@ -27,10 +28,11 @@ pub record IsTyped (l : Language) (text : List ℕ) (x : p.Program) : Type 0 whe
   pub faultless : type_faults l items ≡ []
   pub typed : x ≡ typed_program items
 
--- the text is a program whose names and kinds keep the rules, and whose indexes name elements
+-- the text is a program whose names and kinds keep the rules, whose indexes name elements, and which follows no reference that may be null
 pub record IsRanged (l : Language) (text : List ℕ) (x : p.Program) : Type 0 where
   pub typed : IsTyped l text x
   pub fits : AllFit x
+  pub never_null : program_nulls x ≡ []
 
 -- the text is a program that has a flat form, of threads that don't cost too much
 pub record IsFlattened (l : Language) (text : List ℕ) (flat : f.Flat) : Type 0 where
@@ -49,7 +51,7 @@ pub record IsChecked (l : Language) (text : List ℕ) (flat : f.Flat) : Type 0 w
 pub data IsFaulty (l : Language) (text : List ℕ) (found : r.Rule) (place : Place) : Type 0 where
   unread : IsRefused l text found place → IsFaulty l text found place
   mistyped : (items : List Item) → IsRead l text items → IsFirst (type_faults l items) (record { rule = found; place = place }) → IsFaulty l text found place
-  unfit : (x : p.Program) (i : Index) → IsTyped l text x → IsFirstUnfit x i → found ≡ rule.Index → place ≡ i.place → IsFaulty l text found place
+  outside : (x : p.Program) → IsTyped l text x → IsFirstOutside x found place → IsFaulty l text found place
   leads_back : (x : p.Program) → IsRanged l text x → IsFirstBack x.functions place → found ≡ rule.Recursion → IsFaulty l text found place
   too_long : (x : p.Program) → IsRanged l text x → HasNoBack x → price_fault l (flat_form x) ≡ Some place → found ≡ rule.Code → IsFaulty l text found place
   undisciplined : (flat : f.Flat) (x : d.Fault) → IsFlattened l text flat → lock_fault l flat ≡ Some x → found ≡ x.rule → place ≡ x.place

@@ -17,6 +17,7 @@ pub mod Names
 pub mod Elaboration
 pub mod TypeRules
 pub mod Ranges
+pub mod NullReferences
 pub mod Inlining
 pub mod WellFormed
 pub mod LockDiscipline

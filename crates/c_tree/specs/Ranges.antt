@@ -1,5 +1,5 @@
 -- An interval that holds every value that an expression can have, and the indexes of a program.
-use Rattle.std.specs.Prelude.{◌≡◌, ◌⊎◌, ℕ, ◌<◌, List, [], ◌∷◌, ◌++◌, Contains, flat_map, slice_get, Option, Some, None, Bool}
+use Rattle.std.specs.Prelude.{◌≡◌, ℕ, List, [], ◌∷◌, ◌++◌, Contains, flat_map, slice_get, Option, Some, None, Bool}
 use Rattle.std.specs.Prelude.{true, false, ◌&&◌, if◌then◌else◌, ℤ, pos, ◌+ℤ◌, ◌-ℤ◌, ◌*ℤ◌, neg_ℤ, int_le, int_lt, int_div, ◌≤ℤ◌}
 use Rattle.std.specs.Int.{int_shr}
 use Rattle.std.specs.Ordering.{int_eq}
@@ -237,9 +237,3 @@ index_fits vs ms i = is_below i.expr (indexed vs ms i.of)
 -- all indexes fit
 abbrev pub AllFit : p.Program → Type 0
 AllFit x = (i : Index) → Contains (program_indexes x) i → index_fits x.variables x.mutexes i ≡ true
-
--- the first index that doesn't fit
-pub record IsFirstUnfit (x : p.Program) (i : Index) : Type 0 where
-  pub found : Contains (program_indexes x) i
-  pub unfit : index_fits x.variables x.mutexes i ≡ false
-  pub first : (j : Index) → Contains (program_indexes x) j → index_fits x.variables x.mutexes j ≡ false → (i.place.0 < j.place.0) ⊎ (i.place ≡ j.place)

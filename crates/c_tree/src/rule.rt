@@ -31,6 +31,8 @@ pub enum Rule {
     Length,
     /// An index that may lie outside its array.
     Index,
+    /// A reference that may be null where its element is named.
+    Null,
     /// A call that leads back to its own function.
     Recursion,
     /// A thread whose code may be too long.

@@ -46,6 +46,7 @@ back rule.Mutexes h = refl
 back rule.Bytes h = refl
 back rule.Length h = refl
 back rule.Index h = absurd (omega (arith, h))
+back rule.Null h = absurd (omega (arith, h))
 back rule.Recursion h = absurd (omega (arith, h))
 back rule.Code h = absurd (omega (arith, h))
 back rule.Unheld h = absurd (omega (arith, h))

@@ -91,7 +91,7 @@ fn accepts(alloc: Global, text: &[u8]) -> bool {
     let Ok(program) = type_tree(alloc, Language::Plain, tree) else {
         return false;
     };
-    c_ranges::check(&program).is_ok() && inline(alloc, Language::Plain, &program).is_ok()
+    c_ranges::check(alloc, &program).is_ok() && inline(alloc, Language::Plain, &program).is_ok()
 }
 
 /// Takes a source of the form through the front.

@@ -50,6 +50,7 @@ pub fn code_of(rule: Rule) -> &'static str
         Rule::High => "K8",
         Rule::Length => "K9",
         Rule::Index => "X1",
+        Rule::Null => "X2",
         Rule::Unheld => "L1",
         Rule::Again => "L2",
         Rule::NotHeld => "L3",

@@ -4,7 +4,7 @@ use Rattle.std.specs.Prelude.{Result, Ok, Err}
 use Rattle.ido_base.specs.declared.place.Place.{Place}
 use Rattle.c_tree.specs.declared.language.Language.TheVariants.{Plain}
 use Rattle.c_tree.specs.AcceptedTexts as c
-use Rattle.c_tree.specs.AcceptedTexts.{IsTyped, IsRanged, IsFlattened, unread, mistyped, unfit, leads_back, too_long}
+use Rattle.c_tree.specs.AcceptedTexts.{IsTyped, IsRanged, IsFlattened, unread, mistyped, outside, leads_back, too_long}
 use Rattle.c_tree.specs.Flats as f
 use Rattle.c_tree.specs.Programs as p
 use Rattle.c_tree.specs.TextReadings.{IsRead, IsRefused}
@@ -15,7 +15,8 @@ use Rattle.c_tree.specs.declared.refusal.SourceError.{SourceError}
 use Rattle.c_tree.specs.declared.refusal.SourceError.TheVariants as source
 use Rattle.c_typer.specs.Answers.{Answers}
 use Rattle.c_ranges.specs.Faults.{IsFaultOf}
-use Rattle.c_ranges.specs.declared.indexes.IndexError.{IndexError}
+use Rattle.c_ranges.specs.declared.checking.RangeError.{RangeError}
+use Rattle.c_ranges.specs.declared.checking.RangeError.TheVariants as range
 use Rattle.c_inline.specs.Inline.{IsInlining}
 use Rattle.c_inline.specs.declared.inline.InlineError as inline
 use Rattle.c_inline.specs.declared.inline.InlineError.TheVariants as inline_error
@@ -23,7 +24,7 @@ use Rattle.flow_graph.specs.Refusals as r
 use Rattle.flow_graph.specs.Refusals.{IsAccepted, IsRefusedBy, faulty}
 use Rattle.flat_analysis.specs.CompilableForms.{IsAcceptedForm, IsFormRefusal, IsRefusedForm, undisciplined, crowded, too_deep}
 use Rattle.ido_compile.specs.CompileAnswers.{IsCompileAnswer}
-use Rattle.ido_compile.specs.links.FrontEndAnswers.{IsRefusal, of_index, of_inline, of_source}
+use Rattle.ido_compile.specs.links.FrontEndAnswers.{IsRefusal, of_range, of_inline, of_source}
 use Rattle.ido_compile.specs.declared.error.CompileError.{CompileError}
 use Rattle.ido_compile.specs.declared.error.CompileError.TheVariants as error
 
@@ -40,8 +41,10 @@ pub by_typing : (text : List ℕ) (items : List Item) (e : SourceError) → IsRe
 by_typing text items (source.Refused x) is h = faulty (mistyped items is h)
 by_typing text items source.Memory is h = tt
 
-pub by_index : (text : List ℕ) (x : p.Program) (e : IndexError) → IsTyped Plain text x → IsFaultOf x e → IsRefusal text (of_index e)
-by_index text x e is h = faulty (unfit x h.index is h.first refl h.place)
+pub by_range : (text : List ℕ) (x : p.Program) (e : RangeError) → IsTyped Plain text x → IsFaultOf x e → IsRefusal text (of_range e)
+by_range text x (range.Index e) is h = faulty (outside x is h.0)
+by_range text x (range.Null place) is h = faulty (outside x is h)
+by_range text x range.Memory is h = tt
 
 pub by_calls : (text : List ℕ) (x : p.Program) (e : inline.InlineError) → IsRanged Plain text x → IsInlining Plain x (Err e) → IsRefusal text (of_inline e)
 by_calls text x (inline_error.Recursion place) is h = faulty (leads_back x is h refl)

@@ -1,15 +1,16 @@
 -- A text is accepted and has one flat form, or it is refused by one rule, at one place: check after check.
-use Rattle.std.proofs.Common.{◌≡◌, ◌⊎◌, inl, inr, refl, ℕ, ◌<◌, ◌≤◌, List, [], length, Option, Some, None, true, false, sym, ap, ap₂, ◌∙◌, subst, arith}
+use Rattle.std.proofs.Common.{◌≡◌, refl, ℕ, ◌<◌, ◌≤◌, List, [], length, Option, Some, None, true, false, sym, ap, ap₂, ◌∙◌, subst, arith}
 use Rattle.ido_base.specs.declared.place.Place.{Place}
 use Rattle.c_tree.specs.declared.language.Language.TheVariants.{Plain}
 use Rattle.c_tree.specs.AcceptedTexts.{HasNoBack, IsTyped, IsRanged, IsFlattened, IsChecked, IsFaulty}
-use Rattle.c_tree.specs.AcceptedTexts.{unread, mistyped, unfit, leads_back, too_long, undisciplined}
+use Rattle.c_tree.specs.AcceptedTexts.{unread, mistyped, outside, leads_back, too_long, undisciplined}
 use Rattle.c_tree.specs.Flats as f
 use Rattle.c_tree.specs.Inlining.{IsFirstBack, flat_form}
 use Rattle.c_tree.specs.LockDiscipline as l
 use Rattle.c_tree.specs.LockDiscipline.{lock_fault}
 use Rattle.c_tree.specs.Programs as p
-use Rattle.c_tree.specs.Ranges.{AllFit, Index, IsFirstUnfit}
+use Rattle.c_tree.specs.NullReferences.{IsFirstOutside, IsOutside, by_index, by_null, program_nulls}
+use Rattle.c_tree.specs.Ranges.{AllFit}
 use Rattle.c_tree.specs.TextReadings.{IsRead, IsRefused}
 use Rattle.c_tree.specs.LexicalScan.{Fault}
 use Rattle.c_tree.specs.HoldPrices.{price_fault}
@@ -145,26 +146,42 @@ one_by_calls x = one_check (CallStop x) (HasNoBack x) (ByPrice (flat_form x))
     (λ v s ends. ends s.1.call s.1.back)
     (one_by_price (flat_form x))
 
--- ---- Indexes
+-- ---- Indexes and references
 
-abbrev IndexStop : p.Program → Verdict → Type 0
-IndexStop x v = (i : Index) × IsFirstUnfit x i × (v ≡ Refused rule.Index i.place)
+abbrev OutsideStop : p.Program → Verdict → Type 0
+OutsideStop x v = (found : r.Rule) × (place : Place) × IsFirstOutside x found place × (v ≡ Refused found place)
+
+abbrev IsInside : p.Program → Type 0
+IsInside x = AllFit x × (program_nulls x ≡ [])
 
 abbrev ByIndexes : p.Program → Verdict → Type 0
-ByIndexes x = Check (IndexStop x) (AllFit x) (ByCalls x)
+ByIndexes x = Check (OutsideStop x) (IsInside x) (ByCalls x)
 
-one_unfit : (x : p.Program) (i j : Index) → IsFirstUnfit x i → IsFirstUnfit x j → i.place ≡ j.place
-one_unfit x i j h k = go (h.first j k.found k.unfit) (k.first i h.found h.unfit)
-  where
-    go : (i.place.0 < j.place.0) ⊎ (i.place ≡ j.place) → (j.place.0 < i.place.0) ⊎ (j.place ≡ i.place) → i.place ≡ j.place
-    go (inr e) b = e
-    go (inl h) (inr e) = sym e
-    go (inl h) (inl k) = absurd (omega (arith, h, k))
+one_place : (x : p.Program) (found other : r.Rule) (place at : Place) → IsFirstOutside x found place → IsFirstOutside x other at → place ≡ at
+one_place x found other place at h k = same_place place at (omega (arith, h.first other at k.outside, k.first found place h.outside))
+
+-- of two at one place both are by indexes, or neither is
+one_outside : (x : p.Program) (found other : r.Rule) (place : Place) → IsFirstOutside x found place → IsFirstOutside x other place →
+    IsOutside x found place → IsOutside x other place → found ≡ other
+one_outside x found other place h k (by_index i c u f e) o = f ∙ sym (k.index_first (by_index i c u refl e))
+one_outside x found other place h k (by_null c f) (by_index i d u g e) = h.index_first (by_index i d u refl e) ∙ sym g
+one_outside x found other place h k (by_null c f) (by_null d g) = f ∙ sym g
+
+one_stop : (x : p.Program) (found other : r.Rule) (place at : Place) → IsFirstOutside x found place → IsFirstOutside x other at →
+    Refused found place ≡ Refused other at
+one_stop x found other place at h k =
+    let same = one_place x found other place at h k in
+    let here : IsFirstOutside x other place = subst (λ (q : Place). IsFirstOutside x other q) (sym same) k in
+    ap₂ Refused (one_outside x found other place h here h.outside here.outside) same
+
+none_inside : (x : p.Program) (found : r.Rule) (place : Place) → IsOutside x found place → IsInside x → ⊥
+none_inside x found place (by_index i c u f e) inside = let both : true ≡ false = sym (inside.0 i c) ∙ u in cc both
+none_inside x found place (by_null c f) inside = let within : c.0 < length (program_nulls x) = c.1 in omega (arith, within, ap length inside.1)
 
 one_by_indexes : (x : p.Program) → IsOne (ByIndexes x)
-one_by_indexes x = one_check (IndexStop x) (AllFit x) (ByCalls x)
-    (λ v w s t. s.2 ∙ ap (Refused rule.Index) (one_unfit x s.0 t.0 s.1 t.1) ∙ sym t.2)
-    (λ v s fits. let both : true ≡ false = sym (fits s.0 s.1.found) ∙ s.1.unfit in cc both)
+one_by_indexes x = one_check (OutsideStop x) (IsInside x) (ByCalls x)
+    (λ v w s t. s.3 ∙ one_stop x s.0 t.0 s.1 t.1 s.2 t.2 ∙ sym t.3)
+    (λ v s inside. none_inside x s.0 s.1 s.2.outside inside)
     (one_by_calls x)
 
 -- ---- Names and kinds
@@ -191,7 +208,7 @@ typed_then : (text : List ℕ) (x : p.Program) (v : Verdict) → IsTyped Plain t
 typed_then text x v is by = tree is.items is.read (passes is.faultless (subst (λ y. ByIndexes y v) is.typed by))
 
 ranged_then : (text : List ℕ) (x : p.Program) (v : Verdict) → IsRanged Plain text x → ByCalls x v → ByReading text v
-ranged_then text x v is by = typed_then text x v is.typed (passes is.fits by)
+ranged_then text x v is by = typed_then text x v is.typed (passes (is.fits, is.never_null) by)
 
 flattened_then : (text : List ℕ) (flat : f.Flat) (v : Verdict) → IsFlattened Plain text flat → ByLocks flat v → ByReading text v
 flattened_then text flat v is by = ranged_then text is.program v is.ranged (passes is.ends (passes is.short (subst (λ y. ByLocks y v) is.flattened by)))
@@ -205,7 +222,7 @@ accepted_by text flat is = checked_then text flat (Accepted flat) is.checked (pa
 faulty_by : (text : List ℕ) (found : r.Rule) (place : Place) → IsFaulty Plain text found place → ByReading text (Refused found place)
 faulty_by text found place (unread is) = no_tree (found, place, is, refl)
 faulty_by text found place (mistyped xs is first) = tree xs is (stops (record { rule = found; place = place }, first, refl))
-faulty_by text found place (unfit x i is first e at) = typed_then text x (Refused found place) is (stops (i, first, ap₂ Refused e at))
+faulty_by text found place (outside x is first) = typed_then text x (Refused found place) is (stops (found, place, first, refl))
 faulty_by text found place (leads_back x is first e) = ranged_then text x (Refused found place) is (stops (place, first, ap (λ y. Refused y place) e))
 faulty_by text found place (too_long x is ends long e) =
     ranged_then text x (Refused found place) is (passes ends (stops (place, long, ap (λ y. Refused y place) e)))

@@ -16,7 +16,7 @@ use c_typer::type_tree;
 use flat_analysis::{Analysis, analyse};
 use std::alloc::Global;
 
-/// The flat form of a text that keeps all rules of names, kinds, indexes and calls; else the rule and the place of the first of
+/// The flat form of a text that keeps all rules of names, kinds, indexes, references and calls; else the rule and the place of the first of
 /// these checks that it fails.
 pub fn flatten(alloc: Global, text: &[u8]) -> Result<Flat, CompileError>
     requires { length text.now ≤ MOST_SOURCE_BYTES }
@@ -24,7 +24,7 @@ pub fn flatten(alloc: Global, text: &[u8]) -> Result<Flat, CompileError>
 {
     let tree = read(alloc, Language::Plain, text)?;
     let program = type_tree(alloc, Language::Plain, tree)?;
-    c_ranges::check(&program)?;
+    c_ranges::check(alloc, &program)?;
     let flat = inline(alloc, Language::Plain, &program)?;
     Ok(flat)
 }
@@ -41,7 +41,7 @@ pub fn checked<'a>(alloc: Global, text: &[u8], flat: &'a Flat) -> Result<Analysi
     Ok(analysis)
 }
 
-/// The flat form of a text that keeps all rules of names, kinds, indexes, calls, locks, registers and temporaries; else
+/// The flat form of a text that keeps all rules of names, kinds, indexes, references, calls, locks, registers and temporaries; else
 /// the rule and the place of the first check that it fails.
 pub fn front(alloc: Global, text: &[u8]) -> Result<Flat, CompileError>
     requires { length text.now ≤ MOST_SOURCE_BYTES }

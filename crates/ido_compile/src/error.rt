@@ -3,7 +3,7 @@ ghost use Rattle.std.specs.Prelude.{◌≡◌};
 ghost use Rattle.ido_compile.specs.links.FrontEndAnswers.{refused};
 
 use c_inline::inline::InlineError;
-use c_ranges::IndexError;
+use c_ranges::RangeError;
 use c_tree::refusal::{Refusal, SourceError};
 use c_tree::rule::Rule;
 use ido_base::memory::OutOfMemory;
@@ -42,13 +42,17 @@ impl From<SourceError> for CompileError {
     }
 }
 
-impl From<IndexError> for CompileError {
-    ghost use Rattle.ido_compile.specs.links.FrontEndAnswers.{of_index};
+impl From<RangeError> for CompileError {
+    ghost use Rattle.ido_compile.specs.links.FrontEndAnswers.{of_range};
 
-    ghost from_gives = { λ x e. e ≡ of_index x };
+    ghost from_gives = { λ x e. e ≡ of_range x };
 
-    fn from(error: IndexError) -> Self {
-        refused(Rule::Index, error.place)
+    fn from(error: RangeError) -> Self {
+        match error {
+            RangeError::Index(error) => refused(Rule::Index, error.place),
+            RangeError::Null { place } => refused(Rule::Null, place),
+            RangeError::Memory => CompileError::Memory,
+        }
     }
 }
 

@@ -10,7 +10,8 @@ use Rattle.c_tree.specs.declared.rule.Rule.{Rule}
 use Rattle.c_tree.specs.declared.rule.Rule.TheVariants as rule
 use Rattle.c_tree.specs.declared.refusal.SourceError.{SourceError}
 use Rattle.c_tree.specs.declared.refusal.SourceError.TheVariants as source
-use Rattle.c_ranges.specs.declared.indexes.IndexError.{IndexError}
+use Rattle.c_ranges.specs.declared.checking.RangeError.{RangeError}
+use Rattle.c_ranges.specs.declared.checking.RangeError.TheVariants as range
 use Rattle.c_inline.specs.declared.inline.InlineError as inline
 use Rattle.c_inline.specs.declared.inline.InlineError.TheVariants as inline_error
 use Rattle.flow_graph.specs.Refusals.{IsAccepted, IsRefusedBy}
@@ -55,8 +56,10 @@ of_source source.Memory = e.Memory
 abbrev pub refused : Rule → Place → CompileError
 refused found place = e.Refused (record { rule = found; place = place })
 
-abbrev pub of_index : IndexError → CompileError
-of_index x = refused rule.Index x.place
+abbrev pub of_range : RangeError → CompileError
+of_range (range.Index x) = refused rule.Index x.place
+of_range (range.Null place) = refused rule.Null place
+of_range range.Memory = e.Memory
 
 abbrev pub of_inline : inline.InlineError → CompileError
 of_inline (inline_error.Recursion place) = refused rule.Recursion place

@@ -3,8 +3,8 @@ use Rattle.c_tree.specs.declared.language.Language.TheVariants.{Plain}
 use Rattle.c_tree.specs.AcceptedTexts.{IsTyped, IsRanged}
 use Rattle.c_tree.specs.Programs.{program_of}
 use Rattle.c_tree.specs.Views.{items_of}
-use Rattle.ido_compile.specs.links.FrontEndAnswers.{IsFlatAnswer, of_index, of_inline, of_source}
-use Rattle.ido_compile.proofs.FrontEndChecks.{by_calls, by_error, by_index, by_reading, by_typing}
+use Rattle.ido_compile.specs.links.FrontEndAnswers.{IsFlatAnswer, of_range, of_inline, of_source}
+use Rattle.ido_compile.proofs.FrontEndChecks.{by_calls, by_error, by_range, by_reading, by_typing}
 use Rattle.ido_compile.proofs.checking.flatten.Goals as goal
 
 pub returns-in_err-tree : goal.returns-in_err-tree
@@ -22,14 +22,15 @@ pub returns-in_err-check : goal.returns-in_err-check
 returns-in_err-check c =
     let typed : IsTyped Plain c.args.text.now (program_of c.in_ok-program.program) =
     record { items = items_of c.in_ok-tree.tree; read = c.in_ok-tree.ensures.read; faultless = c.in_ok-program.ensures.0; typed = c.in_ok-program.ensures.1 } in
-    by_error (IsFlatAnswer c.args.text.now) (of_index c.in_err-check.field-0.0) c.from_residual-in_err-check.result c.from_residual-in_err-check.ensures.1
-    (by_index c.args.text.now (program_of c.in_ok-program.program) c.in_err-check.field-0.0 typed c.in_err-check.ensures)
+    by_error (IsFlatAnswer c.args.text.now) (of_range c.in_err-check.field-0.0) c.from_residual-in_err-check.result c.from_residual-in_err-check.ensures.1
+    (by_range c.args.text.now (program_of c.in_ok-program.program) c.in_err-check.field-0.0 typed c.in_err-check.ensures)
 
 pub returns-in_err-flat : goal.returns-in_err-flat
 returns-in_err-flat c =
     let typed : IsTyped Plain c.args.text.now (program_of c.in_ok-program.program) =
     record { items = items_of c.in_ok-tree.tree; read = c.in_ok-tree.ensures.read; faultless = c.in_ok-program.ensures.0; typed = c.in_ok-program.ensures.1 } in
-    let ranged : IsRanged Plain c.args.text.now (program_of c.in_ok-program.program) = record { typed = typed; fits = c.in_ok-check.ensures } in
+    let ranged : IsRanged Plain c.args.text.now (program_of c.in_ok-program.program) =
+    record { typed = typed; fits = c.in_ok-check.ensures.0; never_null = c.in_ok-check.ensures.1 } in
     by_error (IsFlatAnswer c.args.text.now) (of_inline c.in_err-flat.field-0.0) c.from_residual-in_err-flat.result c.from_residual-in_err-flat.ensures.1
     (by_calls c.args.text.now (program_of c.in_ok-program.program) c.in_err-flat.field-0.0 ranged c.in_err-flat.ensures)
 
@@ -37,7 +38,8 @@ pub returns : goal.returns
 returns c =
     let typed : IsTyped Plain c.args.text.now (program_of c.in_ok-program.program) =
     record { items = items_of c.in_ok-tree.tree; read = c.in_ok-tree.ensures.read; faultless = c.in_ok-program.ensures.0; typed = c.in_ok-program.ensures.1 } in
-    let ranged : IsRanged Plain c.args.text.now (program_of c.in_ok-program.program) = record { typed = typed; fits = c.in_ok-check.ensures } in
+    let ranged : IsRanged Plain c.args.text.now (program_of c.in_ok-program.program) =
+    record { typed = typed; fits = c.in_ok-check.ensures.0; never_null = c.in_ok-check.ensures.1 } in
     record {
       program = program_of c.in_ok-program.program;
       ranged = ranged;
