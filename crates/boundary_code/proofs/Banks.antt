@@ -18,11 +18,11 @@ use Rattle.rv64_isa.specs.Rows.{Effect, Continues, Stores, Cleans, row, read, ne
 use Rattle.rv64_isa.specs.Arithmetic.{sign_extended, result_of}
 use Rattle.memory_layout.specs.Roles.{is_temporary, is_kept}
 use Rattle.operator_code.specs.StraightLineCode.{IsConstant, registers_after}
-use Rattle.boundary_code.specs.Boundaries.{lines_in_use, bank_lines, listed_from, IsOnSide, GiveNumbers}
-use Rattle.boundary_code.specs.links.InstructionLists.{KeptCode, keep_slots, keep_locks, clean_lines, bank_part}
+use Rattle.boundary_code.specs.Boundaries.{lines_in_use, bank_lines, listed_from, IsOnSide, IsUnderWay, GiveNumbers}
+use Rattle.boundary_code.specs.links.InstructionLists.{KeptCode, keep_slots, keep_locks, clean_lines, bank_part, opening_list}
 use Rattle.operator_code.proofs.Public.{RunsFrom, stop, go, store, clean, along, constant_runs, read_same, read_other, length-changed, small_immediate}
 use Rattle.operator_code.proofs.Public.{add_small, displaced_small}
-use Rattle.boundary_code.proofs.Registers.{Ready, ready, ready_still, flip, bank_immediate, base_small, not_temporary}
+use Rattle.boundary_code.proofs.Registers.{ready, ready_still, flip, bank_immediate, base_small, not_temporary}
 
 -- ---- Slots
 
@@ -47,14 +47,14 @@ slot_address log thread bank slot t b s =
     sums a c n = omega arith
 
 slot_row : (log : Log) (thread bank : ℕ) (x y : List ℕ) (r slot offset pc : ℕ) →
-    displaced (log_of log thread + bank_bytes log * bank) 12 offset ≡ slot_at log thread bank slot → Ready log thread bank x y →
+    displaced (log_of log thread + bank_bytes log * bank) 12 offset ≡ slot_at log thread bank slot → IsUnderWay log thread bank x y →
     row (Store Sd r 30 offset) y pc ≡ Stores (slot_at log thread bank slot) 8 (read y r)
 unfolding row
 slot_row log thread bank x y r slot offset pc e h =
     ap (λ (n : ℕ). Stores (displaced n 12 offset) 8 (read y r)) h.base ∙ ap (λ (n : ℕ). Stores n 8 (read y r)) e
 
 pub slots_run : (log : Log) (thread bank : ℕ) (x y : List ℕ) (live : List ℕ) (pc : ℕ) → thread < MOST_THREADS → bank < 2 → AreKept live →
-    Ready log thread bank x y →
+    IsUnderWay log thread bank x y →
     RunsFrom (keep_slots live) y pc (map (λ r. Stores (slot_at log thread bank r) 8 (read x r)) live) y
 slots_run log thread bank x y [] pc t b kept h = stop y pc
 slots_run log thread bank x y (r ∷ rs) pc t b kept h =
@@ -90,7 +90,7 @@ are_lines log slots = lines-filter (λ line. list_any (λ slot. slot / 8 == line
 pub record Written (log : Log) (thread bank : ℕ) (x y : List ℕ) (code : List Instr) (pc : ℕ) (es : List Effect) : Type 0 where
   pub left : List ℕ
   pub runs : RunsFrom code y pc es left
-  pub ready : Ready log thread bank x left
+  pub ready : IsUnderWay log thread bank x left
 
 line_address : (log : Log) (thread bank line : ℕ) → thread < MOST_THREADS → bank < 2 → line < 6 →
     result_of Add (log_of log thread + bank_bytes log * bank) (sign_extended 12 64 (64 + 64 * line)) ≡ slot_at log thread bank (8 * line)
@@ -102,7 +102,7 @@ line_address log thread bank line t b l =
     sums : (a c n : ℕ) → a + c + (64 + 64 * n) ≡ a + 64 + c + 8 * (8 * n)
     sums a c n = omega arith
 
-line_row : (log : Log) (thread bank : ℕ) (x y : List ℕ) (line pc : ℕ) → thread < MOST_THREADS → bank < 2 → line < 6 → Ready log thread bank x y →
+line_row : (log : Log) (thread bank : ℕ) (x y : List ℕ) (line pc : ℕ) → thread < MOST_THREADS → bank < 2 → line < 6 → IsUnderWay log thread bank x y →
     row (OpImmediate Addi 7 30 (64 + 64 * line)) y pc ≡ Continues (slice_set y 7 (slot_at log thread bank (8 * line))) (next pc)
 unfolding row
 line_row log thread bank x y line pc t b l h =
@@ -114,7 +114,7 @@ unfolding row
 clean_row y r address pc e = ap (λ (n : ℕ). Cleans n) e
 
 pub cleans_run : (log : Log) (thread bank : ℕ) (x y : List ℕ) (lines : List ℕ) (pc : ℕ) → thread < MOST_THREADS → bank < 2 → AreLines lines →
-    Ready log thread bank x y →
+    IsUnderWay log thread bank x y →
     Written log thread bank x y (clean_lines lines) pc (map (λ line. Cleans (slot_at log thread bank (8 * line))) lines)
 cleans_run log thread bank x y [] pc t b few h = record { left = y; runs = stop y pc; ready = h }
 cleans_run log thread bank x y (line ∷ lines) pc t b few h =
@@ -131,6 +131,16 @@ cleans_run log thread bank x y (line ∷ lines) pc t b few h =
       ready = more.ready;
     }
 
+-- a number in x5 gets a slot
+pub number_stored : (log : Log) (thread bank slot : ℕ) (x y : List ℕ) (number pc : ℕ) → thread < MOST_THREADS → bank < 2 → slot < 48 →
+    IsUnderWay log thread bank x y → read y 5 ≡ number →
+    RunsFrom (Store Sd 5 30 (64 + 8 * slot) ∷ []) y pc (Stores (slot_at log thread bank slot) 8 number ∷ []) y
+number_stored log thread bank slot x y number pc t b s under is =
+    store (Store Sd 5 30 (64 + 8 * slot)) [] y pc (slot_at log thread bank slot) 8 number [] y
+    (slot_row log thread bank x y 5 slot (64 + 8 * slot) pc (slot_address log thread bank slot t b s) under
+    ∙ ap (λ (n : ℕ). Stores (slot_at log thread bank slot) 8 n) is)
+    (stop y (pc + 4))
+
 -- ---- Locks in slots of their own
 
 -- the stores of these slots
@@ -138,7 +148,7 @@ abbrev pub stores_of : (log : Log) (thread bank : ℕ) → List (ℕ × ℕ) →
 stores_of log thread bank kept = map (λ (one : ℕ × ℕ). Stores (slot_at log thread bank one.0) 8 one.1) kept
 
 pub locks_run : (log : Log) (thread bank : ℕ) (x : List ℕ) (slot : ℕ) (numbers : List ℕ) (codes : List (List Instr)) → thread < MOST_THREADS → bank < 2 →
-    slot + length numbers ≤ 48 → GiveNumbers numbers codes → (y : List ℕ) (pc : ℕ) → Ready log thread bank x y →
+    slot + length numbers ≤ 48 → GiveNumbers numbers codes → (y : List ℕ) (pc : ℕ) → IsUnderWay log thread bank x y →
     Written log thread bank x y (keep_locks slot codes) pc (stores_of log thread bank (listed_from slot numbers))
 locks_run log thread bank x slot [] [] t b few gives y pc h = record { left = y; runs = stop y pc; ready = h }
 locks_run log thread bank x slot [] (code ∷ codes) t b few gives y pc h = absurd gives
@@ -149,7 +159,7 @@ locks_run log thread bank x slot (number ∷ numbers) (code ∷ codes) t b few g
     let pc2 : ℕ = pc + 4 * length code in
     let other : (r : ℕ) → r ≢ 5 → r ≢ 6 → r ≢ 7 → r ≢ 30 → read z r ≡ read y r = λ r. one.others y pc r h.count h.zero_is in
     let summed : read y 30 ≡ read y 31 + read y 3 = omega (arith, h.base, h.logged, h.offset) in
-    let still : Ready log thread bank x z = record {
+    let still : IsUnderWay log thread bank x z = record {
       count = one.count y pc h.count h.zero_is;
       zero_is = other 0 (eqb-false 0 5 refl) (eqb-false 0 6 refl) (eqb-false 0 7 refl) (eqb-false 0 30 refl) ∙ h.zero_is;
       offset = other 3 (eqb-false 3 5 refl) (eqb-false 3 6 refl) (eqb-false 3 7 refl) (eqb-false 3 30 refl) ∙ h.offset;
@@ -191,14 +201,54 @@ flip_row log x bank pc h =
     ap (λ (n : ℕ). Continues (slice_set x 3 (result_of Xor (read x 3) n)) (next pc)) (small_immediate (bank_bytes log) (bank_immediate log)) ∙
     ap (λ (n : ℕ). Continues (slice_set x 3 n) (next pc)) (ap (λ (n : ℕ). result_of Xor n (bank_bytes log)) h.offset ∙ flip log bank h.exists)
 
-first_row : (log : Log) (thread bank : ℕ) (x y : List ℕ) (value pc : ℕ) → thread < MOST_THREADS → bank < 2 → Ready log thread bank x y → read y 7 ≡ value →
+first_row : (log : Log) (thread bank : ℕ) (x y : List ℕ) (value pc : ℕ) → thread < MOST_THREADS → bank < 2 → IsUnderWay log thread bank x y → read y 7 ≡ value →
     row (Store Sd 7 30 64) y pc ≡ Stores (slot_at log thread bank 0) 8 value
 first_row log thread bank x y value pc t b h e =
     slot_row log thread bank x y 7 0 64 pc (slot_address log thread bank 0 t b (lit< tt)) h ∙ ap (λ (n : ℕ). Stores (slot_at log thread bank 0) 8 n) e
 
+-- up to the locks
+pub opened : (log : Log) (thread value bank : ℕ) (address first : List Instr) (x : List ℕ) (pc : ℕ) → thread < MOST_THREADS → IsOnSide log bank x →
+    IsConstant 31 (log_of log thread) address → IsConstant 7 value first →
+    Written log thread (1 - bank) x x (opening_list log address first) pc (Stores (slot_at log thread (1 - bank) 0) 8 value ∷ [])
+opened log thread value bank address code x pc t at is_log is_first =
+    let other : ℕ = 1 - bank in
+    let below : other < 2 = omega arith in
+    let offset : ℕ = bank_bytes log * other in
+    let place : ℕ = log_of log thread in
+    let x1 : List ℕ = slice_set x 3 offset in
+    let x2 : List ℕ = slice_set x1 31 place in
+    let x3 : List ℕ = slice_set x2 30 (place + offset) in
+    let x4 : List ℕ = slice_set x3 7 value in
+    let l1 : length x1 ≡ 32 = length-changed x 3 offset at.count in
+    let l2 : length x2 ≡ 32 = length-changed x1 31 place l1 in
+    let l3 : length x3 ≡ 32 = length-changed x2 30 (place + offset) l2 in
+    let z1 : read x1 0 ≡ 0 = read_other x 3 0 offset refl ∙ at.zero_is in
+    let z3 : read x3 0 ≡ 0 = read_other x2 30 0 (place + offset) refl ∙ read_other x1 31 0 place refl ∙ z1 in
+    let o2 : read x2 3 ≡ offset = read_other x1 31 3 place refl ∙ read_same x 3 offset at.count (lit< tt) in
+    let start = ready log thread other value x at.count at.zero_is in
+    let flips : List Instr = OpImmediate Xori 3 3 (bank_bytes log) ∷ address in
+    let begins : List Instr = Op Add 30 31 3 ∷ code in
+    let one : RunsFrom flips x pc [] x2 =
+    go (OpImmediate Xori 3 3 (bank_bytes log)) address x x1 pc [] x2 (flip_row log x bank pc at) (constant_runs 31 place address x1 (pc + 4) is_log l1 z1) in
+    let pc2 : ℕ = pc + 4 * length flips in
+    let two : RunsFrom begins x2 pc2 [] x4 =
+    go (Op Add 30 31 3) code x2 x3 pc2 [] x4
+    (base_row x2 place offset pc2 (read_same x1 31 place l1 (lit< tt)) o2 (omega (arith, base_small log thread other t below)))
+    (constant_runs 7 value code x3 (pc2 + 4) is_first l3 z3) in
+    let both : RunsFrom (flips ++ begins) x pc [] x4 = along flips begins x x2 x4 pc [] [] one two in
+    let pc3 : ℕ = pc + 4 * length (flips ++ begins) in
+    let last : RunsFrom (Store Sd 7 30 64 ∷ []) x4 pc3 (Stores (slot_at log thread other 0) 8 value ∷ []) x4 =
+    store (Store Sd 7 30 64) [] x4 pc3 (slot_at log thread other 0) 8 value [] x4
+    (first_row log thread other x x4 value pc3 t below start (read_same x3 7 value l3 (lit< tt))) (stop x4 (pc3 + 4)) in
+    record {
+      left = x4;
+      runs = along (flips ++ begins) (Store Sd 7 30 64 ∷ []) x x4 x4 pc [] (Stores (slot_at log thread other 0) 8 value ∷ []) both last;
+      ready = start;
+    }
+
 pub banked : (log : Log) (thread value bank : ℕ) (address : List Instr) (kept : KeptCode) (rest : List (ℕ × ℕ)) (live : List ℕ) (x : List ℕ) (pc : ℕ) →
     thread < MOST_THREADS → AreKept live → IsOnSide log bank x → IsConstant 31 (log_of log thread) address → IsConstant 7 value kept.first →
-    ((y : List ℕ) (at : ℕ) → Ready log thread (1 - bank) x y → Written log thread (1 - bank) x y kept.others at (stores_of log thread (1 - bank) rest)) →
+    ((y : List ℕ) (at : ℕ) → IsUnderWay log thread (1 - bank) x y → Written log thread (1 - bank) x y kept.others at (stores_of log thread (1 - bank) rest)) →
     Written log thread (1 - bank) x x (bank_part log address kept live) pc
     ((stores_of log thread (1 - bank) ((0, value) ∷ rest) ++ map (λ r. Stores (slot_at log thread (1 - bank) r) 8 (read x r)) live) ++
     map (λ line. Cleans (slot_at log thread (1 - bank) (8 * line))) (lines_in_use log kept.slots))

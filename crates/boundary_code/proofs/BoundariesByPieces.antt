@@ -30,7 +30,7 @@ by_pieces b address kept p =
     record { effects = boundary-effects b address kept p; offset = boundary-offset b address kept p; others = boundary-others b address kept p }
 
 -- the same list by other names of its parts
-renamed : (log : Log) (a a' f f' o o' : List Instr) (s s' live : List ℕ) (r r' : ℤ) → a' ≡ a → f' ≡ f → o' ≡ o → s' ≡ s → r' ≡ r →
+pub renamed : (log : Log) (a a' f f' o o' : List Instr) (s s' live : List ℕ) (r r' : ℤ) → a' ≡ a → f' ≡ f → o' ≡ o → s' ≡ s → r' ≡ r →
     boundary_list log a' (record { first = f'; others = o'; slots = s' }) live (twos_complement 32 r') ≡
     boundary_list log a (record { first = f; others = o; slots = s }) live (twos_complement 32 r)
 renamed log a a' f f' o o' s s' live r r' ea ef eo es er =
@@ -74,7 +74,7 @@ by_mask_made thread locks live resume address first a f s r code p some constant
     }))
 
 -- the slots of listed locks
-slots_listed : (slot : ℕ) (locks : List ℕ) → map (λ (one : ℕ × ℕ). one.0) (listed_from slot locks) ≡ numbers_from slot (length locks)
+pub slots_listed : (slot : ℕ) (locks : List ℕ) → map (λ (one : ℕ × ℕ). one.0) (listed_from slot locks) ≡ numbers_from slot (length locks)
 slots_listed slot [] = refl
 slots_listed slot (lock ∷ locks) = ap (λ (ns : List ℕ). slot ∷ ns) (slots_listed (slot + 1) locks)
 

@@ -5,6 +5,7 @@ mod Banks
 mod Points
 mod WholeBoundaries
 mod BoundariesByPieces
+mod ListParts
 mod Sides
 mod Worked
 mod Lengths

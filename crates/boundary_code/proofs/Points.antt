@@ -16,9 +16,10 @@ use Rattle.rv64_isa.specs.Rows.{Effect, Continues, Stores, Cleans, Fences, row, 
 use Rattle.rv64_isa.specs.Arithmetic.{sign_extended, result_of}
 use Rattle.rv64_isa.specs.Signed.{twos_complement}
 use Rattle.memory_layout.specs.Roles.{is_temporary}
+use Rattle.boundary_code.specs.Boundaries.{IsUnderWay}
 use Rattle.boundary_code.specs.links.InstructionLists.{offset_bits, point, commit}
 use Rattle.operator_code.proofs.Public.{RunsFrom, stop, go, store, clean, fence, read_same, read_other, length-changed, displaced_small, signed12, signed32}
-use Rattle.boundary_code.proofs.Registers.{Ready, bank_bit, log_small, not_temporary}
+use Rattle.boundary_code.proofs.Registers.{bank_bit, log_small, not_temporary}
 
 -- ---- The distance in two immediates
 
@@ -124,7 +125,7 @@ pub record Committed (log : Log) (thread bank r t : ℕ) (x z : List ℕ) (pc : 
       (Fences ∷ Stores (point_at log thread) 8 (((pc + 4 + (28 + t)) % 2 ^ 64 + bank) % 2 ^ 64) ∷ Cleans (point_at log thread) ∷ Fences ∷ []) end
   pub left : Left log bank x end
 
-pub committed : (log : Log) (thread bank r t : ℕ) (x z : List ℕ) (pc : ℕ) → thread < 8 → bank < 2 → Close r t → Ready log thread bank x z →
+pub committed : (log : Log) (thread bank r t : ℕ) (x z : List ℕ) (pc : ℕ) → thread < 8 → bank < 2 → Close r t → IsUnderWay log thread bank x z →
     Committed log thread bank r t x z pc
 unfolding result_of
 committed log thread bank r t x z pc few b c h =

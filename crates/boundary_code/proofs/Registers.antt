@@ -10,6 +10,7 @@ use Rattle.rv64_isa.specs.declared.instr.Operation.TheVariants.{Srl, Xor}
 use Rattle.rv64_isa.specs.Rows.{read}
 use Rattle.rv64_isa.specs.Arithmetic.{result_of}
 use Rattle.memory_layout.specs.Roles.{is_temporary}
+use Rattle.boundary_code.specs.Boundaries.{IsUnderWay}
 use Rattle.boundary_code.specs.links.InstructionLists.{offset_bits}
 
 pub not_temporary : (r t : ℕ) → is_temporary t ≡ true → is_temporary r ≡ false → r ≢ t
@@ -49,18 +50,10 @@ pub log_small : (log : Log) (thread : ℕ) → thread < 8 → log_of log thread 
 log_small V1 thread t = omega (arith, t)
 log_small V2 thread t = omega (arith, t)
 
--- ---- Registers y within a boundary of a thread that writes this bank, begun with registers x
-
-pub record Ready (log : Log) (thread bank : ℕ) (x y : List ℕ) : Type 0 where
-  pub count : length y ≡ 32
-  pub zero_is : read y 0 ≡ 0
-  pub offset : read y 3 ≡ bank_bytes log * bank
-  pub logged : read y 31 ≡ log_of log thread
-  pub base : read y 30 ≡ log_of log thread + bank_bytes log * bank
-  pub others : (r : ℕ) → is_temporary r ≡ false → r ≢ 3 → read y r ≡ read x r
+-- ---- Registers within a boundary
 
 -- x7 serves for what is stored or cleaned next
-pub ready_still : (log : Log) (thread bank : ℕ) (x y : List ℕ) (v : ℕ) → Ready log thread bank x y → Ready log thread bank x (slice_set y 7 v)
+pub ready_still : (log : Log) (thread bank : ℕ) (x y : List ℕ) (v : ℕ) → IsUnderWay log thread bank x y → IsUnderWay log thread bank x (slice_set y 7 v)
 ready_still log thread bank x y v h = record {
   count = length-changed y 7 v h.count;
   zero_is = read_other y 7 0 v refl ∙ h.zero_is;
@@ -71,7 +64,7 @@ ready_still log thread bank x y v h = record {
 }
 
 pub ready : (log : Log) (thread bank mask : ℕ) (x : List ℕ) → length x ≡ 32 → read x 0 ≡ 0 →
-    Ready log thread bank x
+    IsUnderWay log thread bank x
     (slice_set (slice_set (slice_set (slice_set x 3 (bank_bytes log * bank)) 31 (log_of log thread)) 30 (log_of log thread + bank_bytes log * bank)) 7 mask)
 ready log thread bank mask x l z =
     let a : List ℕ = slice_set x 3 (bank_bytes log * bank) in

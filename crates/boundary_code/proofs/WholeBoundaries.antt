@@ -13,11 +13,12 @@ use Rattle.rv64_isa.specs.Rows.{Effect, Stores, Cleans, Fences, row, read}
 use Rattle.rv64_isa.specs.Signed.{twos_complement}
 use Rattle.memory_layout.specs.Roles.{is_kept, is_temporary}
 use Rattle.operator_code.specs.StraightLineCode.{IsConstant, effects, registers_after}
+use Rattle.boundary_code.specs.Boundaries.{IsUnderWay}
 use Rattle.boundary_code.specs.Boundaries.{Boundary, IsOnSide, HasEffects, HasOffset, KeepsRegisters, boundary_effects, bank_effects, commit_effects}
 use Rattle.boundary_code.specs.Boundaries.{kept_locks, slots_kept, resume_address, lines_in_use, is_empty}
 use Rattle.boundary_code.specs.links.InstructionLists.{KeptCode, bank_part, point, commit, boundary_list, last_list}
 use Rattle.operator_code.proofs.Public.{RunsFrom, along, fence, constant_runs, read_same, read_other}
-use Rattle.boundary_code.proofs.Registers.{Ready, not_temporary}
+use Rattle.boundary_code.proofs.Registers.{not_temporary}
 use Rattle.boundary_code.proofs.Banks.{kept_registers, stores_of, Written, banked}
 use Rattle.boundary_code.proofs.Points.{close, committed, commit_run}
 
@@ -42,7 +43,7 @@ pub record Pieces (b : Boundary) (address : List Instr) (kept : KeptCode) : Type
   pub keeps : kept_locks b.log b.locks ≡ (0, value) ∷ rest
   pub slots : kept.slots ≡ slots_kept b.log b.locks b.live
   pub is_first : IsConstant 7 value kept.first
-  pub others : (bank : ℕ) (x y : List ℕ) (at : ℕ) → bank < 2 → Ready b.log b.thread bank x y →
+  pub others : (bank : ℕ) (x y : List ℕ) (at : ℕ) → bank < 2 → IsUnderWay b.log b.thread bank x y →
       Written b.log b.thread bank x y kept.others at (stores_of b.log b.thread bank rest)
 
 record Whole (b : Boundary) (code : List Instr) (x : List ℕ) (pc bank : ℕ) : Type 0 where

@@ -4,7 +4,7 @@ use Rattle.std.specs.Prelude.{if◌then◌else◌}
 use Rattle.std.specs.List.{list_any}
 use Rattle.ido_base.specs.declared.log.Log.{Log}
 use Rattle.ido_base.specs.declared.log.Log.TheVariants.{V1, V2}
-use Rattle.ido_base.specs.Layout.{point_at, slot_at, bank_bytes}
+use Rattle.ido_base.specs.Layout.{log_of, point_at, slot_at, bank_bytes}
 use Rattle.ido_base.specs.Locks.{mask_with}
 use Rattle.rv64_isa.specs.declared.instr.Instr.{Instr}
 use Rattle.rv64_isa.specs.Rows.{Effect, Stores, Cleans, Fences, read}
@@ -110,6 +110,39 @@ pub record HasOffset (log : Log) (locks : List ℕ) (code : List Instr) : Type 0
 pub record KeepsRegisters (log : Log) (code : List Instr) : Type 0 where
   pub keeps : (x : List ℕ) (pc side : ℕ) → IsOnSide log side x → (r : ℕ) → is_temporary r ≡ false → r ≢ bank_offset →
       read (registers_after code x pc) r ≡ read x r
+
+-- ---- The two parts of a boundary whose bank lists locks: before the locks, and after them
+
+-- registers y within a boundary that writes this bank of the thread's log, begun with registers x: x31 has the log's address, x3 the bank's offset, and x30 the
+-- sum of both; all others but temporaries are as they were
+pub record IsUnderWay (log : Log) (thread bank : ℕ) (x y : List ℕ) : Type 0 where
+  pub count : length y ≡ 32
+  pub zero_is : read y 0 ≡ 0
+  pub offset : read y 3 ≡ bank_bytes log * bank
+  pub logged : read y 31 ≡ log_of log thread
+  pub base : read y 30 ≡ log_of log thread + bank_bytes log * bank
+  pub others : (r : ℕ) → is_temporary r ≡ false → r ≢ 3 → read y r ≡ read x r
+
+-- code that begins one: slot 0 of the other side's bank gets how many locks there are
+pub record Opens (log : Log) (thread count : ℕ) (code : List Instr) : Type 0 where
+  pub does : (x : List ℕ) (pc side : ℕ) → IsOnSide log side x → effects code x pc ≡ Stores (slot_at log thread (other_side side) 0) 8 count ∷ []
+  pub leaves : (x : List ℕ) (pc side : ℕ) → IsOnSide log side x → IsUnderWay log thread (other_side side) x (registers_after code x pc)
+
+-- what is left to do after the locks: the bank gets the live registers, its lines in use are cleaned, and the point names it
+abbrev pub closing_effects : Boundary → (bank resume : ℕ) → (registers : List ℕ) → List Effect
+closing_effects b bank resume x =
+    map (λ r. Stores (slot_at b.log b.thread bank r) 8 (read x r)) b.live ++
+    map (λ line. Cleans (slot_at b.log b.thread bank (8 * line))) (lines_in_use b.log (slots_kept b.log b.locks b.live)) ++
+    commit_effects b.log b.thread ((resume + bank) % 2 ^ 64)
+
+-- code that ends the boundary
+pub record Closes (b : Boundary) (code : List Instr) : Type 0 where
+  pub does : (x y : List ℕ) (pc side : ℕ) → IsUnderWay b.log b.thread (other_side side) x y →
+      effects code y pc ≡ closing_effects b (other_side side) (resume_address b code pc) x
+  pub offset : (x y : List ℕ) (pc side : ℕ) → IsUnderWay b.log b.thread (other_side side) x y →
+      read (registers_after code y pc) bank_offset ≡ bank_bytes b.log * other_side side
+  pub others : (x y : List ℕ) (pc side : ℕ) → IsUnderWay b.log b.thread (other_side side) x y → (r : ℕ) → is_temporary r ≡ false → r ≢ bank_offset →
+      read (registers_after code y pc) r ≡ read x r
 
 -- ---- Numbers of locks
 

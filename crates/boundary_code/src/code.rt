@@ -1,5 +1,5 @@
 //! A boundary: the bank that the point doesn't name gets what is live, and then the point names it.
-ghost use Rattle.std.specs.Prelude.{◌≡◌, ◌<◌, ◌≤◌, ◌+◌, ◌*◌, ◌^◌, ◌++◌, ◌∷◌, ◌==◌, ◌/◌, ℕ, List};
+ghost use Rattle.std.specs.Prelude.{◌≡◌, ◌≢◌, ◌<◌, ◌≤◌, ◌+◌, ◌*◌, ◌^◌, ◌++◌, ◌∷◌, ◌==◌, ◌/◌, ℕ, List};
 ghost use Rattle.std.specs.Prelude.{[], map, filter, length, pos, negsuc, ◌≤ℤ◌, IsTrue, IfOk, OnOk};
 ghost use Rattle.std.specs.List.{All, list_all, list_any};
 ghost use Rattle.ido_base.specs.Locks.{locks_in};
@@ -11,7 +11,7 @@ ghost use Rattle.memory_layout.specs.Roles.{is_kept};
 ghost use Rattle.boundary_code.specs.Boundaries.{HasEffects, HasOffset, KeepsRegisters, GiveNumbers, bank_lines, lines_in_use};
 ghost use Rattle.boundary_code.specs.links.InstructionLists.{keep_slots, keep_locks, clean_lines, clean_where};
 ghost use Rattle.boundary_code.specs.links.InstructionLists.{offset_bits, point, commit, bank_part, boundary_list};
-ghost use Rattle.boundary_code.specs.links.InstructionLists.{AreShort, last_list, lists_of};
+ghost use Rattle.boundary_code.specs.links.InstructionLists.{AreShort, IsListCode, last_list, lists_of};
 
 use ido_base::log::Log;
 use ido_base::memory::OutOfMemory;
@@ -294,6 +294,7 @@ pub fn boundary_list(
         HasEffects (record { log = V2; thread = thread; locks = numbers; live = live.now; resume = resume }) code.items) }
     ensures offset { (numbers : List ℕ) → GiveNumbers numbers (lists_of locks.now) → IfOk result (λ code. HasOffset V2 numbers code.items) }
     ensures others { (numbers : List ℕ) → GiveNumbers numbers (lists_of locks.now) → IfOk result (λ code. KeepsRegisters V2 code.items) }
+    ensures parts { length locks.now ≢ 0 → IfOk result (λ code. IsListCode thread live.now resume (lists_of locks.now) code.items) }
 {
     let log = constant(alloc, LOG, log_of(Log::V2, thread))?;
     if locks.is_empty() {

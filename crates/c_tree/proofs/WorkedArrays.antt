@@ -1,9 +1,12 @@
 -- Worked rows: an array of mutexes, each of which guards an element, and what breaks the rules of its name and its length.
-use Rattle.std.proofs.Common.{◌≡◌, ℕ, [], ◌∷◌, map, replicate, Option, Some, None, Bool, true, false, refl}
+use Rattle.std.proofs.Common.{◌≡◌, ℕ, [], ◌∷◌, map, replicate, Option, Some, None, Bool, true, false, refl, arith}
 use Rattle.std.specs.Prelude.{pos, codes}
+use Rattle.std.specs.List.{AllByRecursion}
 use Rattle.ido_ints.specs.declared.kinds.Kind.TheVariants as kind
 use Rattle.ido_ints.specs.declared.operators.Binary.TheVariants as b
+use Rattle.ido_ints.specs.Kinds.{Holds}
 use Rattle.ido_ints.specs.Reduction as reduction
+use Rattle.ido_ints.proofs.Public.{Holds-zero}
 use Rattle.c_tree.specs.declared.language.Language.TheVariants.{Plain, Full}
 use Rattle.c_tree.specs.declared.rule.Rule as r
 use Rattle.c_tree.specs.declared.rule.Rule.TheVariants as rule
@@ -16,6 +19,7 @@ use Rattle.c_tree.specs.Inlining.{flat_form}
 use Rattle.c_tree.specs.TypeRules.{type_faults}
 use Rattle.c_tree.specs.LockNames.{lock_names}
 use Rattle.c_tree.specs.HoldPrices.{full_price}
+use Rattle.c_tree.specs.WellFormed.{AreShared, AreFlatStatements, IsFlatLockName, IsWellFormed}
 use Rattle.c_tree.specs.Source.{start, source_step, after_from, ended_from}
 use Rattle.c_tree.proofs.Samples.{at, int, name, length_at, thread, block, buckets}
 
@@ -60,6 +64,67 @@ buckets_price = refl
 buckets_plain : map (full_price Plain flat) flat.threads ≡ 1120 ∷ []
 unfolding typed_program flat_form reduction.from_least_on
 buckets_plain = refl
+
+-- ---- What well formed says of buckets
+
+zero : Holds kind.Long (pos 0)
+zero = Holds-zero kind.Long
+
+-- four elements, each under its own mutex
+buckets_shared : AreShared flat.mutexes 1 flat.variables
+unfolding flat_form typed_program reduction.from_least_on
+buckets_shared = record {
+  mutexes = omega arith;
+  threads = omega arith;
+  variables = (
+    record {
+      guarded = (record { it = _; found = refl; array = refl; whole = refl }, refl);
+      not_empty = omega arith;
+      not_too_long = omega arith;
+      count = refl;
+      held = (zero, (zero, (zero, (zero, tt))));
+    },
+    tt,
+  );
+  bytes = omega arith;
+}
+
+-- the key of the lock and of the unlock
+masked_name : IsFlatLockName flat.mutexes (kind.Int ∷ []) masked
+unfolding flat_form typed_program reduction.from_least_on
+masked_name = record { array = record { it = _; found = refl; array = refl; whole = refl }; reads = (refl, tt); fits = refl }
+
+-- its statements, with the key at the lock and at the unlock
+buckets_threads : AllByRecursion (λ (u : f.Thread). AreFlatStatements flat u.locals u.body) flat.threads
+unfolding flat_form typed_program reduction.from_least_on
+buckets_threads =
+    let key : IsFlatLockName flat.mutexes (kind.Int ∷ []) masked = masked_name in (
+      (
+        ((refl, tt), (tt, tt)),
+        (
+          (
+            ((refl, tt), (tt, tt)),
+            (
+              key,
+              (
+                (
+                  ((record { it = _; found = refl; kind = refl; array = refl }, (refl, tt)), (refl, (tt, tt))),
+                  (((record { it = _; found = refl; kind = refl; array = refl }, (refl, tt)), refl), ((refl, (tt, tt)), tt)),
+                ),
+                (key, (((refl, tt), ((refl, tt), (tt, tt))), tt)),
+              ),
+            ),
+          ),
+          tt,
+        ),
+      ),
+      tt,
+    )
+
+-- all but that no mutex is in an array
+buckets_unformed : ¬ (IsWellFormed flat)
+unfolding flat_form typed_program reduction.from_least_on
+buckets_unformed w = let single = w.single.0 in cc
 
 -- ---- Names and lengths
 

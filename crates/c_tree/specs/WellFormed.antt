@@ -18,7 +18,7 @@ use Rattle.c_tree.specs.Ranges.{is_below, elements_of, mutexes_of}
 abbrev pub IsSingle : p.Mutex → Type 0
 IsSingle m = m.length ≡ None
 
--- that of this number is in none
+-- the mutex of that number is there, and in no array
 pub record IsSingleAt (ms : List p.Mutex) (mutex : ℕ) : Type 0 where
   pub it : p.Mutex
   pub found : slice_get ms mutex ≡ Some it

@@ -338,7 +338,8 @@ module _ (fragments_step : FragmentsStep) (cores_step : CoresStep) where
     -- ---- The account goes on in its life, or in the one that begins
 
     -- what the account is then
-    pub counted_then : (y : System) (s : IsSystem y) {g : Beginning} (w : World) (event : Event) (steps : Steps) (r : ℕ → ℕ) (is : SimulatesCounted y s g w steps r)
+    pub counted_then : (y : System) (s : IsSystem y) {g : Beginning} (w : World) (event : Event) (steps : Steps) (r : ℕ → ℕ)
+        (is : SimulatesCounted y s g w steps r)
         (begins : Bool) → begins_life w event ≡ begins →
         AreCounted y (if begins then next_beginning y g is.stands.abstract.schedule else g) (after_event y.runs.program w event)
         (event_goes_on y s w event is.stands).next.abstract (event_goes_on y s w event is.stands).next.ghosts

@@ -103,7 +103,7 @@ with_lui h x held rs address a l operand =
     (λ v y. upper_part address) (lit< tt) (lit< tt) (spare_is_free held) (λ v y are has. lui_computes address y l are)
     (λ v y z has at others. (record { held = has.held; form = others rs (not_spare held rs operand.kept) ∙ has.form }, at)) operand.gives
 
-index_of : (v : Typed) (y : List ℕ) (rs n : ℕ) → Carries y rs v → v.number ≡ pos n → n < 2 ^ 31 → read y rs ≡ n
+pub index_of : (v : Typed) (y : List ℕ) (rs n : ℕ) → Carries y rs v → v.number ≡ pos n → n < 2 ^ 31 → read y rs ≡ n
 index_of v y rs n c e l = c.form ∙ ap (register_of v.kind) e ∙ index_form v.kind n l
 
 with_add : (h : Homes) (x : e.Expr) (held t address : ℕ) (k : Kind) (a : List Instr) → address + 2048 < 2 ^ 31 →
@@ -191,7 +191,7 @@ all_held h s l x (e.Binary op t u) locals f a = (all_held h s l x t locals.0 f.0
 all_held h s l x (e.Conditional k t u v) locals f a =
     (all_held h s l x t locals.0 f.0 a.0, all_held h s l x u locals.1 f.1 a.1, all_held h s l x v locals.2 f.2 a.2)
 
-absolute : (z : ℤ) → pos 0 ≤ℤ z → z ≡ pos (unsigned_abs z)
+pub absolute : (z : ℤ) → pos 0 ≤ℤ z → z ≡ pos (unsigned_abs z)
 absolute (pos n) h = refl
 absolute (negsuc n) h = absurd (omega (arith, ints))
 

@@ -25,9 +25,9 @@ never_both : (b : Bool) → (not b && b) ≡ false
 never_both true = refl
 never_both false = refl
 
-nothing_more : (b : Bool) → (if b then 0 else 0) ≡ 0
-nothing_more true = refl
-nothing_more false = refl
+nothing_more : (b : Bool) (n : ℕ) → (if b then n else n) ≡ n
+nothing_more true n = refl
+nothing_more false n = refl
 
 module _ (c : Translation) (compilation : IsCompilation c) (h : ℕ) (below : h < length c.runs.program) where
   -- how often the durable point of the hart has become 0
@@ -85,7 +85,7 @@ module _ (c : Translation) (compilation : IsCompilation c) (h : ℕ) (below : h 
       after_start c.runs.program w (λ (v : World). (not point && (durable_point v.log v.words h == 0)) ≡ false) (never_both point) (never_both point) in
       let none : one events Start ≡ 0 = ap (λ (b : Bool). cond {A = ℕ} b 1 0) never in
       let all = ap ended next ∙ ended_life c.flat (start c.flat) (schedules s) [] h in
-      omega (arith, all, nothing_more (end_lives c.flat (start c.flat) (schedules s)), none)
+      omega (arith, all, nothing_more (end_lives c.flat (start c.flat) (schedules s)) 0, none)
 
   each : (events : List Event) (event : Event) (begins : Bool) → begins_life (world c events) event ≡ begins →
       ended (steps c (events ++ event ∷ [])) ≡ ended (steps c events) + one events event

@@ -35,7 +35,8 @@ pub struct Machine {
 }
 
 impl Machine {
-    ghost use Rattle.std.specs.Prelude.{◌≡◌, ◌⊎◌, ℕ, ◌+◌, ◌*◌, ◌/◌, ◌^◌, ◌<◌, ◌≤◌, List, [], length, not, true, slice_get, Some, None, IfOk, IfSome, IfNone, IsTrue, ◌↔◌};
+    ghost use Rattle.std.specs.Prelude.{◌≡◌, ◌⊎◌, ℕ, ◌+◌, ◌*◌, ◌/◌, ◌^◌, ◌<◌, ◌≤◌, List, [], length, not};
+    ghost use Rattle.std.specs.Prelude.{true, slice_get, Some, None, IfOk, IfSome, IfNone, IsTrue, ◌↔◌};
     ghost use Rattle.ido_base.specs.declared.event.Event.TheVariants.{Step, Evict, Crash, Start};
     ghost use Rattle.ido_base.specs.Words.{word_at, last_position, live_value, durable_value};
     ghost use Rattle.ido_base.specs.Layout.{line_count, log_words};
@@ -43,7 +44,8 @@ impl Machine {
     ghost use Rattle.ido_base.specs.Cores.{is_idle};
     ghost use Rattle.rv64_isa.specs.declared.object.Slot.TheVariants.{Row};
     ghost use Rattle.rv64_isa.specs.Programs.{fetched, program_of};
-    ghost use Rattle.rv64_isa.specs.Machine.{Hart as HartModel, World, IsValidAt, IsValidEvent, can_start, happens, reply_to, with_hart, machine_start, machine_from};
+    ghost use Rattle.rv64_isa.specs.Machine.{Hart as HartModel, World, IsValidAt, IsValidEvent, can_start};
+    ghost use Rattle.rv64_isa.specs.Machine.{happens, reply_to, with_hart, machine_start, machine_from};
     ghost use Rattle.rv64_isa.specs.declared.phase.Phase.TheVariants.{Run};
     ghost use Rattle.hart_core.specs.LocalSteps.{local_step, placed_code, after_write};
     ghost use Rattle.hart_core.specs.Objects.{IsWithinLimits};

@@ -59,21 +59,21 @@ row_count (CboClean rs1) x pc = refl
 row_count Fence x pc = refl
 row_count Ecall x pc = refl
 
-after_count : (code : List Instr) (x : List ℕ) (pc : ℕ) → length (registers_after code x pc) ≡ length x
+pub after_count : (code : List Instr) (x : List ℕ) (pc : ℕ) → length (registers_after code x pc) ≡ length x
 after_count [] x pc = refl
 after_count (i ∷ is) x pc = after_count is (left_by x (row i x pc)) (pc + 4) ∙ row_count i x pc
 
 -- ---- What a boundary does goes to memory
 
-memory_both : (es fs : List Effect) → AreMemory es → AreMemory fs → AreMemory (es ++ fs)
+pub memory_both : (es fs : List Effect) → AreMemory es → AreMemory fs → AreMemory (es ++ fs)
 memory_both [] fs h k = k
 memory_both (e ∷ es) fs h k = (h.0, memory_both es fs h.1 k)
 
-stores_memory : (f : ℕ → ℕ) (g : ℕ → ℕ) (rs : List ℕ) → AreMemory (map (λ r. Stores (f r) 8 (g r)) rs)
+pub stores_memory : (f : ℕ → ℕ) (g : ℕ → ℕ) (rs : List ℕ) → AreMemory (map (λ r. Stores (f r) 8 (g r)) rs)
 stores_memory f g [] = tt
 stores_memory f g (r ∷ rs) = (refl, stores_memory f g rs)
 
-cleans_memory : (f : ℕ → ℕ) (lines : List ℕ) → AreMemory (map (λ line. Cleans (f line)) lines)
+pub cleans_memory : (f : ℕ → ℕ) (lines : List ℕ) → AreMemory (map (λ line. Cleans (f line)) lines)
 cleans_memory f [] = tt
 cleans_memory f (line ∷ lines) = (refl, cleans_memory f lines)
 
@@ -81,7 +81,7 @@ locks_memory : (f : ℕ → ℕ) (kept : List (ℕ × ℕ)) → AreMemory (map (
 locks_memory f [] = tt
 locks_memory f (k ∷ kept) = (refl, locks_memory f kept)
 
-commit_memory : (log : Log) (thread point : ℕ) → AreMemory (commit_effects log thread point)
+pub commit_memory : (log : Log) (thread point : ℕ) → AreMemory (commit_effects log thread point)
 commit_memory log thread point = (refl, (refl, (refl, (refl, tt))))
 
 bank_memory : (b : Boundary) (bank : ℕ) (x : List ℕ) → AreMemory (bank_effects b bank x)

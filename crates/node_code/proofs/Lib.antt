@@ -4,7 +4,10 @@ mod Words
 mod LinkedPartRuns
 mod LegComposition
 mod StorePieces
+mod NumberRuns
+mod ListLegs
 mod BoundaryPieces
+mod ListBoundaries
 mod CallPieces
 mod LockNumbers
 mod JumpPieces

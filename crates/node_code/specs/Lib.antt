@@ -1,4 +1,5 @@
 pub mod Sites
+pub mod Numbers
 pub mod Cleans
 pub mod Pieces
 pub mod JoinedPieces

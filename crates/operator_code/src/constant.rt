@@ -69,6 +69,7 @@ fn digits(alloc: Global, rd: Register, bits: u32, number: u64) -> Result<Vec<Ins
     ensures code { IfOk result (λ code. IsConstantOfBits rd bits number code.items) }
     ensures short { IfOk result (λ code. 12 * ((length code.items + 1) / 2) ≤ 12 + (bits - 20)) }
     ensures small { number < 2 ^ 11 → IfOk result (λ code. length code.items ≡ 1) }
+    ensures two { number < 2 ^ 31 → IfOk result (λ code. length code.items ≤ 2) }
 {
     let low = (number % IMMEDIATES) as u16;
     if is_near(number, bits, HALF_IMMEDIATE) {
@@ -87,13 +88,14 @@ fn digits(alloc: Global, rd: Register, bits: u32, number: u64) -> Result<Vec<Ins
 }
 
 /// Code that computes a number into a register, other than x0, from nothing: an ADDI, a LUI and an ADDIW, or those
-/// of the number's upper part, a shift and an ADDI of its low 12 bits. It changes no other register. At most 8 words; one for
-/// a number below 2^11.
+/// of the number's upper part, a shift and an ADDI of its low 12 bits. It changes no other register. At most 8 words; two for
+/// a number below 2^31, and one for one below 2^11.
 pub fn constant(alloc: Global, rd: Register, number: u64) -> Result<Vec<Instr>, OutOfMemory>
     requires { 0 < rd }
     ensures code { IfOk result (λ code. IsConstant rd number code.items) }
     ensures short { IfOk result (λ code. length code.items ≤ 8) }
     ensures small { number < 2 ^ 11 → IfOk result (λ code. length code.items ≡ 1) }
+    ensures two { number < 2 ^ 31 → IfOk result (λ code. length code.items ≤ 2) }
 {
     digits(alloc, rd, 64, number)
 }

@@ -34,7 +34,7 @@ ends_more : (at : ℕ) (lives : List (List ℕ)) (last : List ℕ) → ends_from
 ends_more at [] last = refl
 ends_more at (life ∷ lives) last =
     let size : at + length life + length (flat_map (λ (steps : List ℕ). steps) lives ++ last)
-        ≡ at + length (flat_map (λ (steps : List ℕ). steps) (life ∷ lives) ++ last) =
+    ≡ at + length (flat_map (λ (steps : List ℕ). steps) (life ∷ lives) ++ last) =
     omega (
       arith,
       length-append life (flat_map (λ (steps : List ℕ). steps) lives),
@@ -152,8 +152,7 @@ life_there s kept ends life from to kept_is ends_are within from_is to_is =
     let finishes : to ≡ slice_index_or (ends_from 0 s.earlier) life (0 + length (all_kept s)) =
     to_is ∙ (ap (λ (ns : List ℕ). slice_index_or ns life (length kept)) ends_are
     ∙ ap (λ (n : ℕ). slice_index_or (ends_from 0 s.earlier) life n) (sym size)) in
-    let here : i.before ≡ from = omega (arith, begins, i.from_is) in
-    (
+    let here : i.before ≡ from = omega (arith, begins, i.from_is) in (
       omega (arith, begins, finishes, i.order),
       omega (arith, finishes, i.inside, size),
       i.is ∙ ap Some ((λ j. take ((sym finishes) j - (sym begins) j) (drop (here j) (kept_is j)))),

@@ -1,5 +1,5 @@
 -- What a step of a hart has done, by what was seen of the hart before it.
-use Rattle.std.proofs.Common.{◌≡◌, ◌⊎◌, ℕ, ◌+◌, ◌-◌, ◌<◌, List, length, slice_index_or, []}
+use Rattle.std.proofs.Common.{◌≡◌, ◌⊎◌, ℕ, ◌+◌, ◌<◌, List, length, slice_index_or, []}
 use Rattle.std.proofs.Common.{Some, None, Bool, true, false, not, cond, ◌==◌, ◌||◌, refl, ap, sym, subst, ◌∙◌, arith, inl, inr}
 use Rattle.std.proofs.lemmas.Bool.{cases_eq, cases_Bool}
 use Rattle.ido_base.specs.declared.log.Log.{Log}

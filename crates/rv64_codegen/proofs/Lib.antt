@@ -21,6 +21,7 @@ mod RegistersAfterNodes
 mod LegalEvaluations
 mod PieceParts
 mod NodeCorrectness
+mod KeyNumbers
 mod FenceCounts
 mod NodeCode
 mod LoweredNodes

@@ -60,10 +60,10 @@ use Rattle.expr_code.specs.declared.home.Home.TheVariants.{InRegister}
 
 -- ---- Registers that are kept
 
-local_plain : (r : ℕ) → is_local r ≡ true → is_temporary r ≡ false
+pub local_plain : (r : ℕ) → is_local r ≡ true → is_temporary r ≡ false
 local_plain r h = or_right (r == 28) (is_temporary r) (or_right (r == 29) (r == 28 || is_temporary r) (local_spare r h))
 
-local_other : (r k : ℕ) → is_local k ≡ false → is_local r ≡ true → r ≢ k
+pub local_other : (r k : ℕ) → is_local k ≡ false → is_local r ≡ true → r ≢ k
 local_other r k off h same = true≢false (sym h ∙ ap is_local same ∙ off)
 
 differs : (r k : ℕ) → r ≢ k → (r == k) ≡ false

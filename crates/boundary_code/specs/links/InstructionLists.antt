@@ -1,5 +1,5 @@
 -- Names for the pieces of the code of boundaries and constants. What they do is said in Boundaries and Straight.
-use Rattle.std.specs.Prelude.{ℕ, ◌+◌, ◌*◌, ◌/◌, ◌%◌, ◌^◌, ◌≤◌, List, [], ◌∷◌, ◌++◌, length, map, Vec, Bool, true, false}
+use Rattle.std.specs.Prelude.{◌≡◌, ℕ, ℤ, ◌+◌, ◌*◌, ◌/◌, ◌%◌, ◌^◌, ◌≤◌, List, [], ◌∷◌, ◌++◌, length, map, Vec, Bool, true, false}
 use Rattle.std.specs.Global.{Global}
 use Rattle.ido_base.specs.declared.log.Log.{Log}
 use Rattle.ido_base.specs.declared.log.Log.TheVariants.{V1, V2}
@@ -10,7 +10,7 @@ use Rattle.rv64_isa.specs.declared.instr.Operation.TheVariants.{Add}
 use Rattle.rv64_isa.specs.declared.instr.ImmediateOperation.TheVariants.{Addi, Xori}
 use Rattle.rv64_isa.specs.declared.instr.ShiftOperation.TheVariants.{Srli}
 use Rattle.rv64_isa.specs.declared.instr.StoreKind.TheVariants.{Sd}
-use Rattle.boundary_code.specs.Boundaries.{lines_in_use}
+use Rattle.boundary_code.specs.Boundaries.{Opens, Closes, lines_in_use}
 
 -- what a log's bank needs of the code beside the live registers: the instructions that leave in x7 what slot 0 gets, those that store the locks in
 -- slots of their own, and the slots that are written
@@ -57,11 +57,27 @@ bank_part log address kept live =
     OpImmediate Xori 3 3 (bank_bytes log) ∷ address ++ Op Add 30 31 3 ∷ kept.first ++ Store Sd 7 30 64 ∷ kept.others ++ keep_slots live
     ++ clean_lines (lines_in_use log kept.slots)
 
+-- the part before the locks, and the one after them
+abbrev pub opening_list : Log → (address first : List Instr) → List Instr
+opening_list log address first = OpImmediate Xori 3 3 (bank_bytes log) ∷ address ++ Op Add 30 31 3 ∷ first ++ Store Sd 7 30 64 ∷ []
+
+abbrev pub closing_list : Log → (slots live : List ℕ) → (resume : ℕ) → List Instr
+closing_list log slots live resume = (keep_slots live ++ clean_lines (lines_in_use log slots)) ++ (Fence ∷ point log resume ++ commit 30)
+
 abbrev pub boundary_list : Log → (address : List Instr) → KeptCode → (live : List ℕ) → (resume : ℕ) → List Instr
 boundary_list log address kept live resume = bank_part log address kept live ++ Fence ∷ point log resume ++ commit 30
 
 abbrev pub last_list : (address : List Instr) → List Instr
 last_list address = address ++ Fence ∷ commit 0
+
+-- the code of a boundary whose bank lists locks: between its two parts stands for each lock the code that leaves its number in x5, and a store into its slot
+pub record IsListCode (thread : ℕ) (live : List ℕ) (resume : ℤ) (codes : List (List Instr)) (code : List Instr) : Type 0 where
+  pub opening : List Instr
+  pub closing : List Instr
+  pub split : code ≡ opening ++ (keep_locks 32 codes ++ closing)
+  pub opens : Opens V2 thread (length codes) opening
+  pub closes : (numbers : List ℕ) → length numbers ≡ length codes →
+      Closes (record { log = V2; thread = thread; locks = numbers; live = live; resume = resume }) closing
 
 -- each of the lists has so many instructions at most
 abbrev pub AreShort : (most : ℕ) → List (List Instr) → Type 0

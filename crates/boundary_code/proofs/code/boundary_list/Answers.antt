@@ -13,6 +13,7 @@ use Rattle.operator_code.specs.StraightLineCode.{IsConstant}
 use Rattle.boundary_code.specs.Boundaries.{Boundary, GiveNumbers, is_empty}
 use Rattle.boundary_code.specs.links.InstructionLists.{KeptCode, boundary_list, keep_locks, last_list, lists_of}
 use Rattle.boundary_code.proofs.BoundariesByPieces.{Parts, by_list_made, last_made, as_many}
+use Rattle.boundary_code.proofs.ListParts.{list_parts}
 use Rattle.boundary_code.proofs.Lengths.{boundary_short, last_short, locks_length}
 use Rattle.boundary_code.proofs.code.boundary_list.Goals as goal
 
@@ -152,4 +153,27 @@ returns-clause-short c = λ most short.
     ap (λ (n : ℕ). (most + 1) * n) (lists_length c.args.locks.now) in
     short_as code.items (boundary_list V2 c.deref-2.result.now kept c.args.live.now resume)
     (length c.args.live.now + 39 + (most + 1) * length c.args.locks.now) k (omega (arith, few, others, locks, many)))
+    c.emit_boundary.ensures
+
+pub returns-then-is_empty-clause-parts : goal.returns-then-is_empty-clause-parts
+returns-then-is_empty-clause-parts c = λ some. absurd (some (search rules))
+
+pub returns-clause-parts : goal.returns-clause-parts
+returns-clause-parts c = λ some.
+    let parts : Parts V2 c.args.thread c.args.live.now c.args.resume c.in_ok-log.log.items = record {
+      thread_is = c.requires.thread;
+      live_are = c.requires.live;
+      low = c.requires.low;
+      high = c.requires.high;
+      is_log = is_log c.log_of.result c.args.thread c.in_ok-log.log.items c.log_of.ensures c.in_ok-log.ensures.code;
+    } in
+    IfOk-weaker c.emit_boundary.result _ _
+    (λ code k. list_parts c.args.thread c.args.live.now c.args.resume (lists_of c.args.locks.now) c.in_ok-log.log.items
+    c.in_ok-record.record.items c.deref-2.result.now c.deref-3.result.now c.deref-4.result.now c.deref-5.result.now
+    (cast_signed w32 (cast_unsigned w32 c.args.resume)) code.items (length c.args.locks.now) parts
+    (sym (lists_length c.args.locks.now)) (subst (λ (n : ℕ). IsConstant 7 n c.in_ok-record.record.items) c.from.ensures c.in_ok-record.ensures.code)
+    c.deref-2.ensures.value c.deref-3.ensures.value
+    (c.deref-4.ensures.value ∙ c.in_ok-emit_locks.ensures
+    ∙ ap (λ (is : List Instr). is ++ keep_locks 32 (lists_of c.args.locks.now)) c.new-others.ensures.items) (c.deref-5.ensures.value ∙ c.in_ok-slots.ensures)
+    (to_z-of_z w32 c.args.resume c.ranges.resume) k)
     c.emit_boundary.ensures

@@ -7,13 +7,19 @@ use Rattle.run_tracker.specs.ObjectLives.{steps_in}
 use Rattle.ido_cli.proofs.report.kept_schedules.Goals as goal
 
 -- one more of the first ones
+one_more : (xs : List (List ℕ)) (n : ℕ) (x : List ℕ) → slice_get xs n ≡ Some x → take n xs ++ x ∷ [] ≡ take (suc n) xs
+one_more [] n x there = cc
+one_more (y ∷ ys) zero x there = let same : y ≡ x = cc in ap (λ (z : List ℕ). z ∷ []) (sym same)
+one_more (y ∷ ys) (suc n) x there = ap (λ (zs : List (List ℕ)). y ∷ zs) (one_more ys n x there)
+
 take_more : (xs : List (List ℕ)) (n : ℕ) (x : List ℕ) → slice_get xs n ≡ Some x → take n xs ++ x ∷ [] ≡ take (n + 1) xs
-take_more [] n x there = cc
-take_more (y ∷ ys) zero x there = let same : y ≡ x = cc in ap (λ (z : List ℕ). z ∷ []) (sym same)
-take_more (y ∷ ys) (suc n) x there = ap (λ (zs : List (List ℕ)). y ∷ zs) (take_more ys n x there)
+take_more xs n x there =
+    let next : suc n ≡ n + 1 = omega arith in
+    one_more xs n x there ∙ ap (λ (k : ℕ). take k xs) next
 
 take_all : (xs : List (List ℕ)) (n : ℕ) → length xs ≤ n → take n xs ≡ xs
-take_all [] n all = refl
+take_all [] zero all = refl
+take_all [] (suc n) all = refl
 take_all (y ∷ ys) zero all = absurd (omega (arith, all))
 take_all (y ∷ ys) (suc n) all = ap (λ (zs : List (List ℕ)). y ∷ zs) (take_all ys n (omega (arith, all)))
 

@@ -28,5 +28,12 @@ pub returns : goal.returns
 returns c = λ w stands.
     let machine = c.args.machine.now in
     sym (all_stopped w.harts (λ h hart there.
-    c.loop-hart.invariant w stands h hart (omega (arith, slice_get_within w.harts h hart there, stands.standing.count, machine.sized, machine.harts.ok.0,
-    c.harts-hart-end.ensures, c.loop-hart-test.false)) there))
+    c.loop-hart.invariant w stands h hart (omega (
+      arith,
+      slice_get_within w.harts h hart there,
+      stands.standing.count,
+      machine.sized,
+      machine.harts.ok.0,
+      c.harts-hart-end.ensures,
+      c.loop-hart-test.false,
+    )) there))

@@ -1,4 +1,4 @@
-use Rattle.std.proofs.Common.{◌≡◌, ℕ, List, Some, length, ap, sym, subst, ◌∙◌, arith, length-append, [], ◌∷◌}
+use Rattle.std.proofs.Common.{◌≡◌, ℕ, Some, length, ap, sym, subst, ◌∙◌, arith, length-append, [], ◌∷◌}
 use Rattle.std.specs.Prelude.{slice_get}
 use Rattle.rv64_isa.specs.Schedule.{schedules}
 use Rattle.run_tracker.specs.ObjectLives.{Course, steps_in}

@@ -1,0 +1,28 @@
+-- Code that leaves the number of a lock, wherever it stands in a boundary.
+use Rattle.std.specs.Prelude.{◌≡◌, ℕ, ◌+◌, ◌*◌, ◌^◌, ◌<◌, ◌≤◌, List, [], ◌∷◌, length}
+use Rattle.ido_base.specs.declared.log.Log.{Log}
+use Rattle.rv64_isa.specs.declared.instr.Instr.{Instr}
+use Rattle.rv64_isa.specs.Rows.{read}
+use Rattle.boundary_code.specs.Boundaries.{IsUnderWay}
+use Rattle.code_runs.specs.ComputingRuns.{Environment, config, RunsTo, HasCodeAt}
+
+-- from registers y within a boundary, begun with registers x, the code leads from the address to its end, by at most one step a word, where x5 has the number;
+-- the registers are within the boundary still
+pub record NumberLeft (around : Environment) (code : List Instr) (log : Log) (thread bank : ℕ) (x y : List ℕ) (address number : ℕ) : Type 0 where
+  pub registers : List ℕ
+  pub run : RunsTo around (config y address) (config registers (address + 4 * length code))
+  pub short : run.steps ≤ length code
+  pub number_is : read registers 5 ≡ number
+  pub under_way : IsUnderWay log thread bank x registers
+
+-- it does, in whatever boundary of the thread that is begun with x, wherever it stands and whatever stands around it
+pub record LeavesNumber (log : Log) (thread : ℕ) (x : List ℕ) (number : ℕ) (code : List Instr) : Type 0 where
+  pub leaves : (around : Environment) (bank : ℕ) (y : List ℕ) (address : ℕ) → bank < 2 → IsUnderWay log thread bank x y →
+      HasCodeAt around address code → address + 4 * length code < 2 ^ 64 → NumberLeft around code log thread bank x y address number
+
+-- each of the lists of instructions leaves the number at its place
+abbrev pub LeaveNumbers : Log → (thread : ℕ) → (x : List ℕ) → (numbers : List ℕ) → (codes : List (List Instr)) → Type 0
+LeaveNumbers log thread x [] [] = Unit {0}
+LeaveNumbers log thread x [] (code ∷ codes) = ⊥
+LeaveNumbers log thread x (number ∷ numbers) [] = ⊥
+LeaveNumbers log thread x (number ∷ numbers) (code ∷ codes) = LeavesNumber log thread x number code × LeaveNumbers log thread x numbers codes
