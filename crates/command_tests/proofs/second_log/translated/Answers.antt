@@ -6,7 +6,7 @@ use Rattle.ido_base.specs.declared.log.Log.TheVariants.{V1, V2}
 use Rattle.c_tree.specs.declared.language.TheConstants.{MOST_HELD}
 use Rattle.c_tree.specs.LockNames.{Held, count_held}
 use Rattle.flat_compile.specs.TranslatedForms.{AreFewHeld}
-use Rattle.log_rows.proofs.tests.translated.Goals as goal
+use Rattle.command_tests.proofs.second_log.translated.Goals as goal
 
 few_for : (log : Log) (sets : List (List Held)) →
     ((thread step : ℕ) → count_held (slice_index_or (slice_index_or sets thread []) step []) ≤ MOST_HELD) → AreFewHeld log sets
