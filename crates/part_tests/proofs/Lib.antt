@@ -1,0 +1,4 @@
+mod EnabledHarts
+mod NoPoints
+mod RunSeats
+mod TwoSeats

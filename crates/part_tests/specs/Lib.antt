@@ -1,0 +1,3 @@
+pub mod CountingCore
+pub mod HartSeats
+pub mod MovingCore

@@ -1,11 +1,18 @@
-//! Tests of parts of the program: results that an emulator gave, and short graphs, steps and a script that were followed by
-//! hand. They stand in a crate of their own, so that no crate below is proved twice.
+//! Tests of parts of the program: results that an emulator gave; short graphs, steps and a script that were followed by hand; and boards and legs
+//! at small cores, with seats and workers beside each other. They stand in a crate of their own, so that no crate below is proved twice, and in one,
+//! since each crate of tests costs the proof that all below it is linked.
 #![tactic(auto)]
 
 #[cfg(test)]
 mod arithmetic;
 #[cfg(test)]
 mod arithmetic_vectors;
+#[cfg(test)]
+mod boards;
+#[cfg(test)]
+mod counter;
+#[cfg(test)]
+mod drives;
 #[cfg(test)]
 mod flats;
 #[cfg(test)]
@@ -21,6 +28,8 @@ mod locations;
 #[cfg(test)]
 mod orders;
 #[cfg(test)]
+mod points;
+#[cfg(test)]
 mod readings;
 #[cfg(test)]
 mod regions;
@@ -34,3 +43,5 @@ mod steps;
 mod straight;
 #[cfg(test)]
 mod typings;
+#[cfg(test)]
+mod watched;

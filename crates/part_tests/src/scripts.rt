@@ -1,5 +1,5 @@
 //! A script that is played on a small core.
-use core_rows::Counter;
+use crate::counter::Counter;
 use ido_base::limits::MOST_EVENTS;
 use ido_base::machine::Core;
 use run_scripts::play::play;

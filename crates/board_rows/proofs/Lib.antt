@@ -1,3 +1,0 @@
-mod NoPoints
-mod RunSeats
-mod TwoSeats

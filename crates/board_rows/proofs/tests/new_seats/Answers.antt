@@ -1,4 +1,0 @@
-use Rattle.board_rows.proofs.tests.new_seats.Goals as goal
-
-pub two_seats-requires-clause-seats : goal.two_seats-requires-clause-seats
-two_seats-requires-clause-seats g c κs within k d inside = (c.requires.seats k d inside).0

@@ -1,5 +1,0 @@
-use Rattle.board_rows.proofs.NoPoints.{no_fences}
-use Rattle.board_rows.proofs.watched.WatchedCore.fences.Goals as goal
-
-pub returns : goal.returns
-returns c = no_fences c.args.arg2 0 c.args.self.now.journal.items

@@ -1,2 +1,0 @@
-pub mod HartSeats
-pub mod MovingCore
