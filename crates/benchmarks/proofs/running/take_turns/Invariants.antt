@@ -1,0 +1,10 @@
+use Rattle.std.proofs.Common.{◌≡◌}
+use Rattle.hart_board.specs.CoreTurns.{RunsIn}
+use Rattle.hart_board.specs.Seats.{IsSeatOf, number}
+use Rattle.benchmarks.proofs.running.take_turns.Given as goal
+
+abbrev pub invariant-loop : goal.invariant-loop
+invariant-loop g l = record {
+  seat : IsSeatOf g.C.Core.history g.C.Core.space (RunsIn g.C.Core.opening g.C.Core.hart_count g.C.Core.is_local g.C.Core.ahead_by) l.board l.seat;
+  same : number l.seat ≡ number l.fn.seat;
+}

@@ -1,8 +1,0 @@
-use Rattle.std.proofs.Common.{inl, inr}
-use Rattle.board_bench.proofs.lines.LinesCore.event.Goals as goal
-
-pub byte_of-requires : goal.byte_of-requires
-byte_of-requires c = elim c.requires.valid [
-  | inl any ↦ any
-  | inr starts ↦ absurd (cc starts.1)
-]

@@ -1,5 +1,0 @@
-use Rattle.std.proofs.Common.{◌≡◌}
-use Rattle.board_bench.proofs.lines.LinesCore.event.Given as goal
-
-abbrev pub invariant-loop-line : goal.invariant-loop-line
-invariant-loop-line l = (l.self.journal ≡ l.initial.self.journal) × (l.self.most ≡ l.initial.self.most)

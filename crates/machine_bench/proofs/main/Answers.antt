@@ -1,5 +1,0 @@
-use Rattle.std.proofs.Common.{arith, inl}
-use Rattle.machine_bench.proofs.main.Goals as goal
-
-pub event-requires-clause-valid : goal.event-requires-clause-valid
-event-requires-clause-valid c = inl (omega (arith, c.loop.invariant.1))
