@@ -5,7 +5,7 @@ use Rattle.std.specs.List.{list_any}
 use Rattle.ido_base.specs.declared.log.Log.{Log}
 use Rattle.ido_base.specs.declared.log.Log.TheVariants.{V1, V2}
 use Rattle.ido_base.specs.Layout.{log_of, point_at, slot_at, bank_bytes}
-use Rattle.ido_base.specs.Locks.{mask_with}
+use Rattle.ido_base.specs.Locks.{locks_in, mask_with}
 use Rattle.rv64_isa.specs.declared.instr.Instr.{Instr}
 use Rattle.rv64_isa.specs.Rows.{Effect, Stores, Cleans, Fences, read}
 use Rattle.rv64_isa.specs.Signed.{twos_complement}
@@ -46,9 +46,14 @@ abbrev pub kept_locks : Log → (locks : List ℕ) → List (ℕ × ℕ)
 kept_locks V1 locks = (0, mask_with locks) ∷ []
 kept_locks V2 locks = (0, length locks) ∷ listed_from 32 locks
 
--- a bank has slots for all of these locks
+-- the locks are those of a mask of 64 bits
+pub record AreOfMask (locks : List ℕ) : Type 0 where
+  pub fits : mask_with locks < 2 ^ 64
+  pub read_back : locks_in (mask_with locks) ≡ locks
+
+-- a bank has room for these locks: a mask can tell them, or each of them has a slot
 abbrev pub HaveRoom : Log → (locks : List ℕ) → Type 0
-HaveRoom V1 locks = Unit {0}
+HaveRoom V1 locks = AreOfMask locks
 HaveRoom V2 locks = length locks ≤ 16
 
 -- how many words a boundary's code has at most, beside one for each live register, where one instruction gives each lock's number

@@ -5,7 +5,8 @@ use Rattle.c_tree.specs.Exprs.{LockName}
 use Rattle.std.proofs.Common.{◌++◌, true, false, Option, Some, None, slice_get, slice_index, slice_index_or, Contains}
 use Rattle.std.specs.List.Sorted.{IsStrictlyIncreasing}
 use Rattle.std.proofs.lemmas.Option.{slice_get_within, get_or_from_slice_get}
-use Rattle.thread_code.specs.Plans.{locks_held, home_of_colour, Plan, Thread, IsThread, IsNodeOf, IsKept, locks_held_from}
+use Rattle.thread_code.specs.Plans.{home_of_colour, Plan, Thread, IsThread, IsNodeOf, IsKept, held_names_before, locks_held_from, names_in}
+use Rattle.thread_code.proofs.Public.{named_some, names_are, numbers_some}
 use Rattle.code_runs.specs.CodeTraces.{Trace, Program, MarkedEnvironment, Meets, Mark, Observation}
 use Rattle.node_code.specs.Pieces.{boundary_observations}
 use Rattle.code_runs.specs.ComputingRuns.{LocalConfig, config}
@@ -14,7 +15,7 @@ use Rattle.ido_base.specs.declared.log.Log.{Log}
 use Rattle.ido_ints.specs.declared.kinds.Kind.{Kind}
 use Rattle.std.proofs.lemmas.List.Sums.{sum_by-cons}
 use Rattle.c_tree.specs.Flats as f
-use Rattle.c_tree.specs.LockNames.{Held, holds}
+use Rattle.c_tree.specs.LockNames.{Held, held_names, holds, lock_names}
 use Rattle.c_tree.specs.Prices.{thread_price}
 use Rattle.lock_discipline.specs.HeldSetsByStep.{AreSetsOf}
 use Rattle.flow_graph.specs.declared.graph.Part.{Part}
@@ -35,7 +36,7 @@ use Rattle.thread_code.specs.RegistersAtNodes.{Enters, IsAnswered, source_of}
 use Rattle.thread_code.specs.Programs as c
 use Rattle.thread_code.specs.Programs.{IsOn, IsThreadCode, IsCallWithin, IsCalling, boundary_count, mark_of}
 use Rattle.rv64_codegen.proofs.Public.{price_of, prices, price_thread, IsStoring, threads_are, chosen_stores, end_is, node_in, node_exists, held_there}
-use Rattle.rv64_codegen.proofs.Public.{held_sets}
+use Rattle.rv64_codegen.proofs.Public.{held_sets, numbers_plain}
 use Rattle.log_states.proofs.Public.{contains_first}
 use Rattle.thread_runs.proofs.Public.{plans_are_placed as placed}
 use Rattle.crash_simulation.specs.Systems.{System, IsSystem, flat_of, thread_count as threads_of}
@@ -221,6 +222,15 @@ module _ (locked : ChosenAreLocked) (y : System) (s : IsSystem y) (t : Thread) (
   abbrev Resume : (address : ℕ) → Type 0
   Resume address = IsResume (translation_of y) t.part held sites address
 
+  own_next : (node : ℕ) (x : Node) (next : ℕ) → IsNodeOf t node → NodeAt p.graph node x → Contains (successors x.action) next → IsNodeOf t next
+  own_next node x next own at goes =
+      let within = subst (λ (q : Program). q.start + 4 * length q.code < 2 ^ 64) (sym code.of_program) room in
+      (placed p t code.places p.log (t.number + 1) s.plan of code.kept refl (omega arith) within).closed node next x own at goes
+
+  after_own : (node : ℕ) (lock : LockName) (next : ℕ) (x : Node) → IsNodeOf t node → NodeAt p.graph node x → x.action ≡ Unlock lock next → IsNodeOf t next
+  after_own node lock next x own at is =
+      own_next node x next own at (subst (λ (a : Action). Contains (successors a) next) (sym is) (contains_first next []))
+
   in_form : (address : ℕ) → c.IsResumeAddress p t code.places address → Resume address
   in_form address (c.at_chosen node own chosen) =
       subst Resume (chosen_mark node own chosen)
@@ -229,7 +239,8 @@ module _ (locked : ChosenAreLocked) (y : System) (s : IsSystem y) (t : Thread) (
       past_lock node (among_of node own) (locks x lock next (subst (λ (g : Graph). NodeAt g node x) graph_is at) is)
   in_form address (c.past_unlock node lock next x own at is some) =
       past_unlock node lock next x (among_of node own) (subst (λ (g : Graph). NodeAt g node x) graph_is at) is
-      (some_held 0 (slice_index_or held (next - t.part.first) []) some)
+      (some_held 0 (slice_index_or held (next - t.part.first) [])
+      (λ none. numbers_some [] (held_names_before p t next) some (sym (numbers_plain p s.plan t of [] next (after_own node lock next x own at is)) ∙ none)))
 
   lock_in_code : (node : ℕ) → IsNodeOf t node → IsLock (lowered p.flat) node → c.IsResumeAddress p t code.places (code.places.after node)
   lock_in_code node own (locks x lock next at is) = c.past_lock node lock next x own (node_at node x at) is
@@ -240,7 +251,11 @@ module _ (locked : ChosenAreLocked) (y : System) (s : IsSystem y) (t : Thread) (
       subst (c.IsResumeAddress p t code.places) (sym (chosen_mark node (own_of node among) there)) (c.at_chosen node (own_of node among) there)
   in_code address (past_lock node among lock) = lock_in_code node (own_of node among) lock
   in_code address (past_unlock node lock next x among at is some) =
-      c.past_unlock node lock next x (own_of node among) (node_at node x at) is (has_locks 0 (slice_index_or held (next - t.part.first) []) some)
+      let own = own_of node among in
+      c.past_unlock node lock next x own (node_at node x at) is
+      (named_some [] (held_names_before p t next)
+      (λ none. has_locks 0 (slice_index_or held (next - t.part.first) []) some
+      (numbers_plain p s.plan t of [] next (after_own node lock next x own (node_at node x at) is) ∙ none)))
 
   -- ---- Boundaries
 
@@ -287,25 +302,28 @@ module _ (locked : ChosenAreLocked) (y : System) (s : IsSystem y) (t : Thread) (
   met : (z : MarkedEnvironment) → Meets (program_in y t.number) z → Meets code.places.program z
   met z meets = subst (λ (q : Program). Meets q z) (sym code.of_program) meets
 
-  own_next : (node : ℕ) (x : Node) (next : ℕ) → IsNodeOf t node → NodeAt p.graph node x → Contains (successors x.action) next → IsNodeOf t next
-  own_next node x next own at goes =
-      let within = subst (λ (q : Program). q.start + 4 * length q.code < 2 ^ 64) (sym code.of_program) room in
-      (placed p t code.places p.log (t.number + 1) s.plan of code.kept refl (omega arith) within).closed node next x own at goes
-
   abbrev Stands : (entered node from to resume : ℕ) → List Observation → Type 0
   Stands = StandsBoundary (translation_of y) t.number of.text t.part held t.locals
 
-  -- the boundary before a node, of a log
-  abbrev boundary_by : Log → (node : ℕ) → Boundary
-  boundary_by log node =
-      record { log = log; thread = t.number; locks = locks_held (slice_index_or held (node - t.part.first) []); live = code.places.live node; resume = pos 0 }
+  -- the boundary before a node, of a log, where the thread's locks have these names and its locals these numbers
+  abbrev boundary_by : Log → List LockName → (locals : List ℤ) → (node : ℕ) → Boundary
+  boundary_by log names locals node = record {
+    log = log;
+    thread = t.number;
+    locks = map (lock_number locals) (held_names names (slice_index_or held (node - t.part.first) []));
+    live = code.places.live node;
+    resume = pos 0;
+  }
 
   -- the plan's log is the machine's
-  logged : (z : MarkedEnvironment) (first : List Observation) (node side resume steps : ℕ) (x : List ℕ) (from to : LocalConfig) →
-      Trace z steps from (first ++ boundary_observations (boundary_by p.log node) side resume x) to →
-      Trace z steps from (first ++ boundary_observations (boundary_by y.runs.log node) side resume x) to
-  logged z first node side resume steps x from to walks =
-      subst (λ (l : Log). Trace z steps from (first ++ boundary_observations (boundary_by l node) side resume x) to) s.log walks
+  logged : (z : MarkedEnvironment) (first : List Observation) (locals : List ℤ) (node side resume steps : ℕ) (x : List ℕ) (from to : LocalConfig) →
+      Trace z steps from (first ++ boundary_observations (boundary_by p.log (names_in p t) locals node) side resume x) to →
+      Trace z steps from (first ++ boundary_observations (boundary_by y.runs.log (lock_names p.flat of.text) locals node) side resume x) to
+  logged z first locals node side resume steps x from to walks =
+      subst (λ (l : Log). Trace z steps from
+      (first ++ boundary_observations (boundary_by l (lock_names p.flat of.text) locals node) side resume x) to) s.log
+      (subst (λ (ns : List LockName). Trace z steps from (first ++ boundary_observations (boundary_by p.log ns locals node) side resume x) to)
+      (names_are p t of) walks)
 
   chosen_stands : (node : ℕ) → IsNodeOf t node → IsChosen p.graph p.boundaries node →
       Stands node node (code.places.entry node) (code.places.core node) (code.places.core node) []
@@ -320,7 +338,7 @@ module _ (locked : ChosenAreLocked) (y : System) (s : IsSystem y) (t : Thread) (
             (record { meets = met z meets; own = own; enters = enters node side locals x has }) in (
               goes.steps,
               goes.registers,
-              logged z [] node side (code.places.core node) goes.steps x (config x (code.places.entry node))
+              logged z [] locals node side (code.places.core node) goes.steps x (config x (code.places.entry node))
                   (config goes.registers (code.places.core node)) goes.walks,
             );
       }
@@ -337,7 +355,7 @@ module _ (locked : ChosenAreLocked) (y : System) (s : IsSystem y) (t : Thread) (
             let goes = calls.2 (entrance z node side locals x) (met z meets) refl (enters next side locals x has) in (
               goes.steps,
               goes.registers,
-              logged z [] next side (code.places.after node) goes.steps x (config x (code.places.call node + 4))
+              logged z [] locals next side (code.places.after node) goes.steps x (config x (code.places.call node + 4))
                   (config goes.registers (code.places.after node)) goes.walks,
             );
       }
@@ -357,7 +375,7 @@ module _ (locked : ChosenAreLocked) (y : System) (s : IsSystem y) (t : Thread) (
             (subst (λ (a : Action). IsAnswered (source_of p t m.seen) z.around.loads a) (sym does) tt) (ap (λ (a : Action). effect_of a m.seen) does) in (
               goes.steps,
               goes.registers,
-              logged z (Mark ∷ []) next side (code.places.after node) goes.steps x (config x (code.places.core node))
+              logged z (Mark ∷ []) locals next side (code.places.after node) goes.steps x (config x (code.places.core node))
                   (config goes.registers (code.places.call node)) goes.walks,
             );
       }

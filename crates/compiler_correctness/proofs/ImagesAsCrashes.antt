@@ -55,73 +55,73 @@ module _ (log : Log) (program : List (List Slot)) (locks : ℕ) where
 
 -- ---- The account after what was begun before
 
-abbrev ahead : List ℕ → Steps → Steps
-ahead prefix s = record s { begun = prefix ++ s.begun }
+abbrev prefixed : List ℕ → Steps → Steps
+prefixed prefix s = record s { begun = prefix ++ s.begun }
 
 module _ (prefix : List ℕ) where
-  begun_ahead : (h : ℕ) (s : Steps) → with_begun h (ahead prefix s) ≡ ahead prefix (with_begun h s)
-  begun_ahead h s = ap (λ (begun : List ℕ). record (with_begun h s) { begun = begun }) (append_assoc prefix s.begun (h ∷ []))
+  begun_prefixed : (h : ℕ) (s : Steps) → with_begun h (prefixed prefix s) ≡ prefixed prefix (with_begun h s)
+  begun_prefixed h s = ap (λ (begun : List ℕ). record (with_begun h s) { begun = begun }) (append_assoc prefix s.begun (h ∷ []))
 
-  kept_ahead : (log : Log) (words : List Word) (count : ℕ) (s : Steps) →
-      with_all_kept log words count (ahead prefix s) ≡ ahead prefix (with_all_kept log words count s)
-  kept_ahead log words zero s = refl
-  kept_ahead log words (suc h) s = ap (with_kept log words h) (kept_ahead log words h s)
+  kept_prefixed : (log : Log) (words : List Word) (count : ℕ) (s : Steps) →
+      with_all_kept log words count (prefixed prefix s) ≡ prefixed prefix (with_all_kept log words count s)
+  kept_prefixed log words zero s = refl
+  kept_prefixed log words (suc h) s = ap (with_kept log words h) (kept_prefixed log words h s)
 
-  counted_ahead : (begun points : Bool) (h position : ℕ) (s : Steps) →
-      counted_by begun points h position (ahead prefix s) ≡ ahead prefix (counted_by begun points h position s)
-  counted_ahead true false h position s = begun_ahead h s
-  counted_ahead true true h position s = ap (with_bound h position) (begun_ahead h s)
-  counted_ahead false false h position s = refl
-  counted_ahead false true h position s = refl
+  counted_prefixed : (begun points : Bool) (h position : ℕ) (s : Steps) →
+      counted_by begun points h position (prefixed prefix s) ≡ prefixed prefix (counted_by begun points h position s)
+  counted_prefixed true false h position s = begun_prefixed h s
+  counted_prefixed true true h position s = ap (with_bound h position) (begun_prefixed h s)
+  counted_prefixed false false h position s = refl
+  counted_prefixed false true h position s = refl
 
   module _ (marks : List (List ℕ)) (program : List (List Slot)) where
-    event_ahead : (w : World) (event : Event) (s : Steps) → begins_life w event ≡ false →
-        steps_after marks program w event (ahead prefix s) ≡ ahead prefix (steps_after marks program w event s)
+    event_prefixed : (w : World) (event : Event) (s : Steps) → begins_life w event ≡ false →
+        steps_after marks program w event (prefixed prefix s) ≡ prefixed prefix (steps_after marks program w event s)
     unfolding steps_after
-    event_ahead w (Step h) s none =
+    event_prefixed w (Step h) s none =
         let words = (after_event program w (Step h)).words in
         ap (with_all_kept w.log words (length s.harts))
-        (counted_ahead (passes_mark marks program w h) (stores_point program w (Step h) h) h (last_position (point_in w.log words h)) s)
-        ∙ kept_ahead w.log words (length s.harts) (with_step marks program w h s)
-    event_ahead w (Evict line mask) s none = kept_ahead w.log (after_event program w (Evict line mask)).words (length s.harts) s
-    event_ahead w Crash s none = refl
-    event_ahead w Start s none =
-        ap (λ (may : Bool). if may then next_life (ahead prefix s) else ahead prefix s) none
-        ∙ ap (λ (may : Bool). ahead prefix (if may then next_life s else s)) (sym none)
+        (counted_prefixed (passes_mark marks program w h) (stores_point program w (Step h) h) h (last_position (point_in w.log words h)) s)
+        ∙ kept_prefixed w.log words (length s.harts) (with_step marks program w h s)
+    event_prefixed w (Evict line mask) s none = kept_prefixed w.log (after_event program w (Evict line mask)).words (length s.harts) s
+    event_prefixed w Crash s none = refl
+    event_prefixed w Start s none =
+        ap (λ (may : Bool). if may then next_life (prefixed prefix s) else prefixed prefix s) none
+        ∙ ap (λ (may : Bool). prefixed prefix (if may then next_life s else s)) (sym none)
 
-    along_ahead : (events : List Event) (w : World) (s : Steps) → HaveNoStart events →
-        steps_along marks program w events (ahead prefix s) ≡ ahead prefix (steps_along marks program w events s)
-    along_ahead [] w s none = refl
-    along_ahead (event ∷ events) w s none =
+    along_prefixed : (events : List Event) (w : World) (s : Steps) → HaveNoStart events →
+        steps_along marks program w events (prefixed prefix s) ≡ prefixed prefix (steps_along marks program w events s)
+    along_prefixed [] w s none = refl
+    along_prefixed (event ∷ events) w s none =
         let first = first_stays event events none in
-        ap (steps_along marks program (after_event program w event) events) (event_ahead w event s (first.0 w))
-        ∙ along_ahead events (after_event program w event) (steps_after marks program w event s) first.1
+        ap (steps_along marks program (after_event program w event) events) (event_prefixed w event s (first.0 w))
+        ∙ along_prefixed events (after_event program w event) (steps_after marks program w event s) first.1
 
--- the account is the other one, but for what was begun before; a start drops that
-record IsAhead (s t : Steps) : Type 0 where
+-- the one account is the other with a prefix to what was begun; a start drops that
+record IsPrefixed (s t : Steps) : Type 0 where
   prefix : List ℕ
-  is : t ≡ ahead prefix s
+  is : t ≡ prefixed prefix s
 
 module _ (marks : List (List ℕ)) (program : List (List Slot)) where
-  event_leads : (prefix : List ℕ) (w : World) (event : Event) (s : Steps) →
-      IsAhead (steps_after marks program w event s) (steps_after marks program w event (ahead prefix s))
+  event_stays_prefixed : (prefix : List ℕ) (w : World) (event : Event) (s : Steps) →
+      IsPrefixed (steps_after marks program w event s) (steps_after marks program w event (prefixed prefix s))
   unfolding steps_after
-  event_leads prefix w (Step h) s = record { prefix = prefix; is = event_ahead prefix marks program w (Step h) s refl }
-  event_leads prefix w (Evict line mask) s = record { prefix = prefix; is = event_ahead prefix marks program w (Evict line mask) s refl }
-  event_leads prefix w Crash s = record { prefix = prefix; is = event_ahead prefix marks program w Crash s refl }
-  event_leads prefix w Start s = by (can_start w)
+  event_stays_prefixed prefix w (Step h) s = record { prefix = prefix; is = event_prefixed prefix marks program w (Step h) s refl }
+  event_stays_prefixed prefix w (Evict line mask) s = record { prefix = prefix; is = event_prefixed prefix marks program w (Evict line mask) s refl }
+  event_stays_prefixed prefix w Crash s = record { prefix = prefix; is = event_prefixed prefix marks program w Crash s refl }
+  event_stays_prefixed prefix w Start s = by (can_start w)
     where
-      by : (may : Bool) → IsAhead (if may then next_life s else s) (if may then next_life (ahead prefix s) else ahead prefix s)
+      by : (may : Bool) → IsPrefixed (if may then next_life s else s) (if may then next_life (prefixed prefix s) else prefixed prefix s)
       by true = record { prefix = []; is = refl }
       by false = record { prefix = prefix; is = refl }
 
-  along_leads : (events : List Event) (w : World) (s t : Steps) → IsAhead s t →
-      IsAhead (steps_along marks program w events s) (steps_along marks program w events t)
-  along_leads [] w s t lead = lead
-  along_leads (event ∷ events) w s t lead =
-      along_leads events (after_event program w event) (steps_after marks program w event s) (steps_after marks program w event t)
-      (subst (λ (z : Steps). IsAhead (steps_after marks program w event s) (steps_after marks program w event z)) (sym lead.is)
-      (event_leads lead.prefix w event s))
+  along_stays_prefixed : (events : List Event) (w : World) (s t : Steps) → IsPrefixed s t →
+      IsPrefixed (steps_along marks program w events s) (steps_along marks program w events t)
+  along_stays_prefixed [] w s t same = same
+  along_stays_prefixed (event ∷ events) w s t first =
+      along_stays_prefixed events (after_event program w event) (steps_after marks program w event s) (steps_after marks program w event t)
+      (subst (λ (z : Steps). IsPrefixed (steps_after marks program w event s) (steps_after marks program w event z)) (sym first.is)
+      (event_stays_prefixed first.prefix w event s))
 
 -- ---- As many accounts as harts
 
@@ -159,7 +159,7 @@ module _ (c : Translation) (before : List Event) where
   crash_is = ap₂ (λ (l : Log) (locks : ℕ). after_crash_of l c.runs.program locks (map durable_value (world c before).words)) has.log has.holders
 
   dropped_is : steps_after c.runs.marks c.runs.program (world c before) Crash (steps c before) ≡
-      ahead (steps c before).begun (first_steps (length c.runs.program) (kept_lives (steps c before)))
+      prefixed (steps c before).begun (first_steps (length c.runs.program) (kept_lives (steps c before)))
   unfolding steps_after
   dropped_is =
       let many = along_many c.runs.marks c.runs.program before (first_world c.runs) (first_steps (length c.runs.program) (only_life []))
@@ -176,30 +176,30 @@ module _ (c : Translation) (before : List Event) where
     -- the account where power is lost then, in the words of the other one's beginning
     steps_join_here : steps c (before ++ Crash ∷ events)
         ≡ steps_along c.runs.marks c.runs.program (first_from c (image_of c before)) events
-        (ahead (steps c before).begun (first_steps (length c.runs.program) (kept_lives (steps c before))))
+        (prefixed (steps c before).begun (first_steps (length c.runs.program) (kept_lives (steps c before))))
     steps_join_here =
         steps_join c.runs.marks c.runs.program before (Crash ∷ events) (first_world c.runs) (first_steps (length c.runs.program) (only_life []))
         ∙ ap₂ (λ (w : World) (s : Steps). steps_along c.runs.marks c.runs.program w events s) crash_is dropped_is
 
-    steps_same : HaveNoStart events → ahead (steps c before).begun (steps_from c (image_of c before) events) ≡ steps c (before ++ Crash ∷ events)
+    steps_same : HaveNoStart events → prefixed (steps c before).begun (steps_from c (image_of c before) events) ≡ steps c (before ++ Crash ∷ events)
     steps_same none =
         sym (steps_join_here
-        ∙ along_ahead (steps c before).begun c.runs.marks c.runs.program events (first_from c (image_of c before))
+        ∙ along_prefixed (steps c before).begun c.runs.marks c.runs.program events (first_from c (image_of c before))
         (first_steps (length c.runs.program) (kept_lives (steps c before))) none)
 
-    steps_lead : IsAhead (steps_from c (image_of c before) events) (steps c (before ++ Crash ∷ events))
-    steps_lead =
+    steps_prefixed : IsPrefixed (steps_from c (image_of c before) events) (steps c (before ++ Crash ∷ events))
+    steps_prefixed =
         let first = first_steps (length c.runs.program) (kept_lives (steps c before)) in
-        subst (IsAhead (steps_from c (image_of c before) events)) (sym steps_join_here)
-        (along_leads c.runs.marks c.runs.program events (first_from c (image_of c before)) first (ahead (steps c before).begun first)
+        subst (IsPrefixed (steps_from c (image_of c before) events)) (sym steps_join_here)
+        (along_stays_prefixed c.runs.marks c.runs.program events (first_from c (image_of c before)) first (prefixed (steps c before).begun first)
         (record { prefix = (steps c before).begun; is = refl }))
 
     crashed : IsCrashed c before events
     crashed = record {
       world_is = world_same;
       begun_is = λ none. ap (λ (s : Steps). s.begun) (steps_same none);
-      kept_is = sym (ap kept_lives steps_lead.is);
-      pending_is = sym (ap (λ (s : Steps). s.pending) steps_lead.is);
+      kept_is = sym (ap kept_lives steps_prefixed.is);
+      pending_is = sym (ap (λ (s : Steps). s.pending) steps_prefixed.is);
     }
 
 pub images_are_crashes : ImagesAreCrashes

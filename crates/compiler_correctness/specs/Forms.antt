@@ -7,7 +7,8 @@ use Rattle.std.specs.List.Sorted.{IsStrictlyIncreasing}
 use Rattle.ido_ints.specs.declared.kinds.Kind.{Kind}
 use Rattle.ido_ints.specs.TypedNumbers.{typed}
 use Rattle.c_tree.specs.Flats as f
-use Rattle.c_tree.specs.LockNames.{Held}
+use Rattle.c_tree.specs.LockNames.{Held, held_names, lock_names}
+use Rattle.c_tree.specs.Values.{lock_number}
 use Rattle.c_tree.specs.Prices.{thread_price}
 use Rattle.rv64_isa.specs.declared.instr.Instr.TheVariants.{Ecall}
 use Rattle.rv64_isa.specs.Programs.{code_of, code_start}
@@ -29,7 +30,7 @@ use Rattle.flow_graph.specs.IdempotentCuts.{IsLock, IsUnlock, IsStoreNode, IsCho
 use Rattle.hart_runs.specs.Laws.{program_at}
 use Rattle.thread_code.specs.Programs.{boundary_count, IsOn}
 use Rattle.compiler_correctness.specs.Translations.{Translation, marks_of, resumes_of}
-use Rattle.thread_code.specs.Plans.{locks_held, home_of_colour}
+use Rattle.thread_code.specs.Plans.{home_of_colour}
 use Rattle.expr_code.specs.declared.home.Home.{Home}
 use Rattle.expr_code.specs.declared.home.Home.TheVariants.{InRegister}
 use Rattle.expr_code.specs.EvaluationCode.{home_of, HomeCarries}
@@ -90,17 +91,22 @@ module _ (c : Translation) (thread : ℕ) (text : f.Thread) (part : Part) (held 
         HomeCarries values (home_of homes local) (typed k (slice_index_or locals local (pos 0)))
 
   -- From the one address to the other stands the boundary after which the thread is at a node, where it may be resumed at an address. Whatever its locals are,
-  -- the code leads from the one to the other, and what is seen of that is the boundary: the side that the point doesn't name gets the mutexes held before the
-  -- node and the live registers, all is cleaned, a FENCE, the point gets the address and the number of that side and is cleaned, a FENCE. Where no mutex is
-  -- held the point gets 0, and neither side gets anything.
+  -- the code leads from the one to the other, and what is seen of that is the boundary: the side that the point doesn't name gets the locks that are held
+  -- before the node, by these locals, and the live registers, all is cleaned, a FENCE, the point gets the address and the number of that side and is cleaned,
+  -- a FENCE. Where no lock is held the point gets 0, and neither side gets anything.
   pub record StandsBoundary (entered node from to resume : ℕ) (first : List Observation) : Type 0 where
     pub live : List ℕ
     pub are_live : (register : ℕ) → Contains live register ↔ IsLiveRegister node register
     pub leads : (s : MarkedEnvironment) → Meets (program_at c.runs.program thread (marks_of c thread) (resumes_of c thread)) s →
         (side : ℕ) (locals : List ℤ) (x : List ℕ) → HoldLocals entered side locals x →
         (steps : ℕ) × (y : List ℕ) × Trace s steps (config x from) (first ++ boundary_observations
-        (record { log = c.runs.log; thread = thread; locks = locks_held (slice_index_or held (node - part.first) []); live = live; resume = pos 0 }) side resume
-        x) (config y to)
+        (record {
+          log = c.runs.log;
+          thread = thread;
+          locks = map (lock_number locals) (held_names (lock_names c.flat text) (slice_index_or held (node - part.first) []));
+          live = live;
+          resume = pos 0;
+        }) side resume x) (config y to)
 
   -- the boundaries of a node
   pub record HasBoundaries (s : Sites) (node : ℕ) : Type 0 where

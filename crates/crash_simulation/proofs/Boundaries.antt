@@ -5,7 +5,8 @@ use Rattle.crash_simulation.proofs.Common.{none-some, slice_get_within, variable
 use Rattle.crash_simulation.proofs.Common.{IsStoreInRange, zip_found, World, read, Instr, Seen, GraphThread, FlowState, seen_by, NodeAt, lowered, Action, Store}
 use Rattle.crash_simulation.proofs.Common.{Node, Graph, Good, found_in, get_cases, IsInstructionAt, well_formed_placed, Carries, is_there, owes_at, Program}
 use Rattle.crash_simulation.proofs.Common.{MarkedEnvironment, Meets, Trace, LocalConfig, config, recorded_by, IsRecoverable, HomeCarries, Home, Agrees}
-use Rattle.crash_simulation.proofs.Common.{instr_at, Places, keeping, Plan, IsNodeOf, IsKept, of_local, of_address, of_value, IsPlan, locks_before, IsCalling}
+use Rattle.crash_simulation.proofs.Common.{instr_at, Places, keeping, Plan, IsNodeOf, IsKept, of_local}
+use Rattle.crash_simulation.proofs.Common.{of_address, of_value, IsPlan, held_names_before, IsCalling}
 use Rattle.crash_simulation.proofs.Common.{IsPendingIn, HasPending, Enters, IsLockOf, IsUnlockOf, AtBoundary, Code, IsOrderly, ResumesAt, Describes}
 use Rattle.crash_simulation.proofs.Common.{boundaries_recover, commits_describe, System, IsSystem, thread_count}
 use Rattle.flow_graph.specs.IdempotentCuts.{stores}
@@ -131,14 +132,14 @@ pub record IsBeginning (p : Plan) (code : Code p) (s : FlowState) (side resume :
   pub there : slice_get s.graph_threads code.thread.number ≡ Some graph_thread
   pub goes_on : graph_thread.ended ≡ false
   pub own : IsNodeOf code.thread graph_thread.at
-  pub resumes : locks_before p code.thread graph_thread.at ≢ [] → ResumesAt p code graph_thread.at resume
+  pub resumes : held_names_before p code.thread graph_thread.at ≢ [] → ResumesAt p code graph_thread.at resume
   pub enters : Enters p code.thread graph_thread.at (seen_by s graph_thread) side x
   pub address : IsAddress resume
 
 -- the boundary at a node can be recovered from, and the record describes that state
-pub record BoundaryIsRecoverable (p : Plan) (code : Code p) (s : FlowState) (node side resume : ℕ) (x : List ℕ) : Type 0 where
-  pub recoverable : IsRecoverable (keeping p code.thread code.is.places node) resume x
-  pub describes : Describes p code s (recorded_by (keeping p code.thread code.is.places node) side resume x)
+pub record BoundaryIsRecoverable (p : Plan) (code : Code p) (s : FlowState) (locals : List ℤ) (node side resume : ℕ) (x : List ℕ) : Type 0 where
+  pub recoverable : IsRecoverable (keeping p code.thread code.is.places locals node) resume x
+  pub describes : Describes p code s (recorded_by (keeping p code.thread code.is.places locals node) side resume x)
 
 module _ {p : Plan} (code : Code p) {s : FlowState} {side resume : ℕ} {x : List ℕ} (plan : IsPlan p) (orderly : IsOrderly p s) (good : Good p.flat s)
     (k : IsBeginning p code s side resume x) where
@@ -156,7 +157,7 @@ module _ {p : Plan} (code : Code p) {s : FlowState} {side resume : ℕ} {x : Lis
     registers = kept_small p code plan s good k.graph_thread k.there side x k.enters;
   }
 
-  pub boundaries_begin : BoundaryIsRecoverable p code s k.graph_thread.at side resume x
+  pub boundaries_begin : BoundaryIsRecoverable p code s k.graph_thread.locals k.graph_thread.at side resume x
   boundaries_begin = record {
     recoverable = boundaries_recover p code s side resume x plan orderly at_boundary;
     describes = commits_describe p code s side resume x plan orderly at_boundary;

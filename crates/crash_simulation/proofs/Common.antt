@@ -141,7 +141,7 @@ pub use Rattle.hart_runs.proofs.Public.{takes_step, waits_step, resumes_step, st
 pub use Rattle.hart_runs.proofs.Public.{forward_reaches, drains_reach, cleans_reach_now, fences_settle, others_reach, effect_is, queues_stay_short}
 pub use Rattle.hart_runs.proofs.Public.{starts_are_short, evictions_agree, crashes_step}
 pub use Rattle.thread_code.specs.NodeCodeEffects.{Places, keeping, Entrance, kind_at}
-pub use Rattle.thread_code.specs.Plans.{Plan, IsNodeOf, IsKept, of_local, of_address, of_value, IsPlan, locks_before, Thread, locks_held, IsThread}
+pub use Rattle.thread_code.specs.Plans.{Plan, IsNodeOf, IsKept, of_local, of_address, of_value, IsPlan, held_names_before, Thread, locks_held, IsThread}
 pub use Rattle.thread_code.specs.Programs.{IsCalling, IsNodeCode, IsThreadCode, IsCallWithin, mark_of}
 pub use Rattle.thread_code.specs.RegistersAtNodes.{IsPendingIn, HasPending, Enters, IsAnsweredIn, IsAnswered, source_of}
 pub use Rattle.thread_code.proofs.Public.{locals_are}

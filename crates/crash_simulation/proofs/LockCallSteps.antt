@@ -199,7 +199,7 @@ module _ {y : System} {s : IsSystem y} {w : World} {h mutex next : ℕ} (at : At
         seen at.o.side [] (placed_here at) (bare_reads y s w h at.site.below) asks free
 
     abbrev b_next : Boundary
-    b_next = keeping y.plan code.thread places next
+    b_next = keeping y.plan code.thread places graph_thread.locals next
 
     abbrev resume : ℕ
     resume = places.after graph_thread.at
@@ -280,7 +280,7 @@ module _ {y : System} {s : IsSystem y} {w : World} {h mutex next : ℕ} (at : At
           asks.agrees lock_here it.on.on.own asks.has.enters;
     }
 
-    begins_there : BoundaryIsRecoverable y.plan code (now_of y then_abstract) next at.o.side resume asks.registers
+    begins_there : BoundaryIsRecoverable y.plan code (now_of y then_abstract) graph_thread.locals next at.o.side resume asks.registers
     unfolding beginning
     begins_there =
         boundaries_begin code s.plan (now_orderly y s then_abstract) (now_good y s then_abstract) beginning
@@ -292,7 +292,8 @@ module _ {y : System} {s : IsSystem y} {w : World} {h mutex next : ℕ} (at : At
     log_then : LogInv n c.new then_ghost.new v then_ghost.rest
     log_then =
         steps_keep y.runs.program n n c.new then_ghost.new w then_ghost.rest at.site.stands.machine.sound
-        (log_begins at.site next at.o.side resume asks.registers (rest_over at) asks.has.enters.at_side at.o.at_side begins_there.recoverable)
+        (log_begins at.site graph_thread.locals next at.o.side resume asks.registers (rest_over at) asks.has.enters.at_side at.o.at_side
+        begins_there.recoverable)
         (call_elsewhere at at_lock)
 
     open it.on.on.on use {hart as new}

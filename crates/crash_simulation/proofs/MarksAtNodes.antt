@@ -133,7 +133,7 @@ module _ {y : System} {s : IsSystem y} {w : World} {h : ℕ} (site : AtNode y s 
       -- what is left of the fragment and what is ahead after it fit into the code
       soon_by : (e : a.Effect) → words ≤ L → IsNodeOf code.thread (stage_after y.plan code.thread places graph_thread.at seen side e).node →
           ((next : ℕ) → IsNodeOf code.thread next → next_by e ≡ Some next → 2 * words + entry_ahead y.plan places next + 4 ≤ 2 * L) →
-          AreSeen y.plan code.thread places graph_thread.at side registers e m.mark.effects →
+          AreSeen y.plan code.thread places graph_thread.at seen side registers e m.mark.effects →
           left + beyond y.plan places (stage_after y.plan code.thread places graph_thread.at seen side e).exit
           (stage_after y.plan code.thread places graph_thread.at seen side e).node ≤ 2 * L + 17
       soon_by (a.Sets local number next) whole own fit are = omega (arith, fit next own refl, few)
@@ -146,7 +146,7 @@ module _ {y : System} {s : IsSystem y} {w : World} {h : ℕ} (site : AtNode y s 
         fit next own refl,
         few,
         cleaned (subst (λ (es : List Effect). cleans_in (seen_effects es) ≤ 7)
-            (sym are) (few_cleans (keeping y.plan code.thread places next) side (places.after graph_thread.at) registers)),
+            (sym are) (few_cleans (keeping y.plan code.thread places seen.locals next) side (places.after graph_thread.at) registers)),
       )
       soon_by a.Ends whole own fit are = omega (arith, few, whole)
 

@@ -1,5 +1,6 @@
 -- A step of a thread's own hart: what the machine is to know of it.
-use Rattle.crash_simulation.proofs.Common.{◌≡◌, ℕ, List, sym, ◌∙◌, ap, arith, subst, true, Some, None, refl, [], length, slice_get, nat_tests, Step, Log, Hart}
+use Rattle.crash_simulation.proofs.Common.{◌≡◌, ℕ, ℤ, List, sym, ◌∙◌, ap, arith, subst, true, Some, None}
+use Rattle.crash_simulation.proofs.Common.{refl, [], length, slice_get, nat_tests, Step, Log, Hart}
 use Rattle.crash_simulation.proofs.Common.{World, after_event, Effect, Run, Seen, GraphThread, FlowState, seen_by, boundary_effects, IsOnSide, Attempt, Memory}
 use Rattle.crash_simulation.proofs.Common.{memory_in, recorded_by, IsRecoverable, LogInv, IsSideOf, IsElsewhere, config_of, IsNext, steps_keep, ends_committed}
 use Rattle.crash_simulation.proofs.Common.{begins_standing, IsInPhase, Places, keeping, Code, Describes, AbstractRun, kept_of, now_of, begins, Site, OwnStep}
@@ -68,12 +69,12 @@ module _ {y : System} {s : IsSystem y} {w : World} {h : ℕ} (site : Site y s w 
   }
 
   -- its log where a boundary begins
-  pub log_begins : (node side resume : ℕ) (x : List ℕ) → c.rest ≡ [] → IsOnSide y.plan.log side x → IsSideOf c.new side →
-      IsRecoverable (keeping y.plan code.thread places node) resume x →
-      LogInv n c.new (recorded_by (keeping y.plan code.thread places node) side resume x) w
-      (boundary_effects (keeping y.plan code.thread places node) side resume x)
-  log_begins node side resume x over on is recoverable =
-      begins_standing (keeping y.plan code.thread places node) c.old c.new side resume x w site.stands.machine.log
+  pub log_begins : (locals : List ℤ) (node side resume : ℕ) (x : List ℕ) → c.rest ≡ [] → IsOnSide y.plan.log side x → IsSideOf c.new side →
+      IsRecoverable (keeping y.plan code.thread places locals node) resume x →
+      LogInv n c.new (recorded_by (keeping y.plan code.thread places locals node) side resume x) w
+      (boundary_effects (keeping y.plan code.thread places locals node) side resume x)
+  log_begins locals node side resume x over on is recoverable =
+      begins_standing (keeping y.plan code.thread places locals node) c.old c.new side resume x w site.stands.machine.log
       (subst (λ (rest : List Effect). LogInv n c.old c.new w rest) over t.log)
       (record { registers = subst (λ (l : Log). IsOnSide l side x) site.stands.machine.log on; is = is }) recoverable
 

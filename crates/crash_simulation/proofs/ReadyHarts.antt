@@ -210,7 +210,7 @@ module _ {y : System} {s : IsSystem y} {w : World} {h : ℕ} (site : Site y s w 
     open fragment use {registers}
 
     abbrev boundary : Boundary
-    boundary = keeping y.plan code.thread places graph_thread.at
+    boundary = keeping y.plan code.thread places graph_thread.locals graph_thread.at
 
     abbrev resume : ℕ
     resume = places.core graph_thread.at
@@ -240,7 +240,7 @@ module _ {y : System} {s : IsSystem y} {w : World} {h : ℕ} (site : Site y s w 
         (subst (λ (z : Action). IsAnswered (source_of y.plan code.thread seen) bare_here.around.loads z) (sym here.is) tt) does is.it.kind kind).0 in
         stands_in y s h site.below resume storing.instr storing.stands
 
-    begins : BoundaryIsRecoverable y.plan code (now_of y b) graph_thread.at side resume registers
+    begins : BoundaryIsRecoverable y.plan code (now_of y b) graph_thread.locals graph_thread.at side resume registers
     begins = boundaries_begin code s.plan (now_orderly y s b) (now_good y s b) (record {
       graph_thread = graph_thread;
       there = t.walks;
@@ -252,7 +252,7 @@ module _ {y : System} {s : IsSystem y} {w : World} {h : ℕ} (site : Site y s w 
     })
 
     log : LogInv n c.new ghost.new w ghost.rest
-    log = log_begins site graph_thread.at side resume registers no_rest fragment.has.at_side at_side begins.recoverable
+    log = log_begins site graph_thread.locals graph_thread.at side resume registers no_rest fragment.has.at_side at_side begins.recoverable
 
     same_hart : log.hart ≡ t.log.hart
     same_hart = same_there (slice_get w.harts n) log.hart t.log.hart log.here t.log.here

@@ -114,7 +114,7 @@ module _ {y : System} {s : IsSystem y} {w : World} {h : ℕ} (site : AtNode y s 
   -- ---- The boundary
 
   abbrev boundary : Boundary
-  boundary = keeping y.plan code.thread places next_node
+  boundary = keeping y.plan code.thread places graph_thread.locals next_node
 
   abbrev resume : ℕ
   resume = places.after graph_thread.at
@@ -133,7 +133,7 @@ module _ {y : System} {s : IsSystem y} {w : World} {h : ℕ} (site : AtNode y s 
       walks_next (at_plan site doing) action
       (subst (λ (z : Seen). Enters y.plan code.thread graph_thread.at z site.core.side site.core.registers) seen_same site.core.core.enters)
 
-  begins : BoundaryIsRecoverable y.plan code (now_of y next) next_node site.core.side resume site.core.registers
+  begins : BoundaryIsRecoverable y.plan code (now_of y next) graph_thread.locals next_node site.core.side resume site.core.registers
   begins = boundaries_begin code s.plan (now_orderly y s next) (now_good y s next) (record {
     graph_thread = graph_thread_next;
     there = walks_next;
@@ -146,7 +146,8 @@ module _ {y : System} {s : IsSystem y} {w : World} {h : ℕ} (site : AtNode y s 
   })
 
   log_first : LogInv n c.new new_record w effects_all
-  log_first = log_begins site.hart next_node site.core.side resume site.core.registers site.core.goes.goes.rest site.core.core.enters.at_side
+  log_first =
+      log_begins site.hart graph_thread.locals next_node site.core.side resume site.core.registers site.core.goes.goes.rest site.core.core.enters.at_side
       site.core.at_side begins.recoverable
 
   -- ---- The mark is passed

@@ -1,2 +1,3 @@
+pub mod Public
 mod Refused
 mod LiveKeys

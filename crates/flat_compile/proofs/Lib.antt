@@ -4,6 +4,7 @@ mod CleanFlags
 mod OmittedCleanList
 mod Systems
 mod Limits
+mod MasksOfSets
 mod Plans
 mod Stores
 mod ResumeAddresses

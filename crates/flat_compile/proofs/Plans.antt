@@ -1,6 +1,7 @@
 -- A plan's code, linked, is what its flat form is translated to.
 use Rattle.std.proofs.Common.{◌≡◌, refl, ℕ, zero, suc, ◌+◌, ◌-◌, ◌≤◌, List, [], ◌∷◌, length, map, sym, subst, ◌∙◌, arith, true, false}
 use Rattle.std.specs.Prelude.{sum_by, All, Vec}
+use Rattle.std.specs.List.{AllByRecursion}
 use Rattle.std.specs.Global.{Global}
 use Rattle.std.proofs.lemmas.List.{length-map}
 use Rattle.std.proofs.lemmas.List.Elements.{All-head, All-tail}
@@ -9,8 +10,12 @@ use Rattle.ido_base.specs.declared.log.Log.{Log}
 use Rattle.ido_base.specs.declared.log.Log.TheVariants.{V1, V2}
 use Rattle.ido_base.specs.declared.limits.TheConstants.{MOST_THREADS, MOST_CODE_WORDS}
 use Rattle.c_tree.specs.declared.language.TheConstants.{MOST_HELD}
-use Rattle.c_tree.specs.Flats.{flat_of}
-use Rattle.c_tree.specs.LockNames.{Held, count_held}
+use Rattle.c_tree.specs.Exprs.{LockName}
+use Rattle.c_tree.specs.Flats as f
+use Rattle.c_tree.specs.Flats.{Flat, flat_of}
+use Rattle.c_tree.specs.LockDiscipline.{key_locals}
+use Rattle.c_tree.specs.LockNames.{Held, count_held, held_names, holds, lock_names}
+use Rattle.c_tree.specs.Values.{lock_number}
 use Rattle.c_tree.specs.Prices.{node_price}
 use Rattle.rv64_isa.specs.declared.object.Code.{Code}
 use Rattle.rv64_isa.specs.declared.object.CodeItem.{CodeItem}
@@ -21,21 +26,27 @@ use Rattle.rv64_isa.specs.Executables.{resume_marks}
 use Rattle.rv64_link.specs.LabelledCode.{most_words_of}
 use Rattle.rv64_link.specs.LinkedCode.{AreLinked}
 use Rattle.rv64_link.specs.links.Threads.{items_in}
-use Rattle.c_tree.specs.WellFormed.{shape_of, initial_numbers}
+use Rattle.c_tree.specs.WellFormed.{IsSingle, initial_numbers, shape_of}
 use Rattle.memory_layout.specs.Variables.{AreInitial}
 use Rattle.boundary_code.specs.Boundaries.{HaveRoom, words_beside}
+use Rattle.lock_discipline.specs.HeldSetsByStep.{AreAllSetsOf, AreSetsOf, HeldBefore}
 use Rattle.flow_graph.specs.declared.cuts.Cuts.{Cuts}
+use Rattle.flow_graph.specs.Liveness.{IsLive}
+use Rattle.flow_graph.specs.Lowering.{lowered}
 use Rattle.flow_graph.specs.Nodes.{Graph, graph_of}
 use Rattle.flow_graph.specs.Colours.{colouring_of}
 use Rattle.flow_graph.specs.IdempotentCuts.{AreCuts, IsMinimal, boundaries_of, AreAtWrites}
 use Rattle.region_cutter.specs.FewestCuts.{AreFewestCuts}
 use Rattle.flat_analysis.specs.declared.analyses.Analysis.{Analysis}
 use Rattle.flat_analysis.specs.Analyses.{IsAnalysis}
-use Rattle.thread_code.specs.Plans.{Plan, IsPlan, locks_held, locks_held_from}
+use Rattle.flat_analysis.proofs.Public.{held_keys_are_live}
+use Rattle.thread_code.specs.Plans.{Plan, IsPlan, Thread, IsThread, IsNodeOf, names_in, set_before}
+use Rattle.thread_code.proofs.Public.{names_are}
 use Rattle.rv64_codegen.specs.StoreCleans.{AllCleanAtOnce}
 use Rattle.rv64_codegen.specs.ThreadPieces.{IsCode}
-use Rattle.std.proofs.Common.{ap}
-use Rattle.std.specs.Prelude.{slice_index_or}
+use Rattle.std.proofs.Common.{ap, Some}
+use Rattle.std.specs.Prelude.{Contains, slice_get, slice_index_or, ℤ}
+use Rattle.std.proofs.lemmas.Bool.{true≢false}
 use Rattle.ido_base.specs.declared.limits.TheConstants.{MOST_CODE_WORDS, MOST_THREADS}
 use Rattle.rv64_isa.specs.declared.object.ThreadMarks.{ThreadMarks}
 use Rattle.code_runs.specs.CodeTraces.{Program}
@@ -46,33 +57,54 @@ use Rattle.flat_compile.specs.ResumePlaces.{AreMarksOf, AreMarked, IsResumeTable
 use Rattle.flat_compile.specs.TranslatedForms.{AreFewHeld, IsTranslatedAs, IsResumableAs}
 use Rattle.flat_compile.proofs.LinkedThreads.{AllFew, marked_count}
 use Rattle.flat_compile.proofs.Limits.{count, within_limits}
+use Rattle.flat_compile.proofs.MasksOfSets.{of_mask}
 use Rattle.flat_compile.proofs.Systems.{LinkedCode, system, system_is}
 
 -- ---- What was found out of a flat form, and the cuts of its graph
 
--- as many locks as names are held
-count_is : (at : ℕ) (held : Held) → length (locks_held_from at held) ≡ count_held held
-count_is at [] = refl
-count_is at (true ∷ held) = ap suc (count_is (at + 1) held)
-count_is at (false ∷ held) = count_is (at + 1) held
+-- no more names are held than the set holds
+count_most : (names : List LockName) (held : Held) → length (held_names names held) ≤ count_held held
+count_most [] held = omega arith
+count_most (x ∷ names) [] = omega arith
+count_most (x ∷ names) (true ∷ held) = let more = count_most names held in omega (arith, more)
+count_most (x ∷ names) (false ∷ held) = count_most names held
+
+few_numbers : (locals : List ℤ) (names : List LockName) (held : Held) → length (map (lock_number locals) (held_names names held)) ≤ count_held held
+few_numbers locals names held = omega (arith, length-map (held_names names held) (lock_number locals), count_most names held)
 
 -- a bank has room for each set
-room_for : (log : Log) (sets : List (List Held)) → AreFewHeld log sets → (thread step : ℕ) →
-    HaveRoom log (locks_held (slice_index_or (slice_index_or sets thread []) step []))
-room_for V1 sets few thread step = tt
-room_for V2 sets few thread step =
+room_for : (log : Log) (x : Flat) → AllByRecursion IsSingle x.mutexes → length x.mutexes ≤ 64 → (sets : List (List Held)) → AreAllSetsOf x sets →
+    AreFewHeld log sets → (locals : List ℤ) (thread step : ℕ) →
+    HaveRoom log (map (lock_number locals) (held_names (slice_index_or (map (λ (t : f.Thread). lock_names x t) x.threads) thread [])
+    (slice_index_or (slice_index_or sets thread []) step [])))
+room_for V1 x single small sets all few locals thread step = of_mask x single small sets all locals thread step
+room_for V2 x single small sets all few locals thread step =
     let set : Held = slice_index_or (slice_index_or sets thread []) step [] in
+    let names : List LockName = slice_index_or (map (λ (t : f.Thread). lock_names x t) x.threads) thread [] in
     let most : count_held set ≤ MOST_HELD = few thread step in
-    omega (arith, most, count_is 0 set)
+    omega (arith, most, few_numbers locals names set)
 
 -- a node's price pays for each set
-paid_for : (log : Log) (sets : List (List Held)) → AreFewHeld log sets → (thread step : ℕ) →
-    words_beside log (locks_held (slice_index_or (slice_index_or sets thread []) step [])) + 24 ≤ node_price 0
-paid_for V1 sets few thread step = omega arith
-paid_for V2 sets few thread step =
+paid_for : (log : Log) (sets : List (List Held)) → AreFewHeld log sets → (locals : List ℤ) (names : List LockName) (thread step : ℕ) →
+    words_beside log (map (lock_number locals) (held_names names (slice_index_or (slice_index_or sets thread []) step []))) + 24 ≤ node_price 0
+paid_for V1 sets few locals names thread step = omega arith
+paid_for V2 sets few locals names thread step =
     let set : Held = slice_index_or (slice_index_or sets thread []) step [] in
     let most : count_held set ≤ MOST_HELD = few thread step in
-    omega (arith, most, count_is 0 set)
+    omega (arith, most, few_numbers locals names set)
+
+-- ---- Held keys
+
+set_found : (sets : List Held) (step name : ℕ) → holds (slice_index_or sets step []) name ≡ true → slice_get sets step ≡ Some (slice_index_or sets step [])
+set_found [] step name e = absurd (true≢false (sym e))
+set_found (h ∷ sets) zero name e = refl
+set_found (h ∷ sets) (suc step) name e = set_found sets step name e
+
+row_found : (table : List (List Held)) (thread step name : ℕ) → holds (slice_index_or (slice_index_or table thread []) step []) name ≡ true →
+    slice_get table thread ≡ Some (slice_index_or table thread [])
+row_found [] thread step name e = absurd (true≢false (sym e))
+row_found (row ∷ table) zero step name e = refl
+row_found (row ∷ table) (suc thread) step name e = row_found table thread step name e
 
 abbrev pub plan_at : Log → Analysis → Cuts → Plan
 plan_at log a cuts = record {
@@ -85,6 +117,25 @@ plan_at log a cuts = record {
   colours = colouring_of a.colours;
 }
 
+-- where a name is held the locals of its key are live
+keys_live : (log : Log) (a : Analysis) (cuts : Cuts) → IsAnalysis a → (t : Thread) (of : IsThread (plan_at log a cuts) t) (node : ℕ) → IsNodeOf t node →
+    (name local : ℕ) (x : LockName) → slice_get (names_in (plan_at log a cuts) t) name ≡ Some x →
+    holds (set_before (plan_at log a cuts) t node) name ≡ true → Contains (key_locals x) local → IsLive (graph_of a.graph) local node
+keys_live log a cuts is t of node own name local x there held reads =
+    let flat : Flat = flat_of a.flat.now in
+    let step : ℕ = node - t.part.first in
+    let row : List Held = slice_index_or a.held t.number [] in
+    let set : Held = slice_index_or row step [] in
+    let sets : AreSetsOf flat of.text row = is.held.sets t.number of.text row of.of_text (row_found a.held t.number step name held) in
+    let before : HeldBefore flat of.text step set = (sets.exactly step set).0 (set_found row step name held) in
+    let part : slice_get (lowered flat).threads t.number ≡ Some t.part =
+    subst (λ (g : Graph). slice_get g.threads t.number ≡ Some t.part) is.lowered of.nodes in
+    let live : IsLive (lowered flat) local (t.part.first + step) =
+    held_keys_are_live flat t.number of.text t.part step name local set x sets.disciplined of.of_text part before
+    (ap (λ (ns : List LockName). slice_get ns name) (sym (names_are (plan_at log a cuts) t of)) ∙ there) held reads in
+    let at : t.part.first + step ≡ node = (let from = own.from_first in omega (arith, from)) in
+    subst (λ (g : Graph). IsLive g local node) (sym is.lowered) (subst (λ (m : ℕ). IsLive (lowered flat) local m) at live)
+
 pub plan_is : (log : Log) (a : Analysis) (cuts : Cuts) → IsAnalysis a → AreFewHeld log a.held → AreCuts (graph_of a.graph) (boundaries_of cuts) →
     AreAtWrites (graph_of a.graph) (boundaries_of cuts) → IsPlan (plan_at log a cuts)
 plan_is log a cuts is few chosen places = record {
@@ -94,11 +145,13 @@ plan_is log a cuts is few chosen places = record {
   at_writes = places;
   held = is.held;
   live = is.live;
+  keys_live = keys_live log a cuts is;
   registers = is.registers;
   apart = is.apart;
   priced = is.accepted.priced;
-  room = λ t node. room_for log a.held few t.number (node - t.part.first);
-  paid = λ t node. paid_for log a.held few t.number (node - t.part.first);
+  room = λ t locals node. room_for log (flat_of a.flat.now) is.accepted.formed.single (omega (arith, is.accepted.formed.shared.mutexes)) a.held is.held few
+      locals t.number (node - t.part.first);
+  paid = λ t locals node. paid_for log a.held few locals (names_in (plan_at log a cuts) t) t.number (node - t.part.first);
 }
 
 -- ---- Its code

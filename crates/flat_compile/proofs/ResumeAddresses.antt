@@ -14,11 +14,17 @@ use Rattle.flow_graph.specs.IdempotentCuts.{IsChosen}
 use Rattle.flow_graph.specs.Liveness.{NodeAt}
 use Rattle.flow_graph.specs.Lowering.{threads_nodes}
 use Rattle.code_runs.specs.CodeTraces.{Program}
-use Rattle.thread_code.specs.Plans.{Plan, IsPlan, Thread, IsThread, IsNodeOf, locks_before}
+use Rattle.thread_code.specs.Plans.{Plan, IsPlan, Thread, IsThread, IsNodeOf, held_names_before, locks_before, locks_held, set_before}
 use Rattle.thread_code.specs.NodeCodeEffects.{Places}
 use Rattle.thread_code.specs.Programs.{IsThreadCode, IsNodeCode, IsOn, IsCallWithin, IsResumeAddress}
 use Rattle.thread_code.specs.Programs as places
+use Rattle.thread_code.proofs.Public.{mask_with_held, numbers_none}
 use Rattle.rv64_codegen.specs.links.LiveRegisters.{is_store}
+use Rattle.rv64_codegen.proofs.Public.{numbers_plain}
+use Rattle.ido_base.specs.Locks.{mask_with}
+use Rattle.c_tree.specs.Values.{lock_number}
+use Rattle.lock_discipline.specs.Masks.{mask_of}
+use Rattle.boundary_code.proofs.Public.{none_with}
 use Rattle.flat_compile.proofs.Stores.{is_eval, store_after}
 use Rattle.flat_compile.proofs.Systems.{node_there}
 use Rattle.rv64_codegen.proofs.Public as sound
@@ -272,7 +278,7 @@ module _ (p : Plan) (t : Thread) (node : ℕ) (is : Node) (own : IsNodeOf t node
           let same : is ≡ x = same_Some is x (sym at ∙ h) in
           let both : Lock lock next ≡ Unlock other to = sym does ∙ ap (λ (z : Node). z.action) same ∙ e in cc
 
-  pub unlocks : (lock : LockName) (next : ℕ) → is.action ≡ Unlock lock next → locks_before p t next ≢ [] → IsPastCall p t node (Some next)
+  pub unlocks : (lock : LockName) (next : ℕ) → is.action ≡ Unlock lock next → held_names_before p t next ≢ [] → IsPastCall p t node (Some next)
   unlocks lock next does some to = (
     λ e. let same : next ≡ to = cc in
         subst (λ (n : ℕ). IsSpot p t (After node n)) same (past_unlock node lock next is own at does some),
@@ -287,7 +293,7 @@ module _ (p : Plan) (t : Thread) (node : ℕ) (is : Node) (own : IsNodeOf t node
           let same : is ≡ x = same_Some is x (sym at ∙ h) in
           let both : Unlock lock next ≡ Unlock other to = sym does ∙ ap (λ (z : Node). z.action) same ∙ e in cc
 
-  pub frees : (lock : LockName) (next : ℕ) → is.action ≡ Unlock lock next → locks_before p t next ≡ [] → IsPastCall p t node None
+  pub frees : (lock : LockName) (next : ℕ) → is.action ≡ Unlock lock next → held_names_before p t next ≡ [] → IsPastCall p t node None
   frees lock next does none to = (λ e. cc, λ s. absurd (never s))
     where
       never : IsSpot p t (After node to) → ⊥
@@ -298,7 +304,7 @@ module _ (p : Plan) (t : Thread) (node : ℕ) (is : Node) (own : IsNodeOf t node
           let same : is ≡ x = same_Some is x (sym at ∙ h) in
           let both : Unlock lock next ≡ Unlock other to = sym does ∙ ap (λ (z : Node). z.action) same ∙ e in
           let one : next ≡ to = cc in
-          some (ap (λ (n : ℕ). locks_before p t n) (sym one) ∙ none)
+          some (ap (λ (n : ℕ). held_names_before p t n) (sym one) ∙ none)
 
   pub passes : calls is.action ≡ false → IsPastCall p t node None
   passes none to = (λ e. cc, λ s. absurd (never s))
@@ -446,3 +452,14 @@ module _ (p : Plan) (t : Thread) where
   unlock_own plan th node lock next is own at does =
       let f = formed_as plan th is.action (Unlock lock next) does (sound_node p plan t th node is own at).formed in
       record { from_first = f.1.0; below_end = f.1.1 }
+
+  -- a name is held before a node exactly where the mask of its set has a bit
+  pub names_none : (plan : IsPlan p) (th : IsThread p t) (node : ℕ) → IsNodeOf t node → mask_of (set_before p t node) ≡ 0 → held_names_before p t node ≡ []
+  names_none plan th node own none =
+      numbers_none [] (held_names_before p t node)
+      (sym (numbers_plain p plan t th [] node own) ∙ none_with (locks_held (set_before p t node)) (mask_with_held (set_before p t node) ∙ none))
+
+  pub mask_none : (plan : IsPlan p) (th : IsThread p t) (node : ℕ) → IsNodeOf t node → held_names_before p t node ≡ [] → mask_of (set_before p t node) ≡ 0
+  mask_none plan th node own none =
+      let numbers : locks_before p t [] node ≡ [] = ap (λ (ns : List LockName). map (lock_number []) ns) none in
+      sym (mask_with_held (set_before p t node)) ∙ ap mask_with (numbers_plain p plan t th [] node own ∙ numbers)

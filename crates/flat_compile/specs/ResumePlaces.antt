@@ -3,11 +3,11 @@ use Rattle.std.specs.Prelude.{◌≡◌, ◌≢◌, ◌↔◌, ℕ, ◌<◌, Lis
 use Rattle.c_tree.specs.Exprs.{LockName}
 use Rattle.std.specs.Global.{Global}
 use Rattle.std.specs.List.Sorted.{IsStrictlyIncreasing}
-use Rattle.ido_base.specs.Locks.{mask_with}
+use Rattle.lock_discipline.specs.Masks.{mask_of}
 use Rattle.flow_graph.specs.Nodes.{Lock, Unlock, Node}
 use Rattle.flow_graph.specs.IdempotentCuts.{IsChosen}
 use Rattle.flow_graph.specs.Liveness.{NodeAt, IsLive}
-use Rattle.thread_code.specs.Plans.{Plan, Thread, IsNodeOf, locks_before}
+use Rattle.thread_code.specs.Plans.{Plan, Thread, IsNodeOf, held_names_before, set_before}
 use Rattle.thread_code.specs.NodeCodeEffects.{Places}
 use Rattle.thread_code.specs.Programs.{IsThreadCode}
 use Rattle.code_runs.specs.CodeTraces.{Program}
@@ -45,7 +45,7 @@ module _ (p : Plan) (t : Thread) where
     past_lock : (node : ℕ) (lock : LockName) (next : ℕ) (is : Node) → IsNodeOf t node → NodeAt p.graph node is → is.action ≡ Lock lock next →
         IsSpot (After node next)
     past_unlock : (node : ℕ) (lock : LockName) (next : ℕ) (is : Node) → IsNodeOf t node → NodeAt p.graph node is → is.action ≡ Unlock lock next →
-        locks_before p t next ≢ [] → IsSpot (After node next)
+        held_names_before p t next ≢ [] → IsSpot (After node next)
 
   -- ---- What is found
 
@@ -58,7 +58,7 @@ module _ (p : Plan) (t : Thread) where
   -- what recovery finds that lets the thread go on at the node: the mutexes that it holds, the registers of its live locals, and where it stores next
   pub record IsFound (r : Resume) : Type 0 where
     pub own : IsNodeOf t r.node
-    pub mask_is : r.mask ≡ mask_with (locks_before p t r.node)
+    pub mask_is : r.mask ≡ mask_of (set_before p t r.node)
     pub live : (l : LiveLocal) → Contains r.live.items l ↔ IsLiveLocal r.node l
     pub ascend : IsStrictlyIncreasing (map (λ (l : LiveLocal). l.register) r.live.items)
     -- no node but a store writes

@@ -1,11 +1,11 @@
 //! Where recovery may resume threads, and what it finds there.
 ghost use Rattle.std.specs.Option.{option_to_list};
 ghost use Rattle.std.specs.Prelude.{◌≡◌, ◌↔◌, ◌<◌, ◌*◌, ◌++◌, ℕ, OnOk, length, map, slice_get, slice_index, Some, None, IfOk, IfSome, IsTrue};
-ghost use Rattle.ido_base.specs.Locks.{mask_with};
+ghost use Rattle.lock_discipline.specs.Masks.{mask_of};
 ghost use Rattle.memory_layout.specs.declared.roles.TheConstants.{LOCALS as local_numbers};
 ghost use Rattle.flow_graph.specs.Nodes.{graph_of, node_of};
 ghost use Rattle.flow_graph.specs.IdempotentCuts.{IsChosen, boundaries_of};
-ghost use Rattle.thread_code.specs.Plans.{IsPlan, locks_before};
+ghost use Rattle.thread_code.specs.Plans.{IsPlan, set_before};
 ghost use Rattle.recovered_threads.specs.RecordDescriptions.{Codes};
 ghost use Rattle.rv64_codegen.specs.Plans.{plan_of};
 ghost use Rattle.rv64_codegen.specs.links.Threads.{gives};
@@ -72,7 +72,7 @@ fn is_chosen(plan: &Plan, node: usize) -> bool
 /// The mutexes that the thread holds before the node.
 fn mask(plan: &Plan, number: usize, part: Part, node: usize) -> u64
     requires { IsOwnNode (plan_of plan.now) number part node }
-    ensures { result ≡ mask_with (locks_before (plan_of plan.now) (thread_in (plan_of plan.now) number part) node) }
+    ensures { result ≡ mask_of (set_before (plan_of plan.now) (thread_in (plan_of plan.now) number part) node) }
 {
     plan.held.held(number as u32, (node - part.first) as u32)
 }

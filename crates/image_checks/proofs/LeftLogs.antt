@@ -43,7 +43,10 @@ use Rattle.log_states.specs.Logs.{Record, IsRecord, IsRecorded, nothing_recorded
 use Rattle.log_states.specs.Machines.{config_of}
 use Rattle.log_states.proofs.Public.{contains_first, contains_later, crashes_standing, durable_is, ends}
 use Rattle.hart_runs.proofs.Public.{crashes_step}
-use Rattle.thread_code.specs.Plans.{Plan, Thread, IsNodeOf, locks_before, of_address, of_local}
+use Rattle.thread_code.specs.Plans.{Plan, Thread, IsNodeOf, set_before, of_address, of_local}
+use Rattle.thread_code.proofs.Public.{mask_with_held}
+use Rattle.lock_discipline.specs.Masks.{mask_of}
+use Rattle.rv64_codegen.proofs.Public.{numbers_plain}
 use Rattle.thread_code.specs.RegistersAtNodes.{HasPending, IsPendingIn}
 use Rattle.recovered_threads.specs.RecordDescriptions.{Code, Describes, IsInside, ResumesAt, at_chosen, past_lock, past_unlock, between, inside, locks_of}
 use Rattle.recovered_threads.proofs.Public.{records_are_apart}
@@ -271,8 +274,8 @@ module _ (y : System) (s : IsSystem y) (w : World) (stands : Simulates y s w) (f
           let l : LiveLocal = get_or entry.live.items k d in
           local_right l (subst (λ (z : ℕ). IsLiveLocal y.plan t z l) node ((e.found.live l).0 (Contains-get_or entry.live.items k d within))) in
           let right : IsRight (flat_of y).variables logs n bank entry = record {
-            mask = mask_there i.point ∙ (ap mask_with i.locks
-                ∙ sym (e.found.mask_is ∙ ap (λ (n : ℕ). mask_with (locks_before y.plan t n)) node));
+            mask = mask_there i.point ∙ (ap mask_with (i.locks ∙ sym (numbers_plain y.plan s.plan t code.of i.graph_thread.locals at i.own))
+                ∙ (mask_with_held (set_before y.plan t at) ∙ sym (e.found.mask_is ∙ ap (λ (n : ℕ). mask_of (set_before y.plan t n)) node)));
             locals = locals;
             address =
                 subst (λ (o : Option Location). HasAddress (flat_of y).variables logs n bank o) (sym pending)

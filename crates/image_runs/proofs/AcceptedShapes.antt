@@ -31,7 +31,8 @@ use Rattle.flow_graph.specs.Liveness.{NodeAt, IsLive}
 use Rattle.log_states.specs.Logs.{IsKeepable, IsWord, log_word}
 use Rattle.log_states.specs.Schemes.{HasKept}
 use Rattle.log_states.proofs.Public.{kept_are_keepable, mask_has_kept, scheme}
-use Rattle.thread_code.specs.Plans.{Plan, Thread, locks_before}
+use Rattle.thread_code.specs.Plans.{Plan, Thread, locks_held, set_before}
+use Rattle.thread_code.proofs.Public.{mask_with_held}
 use Rattle.recovered_threads.specs.RecordDescriptions.{Code, ResumesAt}
 use Rattle.recovered_threads.specs.RecordDescriptions as telling
 use Rattle.crash_simulation.specs.Systems.{System, IsSystem, flat_of}
@@ -152,11 +153,12 @@ module _ (y : System) (first : y.plan.log ≡ V1) (words : List Word) (logs : Li
       register_there : (register : ℕ) → IsKeepable log register → read (shapes.resumed y.plan code words) register ≡ slot_in logs n bank register
       register_there register k = (scheme log).reads.registers words n register k ∙ slot_there register
 
-      locks : HasKept log words n (locks_before y.plan t r.node)
+      locks : HasKept log words n (locks_held (set_before y.plan t r.node))
       locks =
-          subst (λ (l : Log). HasKept l words n (locks_before y.plan t r.node)) (sym first)
-          (mask_has_kept words n (locks_before y.plan t r.node)
-          (sym (ap (λ (l : Log). recorded l words n 0) first) ∙ (slot_there 0 ∙ (right.mask ∙ of.found.mask_is))))
+          subst (λ (l : Log). HasKept l words n (locks_held (set_before y.plan t r.node))) (sym first)
+          (mask_has_kept words n (locks_held (set_before y.plan t r.node))
+          (sym (ap (λ (l : Log). recorded l words n 0) first)
+          ∙ (slot_there 0 ∙ (right.mask ∙ (of.found.mask_is ∙ sym (mask_with_held (set_before y.plan t r.node)))))))
 
       form_there : (local : ℕ) (k : Kind) → slice_get t.kinds local ≡ Some k → IsLive y.plan.graph local r.node → (home : Home) →
           home_of t.locals local ≡ home → shapes.HomeHasForm (shapes.resumed y.plan code words) home k

@@ -1,7 +1,7 @@
 -- What a thread of a plan holds at its nodes, and that something is held where it may be resumed.
 use Rattle.std.proofs.Common.{◌≡◌, ◌≢◌, refl, ℕ, zero, suc, ◌-◌, ◌<◌, List, [], ◌∷◌, length, ap, sym, ◌∙◌, subst, arith, Option, Some, None}
 use Rattle.std.proofs.Common.{true, false}
-use Rattle.std.specs.Prelude.{slice_get, slice_index_or}
+use Rattle.std.specs.Prelude.{slice_get, slice_index_or, ℤ}
 use Rattle.std.specs.List.{AllByRecursion, AllZip}
 use Rattle.std.proofs.lemmas.Bool.{true≢false}
 use Rattle.std.proofs.lemmas.List.{get_or-set_same}
@@ -28,7 +28,8 @@ use Rattle.flow_graph.specs.Lowering.{lowered, threads_nodes}
 use Rattle.flow_graph.specs.Nodes.{Action, Store, Lock, Unlock, Graph, Node}
 use Rattle.flow_graph.proofs.Public.{ActionLeads, At, Locks, Unlocks, agrees, all_at, found_in, nodes_at}
 use Rattle.region_cutter.specs.LocksAtBoundaries.{ChosenAreLocked, StoresLocked}
-use Rattle.thread_code.specs.Plans.{Plan, Thread, IsThread, IsPlan, IsNodeOf, locks_held, set_before, locks_before}
+use Rattle.thread_code.specs.Plans.{Plan, Thread, IsThread, IsPlan, IsNodeOf, held_names_before, locks_before, locks_held, set_before}
+use Rattle.thread_code.proofs.Public.{named_some, plain_before}
 use Rattle.thread_code.proofs.Public.{has_held}
 use Rattle.recovered_threads.specs.RecordDescriptions.{Code, ResumesAt, at_chosen, past_lock, past_unlock}
 use Rattle.recovered_threads.proofs.Public.{left_at, standing_at}
@@ -177,14 +178,20 @@ module _ (locked : ChosenAreLocked) (p : Plan) (plan : IsPlan p) (code : Code p)
   abbrev t : Thread
   t = code.thread
 
+  pub numbers_plain : (locals : List ℤ) (node : ℕ) → IsNodeOf code.thread node → locks_held (set_before p t node) ≡ locks_before p t locals node
+  numbers_plain locals node own = plain_before p t code.of plan.formed.single locals node (long p plan t code.of node own)
+
+  some_names : (node : ℕ) → IsNodeOf code.thread node → locks_held (set_before p t node) ≢ [] → held_names_before p t node ≢ []
+  some_names node own some = named_some [] (held_names_before p t node) (λ none. some (numbers_plain [] node own ∙ none))
+
   -- something is held
-  pub resumed_hold : (node address : ℕ) → IsNodeOf code.thread node → ResumesAt p code node address → locks_before p code.thread node ≢ []
+  pub resumed_hold : (node address : ℕ) → IsNodeOf code.thread node → ResumesAt p code node address → held_names_before p code.thread node ≢ []
   resumed_hold node address own (at_chosen chosen) =
       let s = locked_here p plan t code.of node own locked chosen in
-      some_locks (set_before p t node) (number_in (lock_names p.flat s.text) (guard_name p.flat.variables s.used)) s.locked
+      some_names node own (some_locks (set_before p t node) (number_in (lock_names p.flat s.text) (guard_name p.flat.variables s.used)) s.locked)
   resumed_hold node address own (past_lock from lock is own_from at locks) =
-      some_locks (set_before p t node) (number_in (lock_names p.flat code.of.text) lock)
-      (held_after_lock p plan t code.of from lock node is own_from own at locks)
+      some_names node own (some_locks (set_before p t node) (number_in (lock_names p.flat code.of.text) lock)
+      (held_after_lock p plan t code.of from lock node is own_from own at locks))
   resumed_hold node address own (past_unlock from lock is own_from at unlocks some) = some
 
   -- a guard that is held by its name is held by its number

@@ -35,6 +35,8 @@ use Rattle.log_states.specs.Laws.{ResumesRecord}
 use Rattle.log_states.specs.Machines.{config_of}
 use Rattle.log_states.proofs.Public.{crashes_standing, ends, log_facts}
 use Rattle.thread_code.specs.Plans.{Thread, of_address, of_local}
+use Rattle.thread_code.proofs.Public.{plain_before}
+use Rattle.image_runs.proofs.HeldAtNodes.{long}
 use Rattle.thread_code.specs.RegistersAtNodes.{HasPending, IsPendingIn}
 use Rattle.recovered_threads.specs.RecordDescriptions.{Code, Describes, IsInside, ResumesAt, between, inside, locks_of}
 use Rattle.recovered_threads.proofs.Public.{records_are_apart}
@@ -182,7 +184,9 @@ module _ (y : System) (s : IsSystem y) (w : World) (stands : Simulates y s w) wh
       goes_on = record {
         own = i.own;
         resumes = subst (λ (q : ℕ). ResumesAt y.plan code at (resume_of q)) (sym resumes_own.point) i.resumes;
-        locks = subst (HasKept y.plan.log ws t.number) i.locks (resumes_own.kept i.point);
+        locks =
+            let plain = plain_before y.plan t code.of s.plan.formed.single i.graph_thread.locals at (long y.plan s.plan t code.of at i.own) in
+            subst (HasKept y.plan.log ws t.number) (i.locks ∙ sym plain) (resumes_own.kept i.point);
         locals = local_right;
         pending = λ is location there writes. written is there location writes is.action refl;
       }

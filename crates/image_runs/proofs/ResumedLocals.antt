@@ -1,6 +1,7 @@
 -- A log can keep the registers of locals and the locks before a node.
-use Rattle.std.proofs.Common.{◌≡◌, ℕ, zero, suc, ◌+◌, ◌-◌, ◌<◌, ◌≤◌, List, [], ◌∷◌, length, get_or, refl, ap, arith, sym, ◌∙◌, subst, true, Some, inl, inr}
-use Rattle.std.specs.Prelude.{slice_get, slice_index, slice_index_or, ◌==◌, ◌*◌}
+use Rattle.std.proofs.Common.{◌≡◌, ℕ, zero, suc, ◌+◌, ◌-◌, ◌<◌, ◌≤◌, ◌^◌, List, [], ◌∷◌, length, get_or, refl, ap, arith, sym, ◌∙◌, subst, true, Some, inl, inr}
+use Rattle.std.specs.Prelude.{Contains, slice_get, slice_index, slice_index_or, ◌==◌, ◌*◌, ℤ}
+use Rattle.boundary_code.specs.Boundaries.{HaveRoom}
 use Rattle.std.specs.List.{list_all}
 use Rattle.std.proofs.lemmas.Bool.{and_parts, cases_lt}
 use Rattle.std.proofs.lemmas.List.{get_or-map, get_or_past}
@@ -9,7 +10,8 @@ use Rattle.std.proofs.lemmas.Option.{none-some, same_Some, slice_get_within, sli
 use Rattle.ido_ints.specs.declared.kinds.Kind.{Kind}
 use Rattle.c_tree.specs.Flats as f
 use Rattle.c_tree.specs.Exprs.{LockName}
-use Rattle.c_tree.specs.LockNames.{Held}
+use Rattle.c_tree.specs.LockNames.{Held, holds}
+use Rattle.source_machine.proofs.Public.{holds_within}
 use Rattle.c_tree.proofs.Public.{length-plain_names, names_are_plain}
 use Rattle.memory_layout.specs.declared.roles.TheConstants.{LOCALS}
 use Rattle.memory_layout.specs.Roles.{is_kept}
@@ -18,10 +20,11 @@ use Rattle.flow_graph.specs.Nodes.{Graph}
 use Rattle.flow_graph.specs.Lowering.{thread_count, part, parts}
 use Rattle.flow_graph.proofs.Public.{found_in, lowered_threads}
 use Rattle.lock_discipline.proofs.Public.{held_length}
-use Rattle.log_states.specs.Logs.{AreOfMask, AreLoggable, IsKeepable}
+use Rattle.log_states.specs.Logs.{AreLoggable, IsKeepable}
 use Rattle.log_states.proofs.Public.{kept_are_keepable, scheme}
-use Rattle.thread_code.specs.Plans.{Plan, Thread, IsThread, IsPlan, set_before, locks_before, home_of_colour}
-use Rattle.thread_code.proofs.Public.{held_fits, held_read_back}
+use Rattle.thread_code.specs.Plans.{Plan, Thread, IsThread, IsPlan, locks_before, locks_held, set_before, home_of_colour}
+use Rattle.thread_code.proofs.Public.{has_held}
+use Rattle.recovered_threads.proofs.Public.{has_there}
 use Rattle.expr_code.specs.declared.home.Home.{Home}
 use Rattle.expr_code.specs.declared.home.Home.TheVariants.{InRegister}
 use Rattle.expr_code.specs.EvaluationCode.{home_of}
@@ -79,8 +82,13 @@ module _ (p : Plan) (plan : IsPlan p) (t : Thread) (is : IsThread p t) where
         | inr past ↦ subst (λ (held : Held). length held ≤ 64) (sym (get_or_past table.0 step [] past)) (omega arith)
       ])
 
-  pub of_mask : (node : ℕ) → AreOfMask (locks_before p t node)
-  of_mask node = record { fits = held_fits (set_before p t node) (few_set node); read_back = held_read_back (set_before p t node) (few_set node) }
+  fit : (node lock : ℕ) → Contains (locks_held (set_before p t node)) lock → lock < 2 ^ 64
+  fit node lock c =
+      let set : Held = set_before p t node in
+      let held : holds set lock ≡ true = sym (has_held set lock) ∙ has_there (locks_held set) lock c in
+      omega (arith, holds_within set lock held, few_set node)
 
-  pub loggable : (node : ℕ) → AreLoggable p.log (locks_before p t node)
-  loggable node = (scheme p.log).keeps.masks (locks_before p t node) (of_mask node) (plan.room t node)
+  pub loggable : (locals : List ℤ) (node : ℕ) → locks_held (set_before p t node) ≡ locks_before p t locals node →
+      AreLoggable p.log (locks_held (set_before p t node))
+  loggable locals node plain =
+      (scheme p.log).keeps.room (locks_held (set_before p t node)) (subst (HaveRoom p.log) (sym plain) (plan.room t locals node)) (fit node)

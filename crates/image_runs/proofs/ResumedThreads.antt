@@ -40,16 +40,19 @@ use Rattle.flow_graph.specs.Paths.{Naming}
 use Rattle.region_attempts.specs.Origins.{IsPendingAt}
 use Rattle.region_cutter.specs.LocksAtBoundaries.{ChosenAreLocked}
 use Rattle.log_states.specs.Logs.{Record, side_of, IsKeepable, IsRecord, IsDurable, IsRecorded, HasLog, nothing_recorded, slot_in, slots_of, value_of, kept_in}
-use Rattle.log_states.specs.Logs.{bank_word}
+use Rattle.log_states.specs.Logs.{AreLoggable, bank_word}
+use Rattle.log_states.specs.Schemes.{HasKept}
 use Rattle.log_states.specs.Laws.{ResumesRecord}
 use Rattle.log_states.proofs.Public.{kept_are_keepable, log_facts, nothing_is_record, scheme, slot_cases}
-use Rattle.thread_code.specs.Plans.{Plan, Thread, IsPlan, IsKept, of_local, of_address, of_value, locks_held, locks_held_from, set_before, locks_before}
+use Rattle.thread_code.specs.Plans.{Plan, Thread, IsPlan, IsKept, of_local, of_address, of_value}
+use Rattle.thread_code.specs.Plans.{held_names_before, locks_before, locks_held, locks_held_from, set_before}
+use Rattle.thread_code.proofs.Public.{numbers_some}
 use Rattle.thread_code.specs.RegistersAtNodes.{HasPending, IsPendingIn, Enters}
 use Rattle.recovered_threads.specs.RecordDescriptions.{Code, Describes, between, inside}
 use Rattle.image_checks.specs.Checks.{IsElementOf}
 use Rattle.image_runs.specs.Shapes.{GoesOnAt, HasThreadShape, idle, resumes, HomeHasForm}
 use Rattle.image_runs.proofs.HeldAtNodes.{all, names, names_long, node_is, lowered_is, stands}
-use Rattle.image_runs.proofs.HeldAtNodes.{keeps, long, left_is, sets, resumed_hold, resumed_store_locked}
+use Rattle.image_runs.proofs.HeldAtNodes.{keeps, long, left_is, numbers_plain, sets, resumed_hold, resumed_store_locked}
 use Rattle.image_runs.proofs.LeftStatements.{opened_all_left}
 use Rattle.image_runs.proofs.RecordedWords.{durable_word, nothing_is_recorded, point_small, register_small, record_none}
 use Rattle.image_runs.proofs.ResumedLocals.{local_keepable, loggable}
@@ -367,8 +370,20 @@ module _ (locked : ChosenAreLocked) (p : Plan) (plan : IsPlan p) (code : Code p)
 
     -- ---- The record
 
+    abbrev own_locks : List ℕ
+    own_locks = locks_before p t locals node
+
+    plain_here : locks_held (set_before p t node) ≡ own_locks
+    plain_here = numbers_plain locked p plan code locals node g.own
+
+    are_loggable : AreLoggable p.log own_locks
+    are_loggable = subst (AreLoggable p.log) plain_here (loggable p plan t code.of locals node plain_here)
+
+    keeps_locks : HasKept p.log ws n own_locks
+    keeps_locks = subst (λ (ls : List ℕ). HasKept p.log ws n ls) plain_here g.locks
+
     abbrev entry : Record
-    entry = record { point = durable_point p.log ws n; locks = locks_before p t node; live = code.is.places.live node; registers = registers }
+    entry = record { point = durable_point p.log ws n; locks = own_locks; live = code.is.places.live node; registers = registers }
 
     kept_keepable : (slot : ℕ) → IsKept p t node slot → IsKeepable p.log slot
     kept_keepable slot (of_local local k own there live at) = local_keepable p plan t code.of local k own there at
@@ -381,7 +396,7 @@ module _ (locked : ChosenAreLocked) (p : Plan) (plan : IsPlan p) (code : Code p)
     is_record : IsRecord p.log entry
     is_record = record {
       point = point_small p.log n ws log;
-      locks = loggable p plan t code.of node;
+      locks = are_loggable;
       live = live_keepable;
       registers = λ slot c. register_small p.log n ws log slot (live_keepable slot c);
     }
@@ -389,9 +404,9 @@ module _ (locked : ChosenAreLocked) (p : Plan) (plan : IsPlan p) (code : Code p)
     slot_is : (slot : ℕ) → Contains (slots_of p.log entry) slot → recorded p.log ws n slot ≡ value_of p.log entry slot
     slot_is slot c = elim (slot_cases p.log entry slot c) [
       | inl h ↦
-          let keeps = (scheme p.log).keeps.locks entry.locks h.pair (loggable p plan t code.of node) h.own in
+          let keeps = (scheme p.log).keeps.locks entry.locks h.pair are_loggable h.own in
           subst (λ (k : ℕ). recorded p.log ws n k ≡ kept_in (kept_locks p.log entry.locks) k (read registers slot)) (sym h.is)
-          (g.locks h.pair h.own ∙ sym (keeps.alone (read registers slot)))
+          (keeps_locks h.pair h.own ∙ sym (keeps.alone (read registers slot)))
       | inr more ↦
           let k = live_keepable slot more in
           sym ((scheme p.log).reads.registers ws n slot k) ∙ sym (((scheme p.log).keeps.registers slot k).alone entry.locks (read registers slot))
@@ -438,12 +453,13 @@ module _ (locked : ChosenAreLocked) (p : Plan) (plan : IsPlan p) (code : Code p)
       left = keeps p plan t code.of node g.own;
       pending = owed.guarded;
       stored = owed.stored;
-      locks = (scheme p.log).reads.locks ws n (locks_before p t node) (loggable p plan t code.of node) some g.locks;
+      locks = (scheme p.log).reads.locks ws n own_locks are_loggable some keeps_locks ∙ sym plain_here;
       entry = entry;
       is_record = is_record;
       is_recorded = is_recorded;
       describes = λ kept there holds.
-          inside (holds ∙ not_empty (locks_before p t node) (resumed_hold locked p plan code node _ g.own g.resumes)) (record {
+          inside (holds ∙ not_empty (locks_held (set_before p t node))
+          (λ none. numbers_some locals (held_names_before p t node) (resumed_hold locked p plan code node _ g.own g.resumes) (sym plain_here ∙ none))) (record {
             graph_thread = graph_thread;
             there = there;
             goes_on = refl;

@@ -12,7 +12,7 @@ use Rattle.flow_graph.specs.Nodes.{Node}
 use Rattle.flow_graph.specs.Liveness.{NodeAt, IsLive}
 use Rattle.log_states.specs.Logs.{HasLog}
 use Rattle.log_states.specs.Schemes.{HasKept}
-use Rattle.thread_code.specs.Plans.{Plan, IsNodeOf, locks_before}
+use Rattle.thread_code.specs.Plans.{Plan, IsNodeOf, locks_held, set_before}
 use Rattle.recovered_threads.specs.RecordDescriptions.{Code, Codes, ResumesAt}
 use Rattle.image_checks.specs.Checks.{IsForm, IsElementOf}
 use Rattle.expr_code.specs.declared.home.Home.{Home}
@@ -32,8 +32,8 @@ module _ (p : Plan) (code : Code p) (words : List Word) where
   pub record GoesOnAt (node : ℕ) : Type 0 where
     pub own : IsNodeOf code.thread node
     pub resumes : ResumesAt p code node (resume_of (durable_point p.log words code.thread.number))
-    -- the bank that its point names keeps the locks that it holds there
-    pub locks : HasKept p.log words code.thread.number (locks_before p code.thread node)
+    -- the bank that its point names keeps the locks that it holds there: no mutex is in an array
+    pub locks : HasKept p.log words code.thread.number (locks_held (set_before p code.thread node))
     -- each live local has a number of its kind
     pub locals : (local : ℕ) (k : Kind) → slice_get code.thread.kinds local ≡ Some k → IsLive p.graph local node →
         HomeHasForm resumed (home_of code.thread.locals local) k

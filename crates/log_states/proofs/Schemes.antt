@@ -13,8 +13,8 @@ use Rattle.ido_base.proofs.Public.{no_locks}
 use Rattle.rv64_isa.specs.Rows.{read}
 use Rattle.rv64_isa.specs.Machine.{bank_of, durable_point, recorded, record_of, resumed_register, resumed_registers, numbers_from}
 use Rattle.memory_layout.specs.Roles.{is_kept, is_local}
-use Rattle.boundary_code.specs.Boundaries.{listed_from, HaveRoom, IsOnSide}
-use Rattle.log_states.specs.Logs.{nothing_recorded, kept_in, IsInBank, AreOfMask, AreListed, HasOwnSlot, IsRecord}
+use Rattle.boundary_code.specs.Boundaries.{AreOfMask, HaveRoom, IsOnSide, listed_from}
+use Rattle.log_states.specs.Logs.{nothing_recorded, kept_in, IsInBank, AreListed, HasOwnSlot, IsRecord}
 use Rattle.log_states.specs.Schemes.{BanksStand, KeepsLocks, BanksKeep, HasKept, BanksAreRead, SchemesHold}
 use Rattle.log_states.proofs.Lists.{contains_none, contains_cases, contains_first, contains_later}
 
@@ -137,7 +137,7 @@ mask_kept locks are = record { slot = in_bank 0 (omega arith); value = are.fits;
 masks_keep : BanksKeep V1
 masks_keep = record {
   nothing = record { fits = omega arith; read_back = no_locks };
-  masks = λ locks are room. are;
+  room = λ locks are fit. are;
   locals = has_own_slot;
   locks = λ locks kept are c. elim (contains_cases (0, mask_with locks) [] kept c) [
     | inl is ↦ subst (KeepsLocks V1 locks) (sym is) (mask_kept locks are)
@@ -187,25 +187,10 @@ before_list slot (lock ∷ locks) place other before =
     cond-false (place == slot) lock (kept_in (listed_from (slot + 1) locks) place other) (ne_eqb place slot (λ e. omega (arith, e, before)))
     ∙ before_list (slot + 1) locks place other (omega (arith, before))
 
--- numbers of locks that a mask has are small
-below_power : (n : ℕ) → n < 2 ^ n
-below_power zero = omega arith
-below_power (suc n) = let more = below_power n in omega (arith, more)
-
-bit_within : (locks : List ℕ) (lock : ℕ) → Contains locks lock → 2 ^ lock ≤ mask_with locks
-bit_within [] lock c = absurd (contains_none lock c)
-bit_within (first ∷ locks) lock c = elim (contains_cases first locks lock c) [
-  | inl is ↦ let same : 2 ^ lock ≡ 2 ^ first = ap (λ (n : ℕ). 2 ^ n) is in omega (arith, same)
-  | inr more ↦ let rest = bit_within locks lock more in omega (arith, rest)
-]
-
 lists_keep : BanksKeep V2
 lists_keep = record {
   nothing = record { few = omega arith; fit = λ lock c. absurd (contains_none lock c) };
-  masks = λ locks are room. record {
-    few = room;
-    fit = λ lock c. let bit = bit_within locks lock c in let power = below_power lock in let fits = are.fits in omega (arith, bit, power, fits);
-  };
+  room = λ locks few fit. record { few = few; fit = fit };
   locals = has_own_slot;
   locks = λ locks kept are c. elim (contains_cases (0, length locks) (listed_from 32 locks) kept c) [
     | inl is ↦ let few = are.few in subst (KeepsLocks V2 locks) (sym is)

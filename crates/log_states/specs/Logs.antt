@@ -4,13 +4,12 @@ use Rattle.std.specs.List.{Contains}
 use Rattle.ido_base.specs.declared.log.Log.{Log}
 use Rattle.ido_base.specs.declared.log.Log.TheVariants.{V1, V2}
 use Rattle.ido_base.specs.Words.{Word, word_at, last_position, live_value}
-use Rattle.ido_base.specs.Locks.{locks_in, mask_with}
 use Rattle.ido_base.specs.Growth.{IsPersisted}
 use Rattle.ido_base.specs.Layout.{bank_bytes, log_words, word_count, word_number, point_at, slot_at}
 use Rattle.rv64_isa.specs.Rows.{read}
 use Rattle.rv64_isa.specs.Machine.{bank_of}
 use Rattle.memory_layout.specs.Roles.{bank_offset}
-use Rattle.boundary_code.specs.Boundaries.{bank_lines, kept_locks, slots_kept}
+use Rattle.boundary_code.specs.Boundaries.{AreOfMask, bank_lines, kept_locks, slots_kept}
 
 -- what a boundary writes
 pub record Record : Type 0 where
@@ -53,11 +52,6 @@ abbrev pub IsInBank : Log → (slot : ℕ) → Type 0
 IsInBank log slot = Contains (bank_lines log) (slot / 8)
 
 -- ---- Which records a log can hold
-
--- the locks are those of a mask of 64 bits
-pub record AreOfMask (locks : List ℕ) : Type 0 where
-  pub fits : mask_with locks < 2 ^ 64
-  pub read_back : locks_in (mask_with locks) ≡ locks
 
 -- the locks are a list of few numbers of 64 bits
 pub record AreListed (locks : List ℕ) : Type 0 where

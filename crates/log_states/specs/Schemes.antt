@@ -9,7 +9,7 @@ use Rattle.rv64_isa.specs.Rows.{read}
 use Rattle.rv64_isa.specs.Machine.{bank_of, durable_point, recorded, record_of, resumed_registers}
 use Rattle.memory_layout.specs.Roles.{is_kept}
 use Rattle.boundary_code.specs.Boundaries.{kept_locks, HaveRoom, IsOnSide}
-use Rattle.log_states.specs.Logs.{kept_in, slot_index, IsInBank, AreOfMask, AreLoggable, IsKeepable}
+use Rattle.log_states.specs.Logs.{kept_in, slot_index, IsInBank, AreLoggable, IsKeepable}
 
 -- ---- Where slots stand
 
@@ -39,8 +39,8 @@ pub record KeepsRegister (log : Log) (register : ℕ) : Type 0 where
 
 pub record BanksKeep (log : Log) : Type 0 where
   pub nothing : AreLoggable log []
-  -- any set of the source's mutexes for which a bank has room
-  pub masks : (locks : List ℕ) → AreOfMask locks → HaveRoom log locks → AreLoggable log locks
+  -- any locks with numbers of 64 bits for which a bank has room
+  pub room : (locks : List ℕ) → HaveRoom log locks → ((lock : ℕ) → Contains locks lock → lock < 2 ^ 64) → AreLoggable log locks
   pub locals : (register : ℕ) → is_kept register ≡ true → IsKeepable log register
   pub locks : (locks : List ℕ) (kept : ℕ × ℕ) → AreLoggable log locks → Contains (kept_locks log locks) kept → KeepsLocks log locks kept
   pub registers : (register : ℕ) → IsKeepable log register → KeepsRegister log register

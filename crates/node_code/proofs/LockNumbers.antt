@@ -57,35 +57,15 @@ short_each (mutex ∷ mutexes) = (omega arith, short_each mutexes)
 pub short_all : (mask : ℕ) (codes : List (List Instr)) → codes ≡ map number_code (locks_in mask) → AreShort 1 codes
 short_all mask codes are = subst (AreShort 1) (sym are) (short_each (locks_in mask))
 
-pub as_many : (mask : ℕ) (codes : List (Vec Instr Global)) → lists_of codes ≡ map number_code (locks_in mask) → length codes ≡ length (locks_in mask)
-as_many mask codes are =
-    sym (length-map codes (λ (code : Vec Instr Global). code.items))
-    ∙ (ap (λ (ls : List (List Instr)). length ls) are ∙ length-map (locks_in mask) number_code)
+-- there is code for each number, and no more
+many_codes : (numbers : List ℕ) (codes : List (List Instr)) → GiveNumbers numbers codes → length codes ≡ length numbers
+many_codes [] [] give = refl
+many_codes [] (code ∷ codes) give = absurd give
+many_codes (number ∷ numbers) [] give = absurd give
+many_codes (number ∷ numbers) (code ∷ codes) give = ap suc (many_codes numbers codes give.1)
 
--- ---- Bit by bit
-
-next_number : (codes : List (List Instr)) (b : Bool) (mutex : ℕ) (later : List ℕ) →
-    (codes ++ (if b then number_code mutex ∷ [] else [])) ++ map number_code later ≡ codes ++ map number_code (if b then mutex ∷ later else later)
-next_number codes true mutex later = append_assoc codes (number_code mutex ∷ []) (map number_code later)
-next_number codes false mutex later = ap (λ (cs : List (List Instr)). cs ++ map number_code later) (append-nil codes)
-
-pub begins : (mask : ℕ) → map number_code (locks_from 0 64 mask) ≡ map number_code (locks_in mask)
-unfolding locks_in
-begins mask = refl
-
-module _ (all old : List (List Instr)) (mutex rest : ℕ) (so_far : old ++ map number_code (locks_from mutex (64 - mutex) rest) ≡ all) where
-  pub goes_on : (new : List (List Instr)) → mutex < 64 → new ≡ old ++ (if rest % 2 == 1 then number_code mutex ∷ [] else []) →
-      new ++ map number_code (locks_from (mutex + 1) (64 - (mutex + 1)) (rest / 2)) ≡ all
-  goes_on new below is =
-      let left : 64 - mutex ≡ suc (64 - (mutex + 1)) = omega (arith, below) in
-      ap (λ (cs : List (List Instr)). cs ++ map number_code (locks_from (mutex + 1) (64 - (mutex + 1)) (rest / 2))) is
-      ∙ (next_number old (rest % 2 == 1) mutex (locks_from (mutex + 1) (64 - (mutex + 1)) (rest / 2))
-      ∙ (ap (λ (n : ℕ). old ++ map number_code (locks_from mutex n rest)) (sym left) ∙ so_far))
-
-  pub ends : 64 ≤ mutex → old ≡ all
-  ends past =
-      let none : 64 - mutex ≡ 0 = omega (arith, past) in
-      sym (append-nil old) ∙ (sym (ap (λ (n : ℕ). old ++ map number_code (locks_from mutex n rest)) none) ∙ so_far)
+pub as_many : (numbers : List ℕ) (codes : List (Vec Instr Global)) → GiveNumbers numbers (lists_of codes) → length codes ≡ length numbers
+as_many numbers codes give = sym (length-map codes (λ (code : Vec Instr Global). code.items)) ∙ many_codes numbers (lists_of codes) give
 
 -- ---- Where a boundary resumes
 

@@ -1,5 +1,5 @@
 //! Boundaries.
-ghost use Rattle.std.specs.Prelude.{◌≡◌, ◌<◌, ◌++◌, ◌∷◌, [], IsTrue, IfOk, OnOk, pos, ◌≤ℤ◌, negsuc, map, if◌then◌else◌};
+ghost use Rattle.std.specs.Prelude.{◌≡◌, ◌<◌, ◌++◌, IsTrue, IfOk, OnOk, pos, ◌≤ℤ◌, negsuc};
 ghost use Rattle.std.specs.List.{list_all};
 ghost use Rattle.ido_base.specs.Locks.{locks_in};
 ghost use Rattle.ido_base.specs.declared.limits.TheConstants.{MOST_THREADS};
@@ -9,51 +9,16 @@ ghost use Rattle.boundary_code.specs.Boundaries.{HaveRoom};
 ghost use Rattle.boundary_code.specs.links.InstructionLists.{lists_of};
 ghost use Rattle.node_code.specs.Pieces.{Appends, IsBoundaryPiece, boundary_of};
 ghost use Rattle.node_code.specs.links.ItemLists.{boundary_items};
-ghost use Rattle.node_code.specs.links.BoundaryCode.{IsCodeOf, number_code};
+ghost use Rattle.node_code.specs.links.BoundaryCode.{AreNumbered, IsCodeOf};
 
-use crate::items::{load_small, push_plain};
+use crate::items::push_plain;
 use crate::kept::Kept;
 use boundary_code::{boundary, boundary_list};
 use ido_base::log::Log;
 use ido_base::memory::OutOfMemory;
-use rv64_isa::field::Register;
 use rv64_isa::instr::Instr;
 use rv64_isa::object::CodeItem;
 use std::alloc::Global;
-
-/// The register in which a lock's number is left for a list.
-const NUMBER: Register = Register::X5;
-
-/// Appends code that leaves the mutex's number, where it is held.
-fn push_number(
-    alloc: Global,
-    codes: &mut Vec<Vec<Instr>>,
-    mutex: u16,
-    is_held: bool,
-) -> Result<(), OutOfMemory>
-    requires { mutex < 2048 }
-    ensures { OnOk result
-        (lists_of codes.new.items ≡ lists_of codes.old.items ++ (if is_held then number_code mutex ∷ [] else [])) }
-{
-    if is_held {
-        let code: Vec<Instr> = vec![in alloc; load_small(NUMBER, mutex)]?;
-        codes.push(code)?;
-    }
-    Ok(())
-}
-
-/// Of each mutex of the mask code that leaves its number.
-fn number_codes(alloc: Global, mask: u64) -> Result<Vec<Vec<Instr>>, OutOfMemory>
-    ensures { IfOk result (λ codes. lists_of codes.items ≡ map number_code (locks_in mask)) }
-{
-    let mut codes: Vec<Vec<Instr>> = Vec::new(alloc);
-    let mut rest = mask;
-    for mutex in 0..64 {
-        push_number(alloc, &mut codes, mutex, rest % 2 == 1)?;
-        rest /= 2;
-    }
-    Ok(codes)
-}
 
 /// The code of a boundary of a log that keeps a mask.
 fn mask_code(alloc: Global, kept: &Kept, resume: u16) -> Result<Vec<Instr>, OutOfMemory>
@@ -72,10 +37,16 @@ fn list_code(alloc: Global, kept: &Kept, resume: u16) -> Result<Vec<Instr>, OutO
     requires thread { kept.now.thread < MOST_THREADS }
     requires live { IsTrue (list_all is_kept kept.now.live.now) }
     requires room { HaveRoom V2 (locks_in kept.now.mask) }
+    requires numbers { AreNumbered V2 (locks_in kept.now.mask) (lists_of kept.now.numbers.now) }
     ensures { IfOk result (λ code. IsCodeOf (boundary_of kept.now resume) code.items) }
 {
-    let codes = number_codes(alloc, kept.mask)?;
-    let code = boundary_list(alloc, kept.thread, &codes, kept.live, i32::from(resume))?;
+    let code = boundary_list(
+        alloc,
+        kept.thread,
+        kept.numbers,
+        kept.live,
+        i32::from(resume),
+    )?;
     Ok(code)
 }
 
@@ -88,6 +59,7 @@ pub(crate) fn boundary_code(
     requires thread { kept.now.thread < MOST_THREADS }
     requires live { IsTrue (list_all is_kept kept.now.live.now) }
     requires room { HaveRoom kept.now.log (locks_in kept.now.mask) }
+    requires numbers { AreNumbered kept.now.log (locks_in kept.now.mask) (lists_of kept.now.numbers.now) }
     ensures { IfOk result (λ code. IsCodeOf (boundary_of kept.now resume) code.items) }
 {
     match kept.log {
@@ -114,6 +86,7 @@ pub fn push_boundary(
     requires thread { kept.now.thread < MOST_THREADS }
     requires live { IsTrue (list_all is_kept kept.now.live.now) }
     requires room { HaveRoom kept.now.log (locks_in kept.now.mask) }
+    requires numbers { AreNumbered kept.now.log (locks_in kept.now.mask) (lists_of kept.now.numbers.now) }
     ensures { OnOk result (Appends items.old.items items.new.items (IsBoundaryPiece (boundary_of kept.now 0))) }
 {
     let code = boundary_code(alloc, kept, 0)?;

@@ -5,7 +5,9 @@ ghost use Rattle.ido_base.specs.Locks.{locks_in};
 ghost use Rattle.ido_base.specs.declared.limits.TheConstants.{MOST_THREADS};
 ghost use Rattle.memory_layout.specs.Roles.{is_kept};
 ghost use Rattle.boundary_code.specs.Boundaries.{HaveRoom};
+ghost use Rattle.boundary_code.specs.links.InstructionLists.{lists_of};
 ghost use Rattle.node_code.specs.Pieces.{Appends, IsLockPiece, IsUnlockPiece, IsEnd, boundary_of};
+ghost use Rattle.node_code.specs.links.BoundaryCode.{AreNumbered};
 ghost use Rattle.node_code.specs.links.ItemLists.{plain, asking, lock_items, unlock_items, end_items};
 
 use crate::boundaries::{append_boundary, boundary_code};
@@ -97,6 +99,7 @@ pub fn push_lock(
     requires thread { kept.now.thread < MOST_THREADS }
     requires live { IsTrue (list_all is_kept kept.now.live.now) }
     requires room { HaveRoom kept.now.log (locks_in kept.now.mask) }
+    requires numbers { AreNumbered kept.now.log (locks_in kept.now.mask) (lists_of kept.now.numbers.now) }
     requires mutex { mutex < 2048 }
     ensures { OnOk result (Appends items.old.items items.new.items (IsLockPiece (boundary_of kept.now 0) mutex)) }
 {
@@ -115,6 +118,7 @@ pub fn push_unlock(
     requires thread { kept.now.thread < MOST_THREADS }
     requires live { IsTrue (list_all is_kept kept.now.live.now) }
     requires room { HaveRoom kept.now.log (locks_in kept.now.mask) }
+    requires numbers { AreNumbered kept.now.log (locks_in kept.now.mask) (lists_of kept.now.numbers.now) }
     requires mutex { mutex < 2048 }
     ensures { OnOk result (Appends items.old.items items.new.items (IsUnlockPiece (boundary_of kept.now 12) mutex)) }
 {

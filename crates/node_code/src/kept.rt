@@ -1,6 +1,7 @@
 //! What a boundary keeps.
 use ido_base::log::Log;
 use rv64_isa::field::Register;
+use rv64_isa::instr::Instr;
 
 /// What a boundary keeps of a thread, so that it may be resumed after it.
 #[derive(Clone, Copy)]
@@ -11,6 +12,8 @@ pub struct Kept<'a> {
     pub thread: u32,
     /// The mutexes that are held after the boundary, bit i for mutex i. 0 ends a section.
     pub mask: u64,
+    /// Where a bank lists its locks, of each mutex that is held code that leaves its number; else nothing.
+    pub numbers: &'a [Vec<Instr>],
     /// The registers that are live after it, each that of a local or one of the pending store.
     pub live: &'a [Register],
 }

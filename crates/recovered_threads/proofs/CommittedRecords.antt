@@ -11,26 +11,25 @@ use Rattle.boundary_code.proofs.Public.{some_there}
 use Rattle.log_states.specs.Logs.{Record}
 use Rattle.log_states.specs.Laws.{recorded_by}
 use Rattle.log_states.proofs.Public.{point_says, points_end}
-use Rattle.thread_code.specs.Plans.{Plan, IsPlan, locks_held}
+use Rattle.thread_code.specs.Plans.{Plan, IsPlan, held_names_before, locks_held}
 use Rattle.thread_code.specs.RegistersAtNodes.{IsPendingIn, Enters}
-use Rattle.thread_code.specs.NodeCodeEffects.{keeping}
+use Rattle.thread_code.proofs.Public.{named_some}
 use Rattle.recovered_threads.specs.RecordDescriptions.{Code, IsOrderly, ResumesAt, Describes, between, inside}
-use Rattle.recovered_threads.specs.Laws.{AtBoundary, CommitsDescribe, OthersDescribe}
-use Rattle.recovered_threads.proofs.RecordedLocks.{locks_is, none_where}
+use Rattle.recovered_threads.specs.Laws.{AtBoundary, CommitsDescribe, OthersDescribe, boundary_at}
+use Rattle.recovered_threads.proofs.RecordedLocks.{none_before, none_where}
 use Rattle.recovered_threads.proofs.Boundaries.{boundaries_recover}
 
 module _ (p : Plan) (code : Code p) (kept : FlowState) (side resume : ℕ) (x : List ℕ) (plan : IsPlan p) (orderly : IsOrderly p kept)
     (k : AtBoundary p code kept side resume x) where
   abbrev kept_there : Boundary
-  kept_there = keeping p code.thread code.is.places k.graph_thread.at
+  kept_there = boundary_at p code k.graph_thread
 
   abbrev new : Record
   new = recorded_by kept_there side resume x
 
   -- the thread holds nothing exactly where the boundary has no locks
   holds : holds_none kept.holders code.thread.number ≡ is_empty kept_there.locks
-  holds = none_where code.thread.number kept.holders
-      ∙ ap is_empty (sym (locks_is p kept plan orderly code.thread code.of k.graph_thread k.there k.own))
+  holds = none_before p kept plan orderly code.thread code.of k.graph_thread k.there k.own
 
   describes : Describes p code kept new
   describes = elim (cases_Bool (is_empty kept_there.locks)) [
@@ -44,7 +43,8 @@ module _ (p : Plan) (code : Code p) (kept : FlowState) (side resume : ℕ) (x : 
           goes_on = k.goes_on;
           own = k.own;
           point = says.0;
-          resumes = subst (λ (a : ℕ). ResumesAt p code k.graph_thread.at a) (sym says.2) (k.resumes locked);
+          resumes = subst (λ (a : ℕ). ResumesAt p code k.graph_thread.at a) (sym says.2)
+              (k.resumes (named_some k.graph_thread.locals (held_names_before p code.thread k.graph_thread.at) locked));
           locks = refl;
           live = refl;
           side = side;

@@ -1,5 +1,6 @@
 pub mod Public
 mod NodesBeforeSteps
+mod HeldNumbers
 mod RecordedLocks
 mod ChangedWorlds
 mod GatheringSteps

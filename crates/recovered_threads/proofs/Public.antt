@@ -8,6 +8,6 @@ pub use Rattle.recovered_threads.proofs.GatheringSteps.{gathered_go_on, gathered
 pub use Rattle.recovered_threads.proofs.LivenessAtUnlocks.{unlocks_enter}
 pub use Rattle.recovered_threads.proofs.NodesBeforeSteps.{left_at, standing_at}
 pub use Rattle.recovered_threads.proofs.OrderlyStates.{steps_orderly}
-pub use Rattle.recovered_threads.proofs.RecordedLocks.{holds_none_is, locks_are_held, none_where, points_have_locks, records_are_apart}
+pub use Rattle.recovered_threads.proofs.RecordedLocks.{has_there, holds_none_is, locks_are_held, none_where, points_have_locks, records_are_apart}
 pub use Rattle.recovered_threads.proofs.RecoveryAfterCrash.{crashes_gather, logs_have_locks}
 pub use Rattle.recovered_threads.proofs.ResumedHarts.{harts_go_on, resumed_there}

@@ -1,30 +1,34 @@
 -- The locks of a thread's record are those that it holds in the kept state.
-use Rattle.std.proofs.Common.{◌≡◌, ◌≢◌, ◌↔◌, ℕ, zero, suc, ◌+◌, ◌-◌, ◌≤◌, ◌==◌, List, [], ◌∷◌, length, refl, ap, arith, sym, subst, ◌∙◌}
+use Rattle.std.proofs.Common.{◌≡◌, ◌≢◌, ◌↔◌, inl, inr, ℕ, zero, suc, ◌+◌, ◌-◌, ◌<◌, ◌^◌, ◌==◌, List, [], ◌∷◌, length, refl, ap, arith, sym, subst, ◌∙◌}
 use Rattle.std.proofs.Common.{cond, Bool, true, false, Option, Some, None, is_none}
-use Rattle.std.specs.Prelude.{slice_get, slice_index_or}
-use Rattle.std.proofs.lemmas.Bool.{true≢false, cond-false, eqb-true, ne_eqb}
-use Rattle.std.proofs.lemmas.List.{length-map}
+use Rattle.std.specs.Prelude.{Contains, map, slice_get, slice_index_or, ℤ}
+use Rattle.std.proofs.lemmas.Bool.{true≢false, cond-false, eq-eqb, eqb-true, ne_eqb, or_left, or_right}
 use Rattle.std.proofs.lemmas.Option.{none-some, same_Some, slice_get_within, get_or_from_slice_get}
 use Rattle.ido_base.specs.Locks.{is_held_by, held_from, holds_none, has_lock}
 use Rattle.c_tree.specs.Source as m
-use Rattle.c_tree.specs.LockNames.{Held, holds}
+use Rattle.c_tree.specs.Exprs.{LockName}
+use Rattle.c_tree.specs.LockNames.{Held, held_names, holds, lock_names}
+use Rattle.c_tree.specs.Values.{lock_number}
+use Rattle.source_machine.specs.Discipline.{HoldsNames, KeepsLeft}
 use Rattle.source_machine.specs.Mutexes.{held_by}
+use Rattle.source_machine.proofs.Public.{held_is_given}
 use Rattle.lock_discipline.specs.HeldSetsByStep.{AreSetsOf, HeldBefore}
-use Rattle.lock_discipline.proofs.Public.{held_is_held}
+use Rattle.lock_discipline.proofs.Public.{set_left, thread_sets_are}
 use Rattle.flow_graph.specs.declared.graph.Part.{Part}
 use Rattle.flow_graph.specs.Nodes.{Graph}
 use Rattle.flow_graph.specs.Lowering.{parts}
 use Rattle.flow_graph.specs.Lockstep.{GraphThreadMatches}
 use Rattle.flow_graph.specs.Actions.{GraphThread, FlowState}
 use Rattle.flow_graph.proofs.Public.{found_in, lowered_threads}
-use Rattle.boundary_code.specs.Boundaries.{HaveRoom, is_empty}
+use Rattle.boundary_code.specs.Boundaries.{is_empty}
 use Rattle.boundary_code.proofs.Public.{none_there}
 use Rattle.log_states.specs.Logs.{Record, AreLoggable}
-use Rattle.log_states.proofs.Public.{scheme}
+use Rattle.log_states.proofs.Public.{contains_cases, contains_none, scheme}
 use Rattle.thread_code.specs.Plans.{Plan, Thread, IsThread, IsNodeOf, IsPlan, locks_held, locks_held_from, set_before, locks_before}
-use Rattle.thread_code.proofs.Public.{has_held, held_fits, held_read_back}
+use Rattle.thread_code.proofs.Public.{has_held, names_are}
 use Rattle.recovered_threads.specs.RecordDescriptions.{Code, IsOrderly, Describes, between, inside, locks_of}
 use Rattle.recovered_threads.specs.Laws.{LocksAreHeld, PointsHaveLocks, RecordsAreApart}
+use Rattle.recovered_threads.proofs.HeldNumbers.{held_numbers}
 use Rattle.recovered_threads.proofs.NodesBeforeSteps.{left_at, standing_at}
 
 -- ---- Sets and holders
@@ -70,6 +74,22 @@ pub holds_none_is : (n : ℕ) (holders : List (Option ℕ)) (lock : ℕ) → hol
 holds_none_is n holders lock none there =
     true≢false (sym ((locks_hold n holders lock).1 there) ∙ ap (λ (locks : List ℕ). has_lock locks lock) (no_locks_where n holders none))
 
+-- two lists of the same locks are both empty, or neither
+same_emptiness : (xs ys : List ℕ) → ((lock : ℕ) → has_lock xs lock ≡ true → has_lock ys lock ≡ true) →
+    ((lock : ℕ) → has_lock ys lock ≡ true → has_lock xs lock ≡ true) → is_empty xs ≡ is_empty ys
+same_emptiness [] [] there back = refl
+same_emptiness [] (y ∷ ys) there back = absurd (true≢false (sym (back y (or_left (y == y) (has_lock ys y) (eq-eqb y y refl)))))
+same_emptiness (x ∷ xs) [] there back = absurd (true≢false (sym (there x (or_left (x == x) (has_lock xs x) (eq-eqb x x refl)))))
+same_emptiness (x ∷ xs) (y ∷ ys) there back = refl
+
+-- a test finds what the list has
+pub has_there : (xs : List ℕ) (lock : ℕ) → Contains xs lock → has_lock xs lock ≡ true
+has_there [] lock c = absurd (contains_none lock c)
+has_there (x ∷ xs) lock c = elim (contains_cases x xs lock c) [
+  | inl is ↦ or_left (x == lock) (has_lock xs lock) (eq-eqb x lock (sym is))
+  | inr more ↦ or_right (x == lock) (has_lock xs lock) (has_there xs lock more)
+]
+
 -- ---- The set before a node
 
 module _ (p : Plan) (kept : FlowState) (plan : IsPlan p) (orderly : IsOrderly p kept) (t : Thread) (is : IsThread p t) (graph_thread : GraphThread)
@@ -85,33 +105,62 @@ module _ (p : Plan) (kept : FlowState) (plan : IsPlan p) (orderly : IsOrderly p 
   part_is : slice_get (parts p.flat.threads 0) t.number ≡ Some t.part
   part_is = ap (λ (ps : List Part). slice_get ps t.number) (sym (ap (λ (g : Graph). g.threads) plan.lowered ∙ lowered_threads p.flat)) ∙ is.nodes
 
-  set_is : set_before p t graph_thread.at ≡ held_by t.number kept.holders
-  set_is =
+  -- from that set what the thread has left keeps the discipline
+  keeps_left : KeepsLeft p.flat (lock_names p.flat is.text) (set_before p t graph_thread.at) found.0.left
+  keeps_left =
       let n = t.number in
       let step = graph_thread.at - t.part.first in
-      let thread = found.0 in
-      let matches : GraphThreadMatches p.flat graph_thread thread = orderly.matches.each n graph_thread thread there found.1 in
+      let matches : GraphThreadMatches p.flat graph_thread found.0 = orderly.matches.each n graph_thread found.0 there found.1 in
       let stands = sym (standing_at p.flat n t.part is.text graph_thread.at part_is is.of_text own.from_first own.below_end) ∙ matches.stands in
       let left = left_at is.text step _ stands in
       let of : AreSetsOf p.flat is.text sets.0 = plan.held.sets n is.text sets.0 is.of_text sets.1 in
-      let held : Held = held_by n orderly.source.holders in
-      let before : HeldBefore p.flat is.text step held =
-      (held_is_held p.flat orderly.source n step is.text thread held plan.formed.single of.disciplined orderly.keeps is.of_text found.1 left).1 refl in
-      let there_is : slice_get sets.0 step ≡ Some held = (of.exactly step held).1 before in
+      let own_set = set_left p.flat is.text step found.0.left of.disciplined left in
+      let before : HeldBefore p.flat is.text step own_set.0 = ((thread_sets_are p.flat is.text of.disciplined).exactly step own_set.0).0 own_set.1 in
+      let there_is : slice_get sets.0 step ≡ Some own_set.0 = (of.exactly step own_set.0).1 before in
+      let same : set_before p t graph_thread.at ≡ own_set.0 =
       ap (λ (table : List Held). slice_index_or table step []) (get_or_from_slice_get p.held n sets.0 [] sets.1)
-      ∙ (get_or_from_slice_get sets.0 step held [] there_is ∙ ap (λ (os : List (Option ℕ)). held_by n os) (sym orderly.matches.holders))
+      ∙ get_or_from_slice_get sets.0 step own_set.0 [] there_is in
+      subst (λ (h : Held). KeepsLeft p.flat (lock_names p.flat is.text) h found.0.left) (sym same) own_set.2
 
-  pub locks_is : locks_before p t graph_thread.at ≡ locks_held (held_by t.number kept.holders)
-  locks_is = ap locks_held set_is
+  -- it holds exactly the locks of the names in it
+  pub holds_names : HoldsNames (lock_names p.flat is.text) (set_before p t graph_thread.at) graph_thread.locals kept.holders t.number
+  holds_names =
+      let n = t.number in
+      let names = lock_names p.flat is.text in
+      let set = set_before p t graph_thread.at in
+      let matches : GraphThreadMatches p.flat graph_thread found.0 = orderly.matches.each n graph_thread found.0 there found.1 in
+      let given = held_is_given p.flat orderly.source n is.text found.0 set orderly.keeps is.of_text found.1 keeps_left in
+      subst (λ (ls : List ℤ). HoldsNames names set ls kept.holders n) (sym matches.locals)
+      (subst (λ (hs : List (Option ℕ)). HoldsNames names set found.0.locals hs n) (sym orderly.matches.holders) given)
 
-  few_held : length (held_by t.number kept.holders) ≤ 64
-  few_held = omega (arith, length-map kept.holders (λ o. is_held_by t.number o), orderly.locks, plan.formed.shared.mutexes)
+  abbrev own_locks : List ℕ
+  own_locks = locks_before p t graph_thread.locals graph_thread.at
+
+  -- the numbers of these names, by its locals, are the locks that it holds: so with keys or without
+  pub numbers_are_held : (lock : ℕ) → (has_lock own_locks lock ≡ true) ↔ (slice_get kept.holders lock ≡ Some (Some t.number))
+  numbers_are_held lock =
+      let set = set_before p t graph_thread.at in
+      let ls = graph_thread.locals in
+      subst (λ (ns : List LockName). (has_lock (map (lock_number ls) (held_names ns set)) lock ≡ true) ↔ (slice_get kept.holders lock ≡ Some (Some t.number)))
+      (sym (names_are p t is)) (held_numbers ls (lock_names p.flat is.text) set kept.holders t.number holds_names lock)
+
+  -- there is none exactly where it holds none
+  pub none_before : holds_none kept.holders t.number ≡ is_empty own_locks
+  none_before =
+      let n = t.number in
+      none_where n kept.holders
+      ∙ same_emptiness (locks_held (held_by n kept.holders)) own_locks (λ lock e. (numbers_are_held lock).1 ((locks_hold n kept.holders lock).0 e))
+      (λ lock e. (locks_hold n kept.holders lock).1 ((numbers_are_held lock).0 e))
+
+  -- each of them exists
+  locks_fit : (lock : ℕ) → Contains own_locks lock → lock < 2 ^ 64
+  locks_fit lock c =
+      let held = (numbers_are_held lock).0 (has_there own_locks lock c) in
+      omega (arith, slice_get_within kept.holders lock (Some t.number) held, orderly.locks, plan.formed.shared.mutexes)
 
   -- a log can hold the locks before the node
-  pub are_loggable : AreLoggable p.log (locks_before p t graph_thread.at)
-  are_loggable = subst (AreLoggable p.log) (sym locks_is) ((scheme p.log).keeps.masks (locks_held (held_by t.number kept.holders))
-      (record { fits = held_fits (held_by t.number kept.holders) few_held; read_back = held_read_back (held_by t.number kept.holders) few_held })
-      (subst (HaveRoom p.log) locks_is (plan.room t graph_thread.at)))
+  pub are_loggable : AreLoggable p.log own_locks
+  are_loggable = (scheme p.log).keeps.room own_locks (plan.room t graph_thread.locals graph_thread.at) locks_fit
 
 -- ---- Records
 
@@ -121,17 +170,15 @@ between_locks r none = ap (λ (point : ℕ). cond (point == 0) [] r.locks) none
 pub inside_locks : (r : Record) → r.point ≢ 0 → locks_of r ≡ r.locks
 inside_locks r some = cond-false (r.point == 0) [] r.locks (ne_eqb r.point 0 some)
 
-module _ (p : Plan) (code : Code p) (kept : FlowState) (r : Record) (plan : IsPlan p) (orderly : IsOrderly p kept) where
-  pub locks_are : Describes p code kept r → locks_of r ≡ locks_held (held_by code.thread.number kept.holders)
-  locks_are (between none point) = between_locks r point ∙ sym (no_locks_where code.thread.number kept.holders none)
-  locks_are (inside some i) =
-      inside_locks r i.point ∙ (i.locks ∙ locks_is p kept plan orderly code.thread code.of i.graph_thread i.there i.own)
-
 pub locks_are_held : LocksAreHeld
-locks_are_held p code kept r plan orderly describes lock =
-    let same = locks_are p code kept r plan orderly describes in
-    let held = locks_hold code.thread.number kept.holders lock in
-    (λ e. held.0 (sym (ap (λ (locks : List ℕ). has_lock locks lock) same) ∙ e), λ e. ap (λ (locks : List ℕ). has_lock locks lock) same ∙ held.1 e)
+locks_are_held p code kept r plan orderly (between none point) lock = (
+  λ e. absurd (true≢false (sym e ∙ ap (λ (locks : List ℕ). has_lock locks lock) (between_locks r point))),
+  λ g. absurd (holds_none_is code.thread.number kept.holders lock none g),
+)
+locks_are_held p code kept r plan orderly (inside some i) lock =
+    let same : locks_of r ≡ locks_before p code.thread i.graph_thread.locals i.graph_thread.at = inside_locks r i.point ∙ i.locks in
+    let held = numbers_are_held p kept plan orderly code.thread code.of i.graph_thread i.there i.own lock in
+    (λ e. held.0 (sym (ap (λ (locks : List ℕ). has_lock locks lock) same) ∙ e), λ g. ap (λ (locks : List ℕ). has_lock locks lock) same ∙ held.1 g)
 
 pub records_are_apart : RecordsAreApart
 records_are_apart p codes kept records plan orderly describe g h lock gb hb eg eh =
@@ -144,7 +191,8 @@ pub points_have_locks : PointsHaveLocks
 points_have_locks p code kept r plan orderly (between none point) = (λ e. point, λ e. between_locks r point)
 points_have_locks p code kept r plan orderly (inside some i) = (
   λ e.
-      let is : locks_held (held_by code.thread.number kept.holders) ≡ [] = sym (locks_are p code kept r plan orderly (inside some i)) ∙ e in
-      absurd (true≢false (ap is_empty (sym is) ∙ (sym (none_where code.thread.number kept.holders) ∙ some))),
+      let is : locks_before p code.thread i.graph_thread.locals i.graph_thread.at ≡ [] = sym (inside_locks r i.point ∙ i.locks) ∙ e in
+      let empty = none_before p kept plan orderly code.thread code.of i.graph_thread i.there i.own ∙ ap is_empty is in
+      absurd (true≢false (sym empty ∙ some)),
   λ e. absurd (i.point e),
 )

@@ -24,7 +24,7 @@ use Rattle.log_states.specs.Machines.{config_of}
 use Rattle.log_states.specs.Laws.{recorded_by, IsRecoverable}
 use Rattle.log_states.specs.LogInvariant.{LogInv}
 use Rattle.hart_runs.specs.Calls.{IsInPhase}
-use Rattle.thread_code.specs.Plans.{Plan, IsPlan, IsNodeOf, locks_before, IsKept}
+use Rattle.thread_code.specs.Plans.{Plan, IsPlan, IsNodeOf, held_names_before, IsKept}
 use Rattle.thread_code.specs.RegistersAtNodes.{Enters}
 use Rattle.thread_code.specs.NodeCodeEffects.{keeping}
 use Rattle.recovered_threads.specs.RecordDescriptions.{Code, Codes, IsOrderly, ResumesAt, Describes, AllDescribe, locks_of}
@@ -132,7 +132,7 @@ pub record AtBoundary (p : Plan) (code : Code p) (s : FlowState) (side resume : 
   pub there : slice_get s.graph_threads code.thread.number ≡ Some graph_thread
   pub goes_on : graph_thread.ended ≡ false
   pub own : IsNodeOf code.thread graph_thread.at
-  pub resumes : locks_before p code.thread graph_thread.at ≢ [] → ResumesAt p code graph_thread.at resume
+  pub resumes : held_names_before p code.thread graph_thread.at ≢ [] → ResumesAt p code graph_thread.at resume
   pub enters : Enters p code.thread graph_thread.at (seen_by s graph_thread) side x
   -- an instruction's address, and 64 bits in each register that the boundary keeps
   pub aligned : resume % 4 ≡ 0
@@ -140,19 +140,19 @@ pub record AtBoundary (p : Plan) (code : Code p) (s : FlowState) (side resume : 
   pub below : resume < 2 ^ 64
   pub registers : (register : ℕ) → IsKept p code.thread graph_thread.at register → read x register < 2 ^ 64
 
--- the boundary before the node, as its thread's places give it
-abbrev pub boundary_at : (p : Plan) → (code : Code p) → (node : ℕ) → Boundary
-boundary_at p code node = keeping p code.thread code.is.places node
+-- the boundary at which the thread stands, as its places give it
+abbrev pub boundary_at : (p : Plan) → (code : Code p) → GraphThread → Boundary
+boundary_at p code graph_thread = keeping p code.thread code.is.places graph_thread.locals graph_thread.at
 
 -- can be recovered from
 abbrev pub BoundariesRecover : Type 0
 BoundariesRecover = (p : Plan) (code : Code p) (s : FlowState) (side resume : ℕ) (x : List ℕ) → IsPlan p → IsOrderly p s →
-    (b : AtBoundary p code s side resume x) → IsRecoverable (boundary_at p code b.graph_thread.at) resume x
+    (b : AtBoundary p code s side resume x) → IsRecoverable (boundary_at p code b.graph_thread) resume x
 
 -- once the boundary at which a thread stands is committed, its record describes the state that is kept with it
 abbrev pub CommitsDescribe : Type 0
 CommitsDescribe = (p : Plan) (code : Code p) (kept : FlowState) (side resume : ℕ) (x : List ℕ) → IsPlan p → IsOrderly p kept →
-    (b : AtBoundary p code kept side resume x) → Describes p code kept (recorded_by (boundary_at p code b.graph_thread.at) side resume x)
+    (b : AtBoundary p code kept side resume x) → Describes p code kept (recorded_by (boundary_at p code b.graph_thread) side resume x)
 
 -- the boundary before an unlock keeps what is live after it: registers with which the thread enters the unlock represent what it sees there
 abbrev pub UnlocksEnter : Type 0

@@ -12,7 +12,7 @@ use Rattle.flow_graph.specs.Lockstep.{Matches}
 use Rattle.flow_graph.specs.IdempotentCuts.{IsChosen}
 use Rattle.flow_graph.specs.Liveness.{NodeAt}
 use Rattle.log_states.specs.Logs.{Record}
-use Rattle.thread_code.specs.Plans.{Plan, Thread, IsThread, IsNodeOf, locks_before}
+use Rattle.thread_code.specs.Plans.{Plan, Thread, IsThread, IsNodeOf, held_names_before, locks_before}
 use Rattle.thread_code.specs.RegistersAtNodes.{Enters}
 use Rattle.thread_code.specs.Programs.{IsThreadCode}
 
@@ -49,7 +49,7 @@ pub data ResumesAt (p : Plan) (code : Code p) (node : ℕ) : (address : ℕ) →
   past_lock : (from : ℕ) (lock : LockName) (is : Node) → IsNodeOf code.thread from → NodeAt p.graph from is → is.action ≡ Lock lock node →
       ResumesAt p code node (code.is.places.after from)
   past_unlock : (from : ℕ) (lock : LockName) (is : Node) → IsNodeOf code.thread from → NodeAt p.graph from is → is.action ≡ Unlock lock node →
-      locks_before p code.thread node ≢ [] → ResumesAt p code node (code.is.places.after from)
+      held_names_before p code.thread node ≢ [] → ResumesAt p code node (code.is.places.after from)
 
 -- the thread stands at a node of a section, and the record is what a boundary keeps there
 pub record IsInside (p : Plan) (code : Code p) (kept : FlowState) (r : Record) : Type 0 where
@@ -59,7 +59,7 @@ pub record IsInside (p : Plan) (code : Code p) (kept : FlowState) (r : Record) :
   pub own : IsNodeOf code.thread graph_thread.at
   pub point : r.point ≢ 0
   pub resumes : ResumesAt p code graph_thread.at (resume_of r.point)
-  pub locks : r.locks ≡ locks_before p code.thread graph_thread.at
+  pub locks : r.locks ≡ locks_before p code.thread graph_thread.locals graph_thread.at
   pub live : r.live ≡ code.is.places.live graph_thread.at
   -- the registers are those at the boundary, before which this side was in use
   pub side : ℕ

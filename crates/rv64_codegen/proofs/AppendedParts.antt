@@ -69,7 +69,7 @@ module _ (x : opened.ThreadPlan) (node : ℕ) where
   lock_done lock next k old mid new at own is_kept a g =
       let o = at.own.open_is in
       two_appended x o node next old mid new (IsLockPiece (boundary_of k 0) lock.mutex) (Lock lock next) 95 a g
-      (λ does goes is fragment. (subst (λ (b : Boundary). IsLockPiece b lock.mutex does) (boundary_is x o next k 0 is_kept) is, fragment))
+      (λ does goes is fragment. (λ locals. subst (λ (b : Boundary). IsLockPiece b lock.mutex does) (boundary_is x o locals next k 0 is_kept) is, fragment))
       (λ does is. omega (arith, is.few, few_live x o next own.own, few_beside x o next k is_kept, ap (λ (l : List ℕ). length l) is_kept.live_is))
       (omega arith)
 
@@ -80,7 +80,7 @@ module _ (x : opened.ThreadPlan) (node : ℕ) where
   unlock_done lock next k old mid new at own is_kept a g =
       let o = at.own.open_is in
       two_appended x o node next old mid new (IsUnlockPiece (boundary_of k 12) lock.mutex) (Unlock lock next) 95 a g
-      (λ does goes is fragment. (subst (λ (b : Boundary). IsUnlockPiece b lock.mutex does) (boundary_is x o next k 12 is_kept) is, fragment))
+      (λ does goes is fragment. (λ locals. subst (λ (b : Boundary). IsUnlockPiece b lock.mutex does) (boundary_is x o locals next k 12 is_kept) is, fragment))
       (λ does is. omega (arith, is.few, few_live x o next own.own, few_beside x o next k is_kept, ap (λ (l : List ℕ). length l) is_kept.live_is))
       (omega arith)
 

@@ -89,7 +89,7 @@ module _ (p : Plan) (t : Thread) (c : Choices) (plan : IsPlan p) (choices : AreC
       (λ h. (choices.cleaned node is variable kind next own at e).1 h) (λ h. (choices.cleaned node is variable kind next own at e).0 h)
     where
       by : IsChosen p.graph p.boundaries node ⊎ (IsChosen p.graph p.boundaries node → ⊥) → CleansInBoundaries p t x.before
-      by (inl chosen) = in_one _ refl (x.guarded.chosen chosen).cleans
+      by (inl chosen) = in_one _ refl (x.guarded.chosen chosen []).cleans
       by (inr plain) = nowhere (ap cleans_in (x.guarded.plain plain))
   cleans_by piece x (Test condition holds fails) e d =
       subst (λ (xs : List CodeItem). CleansInBoundaries p t xs) (sym x.split)
@@ -101,11 +101,11 @@ module _ (p : Plan) (t : Thread) (c : Choices) (plan : IsPlan p) (choices : AreC
   cleans_by piece x (Lock lock next) e d =
       subst (λ (xs : List CodeItem). CleansInBoundaries p t xs) (sym x.split)
       (alone x.before x.does x.goes (x.guarded.plain (unchosen (Lock lock next) e (λ h. h)))
-      (in_one _ refl (more _ x.does x.goes d.0.cleans (goes_none next x.goes d.1))))
+      (in_one _ refl (more _ x.does x.goes (d.0 []).cleans (goes_none next x.goes d.1))))
   cleans_by piece x (Unlock lock next) e d =
       subst (λ (xs : List CodeItem). CleansInBoundaries p t xs) (sym x.split)
       (alone x.before x.does x.goes (x.guarded.plain (unchosen (Unlock lock next) e (λ h. h)))
-      (in_one _ refl (more _ x.does x.goes d.0.cleans (goes_none next x.goes d.1))))
+      (in_one _ refl (more _ x.does x.goes (d.0 []).cleans (goes_none next x.goes d.1))))
   cleans_by piece x End e d =
       subst (λ (xs : List CodeItem). CleansInBoundaries p t xs) (sym x.split)
       (alone x.before x.does x.goes (x.guarded.plain (unchosen End e (λ h. h)))

@@ -23,7 +23,8 @@ use Rattle.flow_graph.specs.Liveness.{NodeAt}
 use Rattle.flow_graph.specs.Lowering.{table_of, lowered, parts, part, thread_count, thread_nodes, threads_nodes}
 use Rattle.flow_graph.proofs.Public.{length-thread_nodes}
 use Rattle.node_code.specs.JoinedPieces.{joined, AreClosed}
-use Rattle.thread_code.specs.Plans.{Plan, IsPlan, Thread, IsThread, IsNodeOf, locks_before}
+use Rattle.thread_code.specs.Plans.{Plan, IsPlan, Thread, IsThread, IsNodeOf, held_names_before, locks_before}
+use Rattle.thread_code.proofs.Public.{named_some, numbers_some}
 use Rattle.thread_code.specs.NodeCodeEffects.{Places}
 use Rattle.thread_code.specs.Programs.{action_nodes, mark_of, IsOn, IsNodeCode, IsResumeAddress, at_chosen, past_lock, past_unlock, IsThreadCode}
 use Rattle.rv64_codegen.specs.ThreadPieces.{Choices, AreChoices, IsNodePiece, ArePieces, IsCodeOfThread, EmittedIsCode}
@@ -330,13 +331,14 @@ module _ (p : Plan) (t : Thread) (linked : LinkedPieces p t) where
   after_resumed node is a of found (Test condition holds fails) same has = absurd (let l : has.0 < 0 = has.1 in omega (arith, l))
   after_resumed node is a of found (Lock lock next) same has =
       subst (λ (b : ℕ). IsResumeAddress p t places b) (contains_one (places.after node) a has) (past_lock node lock next is of found same)
-  after_resumed node is a of found (Unlock lock next) same has = by (is_empty (locks_before p t next)) refl has
+  after_resumed node is a of found (Unlock lock next) same has = by (is_empty (locks_before p t [] next)) refl has
     where
-      by : (none : Bool) → (is_empty (locks_before p t next)) ≡ none → Contains (if none then [] else places.after node ∷ []) a → IsResumeAddress p t places a
+      by : (none : Bool) → (is_empty (locks_before p t [] next)) ≡ none → Contains (if none then [] else places.after node ∷ []) a →
+          IsResumeAddress p t places a
       by true e has = absurd (let l : has.0 < 0 = has.1 in omega (arith, l))
       by false e has =
           subst (λ (b : ℕ). IsResumeAddress p t places b) (contains_one (places.after node) a has)
-          (past_unlock node lock next is of found same (some_there (locks_before p t next) e))
+          (past_unlock node lock next is of found same (named_some [] (held_names_before p t next) (some_there (locks_before p t [] next) e)))
   after_resumed node is a of found End same has = absurd (let l : has.0 < 0 = has.1 in omega (arith, l))
 
   resumed_first : (i : ℕ) → i < length pieces → (m : Node_at i) (a : ℕ) (r : ResumesAre p t places m.a.is.action (t.part.first + i) (resumes_of m.a)) →
@@ -408,7 +410,7 @@ module _ (p : Plan) (t : Thread) (linked : LinkedPieces p t) where
       let b : ℕ = places.after (t.part.first + k.number) in
       subst (λ (j : ℕ). Contains program.resumes (places.after j)) k.is
       (after_there k.number m (ap (λ (z : Action). resumes_after p t places z (t.part.first + k.number)) same ∙
-      ap (λ (none : Bool). if none then [] else b ∷ []) (not_empty (locks_before p t next) holds)))
+      ap (λ (none : Bool). if none then [] else b ∷ []) (not_empty (locks_before p t [] next) (numbers_some [] (held_names_before p t next) holds))))
 
   ascend : IsStrictlyIncreasing program.resumes
   ascend =

@@ -72,7 +72,7 @@ module _ {p : Plan} {t : Thread} {c : Choices} {entry : ℕ → ℕ} (plan : IsP
     where
       by : IsChosen p.graph p.boundaries node ⊎ (IsChosen p.graph p.boundaries node → ⊥) → fences_in before ≡ 2 * one_if has_before
       by (inl chosen) =
-          let two : fences_in before ≡ 2 = (guarded.chosen chosen).fences in
+          let two : fences_in before ≡ 2 = (guarded.chosen chosen []).fences in
           let on : one_if has_before ≡ 1 = ap one_if (flag_on p.boundaries.before node chosen.stands) in
           omega (arith, two, on)
       by (inr plain) =
@@ -116,13 +116,13 @@ module _ {p : Plan} {t : Thread} {c : Choices} {entry : ℕ → ℕ} (plan : IsP
   fences_by (Lock lock next) e d =
       let on : one_if has_after ≡ 1 =
       ap one_if (flag_on p.boundaries.after_lock node (plan.cuts.past_locks node (locks is lock next at e)).stands) in
-      total (2 * one_if has_before) 2 (2 * boundary_count p.boundaries node) (before_fences (ap is_unlock e)) d.0.fences (goes_none next d.1)
+      total (2 * one_if has_before) 2 (2 * boundary_count p.boundaries node) (before_fences (ap is_unlock e)) (d.0 []).fences (goes_none next d.1)
       (omega (arith, on))
   fences_by (Unlock lock next) e d =
       let none : fences_in before ≡ 0 = ap fences_in (guarded.plain (λ chosen. chosen.free (unlocks is lock next at e))) in
       let on : one_if has_before ≡ 1 = ap one_if (flag_on p.boundaries.before node (plan.cuts.before_unlocks node (unlocks is lock next at e))) in
       let off = after_none (ap is_lock e) in
-      total 0 2 (2 * boundary_count p.boundaries node) none d.0.fences (goes_none next d.1) (omega (arith, on, off))
+      total 0 2 (2 * boundary_count p.boundaries node) none (d.0 []).fences (goes_none next d.1) (omega (arith, on, off))
   fences_by End e d = plain_fences (ap is_lock e) (ap is_unlock e) d.0.fences (ap fences_in d.1)
 
   pub piece_fences : fences_in (before ++ (does ++ goes)) ≡ 2 * boundary_count p.boundaries node

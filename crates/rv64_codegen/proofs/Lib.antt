@@ -21,7 +21,9 @@ mod RegistersAfterNodes
 mod LegalEvaluations
 mod PieceParts
 mod NodeCorrectness
+mod HeldNumbers
 mod KeyNumbers
+mod NameNumbers
 mod FenceCounts
 mod NodeCode
 mod LoweredNodes

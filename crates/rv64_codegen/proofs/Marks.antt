@@ -29,7 +29,7 @@ resumes_after p t places (Eval target value next) node = []
 resumes_after p t places (Store variable kind next) node = []
 resumes_after p t places (Test condition holds fails) node = []
 resumes_after p t places (Lock lock next) node = places.after node ∷ []
-resumes_after p t places (Unlock lock next) node = if is_empty (locks_before p t next) then [] else places.after node ∷ []
+resumes_after p t places (Unlock lock next) node = if is_empty (locks_before p t [] next) then [] else places.after node ∷ []
 resumes_after p t places End node = []
 
 -- where the node may be resumed: at its core after a chosen boundary, and after what it does
@@ -95,7 +95,7 @@ module _ {p : Plan} {t : Thread} {c : Choices} (places : Places) (it : PlacedNod
 
   first_marks : marked_from k before ≡ []
   first_marks = elim (chosen_or_not p.graph p.boundaries node is found) [
-    | inl chosen ↦ ((guarded.chosen chosen).at first_site).marks
+    | inl chosen ↦ ((guarded.chosen chosen []).at first_site).marks
     | inr not ↦ ap (λ (xs : List CodeItem). marked_from k xs) (guarded.plain not)
   ]
 
@@ -166,18 +166,18 @@ module _ {p : Plan} {t : Thread} {c : Choices} (places : Places) (it : PlacedNod
     }
     says (Test condition holds fails) d call = choosing_says condition holds fails d
     says (Lock lock next) d call = record {
-      marks = (d.0.at middle_site).marks ∙ ap (λ (y : ℕ). y ∷ []) (sym call);
+      marks = ((d.0 []).at middle_site).marks ∙ ap (λ (y : ℕ). y ∷ []) (sym call);
       no_marks = goes_marks next d.1;
-      resumes = (d.0.at middle_site).resumes ∙ ap (λ (y : ℕ). y ∷ []) (sym g.after);
+      resumes = ((d.0 []).at middle_site).resumes ∙ ap (λ (y : ℕ). y ∷ []) (sym g.after);
       no_resumes = goes_resumes next d.1;
       last = tt;
     }
     says (Unlock lock next) d call = record {
-      marks = at_core (d.0.at middle_site).marks;
+      marks = at_core ((d.0 []).at middle_site).marks;
       no_marks = goes_marks next d.1;
-      resumes = (d.0.at middle_site).resumes ∙ ap (λ (y : ℕ). if is_empty (locks_before p t next) then [] else y ∷ []) (sym g.after);
+      resumes = ((d.0 []).at middle_site).resumes ∙ ap (λ (y : ℕ). if is_empty (locks_before p t [] next) then [] else y ∷ []) (sym g.after);
       no_resumes = goes_resumes next d.1;
-      last = (d.0.at middle_site).after ∙ ap (λ (y : ℕ). y + 4) (sym call);
+      last = ((d.0 []).at middle_site).after ∙ ap (λ (y : ℕ). y + 4) (sym call);
     }
     says End d call = record {
       marks = at_core (d.0.at middle_site).marks;
@@ -204,7 +204,7 @@ module _ {p : Plan} {t : Thread} {c : Choices} (places : Places) (it : PlacedNod
           addresses_split at is_resume k before does goes ∙
           ends_in (resumed_from k before) (resumed_from k₁ does) (resumed_from k₂ goes) it_says.no_resumes ∙
           ap (λ (ns : List ℕ). resumed_from k before ++ ns) it_says.resumes;
-      chosen = λ chosen. ((guarded.chosen chosen).at first_site).resumes ∙ ap (λ (y : ℕ). y ∷ []) (sym g.core);
+      chosen = λ chosen. ((guarded.chosen chosen []).at first_site).resumes ∙ ap (λ (y : ℕ). y ∷ []) (sym g.core);
       plain = λ not. ap (λ (xs : List CodeItem). resumed_from k xs) (guarded.plain not);
     }
 
@@ -285,7 +285,7 @@ module _ {p : Plan} {t : Thread} {c : Choices} (places : Places) (it : PlacedNod
     chosen_grows : IsChosen p.graph p.boundaries node → places.entry node < places.core node
     chosen_grows chosen =
         let lie : Lies at k before = part_lies at items whole k before first_site.is_part in
-        let up : at k < at k₁ = boundary_grows (boundary_before p t c node 0) before (guarded.chosen chosen) at k lie in
+        let up : at k < at k₁ = boundary_grows (boundary_before p t c [] node 0) before (guarded.chosen chosen []) at k lie in
         let begin : at k ≡ places.entry node = sited.begin in
         let core : places.core node ≡ at k₁ = g.core in
         omega (arith, up, begin, core)
@@ -307,7 +307,7 @@ module _ {p : Plan} {t : Thread} {c : Choices} (places : Places) (it : PlacedNod
     after_ascends (Store variable kind following) w low up = past (Store variable kind following) w low up
     after_ascends (Test condition holds fails) w low up = past (Test condition holds fails) w low up
     after_ascends (Lock lock following) w low up = one_ascends w.call.0 w.call.1 w.call.2 low up
-    after_ascends (Unlock lock following) w low up = by (is_empty (locks_before p t following))
+    after_ascends (Unlock lock following) w low up = by (is_empty (locks_before p t [] following))
       where
         by : (none : Bool) → Ascends low next (if none then [] else places.after node ∷ [])
         by true = past (Unlock lock following) w low up

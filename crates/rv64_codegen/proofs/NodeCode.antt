@@ -2,7 +2,7 @@
 use Rattle.std.proofs.Common.{◌≡◌, ◌↔◌, ℕ, ◌+◌, ◌-◌, ◌*◌, ◌≤◌, List, [], ◌∷◌, ◌++◌, length, map, refl, ap, arith, sym, ◌∙◌, subst, Bool, false}
 use Rattle.c_tree.proofs.Public.{plain_lock, plain_name}
 use Rattle.std.proofs.Common.{Option, Some, None, if◌then◌else◌}
-use Rattle.std.specs.Prelude.{slice_index_or, pos, sum_by}
+use Rattle.std.specs.Prelude.{slice_index_or, pos, sum_by, ℤ}
 use Rattle.std.proofs.lemmas.List.Sums.{sum_by-append}
 use Rattle.std.proofs.lemmas.Option.{none-some, same_Some}
 use Rattle.ido_ints.specs.declared.kinds.Kind.{Kind}
@@ -83,15 +83,16 @@ module _ {p : Plan} {t : Thread} {c : Choices} (places : Places) (it : PlacedNod
 
   -- ---- The boundary before it
 
-  chosen_by : IsBoundaryPiece (boundary_before p t c node 0) before → (s : MarkedEnvironment) (seen : Seen) (side : ℕ) (x : List ℕ) → Meets places.program s →
+  chosen_by : ((locals : List ℤ) → IsBoundaryPiece (boundary_before p t c locals node 0) before) →
+      (s : MarkedEnvironment) (seen : Seen) (side : ℕ) (x : List ℕ) → Meets places.program s →
       Enters p t node seen side x →
       BoundaryCode p t places (record { environment = s; node = node; seen = seen; side = side; registers = x }) node (places.entry node) (places.core node)
       (places.core node)
   chosen_by boundary s seen side x meets enters =
-      let b : Boundary = boundary_before p t c node 0 in
+      let b : Boundary = boundary_before p t c seen.locals node 0 in
       let P : List ℕ → Type 0 = Enters p t node seen (side_after b side) in
       let site : Site before = spot_site n before (parts.before_spot it) s (met s meets) in
-      let lockstep : boundary_observations b side (addr core_at) x ≡ boundary_observations (keeping p t places node) side (places.core node) x =
+      let lockstep : boundary_observations b side (addr core_at) x ≡ boundary_observations (keeping p t places seen.locals node) side (places.core node) x =
       ap (λ (z : ℕ). boundary_observations b side z x) (sym agrees.core) ∙
       ap (λ (ls : List ℕ). boundary_observations (record { log = p.log; thread = t.number; locks = b.locks; live = ls; resume = pos 0 }) side
       (places.core node) x)
@@ -103,7 +104,7 @@ module _ {p : Plan} {t : Thread} {c : Choices} (places : Places) (it : PlacedNod
       (weaker s (fragment x (addr sited.position) (addr core_at) (parts.before_words it)) (boundary_observations b side (addr core_at) x)
       (LeavesRegisters b side x) P
       (λ y left. enters_kept p t plan of c choices node 0 own seen side x y enters left)
-      ((boundary.at site).keeps x side enters.at_side))))
+      (((boundary seen.locals).at site).keeps x side enters.at_side))))
 
   chosen : IsChosen p.graph p.boundaries node → (m : Entrance) → m.node ≡ node → IsAtOwnNode p t places m →
       BoundaryCode p t places m node (places.entry node) (places.core node) (places.core node)
@@ -119,16 +120,16 @@ module _ {p : Plan} {t : Thread} {c : Choices} (places : Places) (it : PlacedNod
 
   -- ---- What it does
 
-  -- a call stands at one address in all environments
-  lock_call : (lock : e.LockName) (next : ℕ) (d : IsDoing p t c node (Lock lock next) does goes) (s : MarkedEnvironment) (meets : Meets program s) →
-      (d.0.at (site_of s meets)).call ≡ (d.0.at bare_site).call
-  lock_call lock next d s meets = first_same _ _ (sym (d.0.at (site_of s meets)).marks ∙ (d.0.at bare_site).marks)
+  -- a call stands at one address in all environments, whatever numbers locals have
+  lock_call : (lock : e.LockName) (next : ℕ) (d : IsDoing p t c node (Lock lock next) does goes) (s : MarkedEnvironment) (meets : Meets program s)
+      (locals : List ℤ) → ((d.0 locals).at (site_of s meets)).call ≡ ((d.0 []).at bare_site).call
+  lock_call lock next d s meets locals = first_same _ _ (sym ((d.0 locals).at (site_of s meets)).marks ∙ ((d.0 []).at bare_site).marks)
 
-  unlock_call : (lock : e.LockName) (next : ℕ) (d : IsDoing p t c node (Unlock lock next) does goes) (s : MarkedEnvironment) (meets : Meets program s) →
-      (d.0.at (site_of s meets)).call ≡ (d.0.at bare_site).call
-  unlock_call lock next d s meets =
-      let here : addr on_at ≡ (d.0.at (site_of s meets)).call + 4 = (d.0.at (site_of s meets)).after in
-      let there : addr on_at ≡ (d.0.at bare_site).call + 4 = (d.0.at bare_site).after in
+  unlock_call : (lock : e.LockName) (next : ℕ) (d : IsDoing p t c node (Unlock lock next) does goes) (s : MarkedEnvironment) (meets : Meets program s)
+      (locals : List ℤ) → ((d.0 locals).at (site_of s meets)).call ≡ ((d.0 []).at bare_site).call
+  unlock_call lock next d s meets locals =
+      let here : addr on_at ≡ ((d.0 locals).at (site_of s meets)).call + 4 = ((d.0 locals).at (site_of s meets)).after in
+      let there : addr on_at ≡ ((d.0 []).at bare_site).call + 4 = ((d.0 []).at bare_site).after in
       omega (arith, here, there)
 
   end_call : (d : IsDoing p t c node End does goes) (s : MarkedEnvironment) (meets : Meets program s) →
@@ -199,13 +200,13 @@ module _ {p : Plan} {t : Thread} {c : Choices} (places : Places) (it : PlacedNod
     does_it (Lock lock next) same known d call answered effect eq =
         let keyless = plain_name p.flat.mutexes t.kinds lock plan.formed.single known.name in
         subst By (same_Some (a.Takes lock.mutex next) effect (ap (λ (k : ℕ). Some (a.Takes k next)) (sym (plain_lock seen.locals lock keyless)) ∙ eq))
-        (performs.takes_it places it has s meets seen side x enters lock next same known (d.0.at (site_of s meets))
-        (call ∙ sym (lock_call lock next d s meets)))
+        (performs.takes_it places it has s meets seen side x enters lock next same known ((d.0 seen.locals).at (site_of s meets))
+        (call ∙ sym (lock_call lock next d s meets seen.locals)))
     does_it (Unlock lock next) same known d call answered effect eq =
         let keyless = plain_name p.flat.mutexes t.kinds lock plan.formed.single known.name in
         subst By (same_Some (a.Gives lock.mutex next) effect (ap (λ (k : ℕ). Some (a.Gives k next)) (sym (plain_lock seen.locals lock keyless)) ∙ eq))
-        (performs.gives_it places it has s meets seen side x enters lock next same known (d.0.at (site_of s meets))
-        (call ∙ sym (unlock_call lock next d s meets)) agrees.after)
+        (performs.gives_it places it has s meets seen side x enters lock next same known ((d.0 seen.locals).at (site_of s meets))
+        (call ∙ sym (unlock_call lock next d s meets seen.locals)) agrees.after)
     does_it End same known d call answered effect eq =
         subst By (same_Some a.Ends effect eq)
         (performs.ends_it places it has s meets seen side x enters (d.0.at (site_of s meets)) (call ∙ sym (end_call d s meets)))
@@ -235,22 +236,23 @@ module _ {p : Plan} {t : Thread} {c : Choices} (places : Places) (it : PlacedNod
 
   -- after the call of a lock
   keeps_after : (lock : e.LockName) (next : ℕ) → IsNodeOf t next → (d : IsDoing p t c node (Lock lock next) does goes) →
-      places.call node ≡ (d.0.at bare_site).call → (m : Entrance) → Meets places.program m.environment → m.node ≡ node → EntersAt p t places m next →
+      places.call node ≡ ((d.0 []).at bare_site).call → (m : Entrance) → Meets places.program m.environment → m.node ≡ node → EntersAt p t places m next →
       BoundaryCode p t places m next (places.call node + 4) (places.after node) (places.after node)
   keeps_after lock next of_next d call m meets same enters =
       let s : MarkedEnvironment = m.environment in
       let x : List ℕ = m.registers in
-      let b : Boundary = boundary_before p t c next 0 in
+      let b : Boundary = boundary_before p t c m.seen.locals next 0 in
       let P : List ℕ → Type 0 = Enters p t next m.seen (side_after b m.side) in
-      let locks : Locks b lock.mutex does (site_of s (met s meets)) = d.0.at (site_of s (met s meets)) in
-      let at_call : locks.call + 4 ≡ places.call node + 4 = ap (λ (z : ℕ). z + 4) (lock_call lock next d s (met s meets) ∙ sym call) in
-      let lockstep : boundary_observations b m.side (addr on_at) x ≡ boundary_observations (keeping p t places next) m.side (places.after node) x =
+      let locks : Locks b lock.mutex does (site_of s (met s meets)) = (d.0 m.seen.locals).at (site_of s (met s meets)) in
+      let at_call : locks.call + 4 ≡ places.call node + 4 = ap (λ (z : ℕ). z + 4) (lock_call lock next d s (met s meets) m.seen.locals ∙ sym call) in
+      let lockstep : boundary_observations b m.side (addr on_at) x
+      ≡ boundary_observations (keeping p t places m.seen.locals next) m.side (places.after node) x =
       ap (λ (z : ℕ). boundary_observations b m.side z x) (sym agrees.after) ∙
       ap (λ (ls : List ℕ). boundary_observations (record { log = p.log; thread = t.number; locks = b.locks; live = ls; resume = pos 0 }) m.side
       (places.after node) x)
       (sym (agrees.live next)) in
       subst (λ (k : ℕ). GoesThrough s (fragment x (places.call node + 4) (places.after node) (places.words k))
-      (boundary_observations (keeping p t places next) m.side (places.after node) x) P) (sym same)
+      (boundary_observations (keeping p t places m.seen.locals next) m.side (places.after node) x) P) (sym same)
       (subst (λ (ss : List Observation). GoesThrough s (fragment x (places.call node + 4) (places.after node) words) ss P) lockstep
       (moved s x (locks.call + 4) (places.call node + 4) (addr on_at) (places.after node) words (boundary_observations b m.side (addr on_at) x) P at_call
       (sym agrees.after)
@@ -276,16 +278,16 @@ module _ {p : Plan} {t : Thread} {c : Choices} (places : Places) (it : PlacedNod
   calls_by (Test condition holds fails) same known d call = tt
   calls_by (Lock lock next) same known d call =
       let of_next : IsNodeOf t next = record { from_first = known.inside.0; below_end = known.inside.1 } in (
-        stands_there (d.0.at bare_site).call call (d.0.at bare_site).stands,
-        goes_on_after (d.0.at bare_site).calling next of_next d.1,
+        stands_there ((d.0 []).at bare_site).call call ((d.0 []).at bare_site).stands,
+        goes_on_after ((d.0 []).at bare_site).calling next of_next d.1,
         keeps_after lock next of_next d call,
       )
   calls_by (Unlock lock next) same known d call =
       let of_next : IsNodeOf t next = record { from_first = known.inside.0; below_end = known.inside.1 } in (
-        stands_there (d.0.at bare_site).call call (d.0.at bare_site).stands,
-        goes_on_after (d.0.at bare_site).calling next of_next d.1,
-        agrees.after ∙ (d.0.at bare_site).after ∙ ap (λ (z : ℕ). z + 4) (sym call),
-        plain_there (d.0.at bare_site).call call (d.0.at bare_site).plain,
+        stands_there ((d.0 []).at bare_site).call call ((d.0 []).at bare_site).stands,
+        goes_on_after ((d.0 []).at bare_site).calling next of_next d.1,
+        agrees.after ∙ ((d.0 []).at bare_site).after ∙ ap (λ (z : ℕ). z + 4) (sym call),
+        plain_there ((d.0 []).at bare_site).call call ((d.0 []).at bare_site).plain,
       )
   calls_by End same known d call =
       (stands_there (d.0.at bare_site).call call (d.0.at bare_site).stands, plain_there (d.0.at bare_site).call call (d.0.at bare_site).plain)

@@ -38,7 +38,7 @@ use Rattle.node_code.specs.Pieces.{store_observations, boundary_observations, Le
 use Rattle.node_code.specs.Pieces.{Asks, Makes, Locks, Unlocks, IsEndPiece, takes, gives, ends}
 use Rattle.node_code.specs.Sites.{Site, label_of}
 use Rattle.node_code.proofs.Public.{fragment, weaker, moved}
-use Rattle.thread_code.specs.Plans.{Plan, Thread, IsThread, IsPlan, IsNodeOf, IsKept, of_local, of_address, of_value, homes, locks_before}
+use Rattle.thread_code.specs.Plans.{Plan, Thread, IsThread, IsPlan, IsNodeOf, IsKept, of_local, of_address, of_value, homes}
 use Rattle.thread_code.specs.RegistersAtNodes.{HasLowBytes, HasPending, IsPendingIn, Enters, source_of, IsAnswered}
 use Rattle.thread_code.specs.NodeCodeEffects.{Places, Entrance, kind_at, keeping, Asking, Storing, Performs}
 use Rattle.thread_code.proofs.Public.{enters_again}
@@ -103,10 +103,11 @@ module _ (p : Plan) (t : Thread) (plan : IsPlan p) (of : IsThread p t) where
 
   -- after a boundary that keeps what is live there
   pub enters_kept : (c : Choices) → AreChoices p t c → (node resume : ℕ) → IsNodeOf t node → (seen : Seen) (side : ℕ) (x y : List ℕ) →
-      Enters p t node seen side x → LeavesRegisters (boundary_before p t c node resume) side x y →
-      Enters p t node seen (side_after (boundary_before p t c node resume) side) y
+      Enters p t node seen side x → LeavesRegisters (boundary_before p t c seen.locals node resume) side x y →
+      Enters p t node seen (side_after (boundary_before p t c seen.locals node resume) side) y
   enters_kept c choices node resume own seen side x y enters left =
-      enters_again p t node seen side (side_after (boundary_before p t c node resume) side) x y (c.live node) (choices.kept node own) enters left.at_side
+      enters_again p t node seen side (side_after (boundary_before p t c seen.locals node resume) side) x y (c.live node) (choices.kept node own)
+      enters left.at_side
       (λ r has. let plain = kept_plain node r ((choices.kept node own r).0 has) in left.others r plain.0 plain.1)
 
 -- the node evaluates into a target, which it can in an environment, and goes on to the next one
@@ -385,7 +386,7 @@ module _ {p : Plan} {t : Thread} {c : Choices} (places : Places) (it : PlacedNod
         }
 
       pub takes_it : (lock : LockName) (next : ℕ) → is.action ≡ Lock lock next → CallKnown p.flat t.kinds t.part.first t.part.end p.graph.nodes lock next is →
-          (locks : Locks (boundary_before p t c next 0) lock.mutex does does_site) → places.call node ≡ locks.call →
+          (locks : Locks (boundary_before p t c seen.locals next 0) lock.mutex does does_site) → places.call node ≡ locks.call →
           Performs p t places m (a.Takes lock.mutex next)
       takes_it lock next same known locks call =
           within x (places.call node) [] (Asking p t places takes lock.mutex next seen side)
@@ -397,16 +398,17 @@ module _ {p : Plan} {t : Thread} {c : Choices} (places : Places) (it : PlacedNod
           (locks.asks x are)))
 
       pub gives_it : (lock : LockName) (next : ℕ) → is.action ≡ Unlock lock next → CallKnown p.flat t.kinds t.part.first t.part.end p.graph.nodes lock next is →
-          (unlocks : Unlocks (boundary_before p t c next 12) lock.mutex does does_site) → places.call node ≡ unlocks.call → places.after node ≡ to goes_at →
+          (unlocks : Unlocks (boundary_before p t c seen.locals next 12) lock.mutex does does_site) → places.call node ≡ unlocks.call →
+          places.after node ≡ to goes_at →
           Performs p t places m (a.Gives lock.mutex next)
       gives_it lock next same known unlocks call after =
-          let b : Boundary = boundary_before p t c next 12 in
+          let b : Boundary = boundary_before p t c seen.locals next 12 in
           let P : List ℕ → Type 0 = Asking p t places gives lock.mutex next seen (side_after b side) in
-          let observations : List Observation = Mark ∷ boundary_observations (keeping p t places next) side (places.after node) x in
+          let observations : List Observation = Mark ∷ boundary_observations (keeping p t places seen.locals next) side (places.after node) x in
           let lockstep : Mark ∷ boundary_observations b side (to goes_at) x ≡ observations =
           ap (λ (z : ℕ). Mark ∷ boundary_observations b side z x) (sym after) ∙
           ap (λ (ls : List ℕ). Mark ∷ boundary_observations
-          (record { log = p.log; thread = t.number; locks = locks_before p t next; live = ls; resume = pos 0 }) side
+          (record { log = p.log; thread = t.number; locks = b.locks; live = ls; resume = pos 0 }) side
           (places.after node) x) (sym (live next)) in
           within x (places.call node) observations P
           (moved s x (to does_at) (to does_at) unlocks.call (places.call node) does_words observations P refl (sym call)

@@ -78,7 +78,7 @@ module _ (p : Plan) (t : Thread) (c : Choices) where
   guarded_closed node is piece at g = by (chosen_or_not p.graph p.boundaries node is at)
     where
       by : IsChosen p.graph p.boundaries node ⊎ (IsChosen p.graph p.boundaries node → ⊥) → IsClosed piece
-      by (inl chosen) = (g.chosen chosen).closed
+      by (inl chosen) = (g.chosen chosen []).closed
       by (inr plain) = subst (λ (xs : List CodeItem). IsClosed xs) (sym (g.plain plain)) nothing_closed
 
   pub does_closed : (node : ℕ) (a : Action) (does goes : List CodeItem) → IsDoing p t c node a does goes → IsClosed does
@@ -89,8 +89,8 @@ module _ (p : Plan) (t : Thread) (c : Choices) where
       by : IsChoosing p t c node condition holds fails does goes → IsClosed does
       by (turned same test none) = test.closed
       by (straight test goes_to) = test.closed
-  does_closed node (Lock lock next) does goes d = d.0.closed
-  does_closed node (Unlock lock next) does goes d = d.0.closed
+  does_closed node (Lock lock next) does goes d = (d.0 []).closed
+  does_closed node (Unlock lock next) does goes d = (d.0 []).closed
   does_closed node End does goes d = d.0.closed
 
 module _ {p : Plan} {t : Thread} {c : Choices} {entry : ℕ → ℕ} (it : PlacedNode p t c entry) where
@@ -151,8 +151,8 @@ module _ {p : Plan} {t : Thread} {c : Choices} {entry : ℕ → ℕ} (it : Place
   call_of (Eval target value next) d = 0
   call_of (Store variable kind next) d = 0
   call_of (Test condition holds fails) d = 0
-  call_of (Lock lock next) d = (d.0.at does_bare).call
-  call_of (Unlock lock next) d = (d.0.at does_bare).call
+  call_of (Lock lock next) d = ((d.0 []).at does_bare).call
+  call_of (Unlock lock next) d = ((d.0 []).at does_bare).call
   call_of End d = (d.0.at does_bare).call
 
   abbrev pub spots_in : Spots

@@ -1,7 +1,7 @@
 -- What a plan says of a thread's nodes.
 use Rattle.std.proofs.Common.{◌≡◌, ⊎_elim, refl, ℕ, zero, suc, ◌+◌, ◌-◌, ◌*◌, ◌<◌, ◌≤◌, List, [], ◌∷◌, length, ◌∙◌, ap, ap₂, sym, subst, arith, Option, Some}
 use Rattle.std.proofs.Common.{None, Bool, true, false, cond}
-use Rattle.std.specs.Prelude.{slice_get, slice_index_or, nat_lt, find}
+use Rattle.std.specs.Prelude.{slice_get, slice_index_or, nat_lt, find, ℤ}
 use Rattle.std.specs.Option.{option_map}
 use Rattle.std.proofs.lemmas.Option.{slice_get_within, get_or_from_slice_get}
 use Rattle.std.proofs.lemmas.List.Sums.{sum_by-cons}
@@ -24,7 +24,8 @@ use Rattle.flow_graph.specs.IdempotentCuts.{IsChosen, Writes}
 use Rattle.flow_graph.specs.Liveness.{NodeAt}
 use Rattle.flow_graph.specs.Lowering.{table_of, assign_count, count, statements_count, arms_count, thread_count, thread_nodes, threads_nodes, part, parts}
 use Rattle.flow_graph.proofs.Public.{length-thread_nodes, all_at, found_in, lowered_nodes, lowered_threads, ShapedAs, node_shaped}
-use Rattle.thread_code.specs.Plans.{Plan, Thread, IsPlan, IsThread, IsNodeOf, set_before}
+use Rattle.thread_code.specs.Plans.{Plan, Thread, IsPlan, IsThread, IsNodeOf, locks_before, locks_held, set_before}
+use Rattle.thread_code.proofs.Public.{plain_before}
 use Rattle.thread_code.specs.Programs.{action_nodes}
 use Rattle.rv64_codegen.proofs.LoweredNodes.{price_of, prices, price_thread, IsLoweredNode, sound_thread, sound_at, part_is, node_of_thread}
 
@@ -234,9 +235,9 @@ module _ (p : Plan) (plan : IsPlan p) where
         or_there (x ∷ xs) zero y g = cc
         or_there (x ∷ xs) (suc k) y g = or_there xs k y g
 
-    -- no set has more mutexes than a mask has bits
-    pub few_held : (node : ℕ) → IsNodeOf t node → length (set_before p t node) ≤ 64
-    few_held node own =
+    -- a set has as many names as there are mutexes
+    set_long : (node : ℕ) → IsNodeOf t node → length (set_before p t node) ≡ length p.flat.mutexes
+    set_long node own =
         let step = node - t.part.first in
         let there = found_in p.held t.number held_there in
         let sets = plan.held.sets t.number th.text there.0 th.of_text there.1 in
@@ -247,4 +248,12 @@ module _ (p : Plan) (plan : IsPlan p) where
         ap (λ (s : List Held). slice_index_or s step []) is ∙ get_or_from_slice_get there.0 step one.0 [] one.1 in
         let long : length one.0 ≡ length p.flat.mutexes = held_length p.flat th.text step one.0 ((sets.exactly step one.0).0 one.1)
         ∙ (ap (λ (ns : List LockName). length ns) (names_are_plain p.flat th.text plan.formed.single) ∙ length-plain_names (length p.flat.mutexes)) in
-        omega (arith, ap (λ (h : Held). length h) set, long, plan.formed.shared.mutexes)
+        ap (λ (h : Held). length h) set ∙ long
+
+    -- no set has more mutexes than a mask has bits
+    pub few_held : (node : ℕ) → IsNodeOf t node → length (set_before p t node) ≤ 64
+    few_held node own = omega (arith, set_long node own, plan.formed.shared.mutexes)
+
+    -- where no mutex is in an array, the numbers of the held names are those of their mutexes, whatever numbers locals have
+    pub numbers_plain : (locals : List ℤ) (node : ℕ) → IsNodeOf t node → locks_held (set_before p t node) ≡ locks_before p t locals node
+    numbers_plain locals node own = plain_before p t th plan.formed.single locals node (set_long node own)

@@ -3,4 +3,4 @@ pub use Rattle.rv64_codegen.proofs.ChosenBoundaries.{chosen_else, chosen_then, r
 pub use Rattle.rv64_codegen.proofs.Homes.{colours_long}
 pub use Rattle.rv64_codegen.proofs.LoweredNodes.{IsFormed, price_of, price_thread, prices}
 pub use Rattle.rv64_codegen.proofs.PlannedNodes.{IsStoring, chosen_stores, end_is, end_within, few_nodes, first_below, held_sets, held_there, node_exists}
-pub use Rattle.rv64_codegen.proofs.PlannedNodes.{node_in, nodes_are, sound_node, threads_are}
+pub use Rattle.rv64_codegen.proofs.PlannedNodes.{node_in, nodes_are, numbers_plain, sound_node, threads_are}

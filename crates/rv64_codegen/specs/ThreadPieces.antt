@@ -1,5 +1,5 @@
 -- What the code of a whole thread is made of: a piece for each of its nodes, one after another.
-use Rattle.std.specs.Prelude.{◌≡◌, ◌≢◌, ◌↔◌, ℕ, ◌+◌, ◌-◌, ◌*◌, ◌^◌, ◌<◌, ◌≤◌, List, [], ◌++◌, length, map, slice_get, sum_by, Some, Bool, true, false, pos}
+use Rattle.std.specs.Prelude.{◌≡◌, ◌≢◌, ◌↔◌, ℕ, ℤ, ◌+◌, ◌-◌, ◌*◌, ◌^◌, ◌<◌, ◌≤◌, List, [], ◌++◌, length, map, slice_get, sum_by, Some, Bool, true, false, pos}
 use Rattle.ido_ints.specs.declared.kinds.Kind.{Kind}
 use Rattle.c_tree.specs.Exprs as e
 use Rattle.c_tree.specs.Prices.{node_price}
@@ -35,15 +35,16 @@ module _ (p : Plan) (t : Thread) (c : Choices) where
   abbrev pub label_of_node : (node : ℕ) → ℕ
   label_of_node node = node - t.part.first
 
-  -- the boundary that keeps what is live at the node's entry, and resumes so many bytes after its end
-  abbrev pub boundary_before : (node : ℕ) → (resume : ℕ) → Boundary
-  boundary_before node resume = record { log = p.log; thread = t.number; locks = locks_before p t node; live = c.live node; resume = pos resume }
+  -- the boundary that keeps what is live at the node's entry, where locals have these numbers, and resumes so many bytes after its end
+  abbrev pub boundary_before : (locals : List ℤ) → (node : ℕ) → (resume : ℕ) → Boundary
+  boundary_before locals node resume =
+      record { log = p.log; thread = t.number; locks = locks_before p t locals node; live = c.live node; resume = pos resume }
 
   -- ---- A node
 
   -- before what it does stands a boundary, or nothing
   pub record IsGuarded (node : ℕ) (piece : List CodeItem) : Type 0 where
-    pub chosen : IsChosen p.graph p.boundaries node → IsBoundaryPiece (boundary_before node 0) piece
+    pub chosen : IsChosen p.graph p.boundaries node → (locals : List ℤ) → IsBoundaryPiece (boundary_before locals node 0) piece
     pub plain : ¬ (IsChosen p.graph p.boundaries node) → piece ≡ []
 
   -- the next node follows, or a jump leads to it
@@ -63,8 +64,8 @@ module _ (p : Plan) (t : Thread) (c : Choices) where
   IsDoing node (Eval target value next) does goes = IsEvaluation (homes p t) target value.expr does × GoesTo node next goes
   IsDoing node (Store variable kind next) does goes = IsStorePiece kind (c.cleans node) does × GoesTo node next goes
   IsDoing node (Test condition holds fails) does goes = IsChoosing node condition holds fails does goes
-  IsDoing node (Lock lock next) does goes = IsLockPiece (boundary_before next 0) lock.mutex does × GoesTo node next goes
-  IsDoing node (Unlock lock next) does goes = IsUnlockPiece (boundary_before next 12) lock.mutex does × GoesTo node next goes
+  IsDoing node (Lock lock next) does goes = ((locals : List ℤ) → IsLockPiece (boundary_before locals next 0) lock.mutex does) × GoesTo node next goes
+  IsDoing node (Unlock lock next) does goes = ((locals : List ℤ) → IsUnlockPiece (boundary_before locals next 12) lock.mutex does) × GoesTo node next goes
   IsDoing node End does goes = IsEnd does × (goes ≡ [])
 
   -- the piece of a node, within its price

@@ -1,11 +1,12 @@
 //! What nodes do, and how they go on.
-ghost use Rattle.std.specs.Prelude.{◌≡◌, ◌==◌, ◌+◌, OnOk};
+ghost use Rattle.std.specs.Prelude.{◌≡◌, ◌==◌, ◌+◌, ◌<◌, OnOk};
 ghost use Rattle.c_tree.specs.Exprs.{placed_of, lvalue_of, lock_name_of};
 ghost use Rattle.flow_graph.specs.Nodes.{Eval, Store, Test, Lock, Unlock, End, action_of};
-ghost use Rattle.node_code.specs.Pieces.{Appends};
-ghost use Rattle.rv64_codegen.specs.links.Threads.{IsOwn, HasAction, DoesAction, DoesAt, GoesToNode};
+ghost use Rattle.node_code.specs.Pieces.{Appends, IsLockPiece, IsUnlockPiece, boundary_of};
+ghost use Rattle.rv64_codegen.specs.links.Threads.{AppendsKept, DoesAction, DoesAt, GoesToNode, HasAction, IsOwn};
 
 use crate::evaluations::push_evaluation;
+use crate::numbers::held_numbers;
 use crate::tests_of_conditions::push_test;
 use crate::thread::ThreadPlan;
 use c_tree::expr::{LockName, Lvalue, Placed};
@@ -130,6 +131,23 @@ fn push_making(
     push_fragment(items, thread, node, next)
 }
 
+/// Appends the code that takes a mutex, and then the boundary that keeps what lets the thread go on at the next node.
+fn push_held_lock(
+    alloc: Global,
+    items: &mut Vec<CodeItem>,
+    thread: &ThreadPlan,
+    next: usize,
+    mutex: u16,
+) -> Result<(), OutOfMemory>
+    requires own { IsOwn thread.now next }
+    requires mutex { mutex < 2048 }
+    ensures { OnOk result (AppendsKept thread.now next items.old.items items.new.items (λ k. IsLockPiece (boundary_of k 0) mutex)) }
+{
+    let numbers = held_numbers(alloc, thread, next)?;
+    let kept = thread.kept(next, &numbers);
+    push_lock(alloc, items, &kept, mutex)
+}
+
 /// A lock is taken.
 fn push_taking(
     alloc: Global,
@@ -142,10 +160,26 @@ fn push_taking(
     requires { HasAction thread.now node (Lock (lock_name_of lock.now) next) }
     ensures { OnOk result (Appends items.old.items items.new.items (DoesAction thread.now node (Lock (lock_name_of lock.now) next))) }
 {
-    let kept = thread.kept(next);
     let mutex = lock.mutex;
-    push_lock(alloc, items, &kept, mutex as u16)?;
+    push_held_lock(alloc, items, thread, next, mutex as u16)?;
     push_fragment(items, thread, node, next)
+}
+
+/// Appends the boundary that keeps what lets the thread go on at the next node, and then the code that gives a mutex back.
+fn push_held_unlock(
+    alloc: Global,
+    items: &mut Vec<CodeItem>,
+    thread: &ThreadPlan,
+    next: usize,
+    mutex: u16,
+) -> Result<(), OutOfMemory>
+    requires own { IsOwn thread.now next }
+    requires mutex { mutex < 2048 }
+    ensures { OnOk result (AppendsKept thread.now next items.old.items items.new.items (λ k. IsUnlockPiece (boundary_of k 12) mutex)) }
+{
+    let numbers = held_numbers(alloc, thread, next)?;
+    let kept = thread.kept(next, &numbers);
+    push_unlock(alloc, items, &kept, mutex)
 }
 
 /// A lock is given back.
@@ -160,9 +194,8 @@ fn push_giving(
     requires { HasAction thread.now node (Unlock (lock_name_of lock.now) next) }
     ensures { OnOk result (Appends items.old.items items.new.items (DoesAction thread.now node (Unlock (lock_name_of lock.now) next))) }
 {
-    let kept = thread.kept(next);
     let mutex = lock.mutex;
-    push_unlock(alloc, items, &kept, mutex as u16)?;
+    push_held_unlock(alloc, items, thread, next, mutex as u16)?;
     push_fragment(items, thread, node, next)
 }
 

@@ -1,12 +1,20 @@
 -- The numbers of held locks, and the mask that has a bit for each.
-use Rattle.std.proofs.Common.{◌≡◌, ℕ, zero, suc, ◌+◌, ◌*◌, ◌/◌, ◌%◌, ◌^◌, ◌<◌, ◌≤◌, ◌==◌, ◌||◌, List, [], ◌∷◌, length, refl, ap, ap₂, arith, ◌∙◌, cond}
-use Rattle.std.proofs.Common.{Bool, true, false, pow-suc, pow_mono, lt_of_lt_of_le, subst, sym}
+use Rattle.std.proofs.Common.{◌≡◌, ◌≢◌, ℕ, zero, suc, ◌+◌, ◌*◌, ◌/◌, ◌%◌, ◌^◌, ◌<◌, ◌≤◌, ◌==◌, ◌||◌, List, [], ◌∷◌, length, refl, ap, ap₂, arith, ◌∙◌, cond}
+use Rattle.std.proofs.Common.{Bool, true, false, Some, pow-suc, pow_mono, lt_of_lt_of_le, map, subst, sym}
+use Rattle.std.specs.Prelude.{slice_get, slice_index_or, ℤ}
+use Rattle.std.proofs.lemmas.Option.{none-some, same_Some}
 use Rattle.std.proofs.lemmas.Bool.{or_left, ne_eqb, eq-eqb}
 use Rattle.ido_base.specs.Locks.{has_lock, locks_from, locks_in, mask_with}
-use Rattle.c_tree.specs.LockNames.{Held, holds}
+use Rattle.c_tree.specs.Exprs.{LockName}
+use Rattle.c_tree.specs.Flats as f
+use Rattle.c_tree.specs.LockNames.{Held, held_names, holds, lock_names, plain_from, plain_names}
+use Rattle.c_tree.specs.Values.{lock_number}
+use Rattle.c_tree.specs.WellFormed.{IsSingle}
+use Rattle.c_tree.proofs.Public.{names_are_plain}
+use Rattle.std.specs.List.{AllByRecursion}
 use Rattle.lock_discipline.specs.Masks.{mask_of}
 use Rattle.lock_discipline.proofs.Public.{mask_of-bound}
-use Rattle.thread_code.specs.Plans.{locks_held_from, locks_held}
+use Rattle.thread_code.specs.Plans.{Plan, Thread, IsThread, locks_before, locks_held_from, locks_held, names_in, set_before}
 
 -- ---- The mask
 
@@ -56,6 +64,50 @@ held_fits held few =
 
 pub held_read_back : (held : Held) → length held ≤ 64 → locks_in (mask_with (locks_held held)) ≡ locks_held held
 held_read_back held few = ap locks_in (mask_with_held held) ∙ mask_has_held held few
+
+-- ---- Where no mutex is in an array
+
+plain_from_set : (ls : List ℤ) (n : ℕ) (h : Held) → map (lock_number ls) (held_names (plain_from n (length h)) h) ≡ locks_held_from n h
+plain_from_set ls n [] = refl
+plain_from_set ls n (true ∷ h) =
+    ap (λ (locks : List ℕ). n ∷ locks)
+    (plain_from_set ls (suc n) h ∙ ap (λ (at : ℕ). locks_held_from at h) (let e : suc n ≡ n + 1 = omega arith in e))
+plain_from_set ls n (false ∷ h) = plain_from_set ls (suc n) h ∙ ap (λ (at : ℕ). locks_held_from at h) (let e : suc n ≡ n + 1 = omega arith in e)
+
+-- the numbers of held names are those of the mutexes, whatever locals hold
+pub plain_numbers : (ls : List ℤ) (h : Held) → map (lock_number ls) (held_names (plain_names (length h)) h) ≡ locks_held h
+plain_numbers ls h = plain_from_set ls 0 h
+
+-- ---- By the names of a thread's text
+
+pub names_at : (x : f.Flat) (ts : List f.Thread) (k : ℕ) (text : f.Thread) → slice_get ts k ≡ Some text →
+    slice_index_or (map (λ (t : f.Thread). lock_names x t) ts) k [] ≡ lock_names x text
+names_at x [] k text g = absurd (none-some text g)
+names_at x (t ∷ ts) zero text g = ap (λ (u : f.Thread). lock_names x u) (same_Some t text g)
+names_at x (t ∷ ts) (suc k) text g = names_at x ts k text g
+
+pub names_are : (p : Plan) (t : Thread) (of : IsThread p t) → names_in p t ≡ lock_names p.flat of.text
+names_are p t of = names_at p.flat p.flat.threads t.number of.text of.of_text
+
+-- where no mutex is in an array, the numbers of the names held before a node are those of their mutexes, whatever numbers locals have
+pub plain_before : (p : Plan) (t : Thread) (of : IsThread p t) → AllByRecursion IsSingle p.flat.mutexes → (locals : List ℤ) (node : ℕ) →
+    length (set_before p t node) ≡ length p.flat.mutexes → locks_held (set_before p t node) ≡ locks_before p t locals node
+plain_before p t of single locals node long =
+    let set : Held = set_before p t node in
+    let names : names_in p t ≡ plain_names (length set) = names_are p t of ∙ (names_are_plain p.flat of.text single ∙ ap plain_names (sym long)) in
+    sym (ap (λ (ns : List LockName). map (lock_number locals) (held_names ns set)) names ∙ plain_numbers locals set)
+
+-- each name that is held has a number, and no other
+pub named_some : (ls : List ℤ) (names : List LockName) → map (lock_number ls) names ≢ [] → names ≢ []
+named_some ls names some = λ e. some (ap (λ (ns : List LockName). map (lock_number ls) ns) e)
+
+pub numbers_none : (ls : List ℤ) (names : List LockName) → map (lock_number ls) names ≡ [] → names ≡ []
+numbers_none ls [] none = refl
+numbers_none ls (x ∷ names) none = cc
+
+pub numbers_some : (ls : List ℤ) (names : List LockName) → names ≢ [] → map (lock_number ls) names ≢ []
+numbers_some ls [] some = absurd (some refl)
+numbers_some ls (x ∷ names) some = λ e. cc
 
 -- ---- Each lock
 

@@ -1,5 +1,5 @@
 -- What the code of each node does, by the node's effect.
-use Rattle.std.specs.Prelude.{◌≡◌, ℕ, ◌-◌, pos, List, [], ◌∷◌, map, slice_get, slice_set, Option, Some, None, Bool}
+use Rattle.std.specs.Prelude.{◌≡◌, ℕ, ℤ, ◌-◌, pos, List, [], ◌∷◌, map, slice_get, slice_set, Option, Some, None, Bool}
 use Rattle.ido_base.specs.Layout.{variable_at}
 use Rattle.ido_ints.specs.declared.kinds.Kind.{Kind}
 use Rattle.ido_ints.specs.Kinds.{bytes_of}
@@ -67,9 +67,9 @@ module _ (p : Plan) (t : Thread) (c : Places) where
   abbrev pub EntersAt : Entrance → (node : ℕ) → Type 0
   EntersAt m node = Enters p t node m.seen m.side m.registers
 
-  -- a boundary that keeps what is live at the entry of the node
-  abbrev pub keeping : (node : ℕ) → Boundary
-  keeping node = record { log = p.log; thread = t.number; locks = locks_before p t node; live = c.live node; resume = pos 0 }
+  -- a boundary that keeps what is live at the entry of the node, where locals have these numbers
+  abbrev pub keeping : (locals : List ℤ) → (node : ℕ) → Boundary
+  keeping locals node = record { log = p.log; thread = t.number; locks = locks_before p t locals node; live = c.live node; resume = pos 0 }
 
   -- from an address the code leads to an address, within as many instructions as the node has words
   abbrev pub Passing : Entrance → (from to : ℕ) → List Observation → (has : List ℕ → Type 0) → Type 0
@@ -79,7 +79,8 @@ module _ (p : Plan) (t : Thread) (c : Places) where
   -- from the one address to the other stands the boundary at which a thread resumes at the node, at an address
   abbrev pub BoundaryCode : Entrance → (kept : ℕ) → (from to resume : ℕ) → Type 0
   BoundaryCode m kept from to resume =
-      Passing m from to (boundary_observations (keeping kept) m.side resume m.registers) (Enters p t kept m.seen (side_after (keeping kept) m.side))
+      Passing m from to (boundary_observations (keeping m.seen.locals kept) m.side resume m.registers)
+      (Enters p t kept m.seen (side_after (keeping m.seen.locals kept) m.side))
 
   -- registers ask for the call, and represent what the thread sees at the next node
   pub record Asking (number mutex next : ℕ) (seen : a.Seen) (side : ℕ) (registers : List ℕ) : Type 0 where
@@ -106,7 +107,8 @@ module _ (p : Plan) (t : Thread) (c : Places) where
   Performs m (a.Goes next) = Passing m (c.core m.node) (c.entry next) (Mark ∷ []) (Enters p t next m.seen m.side)
   Performs m (a.Takes mutex next) = Passing m (c.core m.node) (c.call m.node) [] (Asking takes mutex next m.seen m.side)
   Performs m (a.Gives mutex next) = Passing m (c.core m.node) (c.call m.node)
-      (Mark ∷ boundary_observations (keeping next) m.side (c.after m.node) m.registers) (Asking gives mutex next m.seen (side_after (keeping next) m.side))
+      (Mark ∷ boundary_observations (keeping m.seen.locals next) m.side (c.after m.node) m.registers)
+      (Asking gives mutex next m.seen (side_after (keeping m.seen.locals next) m.side))
   Performs m a.Ends = Passing m (c.core m.node) (c.call m.node) (Mark ∷ []) (λ x. read x roles.call ≡ ends)
 
   -- after the ECALL of a lock stands a boundary, of an unlock nothing; from there the code leads to the next node, within the words that the call, and

@@ -1,6 +1,6 @@
 -- What the code of threads is made of.
-use Rattle.std.specs.Prelude.{◌≡◌, ◌↔◌, ℕ, ◌+◌, ◌-◌, ◌<◌, ◌≤◌, List, [], ◌∷◌, map, length, slice_get, slice_index, slice_index_or, Contains, Some, None, Bool}
-use Rattle.std.specs.Prelude.{if◌then◌else◌}
+use Rattle.std.specs.Prelude.{◌≡◌, ◌↔◌, ℕ, ◌+◌, ◌-◌, ◌<◌, ◌≤◌, List, [], ◌∷◌, map, length, slice_get}
+use Rattle.std.specs.Prelude.{slice_index, slice_index_or, Contains, Some, None, Bool, true, ℤ, if◌then◌else◌}
 use Rattle.ido_base.specs.declared.log.Log.{Log}
 use Rattle.ido_base.specs.Layout.{variable_at}
 use Rattle.ido_ints.specs.declared.kinds.Kind.{Kind}
@@ -9,8 +9,10 @@ use Rattle.c_tree.specs.WellFormed.{shape_of, IsWellFormed}
 use Rattle.c_tree.specs.Prices.{node_price}
 use Rattle.c_tree.specs.declared.language.Language.TheVariants.{Plain}
 use Rattle.c_tree.specs.HoldPrices.{price_fault}
-use Rattle.c_tree.specs.LockNames.{Held}
-use Rattle.c_tree.specs.LockDiscipline.{numbers_below}
+use Rattle.c_tree.specs.Exprs.{LockName}
+use Rattle.c_tree.specs.LockNames.{Held, held_names, holds, lock_names}
+use Rattle.c_tree.specs.Values.{lock_number}
+use Rattle.c_tree.specs.LockDiscipline.{key_locals, numbers_below}
 use Rattle.memory_layout.specs.declared.roles.TheConstants.{LOCALS}
 use Rattle.memory_layout.specs.Roles.{pending_address, pending_value}
 use Rattle.boundary_code.specs.Boundaries.{HaveRoom, words_beside}
@@ -85,9 +87,17 @@ locks_held held = locks_held_from 0 held
 abbrev pub set_before : Plan → Thread → (node : ℕ) → Held
 set_before p t node = slice_index_or (slice_index_or p.held t.number []) (node - t.part.first) []
 
--- the locks held there
-abbrev pub locks_before : Plan → Thread → (node : ℕ) → List ℕ
-locks_before p t node = locks_held (set_before p t node)
+-- the names that the thread's text locks
+abbrev pub names_in : Plan → Thread → List LockName
+names_in p t = slice_index_or (map (λ (text : f.Thread). lock_names p.flat text) p.flat.threads) t.number []
+
+-- those held there
+abbrev pub held_names_before : Plan → Thread → (node : ℕ) → List LockName
+held_names_before p t node = held_names (names_in p t) (set_before p t node)
+
+-- the numbers of the locks held there, where the thread's locals have these
+abbrev pub locks_before : Plan → Thread → (locals : List ℤ) → (node : ℕ) → List ℕ
+locks_before p t locals node = map (lock_number locals) (held_names_before p t node)
 
 -- ---- Registers to keep
 
@@ -113,11 +123,14 @@ pub record IsPlan (p : Plan) : Type 0 where
   -- the form keeps the lock discipline, and these are the sets that are held
   pub held : AreAllSetsOf p.flat p.held
   pub live : AreLive p.graph p.live
+  -- at a node before which a lock is held the locals of its key are live
+  pub keys_live : (t : Thread) (of : IsThread p t) (node : ℕ) → IsNodeOf t node → (name local : ℕ) (x : LockName) →
+      slice_get (names_in p t) name ≡ Some x → holds (set_before p t node) name ≡ true → Contains (key_locals x) local → IsLive p.graph local node
   pub registers : AreRegisters p.graph p.colours
   pub apart : HasNoClash p.graph p.colours
   -- no thread's price is too high
   pub priced : price_fault Plain p.flat ≡ None
   -- a bank of the threads' logs has room for the locks that are held before each node
-  pub room : (t : Thread) (node : ℕ) → HaveRoom p.log (locks_before p t node)
+  pub room : (t : Thread) (locals : List ℤ) (node : ℕ) → HaveRoom p.log (locks_before p t locals node)
   -- a node's price pays for a boundary with these locks and 20 registers, and four words beside it
-  pub paid : (t : Thread) (node : ℕ) → words_beside p.log (locks_before p t node) + 24 ≤ node_price 0
+  pub paid : (t : Thread) (locals : List ℤ) (node : ℕ) → words_beside p.log (locks_before p t locals node) + 24 ≤ node_price 0

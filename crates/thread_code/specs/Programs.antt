@@ -15,7 +15,7 @@ use Rattle.flow_graph.specs.Liveness.{NodeAt}
 use Rattle.rv64_link.specs.LabelledCode.{one_if}
 use Rattle.rv64_link.specs.LinkedCode.{IsInstructionAt, AreInstructions}
 use Rattle.code_runs.specs.CodeTraces.{Program, Meets, marked}
-use Rattle.thread_code.specs.Plans.{Plan, Thread, IsNodeOf, AreKept, locks_before}
+use Rattle.thread_code.specs.Plans.{Plan, Thread, IsNodeOf, AreKept, held_names_before}
 use Rattle.thread_code.specs.RegistersAtNodes.{IsAnswered, source_of}
 use Rattle.thread_code.specs.NodeCodeEffects.{Places, Entrance, EntersAt, Performs, BoundaryCode, GoesOnAfter}
 
@@ -118,7 +118,7 @@ module _ (p : Plan) (t : Thread) (c : Places) where
     past_lock : (node : ℕ) (lock : LockName) (next : ℕ) (is : Node) → IsNodeOf t node → NodeAt p.graph node is → is.action ≡ Lock lock next →
         IsResumeAddress (c.after node)
     past_unlock : (node : ℕ) (lock : LockName) (next : ℕ) (is : Node) → IsNodeOf t node → NodeAt p.graph node is → is.action ≡ Unlock lock next →
-        locks_before p t next ≢ [] → IsResumeAddress (c.after node)
+        held_names_before p t next ≢ [] → IsResumeAddress (c.after node)
 
 -- the program does what the nodes of the thread do, one after another in their order
 pub record IsThreadCode (p : Plan) (t : Thread) (program : Program) : Type 0 where

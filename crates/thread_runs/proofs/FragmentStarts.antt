@@ -67,11 +67,12 @@ arrivals_end p t program own code w h s node seen side effects placed reads is f
     let of_node : IsNodeCode p t c node is = code.code node is fragment.own found in
     record {
       chosen = λ k. on_fragment p t c program w h s fragment.meets fragment.agrees _ (c.words node) (c.entry node) fragment.registers
-          (boundary_effects (keeping p t c node) side (c.core node) fragment.registers) fragment.own tt
-          (boundary_apart (length w.harts) s (keeping p t c node) side (c.core node) fragment.registers reads placed.number (placed.locks node fragment.own)
+          (boundary_effects (keeping p t c seen.locals node) side (c.core node) fragment.registers) fragment.own tt
+          (boundary_apart (length w.harts) s (keeping p t c seen.locals node) side (c.core node) fragment.registers reads placed.number
+          (placed.locks seen.locals node fragment.own)
           (λ r q. placed.slots node r fragment.own q))
-          (boundary_may w.log (length w.harts) (keeping p t c node) side (c.core node) fragment.registers placed.log placed.number
-          (placed.locks node fragment.own)
+          (boundary_may w.log (length w.harts) (keeping p t c seen.locals node) side (c.core node) fragment.registers placed.log placed.number
+          (placed.locks seen.locals node fragment.own)
           (λ r q. placed.slots node r fragment.own q))
           at (of_node.chosen k m refl (record { meets = fragment.meets; own = fragment.own; enters = fragment.has }));
       plain = λ k. record {

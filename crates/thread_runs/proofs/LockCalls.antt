@@ -102,13 +102,15 @@ module _ {p : Plan} {t : Thread} {own : Program} (code : IsThreadCode p t own) {
     takes_it = record {
       does = does;
       on = on_fragment p t c program v h s fragment.meets agrees_after
-          (record { exit = ways.Took node; node = next; seen = seen; side = side_after (keeping p t c next) side }) (c.words node) (c.call node + 4)
-          fragment.registers (boundary_effects (keeping p t c next) side (c.after node) fragment.registers) own_next (mutex, lock)
-          (boundary_apart (length w.harts) s (keeping p t c next) side (c.after node) fragment.registers reads placed.number (placed.locks next own_next)
+          (record { exit = ways.Took node; node = next; seen = seen; side = side_after (keeping p t c seen.locals next) side }) (c.words node) (c.call node + 4)
+          fragment.registers (boundary_effects (keeping p t c seen.locals next) side (c.after node) fragment.registers) own_next (mutex, lock)
+          (boundary_apart (length w.harts) s (keeping p t c seen.locals next) side (c.after node) fragment.registers reads placed.number
+          (placed.locks seen.locals next own_next)
           (λ r q. placed.slots next r own_next q))
-          (subst (λ (n : ℕ). MayGo v.log n (seen_effects (boundary_effects (keeping p t c next) side (c.after node) fragment.registers))) (sym same_count)
-          (boundary_may v.log (length w.harts) (keeping p t c next) side (c.after node) fragment.registers (placed.log ∙ sym same_log) placed.number
-          (placed.locks next own_next)
+          (subst (λ (n : ℕ). MayGo v.log n (seen_effects (boundary_effects (keeping p t c seen.locals next) side (c.after node) fragment.registers)))
+          (sym same_count)
+          (boundary_may v.log (length w.harts) (keeping p t c seen.locals next) side (c.after node) fragment.registers (placed.log ∙ sym same_log) placed.number
+          (placed.locks seen.locals next own_next)
           (λ r q. placed.slots next r own_next q)))
           after
           (calling.2 (record { environment = s; node = node; seen = seen; side = side; registers = fragment.registers }) fragment.meets refl

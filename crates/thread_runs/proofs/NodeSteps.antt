@@ -113,7 +113,7 @@ module _ {p : Plan} {t : Thread} {own : Program} (code : IsThreadCode p t own) (
       (λ (x : List ℕ). Has p t c stage.exit stage.node stage.seen stage.side x) →
       IsNodeOf t stage.node → IsInGraph p t c stage.exit stage.node stage.seen → AreEffectsApart s effects →
       MayGo w.log (length w.harts) (seen_effects effects) →
-      ((effect : Effect) → effect_at program h at.at.hart ≡ Some effect → IsMadeBy p t c e effect) → AreSeen p t c node side registers e effects →
+      ((effect : Effect) → effect_at program h at.at.hart ≡ Some effect → IsMadeBy p t c e effect) → AreSeen p t c node seen side registers e effects →
       IsAtSomeMark p t c running node seen side registers e
   at_mark e stage effects after eq plain goes own_next graph apart may made are_seen =
       let to : LocalConfig = config goes.registers (end_of p t c stage.exit stage.node) in
@@ -211,11 +211,13 @@ module _ {p : Plan} {t : Thread} {own : Program} (code : IsThreadCode p t own) (
   begins (a.Gives mutex next) eq may =
       let of_next : IsNodeOf t next = follows (a.Gives mutex next) next eq refl in
       at_mark (a.Gives mutex next) (stage_after p t c node seen side (a.Gives mutex next))
-      (boundary_effects (keeping p t c next) side (c.after node) registers) refl eq refl (performs (a.Gives mutex next) eq) of_next
+      (boundary_effects (keeping p t c seen.locals next) side (c.after node) registers) refl eq refl (performs (a.Gives mutex next) eq) of_next
       (let l = gives_unlock is.action seen mutex next eq in record { own = at.own; is = is; at = found; lock = l.0; unlocks = l.1; number = l.2 })
-      (boundary_apart (length w.harts) s (keeping p t c next) side (c.after node) registers reads placed.number (placed.locks next of_next)
+      (boundary_apart (length w.harts) s (keeping p t c seen.locals next) side (c.after node) registers reads placed.number
+      (placed.locks seen.locals next of_next)
       (λ r q. placed.slots next r of_next q))
-      (boundary_may w.log (length w.harts) (keeping p t c next) side (c.after node) registers placed.log placed.number (placed.locks next of_next)
+      (boundary_may w.log (length w.harts) (keeping p t c seen.locals next) side (c.after node) registers placed.log placed.number
+      (placed.locks seen.locals next of_next)
       (λ r q. placed.slots next r of_next q))
       (λ effect k. tt) refl
   begins a.Ends eq may =

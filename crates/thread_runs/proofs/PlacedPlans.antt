@@ -58,6 +58,6 @@ plans_are_placed p t c log threads plan thread kept logs number room = record {
   number = number;
   room = room;
   closed = closed p t plan thread;
-  locks = λ node own. plan.room t node;
+  locks = λ locals node own. plan.room t locals node;
   slots = λ node register own has. kept_small p t thread node register ((kept node own register).0 has);
 }

@@ -157,7 +157,7 @@ module _ (p : Plan) (t : Thread) (c : Places) where
   stage_after node seen side (a.Goes next) = record { exit = Arrives; node = next; seen = seen; side = side }
   stage_after node seen side (a.Takes mutex next) = record { exit = Asks mutex next; node = node; seen = seen; side = side }
   stage_after node seen side (a.Gives mutex next) =
-      record { exit = Gives node mutex; node = next; seen = seen; side = side_after (keeping p t c next) side }
+      record { exit = Gives node mutex; node = next; seen = seen; side = side_after (keeping p t c seen.locals next) side }
   stage_after node seen side a.Ends = record { exit = Ends; node = node; seen = seen; side = side }
 
   -- the store of a register's value at the place of a pending one of that kind, as memory sees it
@@ -175,15 +175,15 @@ module _ (p : Plan) (t : Thread) (c : Places) where
       if c.cleans node then Cleans (variable_at (map shape_of p.flat.variables) store.variable store.element) ∷ [] else []
 
   -- what is seen from the node's mark on
-  abbrev pub AreSeen : (node : ℕ) → (side : ℕ) → (registers : List ℕ) → a.Effect → List Effect → Type 0
-  AreSeen node side registers (a.Sets local number next) effects = effects ≡ []
-  AreSeen node side registers (a.Owes store next) effects = effects ≡ []
-  AreSeen node side registers (a.Makes store next) effects = (k : Kind) → kind_at p.flat.variables store.variable ≡ Some k →
+  abbrev pub AreSeen : (node : ℕ) → a.Seen → (side : ℕ) → (registers : List ℕ) → a.Effect → List Effect → Type 0
+  AreSeen node seen side registers (a.Sets local number next) effects = effects ≡ []
+  AreSeen node seen side registers (a.Owes store next) effects = effects ≡ []
+  AreSeen node seen side registers (a.Makes store next) effects = (k : Kind) → kind_at p.flat.variables store.variable ≡ Some k →
       effects ≡ store_of k store (read registers roles.pending_value) ∷ cleans_of node store
-  AreSeen node side registers (a.Goes next) effects = effects ≡ []
-  AreSeen node side registers (a.Takes mutex next) effects = effects ≡ []
-  AreSeen node side registers (a.Gives mutex next) effects = effects ≡ boundary_effects (keeping p t c next) side (c.after node) registers
-  AreSeen node side registers a.Ends effects = effects ≡ []
+  AreSeen node seen side registers (a.Goes next) effects = effects ≡ []
+  AreSeen node seen side registers (a.Takes mutex next) effects = effects ≡ []
+  AreSeen node seen side registers (a.Gives mutex next) effects = effects ≡ boundary_effects (keeping p t c seen.locals next) side (c.after node) registers
+  AreSeen node seen side registers a.Ends effects = effects ≡ []
 
   -- the instruction with the mark of a store makes it
   abbrev pub IsMadeBy : a.Effect → Effect → Type 0
@@ -218,7 +218,7 @@ module _ (p : Plan) (t : Thread) (c : Places) where
     -- the nodes that may follow one of the thread's are the thread's
     pub closed : (node next : ℕ) (is : Node) → IsNodeOf t node → NodeAt p.graph node is → Contains (successors is.action) next → IsNodeOf t next
     -- a side has room for the locks that are held before its nodes
-    pub locks : (node : ℕ) → IsNodeOf t node → HaveRoom p.log (locks_before p t node)
+    pub locks : (locals : List ℤ) (node : ℕ) → IsNodeOf t node → HaveRoom p.log (locks_before p t locals node)
     -- a side has a slot for each register that is kept
     pub slots : (node register : ℕ) → IsNodeOf t node → Contains (c.live node) register → register < 32
 

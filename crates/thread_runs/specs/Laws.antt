@@ -134,8 +134,8 @@ module _ (p : Plan) (t : Thread) (c : Places) where
   -- through the boundary before the node, with registers at the side
   abbrev pub BoundaryRun : Running → (node : ℕ) → Seen → (side : ℕ) → (registers : List ℕ) → Type 0
   BoundaryRun r node seen side registers =
-      IsOnSomeFragment r (record { exit = Keeps; node = node; seen = seen; side = side_after (keeping p t c node) side }) (c.words node)
-      (boundary_effects (keeping p t c node) side (c.core node) registers)
+      IsOnSomeFragment r (record { exit = Keeps; node = node; seen = seen; side = side_after (keeping p t c seen.locals node) side }) (c.words node)
+      (boundary_effects (keeping p t c seen.locals node) side (c.core node) registers)
 
   -- at the entry of its node the thread begins with the boundary before it, or is at its code
   pub record HasArrived (r : Running) (node : ℕ) (seen : Seen) (side : ℕ) (registers : List ℕ) : Type 0 where
@@ -187,7 +187,7 @@ module _ (p : Plan) (t : Thread) (c : Places) where
     pub effects : List Effect
     pub short : suc steps ≤ c.words node
     pub at : IsAtMark p t c r e (stage_after p t c node seen side e) steps effects
-    pub seen_are : AreSeen p t c node side registers e effects
+    pub seen_are : AreSeen p t c node seen side registers e effects
 
   -- what a thread does at its node's code: it asks for a mutex, or is at its mark
   abbrev pub Performing : Running → (node : ℕ) → Seen → (side : ℕ) → (registers : List ℕ) → a.Effect → Type 0
@@ -254,8 +254,9 @@ module _ (p : Plan) (t : Thread) (c : Places) where
   pub record TakesMutex (r : Running) (mutex next : ℕ) (stage : Stage) (hart : Hart) (registers : List ℕ) : Type 0 where
     pub does : happens r.program r.world (Step r.hart) ≡ moved (with_holder r.world mutex (Some r.hart)) r.hart (gone_on hart)
     pub on : IsOnSomeFragment p t c (stepped r)
-        (record { exit = Took stage.node; node = next; seen = stage.seen; side = side_after (keeping p t c next) stage.side }) (c.words stage.node)
-        (boundary_effects (keeping p t c next) stage.side (c.after stage.node) registers)
+        (record { exit = Took stage.node; node = next; seen = stage.seen; side = side_after (keeping p t c stage.seen.locals next) stage.side })
+        (c.words stage.node)
+        (boundary_effects (keeping p t c stage.seen.locals next) stage.side (c.after stage.node) registers)
     pub mark : (marks : List (List ℕ)) → AreMarksOf marks r.hart r.environment → passes_mark marks r.program r.world r.hart ≡ true
     pub counts : CountsNone r.program r.world r.hart
 

@@ -1,6 +1,6 @@
 -- A thread whose code is made, and the pieces of its nodes.
 use Rattle.std.specs.Prelude.{◌≡◌, ◌↔◌, ℕ, ◌+◌, ◌-◌, ◌*◌, ◌≤◌, List, [], ◌∷◌, ◌++◌, length, map, slice_get, slice_index_or, sum_by, Some}
-use Rattle.std.specs.Prelude.{Bool, true, false, not}
+use Rattle.std.specs.Prelude.{Bool, true, false, not, ℤ}
 use Rattle.std.specs.Prelude.{Vec}
 use Rattle.std.specs.Global.{Global}
 use Rattle.ido_base.specs.Locks.{locks_in}
@@ -18,8 +18,11 @@ use Rattle.flow_graph.specs.Liveness.{NodeAt}
 use Rattle.flow_graph.specs.OmittedCleans.{IsCleanedLater}
 use Rattle.flow_graph.specs.IdempotentCuts.{IsChosen}
 use Rattle.node_code.specs.declared.kept.Kept as kept
-use Rattle.node_code.specs.Pieces.{IsBoundaryPiece}
-use Rattle.thread_code.specs.Plans.{Plan, Thread, IsPlan, IsThread, IsNodeOf, homes, locks_before}
+use Rattle.node_code.specs.Pieces.{Appends, IsBoundaryPiece}
+use Rattle.node_code.specs.links.BoundaryCode.{AreNumbered}
+use Rattle.boundary_code.specs.links.InstructionLists.{lists_of}
+use Rattle.lock_discipline.specs.Masks.{mask_of}
+use Rattle.thread_code.specs.Plans.{Plan, Thread, IsPlan, IsThread, IsNodeOf, homes, locks_before, set_before}
 use Rattle.thread_code.specs.Programs.{action_nodes}
 use Rattle.rv64_codegen.specs.declared.thread.ThreadPlan as opened
 use Rattle.rv64_codegen.specs.Evaluations.{NeedFew}
@@ -89,12 +92,21 @@ pub record HasAction (x : opened.ThreadPlan) (node : ℕ) (action : Action) : Ty
   pub at : NodeAt (plan_in x).graph node is
   pub action_is : is.action ≡ action
 
+-- the mutexes that are held before the node, as a mask
+abbrev pub mask_before : opened.ThreadPlan → (node : ℕ) → ℕ
+mask_before x node = mask_of (set_before (plan_in x) (thread_of x) node)
+
 -- what a boundary keeps that lets the thread go on at the node
 pub record IsKeptFor (x : opened.ThreadPlan) (node : ℕ) (k : kept.Kept) : Type 0 where
   pub log_is : k.log ≡ (plan_in x).log
   pub thread_is : k.thread ≡ x.number
-  pub locks_are : locks_in k.mask ≡ locks_before (plan_in x) (thread_of x) node
+  pub locks_are : (locals : List ℤ) → locks_in k.mask ≡ locks_before (plan_in x) (thread_of x) locals node
+  pub numbers_are : AreNumbered k.log (locks_in k.mask) (lists_of k.numbers.now)
   pub live_is : k.live.now ≡ (choices_of x).live node
+
+-- a piece is appended whose boundary keeps what lets the thread go on at the node
+abbrev pub AppendsKept : (x : opened.ThreadPlan) → (node : ℕ) → (old new : List CodeItem) → (Is : kept.Kept → List CodeItem → Type 0) → Type 0
+AppendsKept x node old new Is = (k : kept.Kept) × IsKeptFor x node k × Appends old new (Is k)
 
 -- ---- Pieces
 
@@ -109,7 +121,7 @@ gives End = false
 -- the boundary before the node stands there by choice, or there is none
 pub data Guards (x : opened.ThreadPlan) (node : ℕ) (piece : List CodeItem) : Type 0 where
   stands : IsChosen (plan_in x).graph (plan_in x).boundaries node →
-      IsBoundaryPiece (boundary_before (plan_in x) (thread_of x) (choices_of x) node 0) piece → Guards x node piece
+      ((locals : List ℤ) → IsBoundaryPiece (boundary_before (plan_in x) (thread_of x) (choices_of x) locals node 0) piece) → Guards x node piece
   absent : ¬ (IsChosen (plan_in x).graph (plan_in x).boundaries node) → piece ≡ [] → Guards x node piece
 
 -- the next node follows, or a jump leads to it

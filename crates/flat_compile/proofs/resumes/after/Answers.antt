@@ -1,12 +1,10 @@
 use Rattle.std.proofs.Common.{ap, sym, ◌∙◌, arith}
 use Rattle.c_tree.specs.Exprs.{lock_name_of}
-use Rattle.ido_base.specs.Locks.{mask_with}
-use Rattle.boundary_code.proofs.Public.{none_with}
 use Rattle.flow_graph.specs.Nodes.{action_of, node_of}
 use Rattle.rv64_codegen.specs.Plans.{plan_of}
 use Rattle.flat_compile.specs.links.ResumePlacesByNode.{thread_in}
 use Rattle.flat_compile.proofs.ResumedNodes.{exists, at_node, passing}
-use Rattle.flat_compile.proofs.ResumeAddresses.{locks, unlocks, frees, passes, unlock_own}
+use Rattle.flat_compile.proofs.ResumeAddresses.{locks, unlocks, frees, mask_none, names_none, passes, unlock_own}
 use Rattle.flat_compile.proofs.resumes.after.Goals as goal
 
 pub index-requires : goal.index-requires
@@ -37,17 +35,25 @@ pub returns-then-mask-eq0 : goal.returns-then-mask-eq0
 returns-then-mask-eq0 c =
     let q = c.args.plan.now in
     let p = plan_of q in
-    frees p (thread_in p c.args.number c.args.part) c.args.node (node_of c.index.result.now) c.requires.own
-    (at_node q c.args.number c.args.part c.args.node c.requires c.index.result.now c.index.ensures) (lock_name_of c.in-Unlock.lock.now) c.in-Unlock.next
-    (ap action_of c.in-Unlock.is) (none_with _ (sym c.mask.ensures ∙ c.if-mask-eq0.true))
+    let t = thread_in p c.args.number c.args.part in
+    let is = node_of c.index.result.now in
+    let at = at_node q c.args.number c.args.part c.args.node c.requires c.index.result.now c.index.ensures in
+    let lock = lock_name_of c.in-Unlock.lock.now in
+    let own = unlock_own p t c.requires.is.plan c.requires.is.thread c.args.node lock c.in-Unlock.next is c.requires.own at (ap action_of c.in-Unlock.is) in
+    frees p t c.args.node is c.requires.own at lock c.in-Unlock.next (ap action_of c.in-Unlock.is)
+    (names_none p t c.requires.is.plan c.requires.is.thread c.in-Unlock.next own (sym c.mask.ensures ∙ c.if-mask-eq0.true))
 
 pub returns-else-mask-eq0 : goal.returns-else-mask-eq0
 returns-else-mask-eq0 c =
     let q = c.args.plan.now in
     let p = plan_of q in
-    unlocks p (thread_in p c.args.number c.args.part) c.args.node (node_of c.index.result.now) c.requires.own
-    (at_node q c.args.number c.args.part c.args.node c.requires c.index.result.now c.index.ensures) (lock_name_of c.in-Unlock.lock.now) c.in-Unlock.next
-    (ap action_of c.in-Unlock.is) (λ e. c.if-mask-eq0.false (c.mask.ensures ∙ ap mask_with e))
+    let t = thread_in p c.args.number c.args.part in
+    let is = node_of c.index.result.now in
+    let at = at_node q c.args.number c.args.part c.args.node c.requires c.index.result.now c.index.ensures in
+    let lock = lock_name_of c.in-Unlock.lock.now in
+    let own = unlock_own p t c.requires.is.plan c.requires.is.thread c.args.node lock c.in-Unlock.next is c.requires.own at (ap action_of c.in-Unlock.is) in
+    unlocks p t c.args.node is c.requires.own at lock c.in-Unlock.next (ap action_of c.in-Unlock.is)
+    (λ none. c.if-mask-eq0.false (c.mask.ensures ∙ mask_none p t c.requires.is.plan c.requires.is.thread c.in-Unlock.next own none))
 
 pub returns-in_default : goal.returns-in_default
 returns-in_default c =

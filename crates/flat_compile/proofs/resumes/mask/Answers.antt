@@ -1,6 +1,4 @@
-use Rattle.std.proofs.Common.{arith, sym, ◌∙◌}
-use Rattle.thread_code.specs.Plans.{set_before}
-use Rattle.thread_code.proofs.Public.{mask_with_held}
+use Rattle.std.proofs.Common.{arith}
 use Rattle.rv64_codegen.specs.Plans.{plan_of}
 use Rattle.rv64_codegen.proofs.Public.{held_there, held_sets, few_nodes}
 use Rattle.flat_compile.specs.links.ResumePlacesByNode.{thread_in}
@@ -26,6 +24,4 @@ held-requires-clause-step c =
     omega (arith, held_sets p is.plan (thread_in p c.args.number c.args.part) is.thread c.args.node c.requires.own)
 
 pub returns : goal.returns
-returns c =
-    let p = plan_of c.args.plan.now in
-    c.held.ensures ∙ sym (mask_with_held (set_before p (thread_in p c.args.number c.args.part) c.args.node))
+returns c = c.held.ensures

@@ -1,12 +1,20 @@
-use Rattle.std.proofs.Common.{arith}
+use Rattle.std.proofs.Common.{◌≡◌, arith, rules, true}
+use Rattle.std.proofs.lemmas.Result.{on_ok_weaker}
 use Rattle.std.proofs.lemmas.List.{length-map}
 use Rattle.flow_graph.specs.Nodes.{node_of}
-use Rattle.rv64_codegen.proofs.NodePieces.{exists_at, kept_thread, kept_live, kept_room}
+use Rattle.rv64_codegen.proofs.NodePieces.{exists_at, guard_stands, kept_live, kept_room, kept_thread, numbered}
 use Rattle.rv64_codegen.proofs.guards.push_guard.Goals as goal
 
 pub is_chosen-requires-clause-node : goal.is_chosen-requires-clause-node
 is_chosen-requires-clause-node c =
     omega (arith, exists_at c.args.thread.now c.args.node c.requires, length-map c.args.thread.now.plan.now.graph.now.nodes.items node_of)
+
+pub kept-kept-requires-clause-numbers : goal.kept-kept-requires-clause-numbers
+kept-kept-requires-clause-numbers c =
+    numbered c.args.thread.now c.args.node c.in_ok-numbers.numbers.items c.deref.result.now c.deref.ensures.value c.in_ok-numbers.ensures
+
+pub push_boundary-requires-clause-numbers : goal.push_boundary-requires-clause-numbers
+push_boundary-requires-clause-numbers c = c.kept-kept.ensures.numbers_are
 
 pub push_boundary-requires-clause-thread : goal.push_boundary-requires-clause-thread
 push_boundary-requires-clause-thread c = kept_thread c.args.thread.now c.requires.open_is c.args.node c.kept-kept.result c.kept-kept.ensures
@@ -17,3 +25,14 @@ push_boundary-requires-clause-live c =
 
 pub push_boundary-requires-clause-room : goal.push_boundary-requires-clause-room
 push_boundary-requires-clause-room c = kept_room c.args.thread.now c.requires.open_is c.args.node c.kept-kept.result c.kept-kept.ensures
+
+pub returns : goal.returns
+returns c =
+    let chosen : c.is_chosen.result ≡ true = search (rules, c.if-not-is_chosen.false) in
+    on_ok_weaker c.push_boundary.result
+    (λ own. record {
+      piece = own.piece;
+      appended = own.appended;
+      is = guard_stands c.args.thread.now c.requires.open_is c.args.node c.kept-kept.result own.piece c.kept-kept.ensures (c.is_chosen.ensures.0 chosen) own.is;
+    })
+    c.push_boundary.ensures

@@ -3,8 +3,8 @@ use Rattle.rv64_isa.specs.declared.instr.Instr.{Instr}
 use Rattle.ido_base.specs.Locks.{locks_from, locks_in}
 use Rattle.boundary_code.specs.links.InstructionLists.{lists_of}
 use Rattle.node_code.specs.links.BoundaryCode.{number_code}
-use Rattle.node_code.proofs.LockNumbers.{begins, goes_on, ends}
-use Rattle.node_code.proofs.boundaries.number_codes.Goals as goal
+use Rattle.rv64_codegen.proofs.HeldNumbers.{begins, goes_on, ends}
+use Rattle.rv64_codegen.proofs.numbers.number_codes.Goals as goal
 
 pub loop-mutex-init : goal.loop-mutex-init
 loop-mutex-init c =
