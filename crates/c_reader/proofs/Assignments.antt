@@ -1,5 +1,7 @@
 -- The parsers of assignments, calls and right sides keep their languages.
-use Rattle.std.proofs.Common.{◌≡◌, ℕ, ◌≤◌, List, [], ◌∷◌, ◌++◌, Option, Some, None, sym, refl, ap, ◌∙◌, subst, inl, inr, append_assoc, arith}
+use Rattle.std.proofs.Common.{◌≡◌, ℕ, ◌≤◌, List, [], ◌∷◌, ◌++◌, Option, Some, None, true, false, sym, refl, ap, ◌∙◌, subst, inl, inr, append_assoc}
+use Rattle.std.proofs.Common.{arith}
+use Rattle.std.specs.Prelude.{◌⊎◌}
 use Rattle.ido_base.specs.declared.place.Place.{Place}
 use Rattle.ido_ints.specs.declared.operators.Binary.{Binary}
 use Rattle.ido_ints.specs.declared.operators.Binary.TheVariants as binary
@@ -7,26 +9,46 @@ use Rattle.c_tree.specs.Tokens.{Token, Lexeme, Name, Punctuator}
 use Rattle.c_tree.specs.declared.token.Punctuator.TheVariants as p
 use Rattle.c_tree.specs.Trees as t
 use Rattle.c_tree.specs.Languages.{mark, ◌⋅◌, first_place}
+use Rattle.c_tree.specs.Elaboration.{target_place}
 use Rattle.c_tree.specs.Grammar.{expression, index, target, changed, assignment}
-use Rattle.c_reader.specs.links.ParserFunctions.{head_of, update_in, parse_target, change_by, parse_change, assignment_by, parse_assignment}
-use Rattle.c_reader.proofs.CorrectParsers.{Spelling, Good, ◌▷◌, ◌▹◌, found_in, Anything, good_to, good_map, good_head, good_then, good_taking}
+use Rattle.c_reader.specs.links.ParserFunctions.{head_of, head_is, is_mark, update_in, parse_target, parse_followed}
+use Rattle.c_reader.specs.links.ParserFunctions.{change_by, parse_change, assignment_by, parse_assignment}
+use Rattle.c_reader.proofs.CorrectParsers.{Spelling, Good, ◌▷◌, ◌▹◌, found_in, Anything, good_to, good_map, good_where, good_head, good_then, good_taking}
 use Rattle.c_reader.proofs.Tokens.{some_same, marked, named, good_mark, good_name}
 use Rattle.c_reader.proofs.Expressions.{OperandEnd, not_mark}
 use Rattle.c_reader.proofs.Operands.{ExpressionEnd, good_index, good_expression}
 
 -- ---- Targets
 
+abbrev pub FollowedLanguage : Spelling t.Lvalue
+FollowedLanguage = marked p.Star ▷ (λ place. named ▹ t.Followed place)
+
+abbrev NamedTarget : Spelling t.Lvalue
+NamedTarget = named ▷ (λ n. index ▹ t.Target n)
+
+pub good_followed : {b : ℕ} → Good b FollowedLanguage FollowedLanguage Anything parse_followed parse_followed
+good_followed =
+    good_then {M = λ place. named ▹ t.Followed place} {F = Anything} {G = Anything} (good_mark p.Star) (λ place. good_map (t.Followed place) good_name)
+    (λ place y us rest m f. tt)
+
+pub followed_up : (y : t.Lvalue) (us : List Token) → FollowedLanguage y us → target y us
+followed_up y us (place, us₁, us₂, e, l, (x, m, q)) = subst (λ y. target y us) q (us₁, us₂, e, l, m)
+
 pub good_target : (fuel fuel' b : ℕ) → b ≤ fuel → b ≤ fuel' → Good b target target OperandEnd (parse_target fuel) (parse_target fuel')
 good_target fuel fuel' b h h' =
-    good_to {U = named ▷ (λ n. index ▹ made n)} {K = named ▷ (λ n. index ▹ made n)} {F = OperandEnd}
-    (good_then {M = λ n. index ▹ made n} {F = Anything} {G = OperandEnd} good_name
-    (λ n. good_map (made n) (good_index {c = b} (omega arith) (good_expression fuel fuel' b h h'))) (λ n y us rest m f. tt))
-    (λ y us (n, us₁, us₂, e, l, (i, m, q)). subst (λ y. target y us) q (us₁, us₂, e, l, m))
-    (λ y us (us₁, us₂, e, l, m). (y.name, us₁, us₂, e, l, (y.index, m, refl)))
-    (λ h f. f)
+    good_where {K₁ = FollowedLanguage} {K₂ = NamedTarget} (head_is (is_mark p.Star))
+    (good_to {F = Anything} good_followed followed_up (λ y us u. u) (λ h f. tt))
+    (good_to {U = NamedTarget} {K = NamedTarget} {F = OperandEnd}
+    (good_then {M = λ n. index ▹ t.Target n} {F = Anything} {G = OperandEnd} good_name
+    (λ n. good_map (t.Target n) (good_index {c = b} (omega arith) (good_expression fuel fuel' b h h'))) (λ n y us rest m f. tt))
+    (λ y us (n, us₁, us₂, e, l, (i, m, q)). subst (λ y. target y us) q (us₁, us₂, e, l, m)) (λ y us u. u) (λ h f. f))
+    out
   where
-    made : t.Name → Option t.Expression → t.Lvalue
-    made n i = record { name = n; index = i }
+    out : (y : t.Lvalue) (us rest : List Token) → target y us → OperandEnd (head_of rest) →
+        (FollowedLanguage y us × (head_is (is_mark p.Star) (head_of (us ++ rest)) ≡ true))
+        ⊎ (NamedTarget y us × (head_is (is_mark p.Star) (head_of (us ++ rest)) ≡ false))
+    out (t.Target n i) us rest (us₁, us₂, e, l, m) f = inr ((n, us₁, us₂, e, l, (i, m, refl)), rw (e, l) refl)
+    out (t.Followed place x) us rest (us₁, us₂, e, l, m) f = inl ((place, us₁, us₂, e, l, (x, m, refl)), rw (e, l) refl)
 
 -- ---- Changes
 
@@ -99,7 +121,7 @@ good_change fuel fuel' b h h' = good_head {K = change_language} (change_good fue
 -- ---- Assignments
 
 abbrev made_of : t.Lvalue → t.Change → t.Assignment
-made_of x y = record { place = x.name.place; target = x; change = y }
+made_of x y = record { place = target_place x; target = x; change = y }
 
 abbrev before : t.Change → Place → t.Lvalue → t.Assignment
 before y place x = record { place = place; target = x; change = y }
@@ -112,12 +134,23 @@ assignment_language (Some (Punctuator p.Increment)) = marked p.Increment ▷ (λ
 assignment_language (Some (Punctuator p.Decrement)) = marked p.Decrement ▷ (λ place. target ▹ before t.Decrement place)
 assignment_language _ = PlainLanguage
 
--- a target begins with its name
-target_first : (x : t.Lvalue) (us vs : List Token) → target x us → first_place (us ++ vs) ≡ Some x.name.place
-target_first x us vs (us₁, us₂, e, n, i) = rw (e, n) refl
+-- the lexeme of a target's first token
+abbrev pub target_lexeme : t.Lvalue → Lexeme
+target_lexeme (t.Target x index) = Name x.text
+target_lexeme (t.Followed place x) = Punctuator p.Star
 
-target_head : (x : t.Lvalue) (us rest : List Token) → target x us → head_of (us ++ rest) ≡ Some (Name x.name.text)
-target_head x us rest (us₁, us₂, e, n, i) = rw (e, n) refl
+pub target_first : (x : t.Lvalue) (us vs : List Token) → target x us → first_place (us ++ vs) ≡ Some (target_place x)
+target_first (t.Target x index) us vs (us₁, us₂, e, n, i) = rw (e, n) refl
+target_first (t.Followed place x) us vs (us₁, us₂, e, l, m) = rw (e, l) refl
+
+pub target_head : (x : t.Lvalue) (us rest : List Token) → target x us → head_of (us ++ rest) ≡ Some (target_lexeme x)
+target_head (t.Target x index) us rest (us₁, us₂, e, n, i) = rw (e, n) refl
+target_head (t.Followed place x) us rest (us₁, us₂, e, l, m) = rw (e, l) refl
+
+-- it leads to an assignment whose target comes first
+plain_at : (x : t.Lvalue) (y : t.Assignment) (us : List Token) → PlainLanguage y us → assignment_language (Some (target_lexeme x)) y us
+plain_at (t.Target x index) y us u = u
+plain_at (t.Followed place x) y us u = u
 
 change_ends : (y : t.Change) (us rest : List Token) → ChangeLanguage y us → OperandEnd (head_of (us ++ rest))
 change_ends (t.Set value) us rest (us₁, us₂, e, (o, l), m) = rw (e, l) refl
@@ -167,23 +200,23 @@ assignment_good fuel fuel' b h h' _ =
 pub plain_down : (place : Place) (x : t.Lvalue) (c : t.Change) (us us₁ us₂ : List Token) → us ≡ us₁ ++ us₂ → first_place us ≡ Some place → target x us₁
     → ChangeLanguage c us₂ → PlainLanguage (record { place = place; target = x; change = c }) us
 plain_down place x c us us₁ us₂ e f u m =
-    let s : x.name.place ≡ place = some_same x.name.place place (sym (target_first x us₁ us₂ u) ∙ ap first_place (sym e) ∙ f) in
+    let s : target_place x ≡ place = some_same (target_place x) place (sym (target_first x us₁ us₂ u) ∙ ap first_place (sym e) ∙ f) in
     (x, us₁, us₂, e, u, (c, m, ap (λ place. record { place = place; target = x; change = c }) s))
 
 assignment_out : (place : Place) (x : t.Lvalue) (c : t.Change) (us rest : List Token) → assignment (record { place = place; target = x; change = c }) us
     → assignment_language (head_of (us ++ rest)) (record { place = place; target = x; change = c }) us
 assignment_out place x (t.Set value) us rest (f, (us₁, us₂, e, u, m)) =
-    let q : head_of (us ++ rest) ≡ Some (Name x.name.text) = rw (e, append_assoc us₁ us₂ rest) (target_head x us₁ (us₂ ++ rest) u) in
-    rw q (plain_down place x (t.Set value) us us₁ us₂ e f u m)
+    let q : head_of (us ++ rest) ≡ Some (target_lexeme x) = rw (e, append_assoc us₁ us₂ rest) (target_head x us₁ (us₂ ++ rest) u) in
+    rw q (plain_at x _ us (plain_down place x (t.Set value) us us₁ us₂ e f u m))
 assignment_out place x (t.Update operator value) us rest (f, (us₁, us₂, e, u, m)) =
-    let q : head_of (us ++ rest) ≡ Some (Name x.name.text) = rw (e, append_assoc us₁ us₂ rest) (target_head x us₁ (us₂ ++ rest) u) in
-    rw q (plain_down place x (t.Update operator value) us us₁ us₂ e f u m)
+    let q : head_of (us ++ rest) ≡ Some (target_lexeme x) = rw (e, append_assoc us₁ us₂ rest) (target_head x us₁ (us₂ ++ rest) u) in
+    rw q (plain_at x _ us (plain_down place x (t.Update operator value) us us₁ us₂ e f u m))
 assignment_out place x t.Increment us rest (f, inl (us₁, us₂, e, u, m)) =
-    let q : head_of (us ++ rest) ≡ Some (Name x.name.text) = rw (e, append_assoc us₁ us₂ rest) (target_head x us₁ (us₂ ++ rest) u) in
-    rw q (plain_down place x t.Increment us us₁ us₂ e f u m)
+    let q : head_of (us ++ rest) ≡ Some (target_lexeme x) = rw (e, append_assoc us₁ us₂ rest) (target_head x us₁ (us₂ ++ rest) u) in
+    rw q (plain_at x _ us (plain_down place x t.Increment us us₁ us₂ e f u m))
 assignment_out place x t.Decrement us rest (f, inl (us₁, us₂, e, u, m)) =
-    let q : head_of (us ++ rest) ≡ Some (Name x.name.text) = rw (e, append_assoc us₁ us₂ rest) (target_head x us₁ (us₂ ++ rest) u) in
-    rw q (plain_down place x t.Decrement us us₁ us₂ e f u m)
+    let q : head_of (us ++ rest) ≡ Some (target_lexeme x) = rw (e, append_assoc us₁ us₂ rest) (target_head x us₁ (us₂ ++ rest) u) in
+    rw q (plain_at x _ us (plain_down place x t.Decrement us us₁ us₂ e f u m))
 assignment_out place x t.Increment us rest (f, inr (us₁, us₂, e, (o, l), u)) =
     let s : o ≡ place = some_same o place (sym (ap first_place (e ∙ ap (λ l. l ++ us₂) l)) ∙ f) in
     let q : head_of (us ++ rest) ≡ Some (Punctuator p.Increment) = rw (e, l) refl in

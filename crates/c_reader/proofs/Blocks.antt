@@ -17,7 +17,7 @@ use Rattle.c_reader.specs.links.ParserFunctions.{parse_expression, parse_assignm
 use Rattle.c_reader.specs.links.ParserFunctions.{parse_statement, parse_statements, parse_block, statements_over}
 use Rattle.c_reader.specs.links.ParserFunctions.{statement_by, statement_over, arms_after, with_arm, if_of}
 use Rattle.c_reader.specs.links.ParserSteps.{statement_by_word, statement_by_mark, parse_named_statement, parse_declaration_statement}
-use Rattle.c_reader.specs.links.ParserSteps.{parse_assignment_statement, parse_lock}
+use Rattle.c_reader.specs.links.ParserSteps.{parse_assignment_statement, parse_followed_statement, parse_lock}
 use Rattle.c_reader.specs.links.ParserSteps.{parse_unlock, parse_if, parse_while, parse_do, parse_for}
 use Rattle.c_reader.specs.links.ParserSteps.{parse_start_of_for, parse_middle_of_for, parse_end_of_for, parse_head_of_for}
 use Rattle.c_reader.specs.links.ParserSteps.{parse_arm, then_statements, then_arms, more_statements, more_arms}
@@ -141,7 +141,8 @@ module _ (language : Language) where
   statement_none fuel ts none = ap (λ n. parse_statement language n ts) none
 
   pub statement_some : (fuel : ℕ) (ts : List Token) → 0 < fuel → parse_statement language fuel ts ≡ by_head (statement_by_head fuel) ts
-  unfolding parse_statement parse_named_statement parse_declaration_statement parse_assignment_statement parse_lock parse_unlock parse_if parse_while parse_do
+  unfolding parse_statement parse_named_statement parse_followed_statement parse_declaration_statement parse_assignment_statement
+      parse_lock parse_unlock parse_if parse_while parse_do
   statement_some fuel ts some =
       let e : fuel ≡ suc (fuel - 1) = omega arith in
       ap (λ (n : ℕ). parse_statement language n ts) e ∙ ap (λ (n : ℕ). statement_over language (parse_block language (fuel - 1)) n ts) (sym e)

@@ -4,7 +4,8 @@ use Rattle.std.specs.Prelude.{◌⊎◌}
 use Rattle.ido_ints.specs.TypedNumbers.{Typed}
 use Rattle.ido_ints.specs.declared.operators.Unary.{Unary}
 use Rattle.ido_ints.specs.declared.operators.Unary.TheVariants as unary
-use Rattle.c_tree.specs.Tokens.{Token, Lexeme, Name, Number, Punctuator}
+use Rattle.c_tree.specs.Tokens.{Token, Lexeme, Name, Keyword, Number, Punctuator}
+use Rattle.c_tree.specs.declared.token.Keyword.TheVariants as k
 use Rattle.c_tree.specs.declared.token.Punctuator.TheVariants as p
 use Rattle.c_tree.specs.Trees as t
 use Rattle.c_tree.specs.Languages.{mark, ◌⋅◌, name, list_of, some_of}
@@ -14,7 +15,7 @@ use Rattle.c_reader.specs.links.ParserFunctions.{right_by, parse_right, parse_ex
 use Rattle.c_reader.proofs.CorrectParsers.{Spelling, Good, ◌▷◌, ◌▹◌, just, Anything, good_give, good_to, good_map, good_where, good_head, good_then}
 use Rattle.c_reader.proofs.Tokens.{marked, named, good_mark, good_name}
 use Rattle.c_reader.proofs.OptionalParts.{Unless, Where, good_some_of}
-use Rattle.c_reader.proofs.Expressions.{OperandEnd, from, not_mark, ladder_ends, ladder_head, precedence_high}
+use Rattle.c_reader.proofs.Expressions.{OperandEnd, from, operator_not_mark, ladder_ends, ladder_head, precedence_high}
 use Rattle.c_reader.proofs.Operands.{ExpressionEnd, NamedLanguage, AfterLanguage, ConditionalLanguage, good_expression, good_operand}
 use Rattle.c_reader.proofs.Operands.{named_good, expression_after_good, after_up, after_down, named_up, conditional_ends}
 
@@ -24,12 +25,16 @@ use Rattle.c_reader.proofs.Operands.{named_good, expression_after_good, after_up
 abbrev pub Foreign : (Option Lexeme → Bool) → Type 0
 Foreign test = ((value : Typed) → test (Some (Number value)) ≡ false) × ((bytes : List ℕ) → test (Some (Name bytes)) ≡ false)
     × (test (Some (Punctuator p.OpenParenthesis)) ≡ false) × ((o : Unary) → test (Some (Punctuator (unary_mark o))) ≡ false)
+    × (test (Some (Keyword k.Null)) ≡ false) × (test (Some (Punctuator p.Star)) ≡ false) × (test (Some (Punctuator p.Ampersand)) ≡ false)
 
 pub expression_foreign : (test : Option Lexeme → Bool) → Foreign test → (n : ℕ) (x : t.Expression) (us rest : List Token) → from n x us
     → test (head_of (us ++ rest)) ≡ false
 expression_foreign test f n (t.Number place value) us rest u = rw u (f.0 value)
 expression_foreign test f n (t.Named x) us rest u = rw u (f.1 x.text)
 expression_foreign test f n (t.Element array i) us rest (us₁, us₂, e, l, m) = rw (e, l) (f.1 array.text)
+expression_foreign test f n (t.Null place) us rest u = rw u f.4
+expression_foreign test f n (t.Address place array i) us rest (us₁, us₂, e, l, m) = rw (e, l) f.6
+expression_foreign test f n (t.Referent place reference) us rest (us₁, us₂, e, l, m) = rw (e, l) f.5
 expression_foreign test f n (t.Parenthesised place inner) us rest (us₁, us₂, e, l, m) = rw (e, l) f.2
 expression_foreign test f n (t.Unary place o operand) us rest (us₁, us₂, e, l, m) = rw (e, l) (f.3 o)
 expression_foreign test f n (t.Cast place x operand) us rest (us₁, us₂, e, l, m) = rw (e, l) f.2
@@ -45,7 +50,7 @@ abbrev pub ArgumentsLanguage : Spelling (List t.Expression)
 ArgumentsLanguage xs = list_of expression xs ⋅ mark p.CloseParenthesis
 
 close_foreign : Foreign (head_is (is_mark p.CloseParenthesis))
-close_foreign = (λ v. refl, λ v. refl, refl, on)
+close_foreign = (λ v. refl, λ v. refl, refl, on, refl, refl, refl)
   where
     on : (o : Unary) → head_is (is_mark p.CloseParenthesis) (Some (Punctuator (unary_mark o))) ≡ false
     on unary.Plus = refl
@@ -154,7 +159,7 @@ named_head : (n : t.Name) (x : t.Expression) (us rest : List Token) → NamedExp
     → head_is (is_mark p.OpenParenthesis) (head_of (us ++ rest)) ≡ false
 named_head n x us rest (left, us₁, us₂, e, (i, m, q), (y, us₃, us₄, e', l, c)) f =
     rw (e, append_assoc us₁ us₂ rest) (on i m (rw (e', append_assoc us₃ us₄ rest)
-    (ladder_head (head_is (is_mark p.OpenParenthesis)) (λ o. not_mark p.OpenParenthesis (Punctuator (p.Binary o)) (λ q. cc)) 10 left y us₃ (us₄ ++ rest) l
+    (ladder_head (head_is (is_mark p.OpenParenthesis)) (λ l o is. operator_not_mark p.OpenParenthesis l o refl is) 10 left y us₃ (us₄ ++ rest) l
     (last c))))
   where
     last : ConditionalLanguage y x us₄ → head_is (is_mark p.OpenParenthesis) (head_of (us₄ ++ rest)) ≡ false
@@ -212,6 +217,11 @@ value_out x (t.Named n) us us₁ us₂ rest e l a u =
 value_out x (t.Element n i) us us₁ us₂ rest e (vs₁, vs₂, e', l, m) a u =
     let q : head_of (us ++ rest) ≡ Some (Name n.text) = rw (e, e', l) refl in
     rw q (n, vs₁, vs₂ ++ us₂, e ∙ ap (λ l. l ++ us₂) e' ∙ append_assoc vs₁ vs₂ us₂, l, (t.Element n i, vs₂, us₂, refl, (Some i, m, refl), a))
+value_out x (t.Null place) us us₁ us₂ rest e l a u = let q : head_of (us ++ rest) ≡ Some (Keyword k.Null) = rw (e, l) refl in rw q (x, u, refl)
+value_out x (t.Address place array i) us us₁ us₂ rest e (vs₁, vs₂, e', l, m) a u =
+    let q : head_of (us ++ rest) ≡ Some (Punctuator p.Ampersand) = rw (e, e', l) refl in rw q (x, u, refl)
+value_out x (t.Referent place reference) us us₁ us₂ rest e (vs₁, vs₂, e', l, m) a u =
+    let q : head_of (us ++ rest) ≡ Some (Punctuator p.Star) = rw (e, e', l) refl in rw q (x, u, refl)
 value_out x (t.Parenthesised place inner) us us₁ us₂ rest e (vs₁, vs₂, e', l, m) a u =
     let q : head_of (us ++ rest) ≡ Some (Punctuator p.OpenParenthesis) = rw (e, e', l) refl in rw q (x, u, refl)
 value_out x (t.Unary place o operand) us us₁ us₂ rest e (vs₁, vs₂, e', l, m) a u =

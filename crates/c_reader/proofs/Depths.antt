@@ -6,6 +6,7 @@ use Rattle.std.specs.List.{AllByRecursion}
 use Rattle.std.proofs.lemmas.Bool.Decides.{nat_tests}
 use Rattle.ido_base.specs.declared.place.Place.{Place}
 use Rattle.ido_ints.specs.declared.operators.Unary.TheVariants as unary
+use Rattle.ido_ints.specs.declared.operators.Binary.TheVariants as binary
 use Rattle.c_tree.specs.declared.language.Language.{Language}
 use Rattle.c_tree.specs.declared.language.Language.TheVariants.{Plain, Full}
 use Rattle.c_tree.specs.Tokens.{Token, Lexeme, Name, Keyword, Number, Punctuator}
@@ -21,7 +22,7 @@ use Rattle.c_tree.specs.Views.{items_of}
 use Rattle.c_tree.specs.declared.tree.Tree.{Tree}
 use Rattle.c_tree.specs.declared.refusal.SourceError.{SourceError}
 use Rattle.c_tree.specs.TextReadings.{Nesting, outside, within_lexeme, within_mark, is_high, is_high_from, nests_high, IsRead}
-use Rattle.c_reader.specs.Depths.{height, IsLow, IsLowIf, IsLowChange, IsLowAssignment, IsLowLast, IsLowCall, IsLowInitial, IsLowFirst, IsFlat}
+use Rattle.c_reader.specs.Depths.{index_of, height, IsLow, IsLowIf, IsLowChange, IsLowAssignment, IsLowLast, IsLowCall, IsLowInitial, IsLowFirst, IsFlat}
 use Rattle.c_reader.specs.Depths.{IsFlatBlock, AreFlat, AreFlatArms, IsFlatOtherwise, IsLowReturn, IsFlatBody, IsFlatItem, IsShallow}
 use Rattle.c_reader.proofs.Nestings.{nesting_after, is_high_from-prefix}
 
@@ -119,6 +120,14 @@ unary_opens unary.Not n = opening n
 rises_provided : (h : ℕ) (A : Type 0) (P : List Token → Type 0) → Rises h P → Rises h (provided A P)
 rises_provided h A P a = record { go = λ ts (c, x) n. a.go ts x n }
 
+rises_either : (h : ℕ) (P Q : List Token → Type 0) → Rises h P → Rises h Q → Rises h (P or Q)
+rises_either h P Q a b = record { go = λ ts u n. ⊎_elim (λ x. a.go ts x n) (λ y. b.go ts y n) u }
+
+rises_operator : (o : _) → Rises 1 (g.operator o)
+rises_operator binary.Mul = rises_either 1 _ _ (rises_one 1 (Punctuator (p.Binary binary.Mul)) opening) (rises_one 1 (Punctuator p.Star) opening)
+rises_operator binary.And = rises_either 1 _ _ (rises_one 1 (Punctuator (p.Binary binary.And)) opening) (rises_one 1 (Punctuator p.Ampersand) opening)
+rises_operator o = rises_one 1 (Punctuator (p.Binary o)) opening
+
 spelt : (x : t.Expression) (precedence : ℕ) → IsSpelt x (g.expression_from x precedence)
 spelt (t.Number place value) s = record { rise = 0; long = omega arith; rises = rises_at 0 place (Number value) same_mark }
 spelt (t.Named x) s = record { rise = 0; long = omega arith; rises = rises_at 0 x.place (Name x.text) same_mark }
@@ -132,6 +141,23 @@ spelt (t.Element array index) s =
           (rises_both 1 (i.rise + 0) _ _ (rises_one 1 (Punctuator p.OpenBracket) opening)
           (rises_both i.rise 0 _ _ i.rises (rises_one 0 (Punctuator p.CloseBracket) same_mark)));
     }
+spelt (t.Null place) s = record { rise = 0; long = omega arith; rises = rises_at 0 place (Keyword k.Null) same_mark }
+spelt (t.Address place array index) s =
+    let i = spelt index 0 in
+    let long = i.long in
+    record {
+      rise = 1 + (0 + (1 + (i.rise + 0)));
+      long = omega (arith, long);
+      rises = rises_both 1 (0 + (1 + (i.rise + 0))) _ _ (rises_at 1 place (Punctuator p.Ampersand) opening)
+          (rises_both 0 (1 + (i.rise + 0)) _ _ (rises_at 0 array.place (Name array.text) same_mark)
+          (rises_both 1 (i.rise + 0) _ _ (rises_one 1 (Punctuator p.OpenBracket) opening)
+          (rises_both i.rise 0 _ _ i.rises (rises_one 0 (Punctuator p.CloseBracket) same_mark))));
+    }
+spelt (t.Referent place reference) s = record {
+  rise = 1 + 0;
+  long = omega arith;
+  rises = rises_both 1 0 _ _ (rises_at 1 place (Punctuator p.Star) opening) (rises_at 0 reference.place (Name reference.text) same_mark);
+}
 spelt (t.Parenthesised place inner) s =
     let i = spelt inner 0 in
     let long = i.long in
@@ -168,7 +194,7 @@ spelt (t.Binary operator left right) s =
       rise = l.rise + (1 + r.rise);
       long = omega (arith, first, second);
       rises = rises_provided (l.rise + (1 + r.rise)) _ _
-          (rises_both l.rise (1 + r.rise) _ _ l.rises (rises_both 1 r.rise _ _ (rises_one 1 (Punctuator (p.Binary operator)) opening) r.rises));
+          (rises_both l.rise (1 + r.rise) _ _ l.rises (rises_both 1 r.rise _ _ (rises_operator operator) r.rises));
     }
 spelt (t.Conditional condition chosen otherwise) s =
     let a = spelt condition 1 in
@@ -341,20 +367,23 @@ low_index : (x : Option t.Expression) → Holds (λ room. IsLowIf 129 x) (g.inde
 low_index None = holds_empty
 low_index (Some x) = then _ _ _ (mark p.OpenBracket (λ n. refl)) (and_then _ _ _ (low_expression x 0) (mark p.CloseBracket (λ n. refl)))
 
-low_target : (x : t.Lvalue) → Holds (λ room. IsLowIf 129 x.index) (g.target x)
-low_target x = then _ _ _ (name x.name) (low_index x.index)
+low_target : (x : t.Lvalue) → Holds (λ room. IsLowIf 129 (index_of x)) (g.target x)
+low_target (t.Target x i) = then _ _ _ (name x) (low_index i)
+low_target (t.Followed place x) = then _ _ _ (holds_at place (Punctuator p.Star) (λ n. refl)) (name x)
 
-low_changed : (x : t.Lvalue) (c : t.Change) → Holds (λ room. IsLowIf 129 x.index × IsLowChange 129 c) (g.changed x c)
+low_changed : (x : t.Lvalue) (c : t.Change) → Holds (λ room. IsLowIf 129 (index_of x) × IsLowChange 129 c) (g.changed x c)
 low_changed x (t.Set value) = holds_both _ _ _ _ (low_target x) (then _ _ _ (mark p.Assign (λ n. refl)) (low_expression value 0))
 low_changed x (t.Update operator value) = holds_both _ _ _ _ (low_target x) (then _ _ _ (mark (p.Update operator) (λ n. refl)) (low_expression value 0))
 low_changed x t.Increment =
-    holds_either (λ room. IsLowIf 129 x.index × Unit {0}) Always (g.target x ⋅ lexeme (Punctuator p.Increment)) (lexeme (Punctuator p.Increment) ⋅ g.target x)
+    holds_either (λ room. IsLowIf 129 (index_of x) × Unit {0}) Always (g.target x ⋅ lexeme (Punctuator p.Increment))
+    (lexeme (Punctuator p.Increment) ⋅ g.target x)
     (holds_both _ _ _ _ (low_target x) (mark p.Increment (λ n. refl)))
-    (holds_less (λ room. IsLowIf 129 x.index) _ _ (λ room h. (h, tt)) (then _ _ _ (mark p.Increment (λ n. refl)) (low_target x)))
+    (holds_less (λ room. IsLowIf 129 (index_of x)) _ _ (λ room h. (h, tt)) (then _ _ _ (mark p.Increment (λ n. refl)) (low_target x)))
 low_changed x t.Decrement =
-    holds_either (λ room. IsLowIf 129 x.index × Unit {0}) Always (g.target x ⋅ lexeme (Punctuator p.Decrement)) (lexeme (Punctuator p.Decrement) ⋅ g.target x)
+    holds_either (λ room. IsLowIf 129 (index_of x) × Unit {0}) Always (g.target x ⋅ lexeme (Punctuator p.Decrement))
+    (lexeme (Punctuator p.Decrement) ⋅ g.target x)
     (holds_both _ _ _ _ (low_target x) (mark p.Decrement (λ n. refl)))
-    (holds_less (λ room. IsLowIf 129 x.index) _ _ (λ room h. (h, tt)) (then _ _ _ (mark p.Decrement (λ n. refl)) (low_target x)))
+    (holds_less (λ room. IsLowIf 129 (index_of x)) _ _ (λ room h. (h, tt)) (then _ _ _ (mark p.Decrement (λ n. refl)) (low_target x)))
 
 low_assignment : (x : t.Assignment) → Holds (λ room. IsLowAssignment 129 x) (g.assignment x)
 low_assignment x = holds_starting _ x.place _ (low_changed x.target x.change)
@@ -373,17 +402,22 @@ low_initial t.Absent = holds_empty
 low_initial (t.Value x) = then _ _ _ (mark p.Assign (λ n. refl)) (low_expression x 0)
 low_initial (t.Result x) = then _ _ _ (mark p.Assign (λ n. refl)) (low_call x)
 
+type_name : (x : t.TypeName) → Holds Always (g.type_name x)
+type_name (t.OfKind x) = type x
+type_name (t.RefTo x) =
+    then _ _ _ (word k.Ref) (then _ _ _ (mark p.OpenParenthesis (λ n. refl)) (then _ _ _ (name x) (mark p.CloseParenthesis (λ n. refl))))
+
 low_initial_of_first : (x : t.Initial) → Holds (λ room. IsLowInitial 129 x) (g.initial_of_first x)
 low_initial_of_first t.Absent = holds_empty
 low_initial_of_first (t.Value x) = then _ _ _ (mark p.Assign (λ n. refl)) (low_expression x 0)
 low_initial_of_first (t.Result x) = record { go = λ ts y n room free low. absurd y }
 
 low_declaration : (x : t.Declaration) → Holds (λ room. IsLowInitial 129 x.initial) (g.declaration x)
-low_declaration x = holds_starting _ x.place _ (then _ _ _ (type x.kind) (then _ _ _ (name x.name) (low_initial x.initial)))
+low_declaration x = holds_starting _ x.place _ (then _ _ _ (type_name x.type_name) (then _ _ _ (name x.name) (low_initial x.initial)))
 
 low_first : (x : t.First) → Holds (λ room. IsLowFirst 129 x) (g.first x)
 low_first t.NoFirst = holds_empty
-low_first (t.Declared x) = holds_starting _ x.place _ (then _ _ _ (type x.kind) (then _ _ _ (name x.name) (low_initial_of_first x.initial)))
+low_first (t.Declared x) = holds_starting _ x.place _ (then _ _ _ (type_name x.type_name) (then _ _ _ (name x.name) (low_initial_of_first x.initial)))
 low_first (t.Assigned x) = low_assignment x
 
 low_condition : (x : t.Expression) → Holds (λ room. IsLow 129 x) (g.condition x)
@@ -459,11 +493,11 @@ low_return (Some x) = then _ _ _ (word_at x.place k.Return) (and_then _ _ _ (low
 
 parameters : (xs : List t.Parameter) → Holds Always (g.parameters xs)
 parameters [] = holds_either Always Always empty (lexeme (Keyword k.Void)) holds_empty (word k.Void)
-parameters (x ∷ xs) = holds_some g.parameter (λ y. then _ _ _ (type y.kind) (name y.name)) (x ∷ xs)
+parameters (x ∷ xs) = holds_some g.parameter (λ y. then _ _ _ (type_name y.type_name) (name y.name)) (x ∷ xs)
 
 result : (x : Option _) → Holds Always (g.result x)
 result None = word k.Void
-result (Some x) = type x
+result (Some x) = type_name x
 
 signed : (x : t.Signed) → Holds Always (g.signed x)
 signed x = holds_starting _ x.place _ (then _ _ _ (sign x.negative) (holds_lexeme (Number x.value) (λ n. refl)))
@@ -510,12 +544,12 @@ module _ (language : Language) where
   flat_item (t.PersistentItem x) =
       then _ _ _ (word k.Persistent) (then _ _ _ (mark p.OpenParenthesis (λ n. refl)) (then _ _ _ (name x.guard.mutex)
       (then _ _ _ (brackets language x.guard.each) (then _ _ _ (mark p.CloseParenthesis (λ n. refl))
-      (then _ _ _ (type x.kind)
+      (then _ _ _ (type_name x.type_name)
       (then _ _ _ (name x.name)
       (then _ _ _ (holds_maybe g.length_of length_of x.length) (then _ _ _ (holds_maybe g.assigned assigned x.initialiser) semicolon))))))))
   flat_item (t.ThreadItem x) = then _ _ _ (word k.Thread) (then _ _ _ (name x.name) (flat_block language x.block))
   flat_item (t.FunctionItem x) =
-      then _ _ _ (result x.kind) (then _ _ _ (name x.name) (then _ _ _ (mark p.OpenParenthesis (λ n. refl)) (then _ _ _ (parameters x.parameters)
+      then _ _ _ (result x.type_name) (then _ _ _ (name x.name) (then _ _ _ (mark p.OpenParenthesis (λ n. refl)) (then _ _ _ (parameters x.parameters)
       (then _ _ _ (mark p.CloseParenthesis (λ n. refl)) (flat_body x.body)))))
 
   flat_items : (xs : List t.Item) → Holds (λ room. AllByRecursion (IsFlatItem 129 room) xs) (all_of (g.item language) xs)
@@ -527,10 +561,11 @@ module _ (language : Language) where
   program (x ∷ xs) = holds_both _ _ _ _ (flat_item x) (flat_items xs)
 
   pub shallow : (text : List ℕ) (xs : List t.Item) → IsRead language text xs → IsShallow 128 129 xs
-  shallow text xs x = ((program xs).go (scanned text).tokens x.spelled outside 128 refl (low_from (scanned text).tokens x.low)).1
+  shallow text xs x = ((program xs).go (scanned language text).tokens x.spelled outside 128 refl (low_from (scanned language text).tokens x.low)).1
 
   -- as the reader tells it
-  pub shallow_told : (text : List ℕ) (s : Scanned) (r : Result Tree SourceError) → s ≡ scanned text
-      → IfOk r (λ tree. (given : List ℕ) → s ≡ scanned given → IsRead language given (items_of tree)) → IfOk r (λ tree. IsShallow 128 129 (items_of tree))
+  pub shallow_told : (text : List ℕ) (s : Scanned) (r : Result Tree SourceError) → s ≡ scanned language text
+      → IfOk r (λ tree. (given : List ℕ) → s ≡ scanned language given → IsRead language given (items_of tree)) →
+      IfOk r (λ tree. IsShallow 128 129 (items_of tree))
   shallow_told text s (Ok tree) e told = shallow text (items_of tree) (told text e)
   shallow_told text s (Err x) e told = tt

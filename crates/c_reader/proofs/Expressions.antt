@@ -6,10 +6,12 @@ use Rattle.std.proofs.lemmas.Bool.{eqb-true, eq-eqb}
 use Rattle.ido_ints.specs.declared.operators.Binary as bo
 use Rattle.ido_ints.specs.declared.operators.Binary.TheVariants as binary
 use Rattle.c_tree.specs.Tokens.{Token, Lexeme, Punctuator}
+use Rattle.ido_base.specs.declared.place.Place.{Place}
+use Rattle.c_tree.specs.declared.token.Punctuator as pn
 use Rattle.c_tree.specs.declared.token.Punctuator.TheVariants as p
 use Rattle.c_tree.specs.Trees as t
-use Rattle.c_tree.specs.Grammar.{expression_from, precedence}
-use Rattle.c_reader.specs.links.ParserFunctions.{Parser, head_of, head_is, is_mark, operator_at, operator_in}
+use Rattle.c_tree.specs.Grammar.{expression_from, operator, precedence}
+use Rattle.c_reader.specs.links.ParserFunctions.{Parser, head_of, head_is, is_mark, operator_of, operator_at, operator_in}
 use Rattle.c_reader.specs.links.ParserFunctions.{is_operator_at, operators_at, operators_after, ◌>>=◌, taking}
 use Rattle.c_reader.proofs.CorrectParsers.{Spelling, Good, ◌▷◌, just, found_in, Anything, Strict, good_give, good_to}
 use Rattle.c_reader.proofs.CorrectParsers.{good_less, good_where, good_then, good_then_less, good_small, good_taking}
@@ -34,27 +36,97 @@ not_mark x l no_mark = go (is_mark x l) refl
     go true e = absurd (no_mark (is_mark-true x l e))
     go false e = e
 
-operator_is : (n : ℕ) (l : Lexeme) (o : bo.Binary) → operator_at n l ≡ Some o → (l ≡ Punctuator (p.Binary o)) × (precedence o ≡ n)
-operator_is n (Punctuator (p.Binary x)) o e = go (nat_eq (precedence x) n) refl e
+operator_is : (n : ℕ) (l : Lexeme) (o : bo.Binary) → operator_at n l ≡ Some o → (operator_of l ≡ Some o) × (precedence o ≡ n)
+operator_is n l o e = by (operator_of l) refl e
   where
-    go : (b : Bool) → nat_eq (precedence x) n ≡ b → elim b as (λ b. Option bo.Binary) [ true ↦ Some x | false ↦ None ] ≡ Some o →
-        (Punctuator (p.Binary x) ≡ Punctuator (p.Binary o)) × (precedence o ≡ n)
-    go true q e = let s : x ≡ o = some_same x o e in (ap (λ x. Punctuator (p.Binary x)) s, subst (λ y. precedence y ≡ n) s (eqb-true (precedence x) n q))
-    go false q e = cc
-operator_is n _ o e = cc
+    by : (r : Option bo.Binary) → operator_of l ≡ r →
+        elim r as (λ r. Option bo.Binary) [ Some x ↦ elim (nat_eq (precedence x) n) as (λ b. Option bo.Binary) [ true ↦ Some x | false ↦ None ] | None ↦ None ]
+        ≡ Some o →
+        (operator_of l ≡ Some o) × (precedence o ≡ n)
+    by None is e = cc
+    by (Some x) is e = go (nat_eq (precedence x) n) refl e
+      where
+        go : (b : Bool) → nat_eq (precedence x) n ≡ b → elim b as (λ b. Option bo.Binary) [ true ↦ Some x | false ↦ None ] ≡ Some o →
+            (operator_of l ≡ Some o) × (precedence o ≡ n)
+        go true q e = let s : x ≡ o = some_same x o e in (is ∙ e, subst (λ y. precedence y ≡ n) s (eqb-true (precedence x) n q))
+        go false q e = cc
 
-is_operator : (n : ℕ) (o : bo.Binary) → precedence o ≡ n → operator_at n (Punctuator (p.Binary o)) ≡ Some o
-is_operator n o e = rw (eq-eqb (precedence o) n e, operator_at) refl
+is_operator : (n : ℕ) (l : Lexeme) (o : bo.Binary) → operator_of l ≡ Some o → precedence o ≡ n → operator_at n l ≡ Some o
+is_operator n l o is e = rw (is, eq-eqb (precedence o) n e, operator_at) refl
 
-no_operator : (m : ℕ) (o : bo.Binary) → (precedence o ≡ m → ⊥) → is_operator_at m (Punctuator (p.Binary o)) ≡ false
-no_operator m o h = go (nat_eq (precedence o) m) refl
+no_operator : (m : ℕ) (l : Lexeme) (o : bo.Binary) → operator_of l ≡ Some o → (precedence o ≡ m → ⊥) → is_operator_at m l ≡ false
+no_operator m l o is h = go (nat_eq (precedence o) m) refl
   where
-    go : (b : Bool) → nat_eq (precedence o) m ≡ b → is_operator_at m (Punctuator (p.Binary o)) ≡ false
+    go : (b : Bool) → nat_eq (precedence o) m ≡ b → is_operator_at m l ≡ false
     go true q = absurd (h (eqb-true (precedence o) m q))
-    go false q = rw (q, is_operator_at) refl
+    go false q = rw (is, q, is_operator_at, operator_at) refl
 
-operator_ends : (n : ℕ) (o : bo.Binary) → precedence o < n → End n (Some (Punctuator (p.Binary o)))
-operator_ends n o h = (not_mark p.OpenBracket (Punctuator (p.Binary o)) (λ q. cc), λ m e. no_operator m o (λ q. let z : ⊥ = omega (arith, h, e, q) in z))
+-- an operator is none of these marks
+pub operator_not_mark : (x : pn.Punctuator) (l : Lexeme) (o : bo.Binary) → operator_of (Punctuator x) ≡ None → operator_of l ≡ Some o → is_mark x l ≡ false
+operator_not_mark x l o none is =
+    not_mark x l (λ q. let both = sym none ∙ subst (λ (l : Lexeme). operator_of l ≡ Some o) q is in cc both)
+
+operator_ends : (n : ℕ) (l : Lexeme) (o : bo.Binary) → operator_of l ≡ Some o → precedence o < n → End n (Some l)
+operator_ends n l o is h =
+    (operator_not_mark p.OpenBracket l o refl is, λ m e. no_operator m l o is (λ q. let z : ⊥ = omega (arith, h, e, q) in z))
+
+-- in the grammar, as its token says
+abbrev one_token : Place → Lexeme → List Token
+one_token place l = record { place = place; lexeme = l } ∷ []
+
+written_plain : (place : Place) (o : bo.Binary) → operator o (one_token place (Punctuator (p.Binary o)))
+written_plain place binary.Mul = inl (place, refl)
+written_plain place binary.Div = (place, refl)
+written_plain place binary.Rem = (place, refl)
+written_plain place binary.Add = (place, refl)
+written_plain place binary.Sub = (place, refl)
+written_plain place binary.ShiftLeft = (place, refl)
+written_plain place binary.ShiftRight = (place, refl)
+written_plain place binary.Less = (place, refl)
+written_plain place binary.Greater = (place, refl)
+written_plain place binary.LessEqual = (place, refl)
+written_plain place binary.GreaterEqual = (place, refl)
+written_plain place binary.Equal = (place, refl)
+written_plain place binary.NotEqual = (place, refl)
+written_plain place binary.And = inl (place, refl)
+written_plain place binary.Xor = (place, refl)
+written_plain place binary.Or = (place, refl)
+written_plain place binary.LogicalAnd = (place, refl)
+written_plain place binary.LogicalOr = (place, refl)
+
+written : (place : Place) (l : Lexeme) (o : bo.Binary) → operator_of l ≡ Some o → operator o (one_token place l)
+written place (Punctuator (p.Binary x)) o is = subst (λ o. operator o (one_token place (Punctuator (p.Binary x)))) (some_same x o is) (written_plain place x)
+written place (Punctuator p.Star) o is = subst (λ o. operator o (one_token place (Punctuator p.Star))) (some_same binary.Mul o is) (inr (place, refl))
+written place (Punctuator p.Ampersand) o is = subst (λ o. operator o (one_token place (Punctuator p.Ampersand))) (some_same binary.And o is) (inr (place, refl))
+written place _ o is = cc
+
+-- the token of an operator of the grammar
+pub record IsOperator (o : bo.Binary) (us : List Token) : Type 0 where
+  pub token : Token
+  pub alone : us ≡ token ∷ []
+  pub is : operator_of token.lexeme ≡ Some o
+
+pub read_operator : (o : bo.Binary) (us : List Token) → operator o us → IsOperator o us
+read_operator binary.Mul us (inl (place, e)) = record { token = _; alone = e; is = refl }
+read_operator binary.Mul us (inr (place, e)) = record { token = _; alone = e; is = refl }
+read_operator binary.Div us (place, e) = record { token = _; alone = e; is = refl }
+read_operator binary.Rem us (place, e) = record { token = _; alone = e; is = refl }
+read_operator binary.Add us (place, e) = record { token = _; alone = e; is = refl }
+read_operator binary.Sub us (place, e) = record { token = _; alone = e; is = refl }
+read_operator binary.ShiftLeft us (place, e) = record { token = _; alone = e; is = refl }
+read_operator binary.ShiftRight us (place, e) = record { token = _; alone = e; is = refl }
+read_operator binary.Less us (place, e) = record { token = _; alone = e; is = refl }
+read_operator binary.Greater us (place, e) = record { token = _; alone = e; is = refl }
+read_operator binary.LessEqual us (place, e) = record { token = _; alone = e; is = refl }
+read_operator binary.GreaterEqual us (place, e) = record { token = _; alone = e; is = refl }
+read_operator binary.Equal us (place, e) = record { token = _; alone = e; is = refl }
+read_operator binary.NotEqual us (place, e) = record { token = _; alone = e; is = refl }
+read_operator binary.And us (inl (place, e)) = record { token = _; alone = e; is = refl }
+read_operator binary.And us (inr (place, e)) = record { token = _; alone = e; is = refl }
+read_operator binary.Xor us (place, e) = record { token = _; alone = e; is = refl }
+read_operator binary.Or us (place, e) = record { token = _; alone = e; is = refl }
+read_operator binary.LogicalAnd us (place, e) = record { token = _; alone = e; is = refl }
+read_operator binary.LogicalOr us (place, e) = record { token = _; alone = e; is = refl }
 
 -- ---- A chain of operators of one precedence
 
@@ -86,13 +158,13 @@ chain_ends : (n : ℕ) (left y : t.Expression) (us rest : List Token) → Chain 
 chain_ends n left y us rest (zero, (q, e)) f = rw e (f.0, λ m h. f.1 m (omega (arith, h)))
 chain_ends n left y us rest (suc many, (o, us₁, us₂, e, (t, e', e''), c)) f =
     let q : _ = operator_is n t.lexeme o e'' in
-    rw (e, e', q.0) (operator_ends (n + 1) o (omega (arith, q.1)))
+    rw (e, e') (operator_ends (n + 1) t.lexeme o q.0 (omega (arith, q.1)))
 
 chain_ends' : (n : ℕ) (left y : t.Expression) (us rest : List Token) → Chain n left y us → OperandEnd (head_of rest) → OperandEnd (head_of (us ++ rest))
 chain_ends' n left y us rest (zero, (q, e)) f = rw e f
 chain_ends' n left y us rest (suc many, (o, us₁, us₂, e, (t, e', e''), c)) f =
     let q : _ = operator_is n t.lexeme o e'' in
-    rw (e, e', q.0) (not_mark p.OpenBracket (Punctuator (p.Binary o)) (λ q. cc))
+    rw (e, e') (operator_not_mark p.OpenBracket t.lexeme o refl q.0)
 
 chain_out : (n : ℕ) (left y : t.Expression) (us rest : List Token) → Chain n left y us → End n (head_of rest) →
     (Longer n left y us × (head_is (is_operator_at n) (head_of (us ++ rest)) ≡ true))
@@ -117,7 +189,8 @@ operator_with (suc (suc (suc (suc (suc (suc (suc (suc (suc (suc n)))))))))) h = 
 
 good_operator : {b : ℕ} (n : ℕ) (o : bo.Binary) → precedence o ≡ n
     → Good b (operator_in_language n) (operator_in_language n) Anything (taking (operator_in n)) (taking (operator_in n))
-good_operator n o e = good_taking (operator_in n) (record { place = record { 0 = 0 }; lexeme = Punctuator (p.Binary o) }) o (is_operator n o e)
+good_operator n o e =
+    good_taking (operator_in n) (record { place = record { 0 = 0 }; lexeme = Punctuator (p.Binary o) }) o (is_operator n (Punctuator (p.Binary o)) o refl e)
 
 -- a chain, where its right operands are read
 longer_good : {b c : ℕ} (n : ℕ) (o : bo.Binary) → precedence o ≡ n → b ≤ suc c → c ≤ b → (right right' : Parser t.Expression)
@@ -181,7 +254,7 @@ ladder_ends (suc levels) left y us rest (x, us₁, us₂, e, l, c) f =
     rw (e, append_assoc us₁ us₂ rest) (ladder_ends levels left x us₁ (us₂ ++ rest) l (chain_ends' (10 - levels) x y us₂ rest c f))
 
 -- what follows a left operand fails a test that every operator fails, where what follows its ladder does
-pub ladder_head : (test : Option Lexeme → Bool) → ((o : bo.Binary) → test (Some (Punctuator (p.Binary o))) ≡ false)
+pub ladder_head : (test : Option Lexeme → Bool) → ((l : Lexeme) (o : bo.Binary) → operator_of l ≡ Some o → test (Some l) ≡ false)
     → (levels : ℕ) (left y : t.Expression) (us rest : List Token) →
     Ladder levels left y us → test (head_of rest) ≡ false → test (head_of (us ++ rest)) ≡ false
 ladder_head test no_one zero left y us rest (q, e) f = rw e f
@@ -190,7 +263,7 @@ ladder_head test no_one (suc levels) left y us rest (x, us₁, us₂, e, l, c) f
   where
     go : Chain (10 - levels) x y us₂ → test (head_of (us₂ ++ rest)) ≡ false
     go (zero, (q, e)) = rw e f
-    go (suc many, (o, vs₁, vs₂, e, (a, e', e''), c)) = let q : _ = operator_is (10 - levels) a.lexeme o e'' in rw (e, e', q.0) (no_one o)
+    go (suc many, (o, vs₁, vs₂, e, (a, e', e''), c)) = let q : _ = operator_is (10 - levels) a.lexeme o e'' in rw (e, e') (no_one a.lexeme o q.0)
 
 -- nothing more follows
 ladder_none : (levels : ℕ) (x : t.Expression) → Ladder levels x x []
@@ -215,6 +288,9 @@ pub from_weaker : (n m : ℕ) (x : t.Expression) (us : List Token) → n ≤ m �
 from_weaker n m (t.Number place value) us h h' u = u
 from_weaker n m (t.Named x) us h h' u = u
 from_weaker n m (t.Element array index) us h h' u = u
+from_weaker n m (t.Null place) us h h' u = u
+from_weaker n m (t.Address place array index) us h h' u = u
+from_weaker n m (t.Referent place reference) us h h' u = u
 from_weaker n m (t.Parenthesised place inner) us h h' u = u
 from_weaker n m (t.Unary place operator operand) us h h' u = u
 from_weaker n m (t.Cast place x operand) us h h' u = u
@@ -225,9 +301,8 @@ chain_join : (n : ℕ) (many : ℕ) (left y : t.Expression) (us vs : List Token)
 chain_join n zero left y us vs h u (q, e) = rw (← q, e, append-nil us) u
 chain_join n (suc many) left y us vs h u (o, us₁, us₂, e, (a, e', e''), (r, us₃, us₄, e₂, h₂, c)) =
     let q : _ = operator_is n a.lexeme o e'' in
-    let one : a ≡ record { place = a.place; lexeme = Punctuator (p.Binary o) } = ap (λ l. record { place = a.place; lexeme = l }) q.0 in
     let mine : from n (t.Binary o left r) (us ++ (us₁ ++ us₃)) =
-    (omega (arith, q.1), (us, us₁ ++ us₃, refl, rw q.1 u, (us₁, us₃, refl, (a.place, e' ∙ ap (λ x. x ∷ []) one), rw q.1 h₂))) in
+    (omega (arith, q.1), (us, us₁ ++ us₃, refl, rw q.1 u, (us₁, us₃, refl, rw e' (written a.place a.lexeme o q.0), rw q.1 h₂))) in
     rw (e, e₂) (rw (append_assoc us (us₁ ++ us₃) us₄, append_assoc us₁ us₃ us₄) at (chain_join n many (t.Binary o left r) y (us ++ (us₁ ++ us₃)) us₄ h mine c))
 
 -- an operand and a ladder after it are an expression
@@ -286,13 +361,18 @@ pub ladder_split : (levels : ℕ) (y : t.Expression) (us : List Token) → level
 ladder_split levels (t.Number place value) us h u = (t.Number place value, us, [], sym (append-nil us), u, ladder_none levels (t.Number place value))
 ladder_split levels (t.Named x) us h u = (t.Named x, us, [], sym (append-nil us), u, ladder_none levels (t.Named x))
 ladder_split levels (t.Element array index) us h u = (t.Element array index, us, [], sym (append-nil us), u, ladder_none levels (t.Element array index))
+ladder_split levels (t.Null place) us h u = (t.Null place, us, [], sym (append-nil us), u, ladder_none levels (t.Null place))
+ladder_split levels (t.Address place array index) us h u =
+    (t.Address place array index, us, [], sym (append-nil us), u, ladder_none levels (t.Address place array index))
+ladder_split levels (t.Referent place reference) us h u =
+    (t.Referent place reference, us, [], sym (append-nil us), u, ladder_none levels (t.Referent place reference))
 ladder_split levels (t.Parenthesised place inner) us h u =
     (t.Parenthesised place inner, us, [], sym (append-nil us), u, ladder_none levels (t.Parenthesised place inner))
 ladder_split levels (t.Unary place operator operand) us h u =
     (t.Unary place operator operand, us, [], sym (append-nil us), u, ladder_none levels (t.Unary place operator operand))
 ladder_split levels (t.Cast place x operand) us h u = (t.Cast place x operand, us, [], sym (append-nil us), u, ladder_none levels (t.Cast place x operand))
 ladder_split levels (t.Conditional condition then otherwise) us h (q, u) = let z : ⊥ = omega (arith, h, q) in absurd z
-ladder_split levels (t.Binary o a r) us h (q, (us₁, us₂, e, ha, (us₃, us₄, e', (place, m), hr))) =
+ladder_split levels (t.Binary o a r) us h (q, (us₁, us₂, e, ha, (us₃, us₄, e', m, hr))) =
     let low : _ = precedence_low o in
     let high : _ = precedence_high o in
     let s : 11 - (11 - precedence o) ≡ precedence o = omega (arith, high) in
@@ -303,6 +383,7 @@ ladder_split levels (t.Binary o a r) us h (q, (us₁, us₂, e, ha, (us₃, us�
     go : 1 ≤ precedence o → precedence o ≤ 10 → 10 - (10 - precedence o) ≡ precedence o → (from 11 ▷ Ladder (11 - precedence o)) a us₁
         → (from 11 ▷ Ladder levels) (t.Binary o a r) us
     go low high d (left, vs₁, vs₂, f, hl, l) =
+        let spelled : IsOperator o us₃ = read_operator o us₃ m in
         let b : 11 - precedence o ≡ suc (10 - precedence o) = omega (arith, high) in
         let l' : Ladder (suc (10 - precedence o)) left a vs₂ = rw b at l in
         let (x, ws₁, ws₂, g, hx, (many, c)) = l' in
@@ -313,7 +394,7 @@ ladder_split levels (t.Binary o a r) us h (q, (us₁, us₂, e, ha, (us₃, us�
           us₃,
           us₄,
           e',
-          (record { place = place; lexeme = Punctuator (p.Binary o) }, m, is_operator (precedence o) o refl),
+          (spelled.token, spelled.alone, is_operator (precedence o) spelled.token.lexeme o spelled.is refl),
           (r, us₄, [], sym (append-nil us₄), hr, (refl, refl)),
         ) in
         let whole : Ladder (suc (10 - precedence o)) left (t.Binary o a r) (vs₂ ++ us₂) = (

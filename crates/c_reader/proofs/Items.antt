@@ -4,7 +4,6 @@ use Rattle.std.proofs.Common.{Bool, true, false, sym, refl, ap, ◌∙◌, subst
 use Rattle.std.specs.Prelude.{◌⊎◌, pos}
 use Rattle.ido_base.specs.declared.place.Place.{Place}
 use Rattle.ido_ints.specs.TypedNumbers.{Typed, typed}
-use Rattle.ido_ints.specs.declared.kinds.Kind.{Kind}
 use Rattle.ido_ints.specs.declared.kinds.Kind.TheVariants as kind
 use Rattle.ido_ints.specs.declared.operators.Binary.TheVariants as binary
 use Rattle.c_tree.specs.declared.language.Language.{Language}
@@ -14,7 +13,7 @@ use Rattle.c_tree.specs.declared.token.Keyword.TheVariants as k
 use Rattle.c_tree.specs.declared.token.Punctuator.TheVariants as p
 use Rattle.c_tree.specs.Trees as t
 use Rattle.c_tree.specs.Languages.{maybe, mark, word, ◌⋅◌, ◌or◌, empty, name, all_of, more_of, some_of}
-use Rattle.c_tree.specs.Grammar.{expression, type, returned, parameter, parameters, result}
+use Rattle.c_tree.specs.Grammar.{expression, type_name, returned, parameter, parameters, result}
 use Rattle.c_tree.specs.Grammar.{sign, signed, initialiser, length_of, assigned, brackets, mutex_length}
 use Rattle.c_tree.specs.Grammar as g
 use Rattle.c_reader.specs.links.ParserFunctions.{Parser, give, head_of, head_is, is_mark, is_word, begins_type, where_head, parse_mark, parse_word}
@@ -26,7 +25,7 @@ use Rattle.c_reader.proofs.CorrectParsers.{Spelling, Good, ◌▷◌, ◌▹◌,
 use Rattle.c_reader.proofs.CorrectParsers.{good_map, good_where, good_head, good_then, good_then_less, good_small}
 use Rattle.c_reader.proofs.Tokens.{marked, worded, named, numbered, good_mark, good_word, good_name, good_number, marked-strict, numbered-strict}
 use Rattle.c_reader.proofs.OptionalParts.{Unless, Where, good_maybe, good_some_of}
-use Rattle.c_reader.proofs.Types.{TypeEnd, good_type, type_begins}
+use Rattle.c_reader.proofs.Types.{TypeEnd, good_type_name, type_name_begins}
 use Rattle.c_reader.proofs.TokenPlaces.{At, good_here}
 use Rattle.c_reader.proofs.Operands.{ExpressionEnd}
 use Rattle.c_reader.proofs.Expressions.{OperandEnd}
@@ -58,16 +57,16 @@ return_head x us rest (us₁, us₂, e, l, m) = rw (e, l) refl
 
 -- ---- Parameters and results
 
-abbrev made_parameter : Kind → t.Name → t.Parameter
-made_parameter x n = record { kind = x; name = n }
+abbrev made_parameter : t.TypeName → t.Name → t.Parameter
+made_parameter x n = record { type_name = x; name = n }
 
 pub good_parameter : {b : ℕ} → Good b parameter parameter Anything parse_parameter parse_parameter
 good_parameter =
-    good_to {U = type ▷ (λ x. named ▹ made_parameter x)} {K = type ▷ (λ x. named ▹ made_parameter x)} {F = Anything}
-    (good_then {M = λ x. named ▹ made_parameter x} {F = TypeEnd} {G = Anything} good_type (λ x. good_map (made_parameter x) good_name)
+    good_to {U = type_name ▷ (λ x. named ▹ made_parameter x)} {K = type_name ▷ (λ x. named ▹ made_parameter x)} {F = Anything}
+    (good_then {M = λ x. named ▹ made_parameter x} {F = TypeEnd} {G = Anything} good_type_name (λ x. good_map (made_parameter x) good_name)
     (λ x y us rest (n, l, q) f. rw l (refl, refl, refl, refl)))
     (λ y us (x, us₁, us₂, e, u, (n, l, q)). subst (λ y. parameter y us) q (us₁, us₂, e, u, l))
-    (λ y us (us₁, us₂, e, u, l). (y.kind, us₁, us₂, e, u, (y.name, l, refl)))
+    (λ y us (us₁, us₂, e, u, l). (y.type_name, us₁, us₂, e, u, (y.name, l, refl)))
     (λ h f. f)
 
 abbrev ParametersEnd : Option Lexeme → Type 0
@@ -82,10 +81,10 @@ VoidAlone = worded k.Void ▹ (λ v. [])
 
 parameter_first : (test : Option Lexeme → Bool) → test (Some (Keyword k.Char)) ≡ false → test (Some (Keyword k.Short)) ≡ false
     → test (Some (Keyword k.Int)) ≡ false → test (Some (Keyword k.Long)) ≡ false → test (Some (Keyword k.Signed)) ≡ false
-    → test (Some (Keyword k.Unsigned)) ≡ false →
+    → test (Some (Keyword k.Unsigned)) ≡ false → test (Some (Keyword k.Ref)) ≡ false →
     (x : t.Parameter) (xs : List t.Parameter) (us rest : List Token) → some_of parameter (x ∷ xs) us → test (head_of (us ++ rest)) ≡ false
-parameter_first test a b c d e f x xs us rest (us₁, us₂, q, (us₃, us₄, q', u, l), m) =
-    rw (q, q', append_assoc us₃ us₄ us₂, append_assoc us₃ (us₄ ++ us₂) rest) (type_first test false a b c d e f x.kind us₃ ((us₄ ++ us₂) ++ rest) u)
+parameter_first test a b c d e f g x xs us rest (us₁, us₂, q, (us₃, us₄, q', u, l), m) =
+    rw (q, q', append_assoc us₃ us₄ us₂, append_assoc us₃ (us₄ ++ us₂) rest) (type_first test false a b c d e f g x.type_name us₃ ((us₄ ++ us₂) ++ rest) u)
 
 written_good : (fuel fuel' b : ℕ) → b ≤ fuel → b ≤ fuel' → Good b WrittenParameters WrittenParameters ParametersEnd
     (where_head (head_is (is_word k.Void)) (do parse_word k.Void; give []) (parse_some_of fuel parse_parameter))
@@ -105,7 +104,7 @@ written_good fuel fuel' b h h' =
         (VoidAlone y us × (head_is (is_word k.Void) (head_of (us ++ rest)) ≡ true))
         ⊎ (some_of parameter y us × (head_is (is_word k.Void) (head_of (us ++ rest)) ≡ false))
     out [] us rest (v, l) f = inl ((v, l, refl), rw l refl)
-    out (x ∷ xs) us rest u f = inr (u, parameter_first (head_is (is_word k.Void)) refl refl refl refl refl refl x xs us rest u)
+    out (x ∷ xs) us rest u f = inr (u, parameter_first (head_is (is_word k.Void)) refl refl refl refl refl refl refl x xs us rest u)
 
 pub good_parameters : (fuel fuel' b : ℕ) → b ≤ fuel → b ≤ fuel' → Good b parameters parameters ParametersEnd (parse_parameters fuel) (parse_parameters fuel')
 good_parameters fuel fuel' b h h' =
@@ -123,24 +122,24 @@ good_parameters fuel fuel' b h h' =
         ⊎ (WrittenParameters y us × (head_is (is_mark p.CloseParenthesis) (head_of (us ++ rest)) ≡ false))
     out [] us rest (inl e) f = inl ((refl, e), rw e f.1)
     out [] us rest (inr (v, l)) f = inr ((v, l), rw l refl)
-    out (x ∷ xs) us rest u f = inr (u, parameter_first (head_is (is_mark p.CloseParenthesis)) refl refl refl refl refl refl x xs us rest u)
+    out (x ∷ xs) us rest u f = inr (u, parameter_first (head_is (is_mark p.CloseParenthesis)) refl refl refl refl refl refl refl x xs us rest u)
 
-abbrev VoidResult : Spelling (Option Kind)
+abbrev VoidResult : Spelling (Option t.TypeName)
 VoidResult = worded k.Void ▹ (λ v. None)
 
 pub good_result : {b : ℕ} → Good b result result TypeEnd parse_result parse_result
 good_result =
-    good_where {K₁ = VoidResult} {K₂ = type ▹ Some} (head_is (is_word k.Void))
+    good_where {K₁ = VoidResult} {K₂ = type_name ▹ Some} (head_is (is_word k.Void))
     (good_to {U' = result} {K' = VoidResult} (good_map (λ v. None) (good_word k.Void)) (λ y us (v, l, q). subst (λ y. result y us) q (v, l)) (λ y us u. u)
     (λ h f. tt))
-    (good_to {U' = result} {K' = type ▹ Some} (good_map Some good_type) (λ y us (x, u, q). subst (λ y. result y us) q u) (λ y us u. u) (λ h f. f))
+    (good_to {U' = result} {K' = type_name ▹ Some} (good_map Some good_type_name) (λ y us (x, u, q). subst (λ y. result y us) q u) (λ y us u. u) (λ h f. f))
     out
   where
-    out : (y : Option Kind) (us rest : List Token) → result y us → TypeEnd (head_of rest) →
+    out : (y : Option t.TypeName) (us rest : List Token) → result y us → TypeEnd (head_of rest) →
         (VoidResult y us × (head_is (is_word k.Void) (head_of (us ++ rest)) ≡ true))
-        ⊎ ((type ▹ Some) y us × (head_is (is_word k.Void) (head_of (us ++ rest)) ≡ false))
+        ⊎ ((type_name ▹ Some) y us × (head_is (is_word k.Void) (head_of (us ++ rest)) ≡ false))
     out None us rest (v, l) f = inl ((v, l, refl), rw l refl)
-    out (Some x) us rest u f = inr ((x, u, refl), type_first (head_is (is_word k.Void)) false refl refl refl refl refl refl x us rest u)
+    out (Some x) us rest u f = inr ((x, u, refl), type_first (head_is (is_word k.Void)) false refl refl refl refl refl refl refl x us rest u)
 
 -- ---- Initialisers
 
@@ -389,17 +388,17 @@ good_guard language =
     Inside : Spelling t.Guard
     Inside = marked p.OpenParenthesis ▷ (λ o. named ▷ (λ x. brackets language ▷ (λ y. marked p.CloseParenthesis ▹ (λ c. made_guard x y))))
 
-abbrev made_persistent : t.Guard → Kind → t.Name → Option t.Length → Option t.Initialiser → t.Persistent
-made_persistent guard x n l y = record { guard = guard; kind = x; name = n; length = l; initialiser = y }
+abbrev made_persistent : t.Guard → t.TypeName → t.Name → Option t.Length → Option t.Initialiser → t.Persistent
+made_persistent guard x n l y = record { guard = guard; type_name = x; name = n; length = l; initialiser = y }
 
-abbrev PersistentTail : t.Guard → Kind → t.Name → Spelling t.Persistent
+abbrev PersistentTail : t.Guard → t.TypeName → t.Name → Spelling t.Persistent
 PersistentTail guard x n = maybe length_of ▷ (λ l. maybe assigned ▷ (λ y. marked p.Semicolon ▹ (λ c. made_persistent guard x n l y)))
 
 maybe_assigned_ends : (y : Option t.Initialiser) (us rest : List Token) → maybe assigned y us → (us ≡ []) ⊎ (head_of (us ++ rest) ≡ Some (Punctuator p.Assign))
 maybe_assigned_ends None us rest u = inl u
 maybe_assigned_ends (Some y) us rest (us₁, us₂, e, (o, l), m) = inr (rw (e, l) refl)
 
-length_ends : (guard : t.Guard) (x : Kind) (n : t.Name) (l : Option t.Length) (y : t.Persistent) (us rest : List Token)
+length_ends : (guard : t.Guard) (x : t.TypeName) (n : t.Name) (l : Option t.Length) (y : t.Persistent) (us rest : List Token)
     → (maybe assigned ▷ (λ z. marked p.Semicolon ▹ (λ c. made_persistent guard x n l z))) y us → Unless (is_mark p.OpenBracket) Anything (head_of (us ++ rest))
 length_ends guard x n l y us rest (None, us₁, us₂, e, u, (c, m, q)) = rw (e, u, m) (tt, refl)
 length_ends guard x n l y us rest (Some z, us₁, us₂, e, (us₃, us₄, e', (o, l'), v), m) = rw (e, e', l') (tt, refl)
@@ -489,10 +488,10 @@ module _ (language : Language) where
       ends xs y us rest (Some x, us₁, us₂, e, n, m) f =
           let q : head_of (us ++ rest) ≡ Some (Keyword k.Return) = rw (e, append_assoc us₁ us₂ rest) (return_head x us₁ (us₂ ++ rest) n) in rw q (refl, refl)
 
-  abbrev made_function : Option Kind → t.Name → List t.Parameter → t.Body → t.Function
-  made_function x n xs b = record { kind = x; name = n; parameters = xs; body = b }
+  abbrev made_function : Option t.TypeName → t.Name → List t.Parameter → t.Body → t.Function
+  made_function x n xs b = record { type_name = x; name = n; parameters = xs; body = b }
 
-  abbrev FunctionTail : Option Kind → t.Name → Spelling t.Function
+  abbrev FunctionTail : Option t.TypeName → t.Name → Spelling t.Function
   FunctionTail x n = marked p.OpenParenthesis ▷ (λ o. parameters ▷ (λ xs. marked p.CloseParenthesis ▷ (λ c. body ▹ made_function x n xs)))
 
   abbrev FunctionParts : Spelling t.Function
@@ -516,19 +515,25 @@ module _ (language : Language) where
       (λ x y us rest (n, us₁, us₂, e, l, m) f. rw (e, l) (refl, refl, refl, refl)))
       (λ y us (x, us₁, us₂, e, u, (n, us₃, us₄, e₁, l, (o, us₅, us₆, e₂, l₂, (xs, us₇, us₈, e₃, m, (c, us₉, us₁₀, e₄, l₄, (b, g, q)))))).
       subst (λ y. function y us) q (us₁, us₂, e, u, (us₃, us₄, e₁, l, (us₅, us₆, e₂, (o, l₂), (us₇, us₈, e₃, m, (us₉, us₁₀, e₄, (c, l₄), g))))))
-      (λ y us (us₁, us₂, e, u, (us₃, us₄, e₁, l, (us₅, us₆, e₂, (o, l₂), (us₇, us₈, e₃, m, (us₉, us₁₀, e₄, (c, l₄), g))))).
-      (y.kind, us₁, us₂, e, u, (y.name, us₃, us₄, e₁, l, (o, us₅, us₆, e₂, l₂, (y.parameters, us₇, us₈, e₃, m, (c, us₉, us₁₀, e₄, l₄, (y.body, g, refl)))))))
+      (λ y us (us₁, us₂, e, u, (us₃, us₄, e₁, l, (us₅, us₆, e₂, (o, l₂), (us₇, us₈, e₃, m, (us₉, us₁₀, e₄, (c, l₄), g))))). (
+        y.type_name,
+        us₁,
+        us₂,
+        e,
+        u,
+        (y.name, us₃, us₄, e₁, l, (o, us₅, us₆, e₂, l₂, (y.parameters, us₇, us₈, e₃, m, (c, us₉, us₁₀, e₄, l₄, (y.body, g, refl))))),
+      ))
       (λ h f. f)
 
   -- ---- Variables
 
   abbrev PersistentParts : Spelling t.Persistent
-  PersistentParts = worded k.Persistent ▷ (λ w. GuardInside language ▷ (λ guard. type ▷ (λ x. named ▷ PersistentTail guard x)))
+  PersistentParts = worded k.Persistent ▷ (λ w. GuardInside language ▷ (λ guard. type_name ▷ (λ x. named ▷ PersistentTail guard x)))
 
   persistent_up : (y : t.Persistent) (us : List Token) → PersistentParts y us → persistent y us
   persistent_up y us (w, us₁, us₂, e, l, (guard, us₃, us₄, e₁, (us₅, us₆, e₂, o, (us₇, us₈, e₃, n, (us₉, us₁₀, e₄, k, c))), m)) = go m
     where
-      go : (type ▷ (λ x. named ▷ PersistentTail guard x)) y us₄ → persistent y us
+      go : (type_name ▷ (λ x. named ▷ PersistentTail guard x)) y us₄ → persistent y us
       go (x, vs₁, vs₂, f, u, (name, vs₃, vs₄, f₁, v, (len, vs₅, vs₆, f₂, a, (z, vs₇, vs₈, f₃, b, (s, d, q))))) =
           subst (λ y. persistent y us) q (
             us₁,
@@ -582,7 +587,7 @@ module _ (language : Language) where
           us₁₂,
           z,
           (us₅, us₇ ++ (us₉ ++ us₁₁), refl, o, (us₇, us₉ ++ us₁₁, refl, n, (us₉, us₁₁, refl, k, c))),
-          (y.kind, vs₁, vs₂, f, u, (y.name, vs₃, vs₄, f₁, v, (y.length, vs₅, vs₆, f₂, a, (y.initialiser, vs₇, vs₈, f₃, b, (s, d, refl))))),
+          (y.type_name, vs₁, vs₂, f, u, (y.name, vs₃, vs₄, f₁, v, (y.length, vs₅, vs₆, f₂, a, (y.initialiser, vs₇, vs₈, f₃, b, (s, d, refl))))),
         ),
       )
 
@@ -590,10 +595,10 @@ module _ (language : Language) where
       Good b persistent persistent Anything (parse_persistent language fuel) (parse_persistent language fuel')
   good_persistent fuel fuel' b h h' =
       good_to {U = PersistentParts} {K = PersistentParts} {F = Anything}
-      (good_then {M = λ w. GuardInside language ▷ (λ guard. type ▷ (λ x. named ▷ PersistentTail guard x))} {F = Anything} {G = Anything}
+      (good_then {M = λ w. GuardInside language ▷ (λ guard. type_name ▷ (λ x. named ▷ PersistentTail guard x))} {F = Anything} {G = Anything}
       (good_word k.Persistent)
-      (λ w. good_then {M = λ guard. type ▷ (λ x. named ▷ PersistentTail guard x)} {F = Anything} {G = Anything} (good_guard language)
-      (λ guard. good_then {M = λ x. named ▷ PersistentTail guard x} {F = TypeEnd} {G = Anything} good_type
+      (λ w. good_then {M = λ guard. type_name ▷ (λ x. named ▷ PersistentTail guard x)} {F = Anything} {G = Anything} (good_guard language)
+      (λ guard. good_then {M = λ x. named ▷ PersistentTail guard x} {F = TypeEnd} {G = Anything} good_type_name
       (λ x. good_then {M = PersistentTail guard x} {F = Anything} {G = Anything} good_name
       (λ n. good_then {M = λ l. maybe assigned ▷ (λ y. marked p.Semicolon ▹ (λ c. made_persistent guard x n l y))} {F = Unless (is_mark p.OpenBracket) Anything}
       {G = Anything}
@@ -667,11 +672,11 @@ module _ (language : Language) where
   function_at (Some (Keyword k.Thread)) y us q u = absurd (true≢false (sym q))
   function_at _ y us q u = u
 
-  function_out : (x : t.Function) (us rest us₁ us₂ : List Token) → us ≡ us₁ ++ us₂ → (y : Option Kind) → result y us₁ → function x us
+  function_out : (x : t.Function) (us rest us₁ us₂ : List Token) → us ≡ us₁ ++ us₂ → (y : Option t.TypeName) → result y us₁ → function x us
       → item_language (head_of (us ++ rest)) (t.FunctionItem x) us
   function_out x us rest us₁ us₂ e None (place, l) u = let q : head_of (us ++ rest) ≡ Some (Keyword k.Void) = rw (e, l) refl in rw q (x, u, refl)
   function_out x us rest us₁ us₂ e (Some y) m u =
-      function_at (head_of (us ++ rest)) (t.FunctionItem x) us (rw (e, append_assoc us₁ us₂ rest) (type_begins y us₁ (us₂ ++ rest) m)) (x, u, refl)
+      function_at (head_of (us ++ rest)) (t.FunctionItem x) us (rw (e, append_assoc us₁ us₂ rest) (type_name_begins y us₁ (us₂ ++ rest) m)) (x, u, refl)
 
   item_out : (y : t.Item) (us rest : List Token) → item y us → item_language (head_of (us ++ rest)) y us
   item_out (t.MutexItem x y) us rest (us₁, us₂, e, (w, l), (us₃, us₄, e', m, (us₅, us₆, e₂, n, (c, v)))) =
@@ -681,7 +686,7 @@ module _ (language : Language) where
       let q : head_of (us ++ rest) ≡ Some (Keyword k.Persistent) = rw (e, l) refl in rw q (x, (us₁, us₂, e, (w, l), m), refl)
   item_out (t.ThreadItem x) us rest (us₁, us₂, e, (w, l), (us₃, us₄, e', m, n)) =
       let q : head_of (us ++ rest) ≡ Some (Keyword k.Thread) = rw (e, l) refl in rw q (w, us₁, us₂, e, l, (x.name, us₃, us₄, e', m, (x.block, n, refl)))
-  item_out (t.FunctionItem x) us rest (us₁, us₂, e, u, m) = function_out x us rest us₁ us₂ e x.kind u (us₁, us₂, e, u, m)
+  item_out (t.FunctionItem x) us rest (us₁, us₂, e, u, m) = function_out x us rest us₁ us₂ e x.type_name u (us₁, us₂, e, u, m)
 
   pub good_item : (fuel fuel' b : ℕ) → b ≤ fuel → b ≤ fuel' → Good b item item Anything (parse_item language fuel) (parse_item language fuel')
   good_item fuel fuel' b h h' = good_head {K = item_language} (item_good fuel fuel' b h h') (λ y us rest u f. item_out y us rest u)

@@ -10,18 +10,19 @@ use Rattle.ido_ints.specs.declared.kinds.Kind.TheVariants as kind
 use Rattle.ido_ints.specs.declared.operators.Unary.{Unary}
 use Rattle.ido_ints.specs.declared.operators.Unary.TheVariants as unary
 use Rattle.ido_ints.specs.declared.operators.Binary.TheVariants as binary
-use Rattle.c_tree.specs.Tokens.{Token, Lexeme, Name, Number, Punctuator}
+use Rattle.c_tree.specs.Tokens.{Token, Lexeme, Name, Keyword, Number, Punctuator}
+use Rattle.c_tree.specs.declared.token.Keyword.TheVariants as k
 use Rattle.c_tree.specs.declared.token.Punctuator.TheVariants as p
 use Rattle.c_tree.specs.Trees as t
 use Rattle.c_tree.specs.Languages.{maybe, mark_at}
 use Rattle.c_tree.specs.Grammar.{expression, index, precedence, type, unary_mark}
 use Rattle.c_reader.specs.links.ParserFunctions.{Parser, give, head_of, head_is, is_mark, taking, unary_of, unary_in, parse_mark}
-use Rattle.c_reader.specs.links.ParserFunctions.{parse_type, parse_index, element, operand_after_name, operand_after_opening}
+use Rattle.c_reader.specs.links.ParserFunctions.{parse_type, parse_index, element, operand_after_name, operand_after_opening, address_after_name}
 use Rattle.c_reader.specs.links.ParserFunctions.{operand_by, operand_over, conditional_after, expression_after}
-use Rattle.c_reader.specs.links.ParserFunctions.{parse_operand, parse_expression, begins_type, ◌>>=◌, ◌>>◌}
+use Rattle.c_reader.specs.links.ParserFunctions.{parse_operand, parse_expression, begins_kind, ◌>>=◌, ◌>>◌}
 use Rattle.c_reader.proofs.CorrectParsers.{Spelling, Good, ◌▷◌, ◌▹◌, just, found_in, Anything, Strict, good_give, good_to, good_map}
 use Rattle.c_reader.proofs.CorrectParsers.{good_where, good_head, good_then, good_then_less, good_small, good_taking}
-use Rattle.c_reader.proofs.Tokens.{some_same, marked, named, numbered, good_mark, good_name, good_number, marked-strict, named-strict}
+use Rattle.c_reader.proofs.Tokens.{some_same, marked, worded, named, numbered, good_mark, good_word, good_name, good_number, marked-strict, named-strict}
 use Rattle.c_reader.proofs.OptionalParts.{good_maybe}
 use Rattle.c_reader.proofs.Types.{TypeEnd, good_type, type_begins}
 use Rattle.c_reader.proofs.Expressions.{OperandEnd, End, from, Ladder, precedence_low, precedence_high, ladder_join}
@@ -79,7 +80,14 @@ OpeningLanguage opening y us = CastLanguage opening y us ⊎ InnerLanguage openi
 abbrev UnaryLanguage : Spelling t.Expression
 UnaryLanguage = found_in unary_in ▷ (λ x. from 11 ▹ t.Unary x.0 x.1)
 
+-- after the name of an array
+abbrev AddressLanguage : Place → t.Name → Spelling t.Expression
+AddressLanguage place x = marked p.OpenBracket ▷ (λ o. expression ▷ (λ y. marked p.CloseBracket ▹ (λ c. t.Address place x y)))
+
 abbrev operand_language : Option Lexeme → Spelling t.Expression
+operand_language (Some (Keyword k.Null)) = worded k.Null ▹ t.Null
+operand_language (Some (Punctuator p.Star)) = marked p.Star ▷ (λ place. named ▹ t.Referent place)
+operand_language (Some (Punctuator p.Ampersand)) = marked p.Ampersand ▷ (λ place. named ▷ AddressLanguage place)
 operand_language (Some (Number value)) = numbered ▹ (λ x. t.Number x.0 x.1)
 operand_language (Some (Name bytes)) = named ▷ NamedLanguage
 operand_language (Some (Punctuator p.OpenParenthesis)) = marked p.OpenParenthesis ▷ OpeningLanguage
@@ -90,10 +98,13 @@ pub named_good : {b c : ℕ} → b ≤ suc c → {e e' : Parser t.Expression} �
 named_good bc g x = good_map (element x) (good_index bc g)
 
 -- an expression begins with no word of a type
-pub expression_begins : (n : ℕ) (x : t.Expression) (us rest : List Token) → from n x us → head_is begins_type (head_of (us ++ rest)) ≡ false
+pub expression_begins : (n : ℕ) (x : t.Expression) (us rest : List Token) → from n x us → head_is begins_kind (head_of (us ++ rest)) ≡ false
 expression_begins n (t.Number place value) us rest u = rw u refl
 expression_begins n (t.Named x) us rest u = rw u refl
 expression_begins n (t.Element array index) us rest (us₁, us₂, e, l, m) = rw (e, l) refl
+expression_begins n (t.Null place) us rest u = rw u refl
+expression_begins n (t.Address place array index) us rest (us₁, us₂, e, l, m) = rw (e, l) refl
+expression_begins n (t.Referent place reference) us rest (us₁, us₂, e, l, m) = rw (e, l) refl
 expression_begins n (t.Parenthesised place inner) us rest (us₁, us₂, e, l, m) = rw (e, l) refl
 expression_begins n (t.Unary place operator operand) us rest (us₁, us₂, e, l, m) = rw (e, l) refl
 expression_begins n (t.Cast place x operand) us rest (us₁, us₂, e, l, m) = rw (e, l) refl
@@ -123,14 +134,14 @@ opening_good : {b : ℕ} (opening : Place) {o o' e e' : Parser t.Expression} →
     → Good b expression expression ExpressionEnd e e' →
     Good b (OpeningLanguage opening) (OpeningLanguage opening) OperandEnd (operand_after_opening o e opening) (operand_after_opening o' e' opening)
 opening_good opening g h =
-    good_where {K₁ = CastLanguage opening} {K₂ = InnerLanguage opening} (head_is begins_type)
+    good_where {K₁ = CastLanguage opening} {K₂ = InnerLanguage opening} (head_is begins_kind)
     (good_to (cast_good opening g) (λ y us u. inl u) (λ y us u. u) (λ h f. f))
     (good_to (inner_good opening h) (λ y us u. inr u) (λ y us u. u) (λ h f. f))
     out
   where
     out : (y : t.Expression) (us rest : List Token) → OpeningLanguage opening y us → OperandEnd (head_of rest) →
-        (CastLanguage opening y us × (head_is begins_type (head_of (us ++ rest)) ≡ true))
-        ⊎ (InnerLanguage opening y us × (head_is begins_type (head_of (us ++ rest)) ≡ false))
+        (CastLanguage opening y us × (head_is begins_kind (head_of (us ++ rest)) ≡ true))
+        ⊎ (InnerLanguage opening y us × (head_is begins_kind (head_of (us ++ rest)) ≡ false))
     out y us rest (inl (x, us₁, us₂, e, l, m)) f = inl ((x, us₁, us₂, e, l, m), rw (e, append_assoc us₁ us₂ rest) (type_begins x us₁ (us₂ ++ rest) l))
     out y us rest (inr (x, us₁, us₂, e, l, m)) f = inr ((x, us₁, us₂, e, l, m), rw (e, append_assoc us₁ us₂ rest) (expression_begins 0 x us₁ (us₂ ++ rest) l))
 
@@ -177,6 +188,21 @@ opening_up y us (opening, us₁, us₂, e, l, inl (x, us₃, us₄, e', m, (c, u
     subst (λ y. from 11 y us) q (us₁, us₂, e, l, (us₃, us₄, e', m, (us₅, us₆, e₂, (c, n), r)))
 opening_up y us (opening, us₁, us₂, e, l, inr (x, us₃, us₄, e', m, (c, n, q))) = subst (λ y. from 11 y us) q (us₁, us₂, e, l, (us₃, us₄, e', m, (c, n)))
 
+address_up : (y : t.Expression) (us : List Token) → (marked p.Ampersand ▷ (λ place. named ▷ AddressLanguage place)) y us → from 11 y us
+address_up y us (place, us₁, us₂, e, l, (x, us₃, us₄, e', m, (o, us₅, us₆, e₂, n, (z, us₇, us₈, e₃, v, (c, r, q))))) =
+    subst (λ y. from 11 y us) q (us₁, us₂, e, l, (us₃, us₄, e', m, (us₅, us₆, e₂, (o, n), (us₇, us₈, e₃, v, (c, r)))))
+
+address_good : {b c : ℕ} → b ≤ suc c → (place : Place) (x : t.Name) {e e' : Parser t.Expression} → Good c expression expression ExpressionEnd e e' →
+    Good b (AddressLanguage place x) (AddressLanguage place x) Anything (address_after_name e place x) (address_after_name e' place x)
+address_good bc place x g =
+    good_then_less {M = λ o. expression ▷ (λ y. marked p.CloseBracket ▹ (λ c. t.Address place x y))} {F = Anything} {G = Anything} bc
+    (marked-strict p.OpenBracket)
+    (good_mark p.OpenBracket)
+    (λ o. good_then {M = λ y. marked p.CloseBracket ▹ (λ c. t.Address place x y)} {F = ExpressionEnd} {G = Anything} g
+    (λ y. good_map (λ c. t.Address place x y) (good_mark p.CloseBracket))
+    (λ y z us rest (c, m, q) f. rw m ((refl, λ n h. refl), refl)))
+    (λ o y us rest m f. tt)
+
 operand_good : {b c : ℕ} → b ≤ suc c → c ≤ suc c → {o o' e e' : Parser t.Expression} → Good c (from 11) (from 11) OperandEnd o o'
     → Good c expression expression ExpressionEnd e e' →
     (h : Option Lexeme) → Good b (from 11) (operand_language h) OperandEnd (operand_by o e h) (operand_by o' e' h)
@@ -192,6 +218,22 @@ operand_good bc cc' g h (Some (Punctuator p.OpenParenthesis)) =
     (good_then_less {M = OpeningLanguage} {F = Anything} {G = OperandEnd} bc (marked-strict p.OpenParenthesis) (good_mark p.OpenParenthesis)
     (λ opening. opening_good opening g h) (λ x y us rest m f. tt))
     opening_up (λ y us u. u) (λ h f. f)
+operand_good bc cc' g h (Some (Keyword k.Null)) =
+    good_to {U' = from 11} {K' = worded k.Null ▹ t.Null} (good_map t.Null (good_word k.Null)) (λ y us (place, u, q). subst (λ y. from 11 y us) q u)
+    (λ y us u. u) (λ h f. tt)
+operand_good bc cc' g h (Some (Punctuator p.Star)) =
+    good_to {U = marked p.Star ▷ (λ place. named ▹ t.Referent place)} {K = marked p.Star ▷ (λ place. named ▹ t.Referent place)} {F = Anything}
+    (good_then {M = λ place. named ▹ t.Referent place} {F = Anything} {G = Anything} (good_mark p.Star) (λ place. good_map (t.Referent place) good_name)
+    (λ x y us rest m f. tt))
+    (λ y us (place, us₁, us₂, e, l, (x, m, q)). subst (λ y. from 11 y us) q (us₁, us₂, e, l, m)) (λ y us u. u) (λ h f. tt)
+operand_good bc cc' g h (Some (Punctuator p.Ampersand)) =
+    good_to {U = marked p.Ampersand ▷ (λ place. named ▷ AddressLanguage place)}
+    {K = marked p.Ampersand ▷ (λ place. named ▷ AddressLanguage place)} {F = Anything}
+    (good_then_less {M = λ place. named ▷ AddressLanguage place} {F = Anything} {G = Anything} bc (marked-strict p.Ampersand) (good_mark p.Ampersand)
+    (λ place. good_then {M = AddressLanguage place} {F = Anything} {G = Anything} good_name
+    (λ x. address_good cc' place x h) (λ x y us rest m f. tt))
+    (λ x y us rest m f. tt))
+    address_up (λ y us u. u) (λ h f. tt)
 operand_good bc cc' g h _ = unary_good bc g
 
 unary_out : (place : Place) (o : Unary) (operand : t.Expression) (us rest : List Token) → from 11 (t.Unary place o operand) us
@@ -219,6 +261,19 @@ operand_out (t.Number place value) us rest u = rw u ((place, value), refl, refl)
 operand_out (t.Named x) us rest u = rw u (x, record { place = x.place; lexeme = Name x.text } ∷ [], [], refl, refl, (None, refl, refl))
 operand_out (t.Element array i) us rest (us₁, us₂, e, l, m) =
     rw (e, l) (array, record { place = array.place; lexeme = Name array.text } ∷ [], us₂, refl, refl, (Some i, m, refl))
+operand_out (t.Null place) us rest u = rw u (place, refl, refl)
+operand_out (t.Address place array i) us rest (us₁, us₂, e, l, (us₃, us₄, e', m, (us₅, us₆, e₂, (o, n), (us₇, us₈, e₃, v, (c, r))))) =
+    rw (e, l) (
+      place,
+      record { place = place; lexeme = Punctuator p.Ampersand } ∷
+          [],
+      us₂,
+      refl,
+      refl,
+      (array, us₃, us₄, e', m, (o, us₅, us₆, e₂, n, (i, us₇, us₈, e₃, v, (c, r, refl)))),
+    )
+operand_out (t.Referent place reference) us rest (us₁, us₂, e, l, m) =
+    rw (e, l) (place, record { place = place; lexeme = Punctuator p.Star } ∷ [], us₂, refl, refl, (reference, m, refl))
 operand_out (t.Parenthesised place inner) us rest (us₁, us₂, e, l, (us₃, us₄, e', m, (c, n))) =
     rw (e, l) (place, record { place = place; lexeme = Punctuator p.OpenParenthesis } ∷ [], us₂, refl, refl, inr (inner, us₃, us₄, e', m, (c, n, refl)))
 operand_out (t.Unary place o operand) us rest u = unary_out place o operand us rest u
@@ -314,6 +369,9 @@ pub after_down : (y : t.Expression) (us : List Token) → expression y us → (f
 after_down (t.Number place value) us u = ladder_down (t.Number place value) us u
 after_down (t.Named x) us u = ladder_down (t.Named x) us u
 after_down (t.Element array i) us u = ladder_down (t.Element array i) us u
+after_down (t.Null place) us u = ladder_down (t.Null place) us u
+after_down (t.Address place array i) us u = ladder_down (t.Address place array i) us u
+after_down (t.Referent place reference) us u = ladder_down (t.Referent place reference) us u
 after_down (t.Parenthesised place inner) us u = ladder_down (t.Parenthesised place inner) us u
 after_down (t.Unary place o operand) us u = ladder_down (t.Unary place o operand) us u
 after_down (t.Cast place x operand) us u = ladder_down (t.Cast place x operand) us u

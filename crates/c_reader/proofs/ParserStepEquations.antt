@@ -5,12 +5,14 @@ use Rattle.ido_base.specs.declared.place.Place.{Place}
 use Rattle.c_tree.specs.Tokens.{Token, Lexeme, Name}
 use Rattle.c_tree.specs.declared.token.Punctuator.TheVariants as p
 use Rattle.c_tree.specs.Trees as t
+use Rattle.c_tree.specs.Elaboration.{target_place}
 use Rattle.c_reader.specs.links.ParserFunctions.{Parsed, Parser, Read, Wrong, give, follow, ◌>>=◌, ◌>>◌, head_of, by_head, where_head, taking, head_is}
 use Rattle.c_reader.specs.links.ParserFunctions.{is_mark, is_operator_at, operator_in, operand_over, operand_after_name, conditional_after}
 use Rattle.c_reader.specs.links.ParserFunctions.{parse_operand, parse_expression, parse_index, parse_name, parse_mark, parse_change}
-use Rattle.c_reader.specs.links.ParserFunctions.{parse_more_of, parse_some_of, declaration_over, call_after, assigned_from}
+use Rattle.c_reader.specs.links.ParserFunctions.{parse_more_of, parse_some_of, parse_followed, declaration_over, call_after, assigned_from}
 use Rattle.c_reader.specs.links.ParserSteps.{operators_past, operators_from, right_operand, more_of, expression_past_name, right_past_name, right_side}
-use Rattle.c_reader.specs.links.ParserSteps.{maybe_initial, statement_past_target, statement_past_name, parse_named_statement, parse_declaration_statement}
+use Rattle.c_reader.specs.links.ParserSteps.{maybe_initial, statement_past_target, statement_past_name, parse_named_statement}
+use Rattle.c_reader.specs.links.ParserSteps.{parse_followed_statement, parse_declaration_statement}
 
 -- fuel that is there
 pub burnt : {X : Type 0} (f : ℕ → X) (fuel : ℕ) → 0 < fuel → f fuel ≡ f (suc (fuel - 1))
@@ -176,14 +178,14 @@ maybe_initial_is fuel ts = refl
 pub statement_after_target_is : (fuel : ℕ) (x : t.Lvalue) (ts : List Token) → statement_past_target fuel x ts
     ≡ where_head (head_is (is_mark p.Assign))
     (do parse_mark p.Assign; y ← right_side fuel; give (assigned_from x y))
-    (do y ← parse_change fuel; give (t.Assign (record { place = x.name.place; target = x; change = y }))) ts
+    (do y ← parse_change fuel; give (t.Assign (record { place = target_place x; target = x; change = y }))) ts
 unfolding statement_past_target right_side
 statement_after_target_is fuel x ts = refl
 
 pub statement_after_name_is : (fuel : ℕ) (x : t.Name) (ts : List Token) → statement_past_name fuel x ts
     ≡ where_head (head_is (is_mark p.OpenParenthesis))
     (do c ← call_after fuel x; give (t.CallOnly c))
-    (do i ← parse_index (parse_expression fuel); statement_past_target fuel (record { name = x; index = i })) ts
+    (do i ← parse_index (parse_expression fuel); statement_past_target fuel (t.Target x i)) ts
 unfolding statement_past_name statement_past_target
 statement_after_name_is fuel x ts = refl
 
@@ -191,6 +193,11 @@ pub named_statement_is : (fuel : ℕ) (ts : List Token) → parse_named_statemen
     ≡ (do s ← (do x ← parse_name; statement_past_name fuel x); parse_mark p.Semicolon; give s) ts
 unfolding parse_named_statement statement_past_name
 named_statement_is fuel ts = refl
+
+pub followed_statement_is : (fuel : ℕ) (ts : List Token) → parse_followed_statement fuel ts
+    ≡ (do s ← (do x ← parse_followed; statement_past_target fuel x); parse_mark p.Semicolon; give s) ts
+unfolding parse_followed_statement statement_past_target
+followed_statement_is fuel ts = refl
 
 pub declaration_statement_is : (fuel : ℕ) (ts : List Token)
     → parse_declaration_statement fuel ts ≡ (do x ← (do x ← declaration_over (maybe_initial fuel); give (t.Declare x)); parse_mark p.Semicolon; give x) ts

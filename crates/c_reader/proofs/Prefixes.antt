@@ -18,11 +18,11 @@ use Rattle.c_tree.specs.LexicalScan.{word_prefix, punctuators, punctuator_prefix
 abbrev lexeme_by : List ℕ → Option (List ℕ × kw.Keyword) → Lexeme
 lexeme_by word o = elim o [ Some entry ↦ Keyword entry.1 | None ↦ Name word ]
 
-by_keyword : (word : List ℕ) (o : Option (List ℕ × kw.Keyword)) (k : kw.Keyword) → option_map (λ e. e.1) o ≡ Some k → lexeme_by word o ≡ Keyword k
+pub by_keyword : (word : List ℕ) (o : Option (List ℕ × kw.Keyword)) (k : kw.Keyword) → option_map (λ e. e.1) o ≡ Some k → lexeme_by word o ≡ Keyword k
 by_keyword word (Some entry) k e = let same : entry.1 ≡ k = cc in ap Keyword same
 by_keyword word None k e = cc
 
-by_name : (word : List ℕ) (o : Option (List ℕ × kw.Keyword)) → option_map (λ e. e.1) o ≡ None → lexeme_by word o ≡ Name word
+pub by_name : (word : List ℕ) (o : Option (List ℕ × kw.Keyword)) → option_map (λ e. e.1) o ≡ None → lexeme_by word o ≡ Name word
 by_name word (Some entry) e = cc
 by_name word None e = refl
 

@@ -43,17 +43,17 @@ fault_or (Some f) d = f
 module _ (language : Language) where
   -- ---- What stands after them
 
-  after_no_token : (text : List ℕ) (s : Scanned) (f : Fault) → s ≡ scanned text → nests_high s.tokens ≡ false →
+  after_no_token : (text : List ℕ) (s : Scanned) (f : Fault) → s ≡ scanned language text → nests_high s.tokens ≡ false →
       BeginsProgram language (take (length s.tokens) s.tokens)
       → s.fault ≡ Some f → IsRefused language text f.rule f.place
   after_no_token text s f e low begun fault =
       let all : take (length s.tokens) s.tokens ≡ s.tokens = take_all (length s.tokens) s.tokens (omega arith) in
       let P : List Token → Type 0 = BeginsProgram language in
       let Q : Scanned → Type 0 = λ x. (x.fault ≡ Some f) × BeginsProgram language x.tokens × (nests_high x.tokens ≡ false) in
-      let parts : Q (scanned text) = subst Q e (fault, subst P all begun, low) in
+      let parts : Q (scanned language text) = subst Q e (fault, subst P all begun, low) in
       no_token parts.0 parts.1 parts.2
 
-  after_high : (text : List ℕ) (s : Scanned) (i : ℕ) (d : Token) → s ≡ scanned text → IsFirstHigh s.tokens (Some i) →
+  after_high : (text : List ℕ) (s : Scanned) (i : ℕ) (d : Token) → s ≡ scanned language text → IsFirstHigh s.tokens (Some i) →
       BeginsProgram language (take (i + 1) s.tokens)
       → IsRefused language text rule.High (get_or s.tokens i d).place
   after_high text s i d e high begun =
@@ -64,7 +64,7 @@ module _ (language : Language) where
       too_high (take i ts) t (drop (i + 1) ts) (sym (ap (λ (x : Scanned). x.tokens) e) ∙ cut_at ts i d high.0) high.1 (subst P more begun)
       (sym (ap nests_high more) ∙ high.2) refl refl
 
-  pub refused_after : (text : List ℕ) (s : Scanned) (high : Option ℕ) (f : Fault) → s ≡ scanned text → IsFirstHigh s.tokens high
+  pub refused_after : (text : List ℕ) (s : Scanned) (high : Option ℕ) (f : Fault) → s ≡ scanned language text → IsFirstHigh s.tokens high
       → BeginsProgram language (take (reach high (length s.tokens)) s.tokens) → after_of s high ≡ Some f → IsRefused language text f.rule f.place
   refused_after text s None f e high begun after = after_no_token text s f e high begun after
   refused_after text s (Some i) f e high begun after = by_tokens s.tokens refl
@@ -91,14 +91,14 @@ module _ (language : Language) where
 
   -- ---- The tokens that are looked at are whole, or too few
 
-  pub whole_read : (text : List ℕ) (s : Scanned) (high : Option ℕ) (xs : List Item) → s ≡ scanned text → IsFirstHigh s.tokens high
+  pub whole_read : (text : List ℕ) (s : Scanned) (high : Option ℕ) (xs : List Item) → s ≡ scanned language text → IsFirstHigh s.tokens high
       → parse_program language (take (reach high (length s.tokens)) s.tokens) ≡ Read xs [] → after_of s high ≡ None → IsRead language text xs
   whole_read text s None xs e high parsed after =
       let all : take (length s.tokens) s.tokens ≡ s.tokens = take_all (length s.tokens) s.tokens (omega arith) in
       let P : List Token → Type 0 = program language xs in
       let Q : Scanned → Type 0 = λ x. (x.fault ≡ None) × (nests_high x.tokens ≡ false) × program language xs x.tokens in
       let spelled = (program_read language (take (length s.tokens) s.tokens) xs [] parsed).1 in
-      let parts : Q (scanned text) = subst Q e (after, high, subst P all spelled) in
+      let parts : Q (scanned language text) = subst Q e (after, high, subst P all spelled) in
       record { scanned_whole = parts.0; low = parts.1; spelled = parts.2 }
   whole_read text s (Some i) xs e high parsed after = let parts = none_after s (Some i) high after in absurd (cc (parts.0))
 
@@ -111,7 +111,7 @@ module _ (language : Language) where
       → BeginsProgram language (take (reach high (length s.tokens)) s.tokens)
   short_begins s high parsed = (program_ends language (take (reach high (length s.tokens)) s.tokens) parsed).0
 
-  pub short_end : (text : List ℕ) (s : Scanned) (high : Option ℕ) (end : ℕ) → s ≡ scanned text → IsFirstHigh s.tokens high
+  pub short_end : (text : List ℕ) (s : Scanned) (high : Option ℕ) (end : ℕ) → s ≡ scanned language text → IsFirstHigh s.tokens high
       → parse_program language (take (reach high (length s.tokens)) s.tokens) ≡ Wrong [] → after_of s high ≡ None → end ≡ length text
       → IsRefused language text rule.Syntax (record { 0 = end })
   short_end text s None end e high parsed after at =
@@ -120,7 +120,7 @@ module _ (language : Language) where
       let P : List Token → Type 0 = λ ts. BeginsProgram language ts × (IsWhole language ts → ⊥) in
       let Q : Scanned → Type 0 = λ x. (x.fault ≡ None) × (nests_high x.tokens ≡ false) × BeginsProgram language x.tokens × (IsWhole language x.tokens → ⊥) in
       let own = subst P all ends in
-      let parts : Q (scanned text) = subst Q e (after, high, own.0, own.1) in
+      let parts : Q (scanned language text) = subst Q e (after, high, own.0, own.1) in
       wrong_end parts.0 parts.1 parts.2 parts.3 (ap (λ n. record { 0 = n }) at) refl
   short_end text s (Some i) end e high parsed after at = let parts = none_after s (Some i) high after in absurd (cc (parts.0))
 
@@ -164,7 +164,7 @@ module _ (language : Language) where
       let P : List Token → Type 0 = λ before. IsWrong language before t in
       subst P same found.2
 
-  pub wrong_at : (text : List ℕ) (s : Scanned) (high : Option ℕ) (i : ℕ) (d : Token) → s ≡ scanned text → IsFirstHigh s.tokens high
+  pub wrong_at : (text : List ℕ) (s : Scanned) (high : Option ℕ) (i : ℕ) (d : Token) → s ≡ scanned language text → IsFirstHigh s.tokens high
       → i < length (take (reach high (length s.tokens)) s.tokens)
       → parse_program language (take (reach high (length s.tokens)) s.tokens) ≡ Wrong (drop i (take (reach high (length s.tokens)) s.tokens))
       → IsRefused language text rule.Syntax (get_or s.tokens i d).place
@@ -189,11 +189,11 @@ module _ (language : Language) where
 
   pub told_after : (s : Scanned) (high : Option ℕ) (end : ℕ) (o : Option Fault) → IsFirstHigh s.tokens high
       → BeginsProgram language (take (reach high (length s.tokens)) s.tokens) → after_of s high ≡ o
-      → IfSome o (λ f. (text : List ℕ) → s ≡ scanned text → end ≡ length text → IsRefused language text f.rule f.place)
+      → IfSome o (λ f. (text : List ℕ) → s ≡ scanned language text → end ≡ length text → IsRefused language text f.rule f.place)
   told_after s high end (Some f) first begun after = λ text e at. refused_after text s high f e first begun after
   told_after s high end None first begun after = tt
 
-  pub told_wrong : (text : List ℕ) (s : Scanned) (high : Option ℕ) (i : ℕ) (t : Token) → s ≡ scanned text → IsFirstHigh s.tokens high
+  pub told_wrong : (text : List ℕ) (s : Scanned) (high : Option ℕ) (i : ℕ) (t : Token) → s ≡ scanned language text → IsFirstHigh s.tokens high
       → IsParsed language s high (outcome.WrongAt i) → get_or s.tokens i t ≡ t → IsRefused language text rule.Syntax t.place
   told_wrong text s high i t e first parsed here =
       let P : Token → Type 0 = λ u. IsRefused language text rule.Syntax u.place in
@@ -222,8 +222,8 @@ module _ (language : Language) where
       let P : List Token → Type 0 = λ ts. Parses language ts o in
       subst P same parsed
 
-  pub refused_told : (text : List ℕ) (s : Scanned) (end : ℕ) (r : Result Tree SourceError) → s ≡ scanned text → end ≡ length text
-      → IfErr r (λ e. IfSome (fault_in e) (λ f. (given : List ℕ) → s ≡ scanned given → end ≡ length given → IsRefused language given f.rule f.place))
+  pub refused_told : (text : List ℕ) (s : Scanned) (end : ℕ) (r : Result Tree SourceError) → s ≡ scanned language text → end ≡ length text
+      → IfErr r (λ e. IfSome (fault_in e) (λ f. (given : List ℕ) → s ≡ scanned language given → end ≡ length given → IsRefused language given f.rule f.place))
       → IfErr r (λ e. IfSome (fault_in e) (λ f. IsRefused language text f.rule f.place))
   refused_told text s end (Ok x) e at told = tt
   refused_told text s end (Err error.Memory) e at told = tt

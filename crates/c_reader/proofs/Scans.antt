@@ -2,7 +2,7 @@
 use Rattle.std.proofs.Common.{◌≡◌, ℕ, ◌+◌, ◌<◌, ◌≤◌, zero, suc, Some, None, List, [], ◌∷◌, ◌++◌, length}
 use Rattle.std.proofs.Common.{drop, refl, ap, sym, subst, ◌∙◌, arith, length-drop, append_assoc}
 use Rattle.c_tree.specs.Tokens.{Lexeme, Token}
-use Rattle.c_tree.specs.LexicalScan.{Prefix, Blank, Lexed, Broken, End, prefix, Scanned, scanned_from, scanned}
+use Rattle.c_tree.specs.LexicalScan.{Prefix, Blank, Lexed, Broken, End, prefix, Scanned, scanned_from, plain_scanned}
 use Rattle.c_reader.proofs.Sizes.{IsPart, prefix-IsPart}
 
 abbrev token_at : (place : ℕ) → Lexeme → Token
@@ -25,11 +25,11 @@ pub record IsTextLeft (text rest : List ℕ) (found : List Token) : Type 0 where
   -- more than the bytes that are left
   pub more : ℕ
   pub enough : length rest ≤ more
-  pub tokens : found ++ (scanned_from (suc more) place rest).tokens ≡ (scanned text).tokens
-  pub fault : (scanned_from (suc more) place rest).fault ≡ (scanned text).fault
+  pub tokens : found ++ (scanned_from (suc more) place rest).tokens ≡ (plain_scanned text).tokens
+  pub fault : (scanned_from (suc more) place rest).fault ≡ (plain_scanned text).fault
 
 pub IsLeft-start : (text : List ℕ) → IsTextLeft text text []
-unfolding scanned
+unfolding plain_scanned
 IsLeft-start text = record {
   place = 0;
   at = omega arith;
@@ -49,8 +49,8 @@ IsLeft-Blank text rest found n l e = by l.more l.enough l.tokens l.fault
     some : (0 < n) × (n ≤ length rest)
     some = some_of rest (Blank n) e
 
-    by : (more : ℕ) → length rest ≤ more → found ++ (scanned_from (suc more) l.place rest).tokens ≡ (scanned text).tokens
-        → (scanned_from (suc more) l.place rest).fault ≡ (scanned text).fault → IsTextLeft text (drop n rest) found
+    by : (more : ℕ) → length rest ≤ more → found ++ (scanned_from (suc more) l.place rest).tokens ≡ (plain_scanned text).tokens
+        → (scanned_from (suc more) l.place rest).fault ≡ (plain_scanned text).fault → IsTextLeft text (drop n rest) found
     by zero enough t f = absurd (omega (arith, some.0, some.1))
     by (suc m) enough t f = record {
       place = l.place + n;
@@ -71,8 +71,8 @@ IsLeft-Lexed text rest found place lexeme n l e at = by l.more l.enough l.tokens
     same : l.place ≡ place
     same = omega (arith, l.at, at)
 
-    by : (more : ℕ) → length rest ≤ more → found ++ (scanned_from (suc more) l.place rest).tokens ≡ (scanned text).tokens
-        → (scanned_from (suc more) l.place rest).fault ≡ (scanned text).fault → IsTextLeft text (drop n rest) (found ++ token_at place lexeme ∷ [])
+    by : (more : ℕ) → length rest ≤ more → found ++ (scanned_from (suc more) l.place rest).tokens ≡ (plain_scanned text).tokens
+        → (scanned_from (suc more) l.place rest).fault ≡ (plain_scanned text).fault → IsTextLeft text (drop n rest) (found ++ token_at place lexeme ∷ [])
     by zero enough t f = absurd (omega (arith, some.0, some.1))
     by (suc m) enough t f = record {
       place = place + n;

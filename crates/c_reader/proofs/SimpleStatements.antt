@@ -3,26 +3,26 @@ use Rattle.std.proofs.Common.{◌≡◌, ℕ, ◌+◌, ◌<◌, ◌≤◌, List,
 use Rattle.std.proofs.Common.{false, sym, refl, ap, ◌∙◌, subst, inl, inr, append_assoc, arith, true≢false, zero-lt-suc}
 use Rattle.std.specs.Prelude.{◌⊎◌}
 use Rattle.ido_base.specs.declared.place.Place.{Place}
-use Rattle.ido_ints.specs.declared.kinds.Kind.{Kind}
 use Rattle.c_tree.specs.declared.language.Language.{Language}
 use Rattle.c_tree.specs.declared.language.Language.TheVariants.{Plain, Full}
 use Rattle.c_tree.specs.Tokens.{Token, Lexeme, Name, Keyword, Punctuator}
 use Rattle.c_tree.specs.declared.token.Keyword.TheVariants as k
 use Rattle.c_tree.specs.declared.token.Punctuator.TheVariants as p
 use Rattle.c_tree.specs.Trees as t
+use Rattle.c_tree.specs.Elaboration.{target_place}
 use Rattle.c_tree.specs.Languages.{mark, ◌⋅◌, name, starting_at}
-use Rattle.c_tree.specs.Grammar.{expression, index, type, initial, initial_of_first, first, condition, assignment, changed, target, key}
+use Rattle.c_tree.specs.Grammar.{expression, index, type_name, initial, initial_of_first, first, condition, assignment, changed, target, key}
 use Rattle.c_reader.specs.links.ParserFunctions.{Parser, head_of, head_is, is_mark, begins_type, parse_initial}
 use Rattle.c_reader.specs.links.ParserFunctions.{parse_initial_of_first, declaration_over, parse_first}
 use Rattle.c_reader.specs.links.ParserFunctions.{parse_condition, parse_key, parse_lock_name, assigned_from, statement_after_target, statement_after_name}
 use Rattle.c_reader.proofs.CorrectParsers.{Spelling, Good, ◌▷◌, ◌▹◌, just, Anything, Strict, good_give, good_to, good_map, good_where, good_then}
 use Rattle.c_reader.proofs.Tokens.{marked, named, good_mark, good_name}
-use Rattle.c_reader.proofs.Types.{TypeEnd, good_type, type_begins}
+use Rattle.c_reader.proofs.Types.{TypeEnd, good_type_name, type_name_begins}
 use Rattle.c_reader.proofs.OptionalParts.{Unless}
 use Rattle.c_reader.proofs.TokenPlaces.{At, good_here}
 use Rattle.c_reader.proofs.Expressions.{OperandEnd, not_mark}
 use Rattle.c_reader.proofs.Operands.{ExpressionEnd, good_index, good_expression}
-use Rattle.c_reader.proofs.Assignments.{ChangeLanguage, good_change, good_assignment}
+use Rattle.c_reader.proofs.Assignments.{ChangeLanguage, good_change, good_assignment, target_lexeme, target_head}
 use Rattle.c_reader.proofs.Calls.{RightLanguage, RightEnd, good_right, CallLanguage, call_good, call_head}
 
 -- ---- What a local begins with
@@ -81,36 +81,36 @@ good_initial_of_first fuel fuel' b h h' =
 
 -- ---- Declarations
 
-pub type-strict : Strict type
-type-strict x [] u = let q : false ≡ true = type_begins x [] [] u in absurd (true≢false (sym q))
+pub type-strict : Strict type_name
+type-strict x [] u = let q : false ≡ true = type_name_begins x [] [] u in absurd (true≢false (sym q))
 type-strict x (u ∷ us) m = zero-lt-suc (length us)
 
 first_strict : {A B : Type 0} (L : Spelling A) (M : A → Spelling B) → Strict L → Strict (L ▷ M)
 first_strict L M s y us (x, us₁, us₂, e, l, m) =
     let a : length us ≡ length us₁ + length us₂ = ap length e ∙ length-append us₁ us₂ in let b : 0 < length us₁ = s x us₁ l in omega (arith, a, b)
 
-abbrev made : Place → Kind → t.Name → t.Initial → t.Declaration
-made place x n i = record { place = place; kind = x; name = n; initial = i }
+abbrev made : Place → t.TypeName → t.Name → t.Initial → t.Declaration
+made place x n i = record { place = place; type_name = x; name = n; initial = i }
 
 abbrev Declared : Spelling t.Initial → Place → Spelling t.Declaration
-Declared L place = type ▷ (λ x. named ▷ (λ n. L ▹ made place x n))
+Declared L place = type_name ▷ (λ x. named ▷ (λ n. L ▹ made place x n))
 
 -- a declaration, where what its local begins with is of the language
 abbrev pub DeclarationLanguage : Spelling t.Initial → Spelling t.Declaration
-DeclarationLanguage L y = starting_at y.place (type y.kind ⋅ name y.name ⋅ L y.initial)
+DeclarationLanguage L y = starting_at y.place (type_name y.type_name ⋅ name y.name ⋅ L y.initial)
 
 pub good_declaration : {b : ℕ} (L : Spelling t.Initial) (F : Option Lexeme → Type 0) {P P' : Parser t.Initial} → Good b L L F P P'
     → Good b (DeclarationLanguage L) (DeclarationLanguage L) F (declaration_over P) (declaration_over P')
 good_declaration L F g =
     good_to {U = At (Declared L)} {K = At (Declared L)} {F = F}
-    (good_here (Declared L) (λ place. first_strict type (λ x. named ▷ (λ n. L ▹ made place x n)) type-strict)
+    (good_here (Declared L) (λ place. first_strict type_name (λ x. named ▷ (λ n. L ▹ made place x n)) type-strict)
     (λ place place' y us (x, us₁, us₂, e, l, (n, us₃, us₄, e', m, (i, v, q))). (made place' x n i, (x, us₁, us₂, e, l, (n, us₃, us₄, e', m, (i, v, refl)))))
-    (λ place. good_then {M = λ x. named ▷ (λ n. L ▹ made place x n)} {F = TypeEnd} {G = F} good_type
+    (λ place. good_then {M = λ x. named ▷ (λ n. L ▹ made place x n)} {F = TypeEnd} {G = F} good_type_name
     (λ x. good_then {M = λ n. L ▹ made place x n} {F = Anything} {G = F} good_name (λ n. good_map (made place x n) g) (λ n y us rest m f. tt))
     (λ x y us rest (n, us₁, us₂, e, l, m) f. rw (e, l) (refl, refl, refl, refl))))
     (λ y us (place, f, (x, us₁, us₂, e, l, (n, us₃, us₄, e', m, (i, v, q)))). subst (λ y. DeclarationLanguage L y us) q
     (f, (us₁, us₂, e, l, (us₃, us₄, e', m, v))))
-    (λ y us (f, (us₁, us₂, e, l, (us₃, us₄, e', m, v))). (y.place, f, (y.kind, us₁, us₂, e, l, (y.name, us₃, us₄, e', m, (y.initial, v, refl)))))
+    (λ y us (f, (us₁, us₂, e, l, (us₃, us₄, e', m, v))). (y.place, f, (y.type_name, us₁, us₂, e, l, (y.name, us₃, us₄, e', m, (y.initial, v, refl)))))
     (λ h f. f)
 
 -- ---- Conditions and names in parentheses
@@ -184,12 +184,16 @@ FirstEnd h = (head_is (is_mark p.Semicolon) h ≡ true) × Unless (is_mark p.Ass
 
 -- a test with one answer for all first tokens of assignments
 pub assignment_first : (test : Option Lexeme → Bool) (answer : Bool) → ((bytes : List ℕ) → test (Some (Name bytes)) ≡ answer)
-    → test (Some (Punctuator p.Increment)) ≡ answer → test (Some (Punctuator p.Decrement)) ≡ answer →
+    → test (Some (Punctuator p.Star)) ≡ answer → test (Some (Punctuator p.Increment)) ≡ answer → test (Some (Punctuator p.Decrement)) ≡ answer →
     (x : t.Assignment) (us rest : List Token) → assignment x us → test (head_of (us ++ rest)) ≡ answer
-assignment_first test answer a b c x us rest (f, u) = go x.change u
+assignment_first test answer a s b c x us rest (f, u) = go x.change u
   where
+    on : (y : t.Lvalue) → test (Some (target_lexeme y)) ≡ answer
+    on (t.Target n i) = a n.text
+    on (t.Followed place n) = s
+
     at_name : (vs ws : List Token) → us ≡ vs ++ ws → target x.target vs → test (head_of (us ++ rest)) ≡ answer
-    at_name vs ws e (us₁, us₂, e', n, i) = rw (e, e', n) (a x.target.name.text)
+    at_name vs ws e u = rw (e, append_assoc vs ws rest, target_head x.target vs (ws ++ rest) u) (on x.target)
 
     go : (y : t.Change) → changed x.target y us → test (head_of (us ++ rest)) ≡ answer
     go (t.Set v) (vs, ws, e, m, r) = at_name vs ws e m
@@ -202,21 +206,22 @@ assignment_first test answer a b c x us rest (f, u) = go x.change u
 -- a test with one answer for all first words of types
 begins_type-answer : (test : Option Lexeme → Bool) (answer : Bool) → test (Some (Keyword k.Char)) ≡ answer → test (Some (Keyword k.Short)) ≡ answer
     → test (Some (Keyword k.Int)) ≡ answer → test (Some (Keyword k.Long)) ≡ answer → test (Some (Keyword k.Signed)) ≡ answer
-    → test (Some (Keyword k.Unsigned)) ≡ answer →
+    → test (Some (Keyword k.Unsigned)) ≡ answer → test (Some (Keyword k.Ref)) ≡ answer →
     (h : Option Lexeme) → head_is begins_type h ≡ true → test h ≡ answer
-begins_type-answer test answer a b c d e f (Some (Keyword k.Char)) q = a
-begins_type-answer test answer a b c d e f (Some (Keyword k.Short)) q = b
-begins_type-answer test answer a b c d e f (Some (Keyword k.Int)) q = c
-begins_type-answer test answer a b c d e f (Some (Keyword k.Long)) q = d
-begins_type-answer test answer a b c d e f (Some (Keyword k.Signed)) q = e
-begins_type-answer test answer a b c d e f (Some (Keyword k.Unsigned)) q = f
-begins_type-answer test answer a b c d e f _ q = absurd (true≢false (sym q))
+begins_type-answer test answer a b c d e f g (Some (Keyword k.Char)) q = a
+begins_type-answer test answer a b c d e f g (Some (Keyword k.Short)) q = b
+begins_type-answer test answer a b c d e f g (Some (Keyword k.Int)) q = c
+begins_type-answer test answer a b c d e f g (Some (Keyword k.Long)) q = d
+begins_type-answer test answer a b c d e f g (Some (Keyword k.Signed)) q = e
+begins_type-answer test answer a b c d e f g (Some (Keyword k.Unsigned)) q = f
+begins_type-answer test answer a b c d e f g (Some (Keyword k.Ref)) q = g
+begins_type-answer test answer a b c d e f g _ q = absurd (true≢false (sym q))
 
 pub type_first : (test : Option Lexeme → Bool) (answer : Bool) → test (Some (Keyword k.Char)) ≡ answer → test (Some (Keyword k.Short)) ≡ answer
     → test (Some (Keyword k.Int)) ≡ answer → test (Some (Keyword k.Long)) ≡ answer → test (Some (Keyword k.Signed)) ≡ answer
-    → test (Some (Keyword k.Unsigned)) ≡ answer →
-    (x : Kind) (us rest : List Token) → type x us → test (head_of (us ++ rest)) ≡ answer
-type_first test answer a b c d e f x us rest u = begins_type-answer test answer a b c d e f (head_of (us ++ rest)) (type_begins x us rest u)
+    → test (Some (Keyword k.Unsigned)) ≡ answer → test (Some (Keyword k.Ref)) ≡ answer →
+    (x : t.TypeName) (us rest : List Token) → type_name x us → test (head_of (us ++ rest)) ≡ answer
+type_first test answer a b c d e f g x us rest u = begins_type-answer test answer a b c d e f g (head_of (us ++ rest)) (type_name_begins x us rest u)
 
 pub good_first : (fuel fuel' b : ℕ) → b ≤ fuel → b ≤ fuel' → Good b first first FirstEnd (parse_first fuel) (parse_first fuel')
 good_first fuel fuel' b h h' =
@@ -248,8 +253,8 @@ good_first fuel fuel' b h h' =
         ⊎ ((assignment ▹ t.Assigned) y us × (head_is begins_type (head_of (us ++ rest)) ≡ false))
     inner t.NoFirst us rest u f = absurd u
     inner (t.Declared x) us rest (g, (us₁, us₂, e, l, m)) f =
-        inl ((x, (g, (us₁, us₂, e, l, m)), refl), rw (e, append_assoc us₁ us₂ rest) (type_begins x.kind us₁ (us₂ ++ rest) l))
-    inner (t.Assigned x) us rest u f = inr ((x, u, refl), assignment_first (head_is begins_type) false (λ bytes. refl) refl refl x us rest u)
+        inl ((x, (g, (us₁, us₂, e, l, m)), refl), rw (e, append_assoc us₁ us₂ rest) (type_name_begins x.type_name us₁ (us₂ ++ rest) l))
+    inner (t.Assigned x) us rest u f = inr ((x, u, refl), assignment_first (head_is begins_type) false (λ bytes. refl) refl refl refl x us rest u)
 
     out : (y : t.First) (us rest : List Token) → first y us → FirstEnd (head_of rest) →
         (just t.NoFirst y us × (head_is (is_mark p.Semicolon) (head_of (us ++ rest)) ≡ true))
@@ -259,14 +264,14 @@ good_first fuel fuel' b h h' =
         inr (
           (g, (us₁, us₂, e, l, m)),
           rw (e, append_assoc us₁ us₂ rest)
-              (type_first (head_is (is_mark p.Semicolon)) false refl refl refl refl refl refl x.kind us₁ (us₂ ++ rest) l),
+              (type_first (head_is (is_mark p.Semicolon)) false refl refl refl refl refl refl refl x.type_name us₁ (us₂ ++ rest) l),
         )
-    out (t.Assigned x) us rest u f = inr (u, assignment_first (head_is (is_mark p.Semicolon)) false (λ bytes. refl) refl refl x us rest u)
+    out (t.Assigned x) us rest u f = inr (u, assignment_first (head_is (is_mark p.Semicolon)) false (λ bytes. refl) refl refl refl x us rest u)
 
 -- ---- Statements that begin with a name, before their semicolon
 
 abbrev assign_of : t.Lvalue → t.Change → t.Statement
-assign_of x y = t.Assign (record { place = x.name.place; target = x; change = y })
+assign_of x y = t.Assign (record { place = target_place x; target = x; change = y })
 
 abbrev FromRight : t.Lvalue → Spelling t.Statement
 FromRight x = marked p.Assign ▷ (λ o. RightLanguage ▹ assigned_from x)
@@ -297,7 +302,7 @@ other_head (t.Update operator value) us rest o (us₁, us₂, e, (place, l), m) 
 other_head t.Increment us rest o (place, l) = rw l refl
 other_head t.Decrement us rest o (place, l) = rw l refl
 
-after_target_good : (fuel fuel' b : ℕ) → b ≤ fuel → b ≤ fuel' → (x : t.Lvalue)
+pub after_target_good : (fuel fuel' b : ℕ) → b ≤ fuel → b ≤ fuel' → (x : t.Lvalue)
     → Good b (AfterTarget x) (AfterTarget x) RightEnd (statement_after_target fuel x) (statement_after_target fuel' x)
 after_target_good fuel fuel' b h h' x =
     good_where {K₁ = FromRight x} {K₂ = FromChange x} (head_is (is_mark p.Assign))
@@ -315,7 +320,7 @@ after_target_good fuel fuel' b h h' x =
     out y us rest (inr (c, o, m, q)) f = inr ((c, o, m, q), other_head c us rest o m)
 
 abbrev at_index : t.Name → Option t.Expression → t.Lvalue
-at_index n i = record { name = n; index = i }
+at_index n i = t.Target n i
 
 abbrev FromTarget : t.Name → Spelling t.Statement
 FromTarget n = index ▷ (λ i. AfterTarget (at_index n i))

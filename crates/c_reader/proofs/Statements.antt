@@ -10,6 +10,7 @@ use Rattle.c_tree.specs.Tokens.{Token, Lexeme, Name, Keyword, Punctuator}
 use Rattle.c_tree.specs.declared.token.Keyword.TheVariants as k
 use Rattle.c_tree.specs.declared.token.Punctuator.TheVariants as p
 use Rattle.c_tree.specs.Trees as t
+use Rattle.c_tree.specs.Elaboration.{target_place}
 use Rattle.c_tree.specs.Languages.{maybe, mark, ◌⋅◌, first_place}
 use Rattle.c_tree.specs.Grammar.{expression, call, initial, first, condition, assignment, changed, target}
 use Rattle.c_tree.specs.Grammar.{unary_mark}
@@ -22,12 +23,13 @@ use Rattle.c_reader.proofs.CorrectParsers.{Spelling, Good, ◌▷◌, ◌▹◌,
 use Rattle.c_reader.proofs.CorrectParsers.{good_map, good_where, good_head, good_then, good_then_less, good_small}
 use Rattle.c_reader.proofs.Tokens.{some_same, marked, worded, named, good_mark, good_word, good_name, marked-strict}
 use Rattle.c_reader.proofs.OptionalParts.{Where, good_unless}
-use Rattle.c_reader.proofs.Types.{type_begins}
+use Rattle.c_reader.proofs.Types.{type_name_begins}
 use Rattle.c_reader.proofs.Operands.{ExpressionEnd, good_expression}
-use Rattle.c_reader.proofs.Assignments.{good_assignment, plain_up}
+use Rattle.c_reader.proofs.Assignments.{FollowedLanguage, good_followed, followed_up, target_lexeme, target_head, target_first, good_assignment, plain_up}
 use Rattle.c_reader.proofs.Calls.{RightEnd, call_up, Foreign, expression_foreign}
 use Rattle.c_reader.proofs.SimpleStatements.{InitialEnd, good_initial, DeclarationLanguage, good_declaration, good_condition, LockInside, good_lock_inside}
-use Rattle.c_reader.proofs.SimpleStatements.{FirstEnd, good_first, assignment_first, type_first, AfterTarget, AfterName, after_name_good}
+use Rattle.c_reader.proofs.SimpleStatements.{FirstEnd, good_first, assignment_first, type_first, AfterTarget, after_target_good, AfterName}
+use Rattle.c_reader.proofs.SimpleStatements.{after_name_good}
 use Rattle.c_reader.proofs.Arms.{StatementEnd, ArmsLanguage, block_head, good_arms}
 
 -- ---- Statements that a semicolon ends
@@ -53,20 +55,23 @@ Prefix (t.AssignResult x c) us = (target x ⋅ mark p.Assign ⋅ call c) us
 Prefix (t.CallOnly c) us = call c us
 Prefix _ us = ⊥
 
-target_prefix : (n : t.Name) (i : Option t.Expression) (y : t.Statement) (us us₁ us₂ : List Token) → us ≡ us₁ ++ us₂
-    → target (record { name = n; index = i }) us₁ → AfterTarget (record { name = n; index = i }) y us₂ → Prefix y us
-target_prefix n i y us us₁ us₂ e u (inl (o, vs₁, vs₂, e', l, (t.Value x, m, q))) =
-    subst (λ y. Prefix y us) q (plain_up _ us (record { name = n; index = i }, us₁, us₂, e, u, (t.Set x, (vs₁, vs₂, e', (o, l), m), refl)))
-target_prefix n i y us us₁ us₂ e u (inl (o, vs₁, vs₂, e', l, (t.Result c, m, q))) =
+target_prefix : (x : t.Lvalue) (y : t.Statement) (us us₁ us₂ : List Token) → us ≡ us₁ ++ us₂
+    → target x us₁ → AfterTarget x y us₂ → Prefix y us
+target_prefix x y us us₁ us₂ e u (inl (o, vs₁, vs₂, e', l, (t.Value z, m, q))) =
+    subst (λ y. Prefix y us) q (plain_up _ us (x, us₁, us₂, e, u, (t.Set z, (vs₁, vs₂, e', (o, l), m), refl)))
+target_prefix x y us us₁ us₂ e u (inl (o, vs₁, vs₂, e', l, (t.Result c, m, q))) =
     subst (λ y. Prefix y us) q (us₁, us₂, e, u, (vs₁, vs₂, e', (o, l), m))
-target_prefix n i y us us₁ us₂ e u (inl (o, vs₁, vs₂, e', l, (t.Absent, m, q))) = absurd m
-target_prefix n i y us us₁ us₂ e u (inr (c, o, m, q)) =
-    subst (λ y. Prefix y us) q (plain_up _ us (record { name = n; index = i }, us₁, us₂, e, u, (c, m, refl)))
+target_prefix x y us us₁ us₂ e u (inl (o, vs₁, vs₂, e', l, (t.Absent, m, q))) = absurd m
+target_prefix x y us us₁ us₂ e u (inr (c, o, m, q)) =
+    subst (λ y. Prefix y us) q (plain_up _ us (x, us₁, us₂, e, u, (c, m, refl)))
 
 prefix_up : (y : t.Statement) (us : List Token) → (named ▷ AfterName) y us → Prefix y us
 prefix_up y us (n, us₁, us₂, e, l, inl (c, m, q)) = subst (λ y. Prefix y us) q (rw e (call_up n c us₁ us₂ l m))
 prefix_up y us (n, us₁, us₂, e, l, inr (i, us₃, us₄, e', m, b)) =
-    target_prefix n i y us (us₁ ++ us₃) us₄ (e ∙ ap (λ l. us₁ ++ l) e' ∙ sym (append_assoc us₁ us₃ us₄)) (us₁, us₃, refl, l, m) b
+    target_prefix (t.Target n i) y us (us₁ ++ us₃) us₄ (e ∙ ap (λ l. us₁ ++ l) e' ∙ sym (append_assoc us₁ us₃ us₄)) (us₁, us₃, refl, l, m) b
+
+followed_prefix : (y : t.Statement) (us : List Token) → (FollowedLanguage ▷ AfterTarget) y us → Prefix y us
+followed_prefix y us (x, us₁, us₂, e, u, b) = target_prefix x y us us₁ us₂ e (followed_up x us₁ u) b
 
 -- ---- What may follow, and parts of a `for`
 
@@ -84,7 +89,7 @@ no_else (Some (Keyword x)) q = not_else x q
 no_else _ q = refl
 
 semicolon_foreign : Foreign (head_is (is_mark p.Semicolon))
-semicolon_foreign = (λ v. refl, λ v. refl, refl, on)
+semicolon_foreign = (λ v. refl, λ v. refl, refl, on, refl, refl, refl)
   where
     on : (o : Unary) → head_is (is_mark p.Semicolon) (Some (Punctuator (unary_mark o))) ≡ false
     on unary.Plus = refl
@@ -104,7 +109,7 @@ maybe_assignment_good : (fuel fuel' b : ℕ) → b ≤ fuel → b ≤ fuel'
     (parse_unless (is_mark p.CloseParenthesis) (parse_assignment fuel)) (parse_unless (is_mark p.CloseParenthesis) (parse_assignment fuel'))
 maybe_assignment_good fuel fuel' b h h' =
     good_unless (is_mark p.CloseParenthesis) (good_assignment fuel fuel' b h h')
-    (λ x us rest u. assignment_first (head_is (is_mark p.CloseParenthesis)) false (λ bytes. refl) refl refl x us rest u)
+    (λ x us rest u. assignment_first (head_is (is_mark p.CloseParenthesis)) false (λ bytes. refl) refl refl refl x us rest u)
 
 module _ (language : Language) where
   -- what spells parts that have statements
@@ -140,6 +145,9 @@ module _ (language : Language) where
 
   named_ended_up : (y : t.Statement) (us : List Token) → Ended (named ▷ AfterName) y us → statement y us
   named_ended_up y us (x, us₁, us₂, e, u, m) = ended_up y us (x, us₁, us₂, e, prefix_up x us₁ u, m)
+
+  followed_ended_up : (y : t.Statement) (us : List Token) → Ended (FollowedLanguage ▷ AfterTarget) y us → statement y us
+  followed_ended_up y us (x, us₁, us₂, e, u, m) = ended_up y us (x, us₁, us₂, e, followed_prefix x us₁ u, m)
 
   assign_ended_up : (y : t.Statement) (us : List Token) → Ended (assignment ▹ t.Assign) y us → statement y us
   assign_ended_up y us (x, us₁, us₂, e, (a, u, q), m) = ended_up y us (x, us₁, us₂, e, subst (λ x. Prefix x us₁) q u, m)
@@ -177,6 +185,7 @@ module _ (language : Language) where
   statement_language (Some (Name bytes)) = Ended (named ▷ AfterName)
   statement_language (Some (Punctuator p.OpenBrace)) = block ▹ t.BlockOf
   statement_language (Some (Punctuator p.Semicolon)) = marked p.Semicolon ▹ t.Empty
+  statement_language (Some (Punctuator p.Star)) = Ended (FollowedLanguage ▷ AfterTarget)
   statement_language (Some (Punctuator p.Increment)) = Ended (assignment ▹ t.Assign)
   statement_language (Some (Punctuator p.Decrement)) = Ended (assignment ▹ t.Assign)
   statement_language (Some (Keyword k.If)) = IfLanguage
@@ -398,6 +407,10 @@ module _ (language : Language) where
       good_to (good_map t.BlockOf g) (λ y us (x, m, q). subst (λ y. statement y us) q m) (λ y us u. u) (λ h f. tt)
   statement_good fuel fuel' b h h' B B' g g₀ (Some (Punctuator p.Semicolon)) =
       good_to (good_map t.Empty (good_mark p.Semicolon)) (λ y us (x, m, q). subst (λ y. statement y us) q m) (λ y us u. u) (λ h f. tt)
+  statement_good fuel fuel' b h h' B B' g g₀ (Some (Punctuator p.Star)) =
+      good_to (good_ended (FollowedLanguage ▷ AfterTarget) RightEnd Anything right_semicolon
+      (good_then {M = AfterTarget} {F = Anything} {G = RightEnd} good_followed (after_target_good fuel fuel' b h h') (λ x y us rest m f. tt))) followed_ended_up
+      (λ y us u. u) (λ h f. tt)
   statement_good fuel fuel' b h h' B B' g g₀ (Some (Punctuator p.Increment)) =
       good_to (good_ended (assignment ▹ t.Assign) ExpressionEnd Anything expression_semicolon (good_map t.Assign (good_assignment fuel fuel' b h h')))
       assign_ended_up (λ y us u. u) (λ h f. tt)
@@ -414,33 +427,43 @@ module _ (language : Language) where
 
   -- ---- Each statement is found by its first token
 
-  target_down : (x : t.Lvalue) (y : t.Statement) (us us₁ us₂ : List Token) → us ≡ us₁ ++ us₂ → target x us₁ → AfterTarget x y us₂ → (named ▷ AfterName) y us
-  target_down x y us us₁ us₂ e (vs₁, vs₂, e', n, i) b =
-      (x.name, vs₁, vs₂ ++ us₂, e ∙ ap (λ l. l ++ us₂) e' ∙ append_assoc vs₁ vs₂ us₂, n, inr (x.index, vs₂, us₂, refl, i, b))
+  -- what begins with this target
+  abbrev FromHead : t.Lvalue → Spelling t.Statement
+  FromHead (t.Target n i) = named ▷ AfterName
+  FromHead (t.Followed place n) = FollowedLanguage ▷ AfterTarget
 
-  target_name : (x : t.Lvalue) (us us₁ us₂ rest : List Token) → us ≡ us₁ ++ us₂ → target x us₁ → head_of (us ++ rest) ≡ Some (Name x.name.text)
-  target_name x us us₁ us₂ rest e (vs₁, vs₂, e', n, i) = rw (e, e', n) refl
+  target_down : (x : t.Lvalue) (y : t.Statement) (us us₁ us₂ : List Token) → us ≡ us₁ ++ us₂ → target x us₁ → AfterTarget x y us₂ → FromHead x y us
+  target_down (t.Target n i) y us us₁ us₂ e (vs₁, vs₂, e', m, k) b =
+      (n, vs₁, vs₂ ++ us₂, e ∙ ap (λ l. l ++ us₂) e' ∙ append_assoc vs₁ vs₂ us₂, m, inr (i, vs₂, us₂, refl, k, b))
+  target_down (t.Followed place n) y us us₁ us₂ e (vs₁, vs₂, e', l, m) b = (t.Followed place n, us₁, us₂, e, (place, vs₁, vs₂, e', l, (n, m, refl)), b)
+
+  target_name : (x : t.Lvalue) (us us₁ us₂ rest : List Token) → us ≡ us₁ ++ us₂ → target x us₁ → head_of (us ++ rest) ≡ Some (target_lexeme x)
+  target_name x us us₁ us₂ rest e u = rw (e, append_assoc us₁ us₂ rest) (target_head x us₁ (us₂ ++ rest) u)
+
+  -- which its first token finds
+  from_head : (x : t.Lvalue) (y : t.Statement) (us : List Token) → Ended (FromHead x) y us → statement_language (Some (target_lexeme x)) y us
+  from_head (t.Target n i) y us u = u
+  from_head (t.Followed place n) y us u = u
 
   -- an assignment begins with its target, or with `++` or `--`
   assign_cases : (x : t.Assignment) (us : List Token) → assignment x us →
-      ((named ▷ AfterName) (t.Assign x) us × ((rest : List Token) → head_of (us ++ rest) ≡ Some (Name x.target.name.text))) ⊎
+      (FromHead x.target (t.Assign x) us × ((rest : List Token) → head_of (us ++ rest) ≡ Some (target_lexeme x.target))) ⊎
       (((rest : List Token) → head_of (us ++ rest) ≡ Some (Punctuator p.Increment))
       ⊎ ((rest : List Token) → head_of (us ++ rest) ≡ Some (Punctuator p.Decrement)))
   assign_cases x us (f, u) = go x.change u
     where
       Cases : t.Change → Type 0
       Cases c =
-          ((named ▷ AfterName) (t.Assign (record { place = x.place; target = x.target; change = c })) us
-          × ((rest : List Token) → head_of (us ++ rest) ≡ Some (Name x.target.name.text))) ⊎
+          (FromHead x.target (t.Assign (record { place = x.place; target = x.target; change = c })) us
+          × ((rest : List Token) → head_of (us ++ rest) ≡ Some (target_lexeme x.target))) ⊎
           (((rest : List Token) → head_of (us ++ rest) ≡ Some (Punctuator p.Increment))
           ⊎ ((rest : List Token) → head_of (us ++ rest) ≡ Some (Punctuator p.Decrement)))
 
-      same_place : (us₁ us₂ : List Token) → us ≡ us₁ ++ us₂ → target x.target us₁ → x.target.name.place ≡ x.place
-      same_place us₁ us₂ e (vs₁, vs₂, e', n, i) =
-          some_same x.target.name.place x.place (sym (ap first_place (e ∙ ap (λ l. l ++ us₂) (e' ∙ ap (λ l. l ++ vs₂) n))) ∙ f)
+      same_place : (us₁ us₂ : List Token) → us ≡ us₁ ++ us₂ → target x.target us₁ → target_place x.target ≡ x.place
+      same_place us₁ us₂ e u = some_same (target_place x.target) x.place (sym (ap first_place e ∙ target_first x.target us₁ us₂ u) ∙ f)
 
       other : (c : t.Change) (us₁ us₂ : List Token) → us ≡ us₁ ++ us₂ → target x.target us₁
-          → AfterTarget x.target (t.Assign (record { place = x.target.name.place; target = x.target; change = c })) us₂ → Cases c
+          → AfterTarget x.target (t.Assign (record { place = target_place x.target; target = x.target; change = c })) us₂ → Cases c
       other c us₁ us₂ e u b =
           inl (
             target_down x.target _ us us₁ us₂ e u
@@ -463,6 +486,7 @@ module _ (language : Language) where
   declared_at (Some (Name bytes)) y us q u = absurd (true≢false (sym q))
   declared_at (Some (Punctuator p.OpenBrace)) y us q u = absurd (true≢false (sym q))
   declared_at (Some (Punctuator p.Semicolon)) y us q u = absurd (true≢false (sym q))
+  declared_at (Some (Punctuator p.Star)) y us q u = absurd (true≢false (sym q))
   declared_at (Some (Punctuator p.Increment)) y us q u = absurd (true≢false (sym q))
   declared_at (Some (Punctuator p.Decrement)) y us q u = absurd (true≢false (sym q))
   declared_at (Some (Keyword k.If)) y us q u = absurd (true≢false (sym q))
@@ -478,24 +502,24 @@ module _ (language : Language) where
   statement_out (t.Empty place) us rest u = rw u (place, refl, refl)
   statement_out (t.Declare x) us rest (us₁, us₂, e, (f, (us₃, us₄, e', l, m)), (c, n)) =
       declared_at (head_of (us ++ rest)) (t.Declare x) us (rw (e, e', append_assoc us₃ us₄ us₂, append_assoc us₃ (us₄ ++ us₂) rest)
-      (type_begins x.kind us₃ ((us₄ ++ us₂) ++ rest) l))
+      (type_name_begins x.type_name us₃ ((us₄ ++ us₂) ++ rest) l))
       (t.Declare x, us₁, us₂, e, (x, (f, (us₃, us₄, e', l, m)), refl), (c, n, refl))
   statement_out (t.Assign x) us rest (us₁, us₂, e, a, (c, n)) = go (assign_cases x us₁ a)
     where
-      go : ((named ▷ AfterName) (t.Assign x) us₁ × ((rest : List Token) → head_of (us₁ ++ rest) ≡ Some (Name x.target.name.text))) ⊎
+      go : (FromHead x.target (t.Assign x) us₁ × ((rest : List Token) → head_of (us₁ ++ rest) ≡ Some (target_lexeme x.target))) ⊎
           (((rest : List Token) → head_of (us₁ ++ rest) ≡ Some (Punctuator p.Increment))
           ⊎ ((rest : List Token) → head_of (us₁ ++ rest) ≡ Some (Punctuator p.Decrement))) →
           statement_language (head_of (us ++ rest)) (t.Assign x) us
-      go (inl (m, h)) = let q : head_of (us ++ rest) ≡ Some (Name x.target.name.text) = rw (e, append_assoc us₁ us₂ rest) (h (us₂ ++ rest)) in
-          rw q (t.Assign x, us₁, us₂, e, m, (c, n, refl))
+      go (inl (m, h)) = let q : head_of (us ++ rest) ≡ Some (target_lexeme x.target) = rw (e, append_assoc us₁ us₂ rest) (h (us₂ ++ rest)) in
+          rw q (from_head x.target (t.Assign x) us (t.Assign x, us₁, us₂, e, m, (c, n, refl)))
       go (inr (inl h)) = let q : head_of (us ++ rest) ≡ Some (Punctuator p.Increment) = rw (e, append_assoc us₁ us₂ rest) (h (us₂ ++ rest)) in
           rw q (t.Assign x, us₁, us₂, e, (x, a, refl), (c, n, refl))
       go (inr (inr h)) = let q : head_of (us ++ rest) ≡ Some (Punctuator p.Decrement) = rw (e, append_assoc us₁ us₂ rest) (h (us₂ ++ rest)) in
           rw q (t.Assign x, us₁, us₂, e, (x, a, refl), (c, n, refl))
   statement_out (t.AssignResult x r) us rest (us₁, us₂, e, u, (us₃, us₄, e', (o, l), (us₅, us₆, e₂, m, (c, n)))) =
-      let q : head_of (us ++ rest) ≡ Some (Name x.name.text) = target_name x us us₁ us₂ rest e u in
+      let q : head_of (us ++ rest) ≡ Some (target_lexeme x) = target_name x us us₁ us₂ rest e u in
       let z : us ≡ (us₁ ++ (us₃ ++ us₅)) ++ us₆ = rw (e, e', e₂) (simp append_assoc refl) in
-      rw q (
+      rw q (from_head x (t.AssignResult x r) us (
         t.AssignResult x r,
         us₁ ++ (us₃ ++ us₅),
         us₆,
@@ -503,7 +527,7 @@ module _ (language : Language) where
         target_down x (t.AssignResult x r) (us₁ ++ (us₃ ++ us₅)) us₁ (us₃ ++ us₅) refl u
             (inl (o, us₃, us₅, refl, l, (t.Result r, m, refl))),
         (c, n, refl),
-      )
+      ))
   statement_out (t.CallOnly r) us rest (us₁, us₂, e, (us₃, us₄, e', l, m), (c, n)) =
       let q : head_of (us ++ rest) ≡ Some (Name r.function.text) = rw (e, e', l) refl in
       rw q (t.CallOnly r, us₁, us₂, e, (r.function, us₃, us₄, e', l, inl (r, (refl, m), refl)), (c, n, refl))
@@ -624,15 +648,19 @@ module _ (language : Language) where
 
   -- ---- Statements in a row, and blocks
 
+  begins_at : (x : t.Lvalue) → head_is begins_statement (Some (target_lexeme x)) ≡ true
+  begins_at (t.Target n i) = refl
+  begins_at (t.Followed place n) = refl
+
   pub statement_begins : (y : t.Statement) (us rest : List Token) → statement y us → head_is begins_statement (head_of (us ++ rest)) ≡ true
   statement_begins (t.BlockOf b) us rest u = rw (block_head language b us rest u) refl
   statement_begins (t.Empty place) us rest u = rw u refl
   statement_begins (t.Declare x) us rest (us₁, us₂, e, (f, (us₃, us₄, e', l, m)), (c, n)) =
       rw (e, e', append_assoc us₃ us₄ us₂, append_assoc us₃ (us₄ ++ us₂) rest)
-      (type_first (head_is begins_statement) true refl refl refl refl refl refl x.kind us₃ ((us₄ ++ us₂) ++ rest) l)
+      (type_first (head_is begins_statement) true refl refl refl refl refl refl refl x.type_name us₃ ((us₄ ++ us₂) ++ rest) l)
   statement_begins (t.Assign x) us rest (us₁, us₂, e, a, (c, n)) =
-      rw (e, append_assoc us₁ us₂ rest) (assignment_first (head_is begins_statement) true (λ bytes. refl) refl refl x us₁ (us₂ ++ rest) a)
-  statement_begins (t.AssignResult x r) us rest (us₁, us₂, e, u, m) = rw (target_name x us us₁ us₂ rest e u) refl
+      rw (e, append_assoc us₁ us₂ rest) (assignment_first (head_is begins_statement) true (λ bytes. refl) refl refl refl x us₁ (us₂ ++ rest) a)
+  statement_begins (t.AssignResult x r) us rest (us₁, us₂, e, u, m) = rw (target_name x us us₁ us₂ rest e u) (begins_at x)
   statement_begins (t.CallOnly r) us rest (us₁, us₂, e, (us₃, us₄, e', l, m), (c, n)) = rw (e, e', l) refl
   statement_begins (t.If place t.no_arm o) us rest (us₁, us₂, e, (f, u), m) = absurd u
   statement_begins (t.If place (t.arm_and x b arms) o) us rest (us₁, us₂, e, (f, (vs₁, vs₂, e₁, (w, l), a)), m) = rw (e, e₁, l) refl

@@ -26,7 +26,7 @@ nth (x ∷ xs) (suc n) = nth xs n
 all_marks : List pn.Punctuator
 all_marks =
     p.OpenParenthesis ∷ p.CloseParenthesis ∷ p.OpenBracket ∷ p.CloseBracket ∷ p.OpenBrace ∷ p.CloseBrace ∷ p.Semicolon ∷ p.Comma ∷ p.Question ∷ p.Colon ∷
-    p.Complement ∷ p.Not ∷ p.Assign ∷ p.Increment ∷ p.Decrement ∷ p.Not ∷ p.Not ∷ p.Not ∷ p.Not ∷ p.Not ∷
+    p.Complement ∷ p.Not ∷ p.Assign ∷ p.Increment ∷ p.Decrement ∷ p.Star ∷ p.Ampersand ∷ p.Not ∷ p.Not ∷ p.Not ∷
     p.Binary binary.Mul ∷ p.Binary binary.Div ∷ p.Binary binary.Rem ∷ p.Binary binary.Add ∷ p.Binary binary.Sub ∷ p.Binary binary.ShiftLeft ∷
     p.Binary binary.ShiftRight ∷
     p.Binary binary.Less ∷ p.Binary binary.Greater ∷ p.Binary binary.LessEqual ∷ p.Binary binary.GreaterEqual ∷ p.Binary binary.Equal ∷
@@ -41,7 +41,7 @@ all_marks =
 all_words : List kw.Keyword
 all_words =
     k.Mutex ∷ k.Persistent ∷ k.Thread ∷ k.Lock ∷ k.Unlock ∷ k.Void ∷ k.Char ∷ k.Short ∷ k.Int ∷ k.Long ∷ k.Signed ∷ k.Unsigned ∷ k.If ∷ k.Else ∷ k.While ∷
-    k.Do ∷ k.For ∷ k.Return ∷ []
+    k.Do ∷ k.For ∷ k.Return ∷ k.Ref ∷ k.Null ∷ []
 
 mark_back : (x : pn.Punctuator) → nth all_marks (number_of_mark x) ≡ Some x
 unfolding nth all_marks
@@ -60,6 +60,8 @@ mark_back p.Not = refl
 mark_back p.Assign = refl
 mark_back p.Increment = refl
 mark_back p.Decrement = refl
+mark_back p.Star = refl
+mark_back p.Ampersand = refl
 mark_back (p.Binary x) = of x
   where
     of : (x : bo.Binary) → nth all_marks (20 + number_of_operator x) ≡ Some (p.Binary x)
@@ -123,6 +125,8 @@ word_back k.While = refl
 word_back k.Do = refl
 word_back k.For = refl
 word_back k.Return = refl
+word_back k.Ref = refl
+word_back k.Null = refl
 
 abbrev or_else : {A : Type 0} → A → Option A → A
 or_else d None = d

@@ -9,11 +9,13 @@ use Rattle.c_tree.specs.Tokens.{Token, Lexeme, Keyword}
 use Rattle.c_tree.specs.declared.token.Keyword as kw
 use Rattle.c_tree.specs.declared.token.Keyword.TheVariants as k
 use Rattle.c_tree.specs.Languages.{maybe, words}
-use Rattle.c_tree.specs.Grammar.{type, spellings}
+use Rattle.c_tree.specs.Trees as t
+use Rattle.c_tree.specs.declared.token.Punctuator.TheVariants as p
+use Rattle.c_tree.specs.Grammar.{type, type_name, spellings}
 use Rattle.c_reader.specs.links.ParserFunctions.{give, by_head, head_of, head_is, is_word, parse_word, parse_int}
-use Rattle.c_reader.specs.links.ParserFunctions.{signed_by, unsigned_by, type_by, parse_type, begins_type, ◌>>◌}
+use Rattle.c_reader.specs.links.ParserFunctions.{signed_by, unsigned_by, type_by, parse_type, begins_kind, begins_type, type_name_by, parse_type_name, ◌>>◌}
 use Rattle.c_reader.proofs.CorrectParsers.{Spelling, Good, ◌▷◌, ◌▹◌, just, nothing, Anything, good_give, good_to, good_map, good_head, good_then, good_wrong}
-use Rattle.c_reader.proofs.Tokens.{worded, good_word}
+use Rattle.c_reader.proofs.Tokens.{worded, marked, named, good_word, good_mark, good_name}
 use Rattle.c_reader.proofs.OptionalParts.{Unless, good_maybe}
 
 -- ---- Spellings, one token at a time
@@ -375,7 +377,7 @@ pub good_type : {b : ℕ} → Good b type type TypeEnd parse_type parse_type
 good_type = good_head {K = type_language} type_good (λ x us rest u f. type_out x us rest (type-one_of x us u))
 
 -- a type begins with one of its words
-first_word : (x : Kind) (us rest : List Token) → OneOf (spellings x) us → head_is begins_type (head_of (us ++ rest)) ≡ true
+first_word : (x : Kind) (us rest : List Token) → OneOf (spellings x) us → head_is begins_kind (head_of (us ++ rest)) ≡ true
 first_word kind.Char us rest (inl (p, v, e, s)) = rw e refl
 first_word kind.Char us rest (inr z) = elim z [ ]
 first_word kind.UnsignedChar us rest (inl (p, v, e, s)) = rw e refl
@@ -406,5 +408,52 @@ first_word kind.UnsignedLong us rest (inl (p, v, e, s)) = rw e refl
 first_word kind.UnsignedLong us rest (inr (inl (p, v, e, s))) = rw e refl
 first_word kind.UnsignedLong us rest (inr (inr z)) = elim z [ ]
 
-pub type_begins : (x : Kind) (us rest : List Token) → type x us → head_is begins_type (head_of (us ++ rest)) ≡ true
+pub type_begins : (x : Kind) (us rest : List Token) → type x us → head_is begins_kind (head_of (us ++ rest)) ≡ true
 type_begins x us rest u = first_word x us rest (type-one_of x us u)
+
+-- ---- Types, with references
+
+abbrev RefLanguage : Spelling t.TypeName
+RefLanguage = worded k.Ref ▷ (λ w. marked p.OpenParenthesis ▷ (λ o. named ▷ (λ x. marked p.CloseParenthesis ▹ (λ c. t.RefTo x))))
+
+abbrev type_name_language : Option Lexeme → Spelling t.TypeName
+type_name_language (Some (Keyword k.Ref)) = RefLanguage
+type_name_language _ = type ▹ t.OfKind
+
+type_name_good : {b : ℕ} (h : Option Lexeme) → Good b type_name (type_name_language h) TypeEnd (type_name_by h) (type_name_by h)
+type_name_good (Some (Keyword k.Ref)) =
+    good_to {U = RefLanguage} {K = RefLanguage} {F = Anything}
+    (good_then {M = λ w. marked p.OpenParenthesis ▷ (λ o. named ▷ (λ x. marked p.CloseParenthesis ▹ (λ c. t.RefTo x)))} {F = Anything} {G = Anything}
+    (good_word k.Ref)
+    (λ w. good_then {M = λ o. named ▷ (λ x. marked p.CloseParenthesis ▹ (λ c. t.RefTo x))} {F = Anything} {G = Anything} (good_mark p.OpenParenthesis)
+    (λ o. good_then {M = λ x. marked p.CloseParenthesis ▹ (λ c. t.RefTo x)} {F = Anything} {G = Anything} good_name
+    (λ x. good_map (λ c. t.RefTo x) (good_mark p.CloseParenthesis)) (λ x y us rest m f. tt))
+    (λ o y us rest m f. tt))
+    (λ w y us rest m f. tt))
+    (λ y us (w, us₁, us₂, e, l, (o, us₃, us₄, e', m, (x, us₅, us₆, e₂, n, (c, r, q)))).
+    subst (λ y. type_name y us) q (us₁, us₂, e, (w, l), (us₃, us₄, e', (o, m), (us₅, us₆, e₂, n, (c, r)))))
+    (λ y us u. u) (λ h f. tt)
+type_name_good _ =
+    good_to {U' = type_name} {K' = type ▹ t.OfKind} (good_map t.OfKind good_type) (λ y us (x, u, q). subst (λ y. type_name y us) q u) (λ y us u. u) (λ h f. f)
+
+-- a word of a kind leads to a kind
+kind_at : (h : Option Lexeme) (y : t.TypeName) (us : List Token) → head_is begins_kind h ≡ true → (type ▹ t.OfKind) y us → type_name_language h y us
+kind_at (Some (Keyword k.Ref)) y us q u = absurd (true≢false (sym q))
+kind_at _ y us q u = u
+
+type_name_out : (y : t.TypeName) (us rest : List Token) → type_name y us → type_name_language (head_of (us ++ rest)) y us
+type_name_out (t.OfKind x) us rest u = kind_at (head_of (us ++ rest)) (t.OfKind x) us (type_begins x us rest u) (x, u, refl)
+type_name_out (t.RefTo x) us rest (us₁, us₂, e, (w, l), (us₃, us₄, e', (o, m), (us₅, us₆, e₂, n, (c, r)))) =
+    let q : head_of (us ++ rest) ≡ Some (Keyword k.Ref) = rw (e, l) refl in
+    rw q (w, us₁, us₂, e, l, (o, us₃, us₄, e', m, (x, us₅, us₆, e₂, n, (c, r, refl))))
+
+pub good_type_name : {b : ℕ} → Good b type_name type_name TypeEnd parse_type_name parse_type_name
+good_type_name = good_head {K = type_name_language} type_name_good (λ y us rest u f. type_name_out y us rest u)
+
+kind_is_type : (h : Option Lexeme) → head_is begins_kind h ≡ true → head_is begins_type h ≡ true
+kind_is_type None q = cc
+kind_is_type (Some x) q = rw (q, begins_type) refl
+
+pub type_name_begins : (y : t.TypeName) (us rest : List Token) → type_name y us → head_is begins_type (head_of (us ++ rest)) ≡ true
+type_name_begins (t.OfKind x) us rest u = kind_is_type (head_of (us ++ rest)) (type_begins x us rest u)
+type_name_begins (t.RefTo x) us rest (us₁, us₂, e, (w, l), m) = rw (e, l) refl

@@ -14,7 +14,7 @@ use Rattle.c_reader.proofs.WholePrograms.{program_unique, program_begins}
 
 module _ (language : Language) where
   pub one_tree : (text : List ℕ) (xs ys : List Item) → IsRead language text xs → IsRead language text ys → xs ≡ ys
-  one_tree text xs ys x y = program_unique language xs ys (scanned text).tokens x.spelled y.spelled
+  one_tree text xs ys x y = program_unique language xs ys (scanned language text).tokens x.spelled y.spelled
 
   -- ---- Two places in one list of tokens
 
@@ -69,8 +69,8 @@ module _ (language : Language) where
 
   -- what is refused after all tokens
   data IsAtEnd (text : List ℕ) (found : r.Rule) (place : Place) : Type 0 where
-    unlexed : (scanned text).fault ≡ Some (record { rule = found; place = place }) → IsAtEnd text found place
-    short : (scanned text).fault ≡ None → place ≡ record { 0 = length text } → found ≡ rule.Syntax → IsAtEnd text found place
+    unlexed : (scanned language text).fault ≡ Some (record { rule = found; place = place }) → IsAtEnd text found place
+    short : (scanned language text).fault ≡ None → place ≡ record { 0 = length text } → found ≡ rule.Syntax → IsAtEnd text found place
 
   abbrev rule_in : Option Fault → r.Rule → r.Rule
   rule_in None d = d
@@ -89,10 +89,10 @@ module _ (language : Language) where
 
   -- a refusal, by the first token that is refused, or after all
   data Refusal (text : List ℕ) (found : r.Rule) (place : Place) : Type 0 where
-    at_token : (ts : List Token) (t : Token) (after : List Token) → (scanned text).tokens ≡ ts ++ t ∷ after → IsUnrefused ts →
+    at_token : (ts : List Token) (t : Token) (after : List Token) → (scanned language text).tokens ≡ ts ++ t ∷ after → IsUnrefused ts →
         IsBad ts t found → t.place ≡ place
         → Refusal text found place
-    at_end : IsUnrefused (scanned text).tokens → IsAtEnd text found place → Refusal text found place
+    at_end : IsUnrefused (scanned language text).tokens → IsAtEnd text found place → Refusal text found place
 
   refusal : (text : List ℕ) (found : r.Rule) (place : Place) → IsRefused language text found place → Refusal text found place
   refusal text found place (no_token fault begun low) = at_end (begun, low) (unlexed fault)
@@ -128,8 +128,8 @@ module _ (language : Language) where
 
   -- ---- What has a tree isn't refused
 
-  read_sound : (text : List ℕ) (xs : List Item) → IsRead language text xs → IsUnrefused (scanned text).tokens
-  read_sound text xs x = (program_begins language xs (scanned text).tokens x.spelled, x.low)
+  read_sound : (text : List ℕ) (xs : List Item) → IsRead language text xs → IsUnrefused (scanned language text).tokens
+  read_sound text xs x = (program_begins language xs (scanned language text).tokens x.spelled, x.low)
 
   pub not_both : (text : List ℕ) (xs : List Item) (found : r.Rule) (place : Place) → IsRead language text xs → IsRefused language text found place → ⊥
   not_both text xs found place x (no_token fault begun low) = let both = sym x.scanned_whole ∙ fault in cc both

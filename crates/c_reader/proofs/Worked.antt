@@ -163,7 +163,7 @@ guarded = tokens_from 0 (Keyword k.Persistent ∷ Punctuator p.OpenParenthesis �
 
 guard_read : parse_program Full guarded ≡ Read (t.PersistentItem (record {
   guard = record { mutex = named 109 2; each = true };
-  kind = kind.Int;
+  type_name = t.OfKind kind.Int;
   name = named 97 7;
   length = Some (record { place = at 9; value = number 4 });
   initialiser = None;
@@ -175,6 +175,54 @@ guard_wrong : parse_program Plain guarded ≡ Wrong (tokens_from 3 (brackets_of 
     (Punctuator p.CloseParenthesis ∷ Keyword k.Int ∷ letter 97 ∷ brackets_of (digit 4 ∷ []) (Punctuator p.Semicolon ∷ []))))
 unfolding parse_expression parse_statement parse_program
 guard_wrong = refl
+
+abbrev star : Lexeme
+star = Punctuator p.Star
+
+-- `*a = &b[*c];`
+followed_read : parse_statement Full 12 (tokens_from 0 (star ∷ letter 97 ∷ Punctuator p.Assign ∷ Punctuator p.Ampersand ∷ letter 98 ∷
+    brackets_of (star ∷ letter 99 ∷ []) (Punctuator p.Semicolon ∷ []))) ≡
+    Read (t.Assign (record {
+      place = at 0;
+      target = t.Followed (at 0) (named 97 1);
+      change = t.Set (t.Address (at 3) (named 98 4) (t.Referent (at 6) (named 99 7)));
+    })) []
+unfolding parse_expression parse_statement
+followed_read = refl
+
+-- `a * *b` has an operator, and then an element of a reference
+multiplied_read : parse_expression 5 (tokens_from 0 (letter 97 ∷ star ∷ star ∷ letter 98 ∷ [])) ≡
+    Read (t.Binary b.Mul (t.Named (named 97 0)) (t.Referent (at 2) (named 98 3))) []
+unfolding parse_expression
+multiplied_read = refl
+
+-- the plain language's `*` begins no operand
+plain_star : parse_expression 5 (tokens_from 0 (Punctuator (p.Binary b.Mul) ∷ letter 98 ∷ []))
+    ≡ Wrong (tokens_from 0 (Punctuator (p.Binary b.Mul) ∷ letter 98 ∷ []))
+unfolding parse_expression
+plain_star = refl
+
+-- `ref(a) b;`
+declared_read : parse_statement Full 9 (tokens_from 0 (Keyword k.Ref ∷ Punctuator p.OpenParenthesis ∷ letter 97 ∷ Punctuator p.CloseParenthesis ∷ letter 98 ∷
+    Punctuator p.Semicolon ∷ [])) ≡
+    Read (t.Declare (record { place = at 0; type_name = t.RefTo (named 97 2); name = named 98 4; initial = t.Absent })) []
+unfolding parse_expression parse_statement
+declared_read = refl
+
+-- only a name is followed, and only an element has an address
+number_followed : parse_expression 5 (tokens_from 0 (star ∷ digit 1 ∷ [])) ≡ Wrong (tokens_from 1 (digit 1 ∷ []))
+unfolding parse_expression
+number_followed = refl
+
+scalar_address : parse_expression 5 (tokens_from 0 (Punctuator p.Ampersand ∷ letter 97 ∷ minus ∷ [])) ≡ Wrong (tokens_from 2 (minus ∷ []))
+unfolding parse_expression
+scalar_address = refl
+
+-- `mutex ref;`, where `ref` is reserved
+reserved_wrong : parse_program Full (tokens_from 0 (Keyword k.Mutex ∷ Keyword k.Ref ∷ Punctuator p.Semicolon ∷ [])) ≡
+    Wrong (tokens_from 1 (Keyword k.Ref ∷ Punctuator p.Semicolon ∷ []))
+unfolding parse_expression parse_statement parse_program
+reserved_wrong = refl
 
 -- an empty text ends too early
 no_program : parse_program Plain [] ≡ Wrong []

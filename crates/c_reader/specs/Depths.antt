@@ -8,11 +8,19 @@ abbrev pub height : t.Expression → ℕ
 height (t.Number place value) = 1
 height (t.Named x) = 1
 height (t.Element array index) = 1 + height index
+height (t.Null place) = 1
+height (t.Address place array index) = 1 + height index
+height (t.Referent place reference) = 1
 height (t.Parenthesised place inner) = 1 + height inner
 height (t.Unary place operator operand) = 1 + height operand
 height (t.Cast place kind operand) = 1 + height operand
 height (t.Binary operator left right) = 1 + max (height left) (height right)
 height (t.Conditional condition chosen otherwise) = 1 + max (height condition) (max (height chosen) (height otherwise))
+
+-- the index of what is assigned, if it has one
+abbrev pub index_of : t.Lvalue → Option t.Expression
+index_of (t.Target x index) = index
+index_of (t.Followed place reference) = None
 
 -- all expressions of a tree are at most so high
 module _ (high : ℕ) where
@@ -30,7 +38,7 @@ module _ (high : ℕ) where
   IsLowChange t.Decrement = Unit {0}
 
   abbrev pub IsLowAssignment : t.Assignment → Type 0
-  IsLowAssignment x = IsLowIf x.target.index × IsLowChange x.change
+  IsLowAssignment x = IsLowIf (index_of x.target) × IsLowChange x.change
 
   abbrev pub IsLowLast : Option t.Assignment → Type 0
   IsLowLast None = Unit {0}
@@ -56,7 +64,7 @@ module _ (high : ℕ) where
     IsFlat deep (t.Empty place) = Unit {0}
     IsFlat deep (t.Declare x) = IsLowInitial x.initial
     IsFlat deep (t.Assign x) = IsLowAssignment x
-    IsFlat deep (t.AssignResult x c) = IsLowIf x.index × IsLowCall c
+    IsFlat deep (t.AssignResult x c) = IsLowIf (index_of x) × IsLowCall c
     IsFlat deep (t.CallOnly c) = IsLowCall c
     IsFlat deep (t.If place arms otherwise) = AreFlatArms deep arms × IsFlatOtherwise deep otherwise
     IsFlat deep (t.While place condition inside) = IsLow condition × IsFlatBlock deep inside

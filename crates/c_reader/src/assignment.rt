@@ -22,12 +22,31 @@ pub enum RightSide {
 }
 
 /// A name, perhaps with an index.
+fn accessed(alloc: Global, tokens: &mut Cursor<'_>, fuel: usize, name: Name) -> Result<Lvalue, Halt>
+    ensures { Reads lvalue_of (spec.target_after_name fuel (name_of name) tokens.old) result tokens.new }
+{
+    let index = index(alloc, tokens, fuel)?;
+    Ok(Lvalue::Named { name, index })
+}
+
+/// The element of a reference.
+pub fn followed(alloc: Global, tokens: &mut Cursor<'_>) -> Result<Lvalue, Halt>
+    ensures { Reads lvalue_of (spec.parse_followed tokens.old) result tokens.new }
+{
+    let place = tokens.mark(Punctuator::Star)?;
+    let reference = tokens.name(alloc)?;
+    Ok(Lvalue::Followed { place, reference })
+}
+
+/// What is assigned.
 pub fn target(alloc: Global, tokens: &mut Cursor<'_>, fuel: usize) -> Result<Lvalue, Halt>
     ensures { Reads lvalue_of (spec.parse_target fuel tokens.old) result tokens.new }
 {
+    if tokens.sees(Punctuator::Star) {
+        return followed(alloc, tokens);
+    }
     let name = tokens.name(alloc)?;
-    let index = index(alloc, tokens, fuel)?;
-    Ok(Lvalue { name, index })
+    accessed(alloc, tokens, fuel, name)
 }
 
 /// What stands after a target.
@@ -83,7 +102,7 @@ pub fn assignment(alloc: Global, tokens: &mut Cursor<'_>, fuel: usize) -> Result
             let target = target(alloc, tokens, fuel)?;
             let change = change(alloc, tokens, fuel)?;
             Ok(Assignment {
-                place: target.name.place,
+                place: target.place(),
                 target,
                 change,
             })

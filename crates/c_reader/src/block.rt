@@ -10,8 +10,8 @@ ghost use Rattle.c_reader.specs.links.ParserSteps.{parse_arm, parse_do, parse_fo
 use crate::cursor::Cursor;
 use crate::halt::Halt;
 use crate::statement::{
-    assignment_statement, condition, declaration_statement, head_of_for, lock, named_statement,
-    unlock,
+    assignment_statement, condition, declaration_statement, followed_statement, head_of_for, lock,
+    named_statement, unlock,
 };
 use crate::token::Lexeme;
 use c_tree::language::Language;
@@ -115,6 +115,7 @@ fn marked_statement(
             let place = tokens.mark(Punctuator::Semicolon)?;
             Ok(Statement::Empty { place })
         }
+        Punctuator::Star => followed_statement(alloc, tokens, fuel),
         Punctuator::Increment | Punctuator::Decrement => assignment_statement(alloc, tokens, fuel),
         _ => declaration_statement(alloc, tokens, fuel),
     }

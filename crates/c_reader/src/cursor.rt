@@ -127,6 +127,16 @@ impl<'a> Cursor<'a> {
         }
     }
 
+    /// Does the next token begin a kind?
+    pub fn sees_kind(&self) -> bool
+        ensures { result ≡ spec.head_is spec.begins_kind (spec.head_of self.now) }
+    {
+        match self.left {
+            [] => false,
+            [next, ..] => next.lexeme.begins_kind(),
+        }
+    }
+
     /// Does the next token begin a type?
     pub fn sees_type(&self) -> bool
         ensures { result ≡ spec.head_is spec.begins_type (spec.head_of self.now) }
@@ -232,13 +242,9 @@ impl<'a> Cursor<'a> {
 fn operator_at(precedence: u8, lexeme: Lexeme<'_>) -> Option<Binary>
     ensures { result ≡ spec.operator_at precedence (lexeme_of lexeme.entry) }
 {
-    let Lexeme::Punctuator(Punctuator::Binary(operator)) = lexeme else {
-        return None;
-    };
-    if precedence_of(operator) == precedence {
-        Some(operator)
-    } else {
-        None
+    match lexeme.operator() {
+        Some(operator) if precedence_of(operator) == precedence => Some(operator),
+        _ => None,
     }
 }
 

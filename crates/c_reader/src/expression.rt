@@ -11,7 +11,7 @@ use crate::cursor::Cursor;
 use crate::halt::Halt;
 use crate::kind::kind;
 use crate::token::Lexeme;
-use c_tree::token::Punctuator;
+use c_tree::token::{Keyword, Punctuator};
 use c_tree::tree::{Expression, Name};
 use ido_base::place::Place;
 use ido_ints::{Binary, Kind, Unary};
@@ -82,7 +82,7 @@ pub fn operators(
     Err(Halt::Wrong)
 }
 
-/// A number, a name, an element, an expression in parentheses, or an operator or a cast before an operand.
+/// A number, a name, an element, a reference, the element of one, an expression in parentheses, or an operator or a cast before an operand.
 #[cycle(expression)]
 pub fn operand(alloc: Global, tokens: &mut Cursor<'_>, fuel: usize) -> Result<Expression, Halt>
     ensures { Reads expression_of (spec.parse_operand fuel tokens.old) result tokens.new }
@@ -103,12 +103,43 @@ pub fn operand(alloc: Global, tokens: &mut Cursor<'_>, fuel: usize) -> Result<Ex
             let opening = tokens.mark(Punctuator::OpenParenthesis)?;
             operand_after_opening(alloc, tokens, fuel - 1, opening)
         }
+        Some(Lexeme::Keyword(Keyword::Null)) => {
+            let place = tokens.word(Keyword::Null)?;
+            Ok(Expression::Null { place })
+        }
+        Some(Lexeme::Punctuator(Punctuator::Star)) => {
+            let place = tokens.mark(Punctuator::Star)?;
+            let reference = tokens.name(alloc)?;
+            Ok(Expression::Referent { place, reference })
+        }
+        Some(Lexeme::Punctuator(Punctuator::Ampersand)) => {
+            let place = tokens.mark(Punctuator::Ampersand)?;
+            let array = tokens.name(alloc)?;
+            address(alloc, tokens, fuel - 1, place, array)
+        }
         _ => {
             let (place, operator) = tokens.unary()?;
             let inner = operand(alloc, tokens, fuel - 1)?;
             Ok(unary_of(alloc, place, operator, inner)?)
         }
     }
+}
+
+/// The address of an element, after the name of its array.
+#[cycle(expression)]
+fn address(
+    alloc: Global,
+    tokens: &mut Cursor<'_>,
+    fuel: usize,
+    place: Place,
+    array: Name,
+) -> Result<Expression, Halt>
+    ensures { Reads expression_of (spec.address_after_name (spec.parse_expression fuel) place (name_of array) tokens.old) result tokens.new }
+{
+    tokens.mark(Punctuator::OpenBracket)?;
+    let inside = expression(alloc, tokens, fuel)?;
+    tokens.mark(Punctuator::CloseBracket)?;
+    Ok(address_of(alloc, place, array, inside)?)
 }
 
 /// A cast, or an expression in parentheses, after the opening one.
@@ -121,7 +152,7 @@ fn operand_after_opening(
 ) -> Result<Expression, Halt>
     ensures { Reads expression_of (spec.operand_after_opening (spec.parse_operand fuel) (spec.parse_expression fuel) opening tokens.old) result tokens.new }
 {
-    if tokens.sees_type() {
+    if tokens.sees_kind() {
         let kind = kind(tokens)?;
         tokens.mark(Punctuator::CloseParenthesis)?;
         let inner = operand(alloc, tokens, fuel)?;
@@ -187,6 +218,22 @@ fn element_of(alloc: Global, array: Name, index: Expression) -> Result<Expressio
 {
     let index = Box::new(alloc, index)?;
     Ok(Expression::Element { array, index })
+}
+
+fn address_of(
+    alloc: Global,
+    place: Place,
+    array: Name,
+    index: Expression,
+) -> Result<Expression, AllocError>
+    ensures { IfOk result (λ x. expression_of x ≡ t.Address place (name_of array) (expression_of index)) }
+{
+    let index = Box::new(alloc, index)?;
+    Ok(Expression::Address {
+        place,
+        array,
+        index,
+    })
 }
 
 fn parenthesised_of(

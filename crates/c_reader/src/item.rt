@@ -1,7 +1,8 @@
 //! Items of a program.
 ghost use Rattle.std.specs.Prelude.{map};
 ghost use Rattle.std.specs.Option.{option_map};
-ghost use Rattle.c_tree.specs.Views.{body_of, function_of, guard_of, initialiser_of, item_of, length_of, parameter_of, persistent_of, return_of, signed_of};
+ghost use Rattle.c_tree.specs.Views.{body_of, function_of, guard_of, initialiser_of, item_of, length_of};
+ghost use Rattle.c_tree.specs.Views.{parameter_of, persistent_of, return_of, signed_of, type_name_of};
 ghost use Rattle.c_reader.specs.links.ParserFunctions as spec;
 ghost use Rattle.c_reader.specs.links.ParserContracts.{Gives, Reads};
 ghost use Rattle.c_reader.specs.links.ParserSteps.{all_items, one_item, parse_assigned, parse_function_item, parse_mutex_item};
@@ -11,15 +12,15 @@ use crate::block::{block, statements};
 use crate::cursor::Cursor;
 use crate::expression::expression;
 use crate::halt::Halt;
-use crate::kind::kind;
+use crate::kind::type_name;
 use crate::token::Lexeme;
 use c_tree::language::Language;
 use c_tree::token::{Keyword, Punctuator};
 use c_tree::tree::{
     Body, Function, Guard, Initialiser, Item, Length, Mutex, Parameter, Persistent, Return, Signed,
-    Thread,
+    Thread, TypeName,
 };
-use ido_ints::{Binary, Kind};
+use ido_ints::Binary;
 use std::alloc::Global;
 
 /// `return` with or without a value.
@@ -76,9 +77,9 @@ fn body(
 fn parameter(alloc: Global, tokens: &mut Cursor<'_>) -> Result<Parameter, Halt>
     ensures { Reads parameter_of (spec.parse_parameter tokens.old) result tokens.new }
 {
-    let kind = kind(tokens)?;
+    let type_name = type_name(alloc, tokens)?;
     let name = tokens.name(alloc)?;
-    Ok(Parameter { kind, name })
+    Ok(Parameter { type_name, name })
 }
 
 /// Parameters with commas between them, one at least.
@@ -117,15 +118,15 @@ fn parameters(alloc: Global, tokens: &mut Cursor<'_>, fuel: usize) -> Result<Vec
     some_parameters(alloc, tokens, fuel)
 }
 
-/// The kind of a function's result, or `void`.
-fn kind_or_void(tokens: &mut Cursor<'_>) -> Result<Option<Kind>, Halt>
-    ensures { Gives (spec.parse_result tokens.old) result tokens.new }
+/// The type of a function's result, or `void`.
+fn type_or_void(alloc: Global, tokens: &mut Cursor<'_>) -> Result<Option<TypeName>, Halt>
+    ensures { Reads (option_map type_name_of) (spec.parse_result tokens.old) result tokens.new }
 {
     if tokens.sees_word(Keyword::Void) {
         tokens.word(Keyword::Void)?;
         Ok(None)
     } else {
-        Ok(Some(kind(tokens)?))
+        Ok(Some(type_name(alloc, tokens)?))
     }
 }
 
@@ -138,14 +139,14 @@ fn function(
 ) -> Result<Function, Halt>
     ensures { Reads function_of (spec.parse_function language fuel tokens.old) result tokens.new }
 {
-    let kind = kind_or_void(tokens)?;
+    let type_name = type_or_void(alloc, tokens)?;
     let name = tokens.name(alloc)?;
     tokens.mark(Punctuator::OpenParenthesis)?;
     let parameters = parameters(alloc, tokens, fuel)?;
     tokens.mark(Punctuator::CloseParenthesis)?;
     let body = body(alloc, language, tokens, fuel)?;
     Ok(Function {
-        kind,
+        type_name,
         name,
         parameters,
         body,
@@ -306,14 +307,14 @@ fn persistent(
 {
     tokens.word(Keyword::Persistent)?;
     let guard = guard(alloc, language, tokens)?;
-    let kind = kind(tokens)?;
+    let type_name = type_name(alloc, tokens)?;
     let name = tokens.name(alloc)?;
     let length = maybe_length(tokens)?;
     let initialiser = maybe_initialiser(alloc, tokens, fuel)?;
     tokens.mark(Punctuator::Semicolon)?;
     Ok(Persistent {
         guard,
-        kind,
+        type_name,
         name,
         length,
         initialiser,

@@ -1,15 +1,18 @@
-//! Types.
+//! Kinds and types.
+ghost use Rattle.c_tree.specs.Views.{type_name_of};
 ghost use Rattle.c_reader.specs.links.ParserFunctions as spec;
-ghost use Rattle.c_reader.specs.links.ParserContracts.{Gives};
+ghost use Rattle.c_reader.specs.links.ParserContracts.{Gives, Reads};
 
 use crate::cursor::Cursor;
 use crate::halt::Halt;
 use crate::token::Lexeme;
-use c_tree::token::Keyword;
+use c_tree::token::{Keyword, Punctuator};
+use c_tree::tree::TypeName;
 use ido_base::place::Place;
 use ido_ints::Kind;
+use std::alloc::Global;
 
-/// A type.
+/// A kind.
 pub fn kind(tokens: &mut Cursor<'_>) -> Result<Kind, Halt>
     ensures { Gives (spec.parse_type tokens.old) result tokens.new }
 {
@@ -115,5 +118,21 @@ fn unsigned(tokens: &mut Cursor<'_>) -> Result<Kind, Halt>
             Ok(Kind::UnsignedLong)
         }
         _ => Ok(Kind::UnsignedInt),
+    }
+}
+
+/// A type: a kind, or `ref(array)`.
+pub fn type_name(alloc: Global, tokens: &mut Cursor<'_>) -> Result<TypeName, Halt>
+    ensures { Reads type_name_of (spec.parse_type_name tokens.old) result tokens.new }
+{
+    match tokens.peek() {
+        Some(Lexeme::Keyword(Keyword::Ref)) => {
+            tokens.word(Keyword::Ref)?;
+            tokens.mark(Punctuator::OpenParenthesis)?;
+            let array = tokens.name(alloc)?;
+            tokens.mark(Punctuator::CloseParenthesis)?;
+            Ok(TypeName::Reference { array })
+        }
+        _ => Ok(TypeName::Kind(kind(tokens)?)),
     }
 }

@@ -6,6 +6,7 @@ mod block;
 mod byte;
 mod cursor;
 mod expression;
+mod full;
 mod halt;
 mod item;
 mod kind;

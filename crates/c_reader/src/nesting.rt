@@ -56,6 +56,8 @@ impl Nesting {
             | Punctuator::OpenBracket
             | Punctuator::Question
             | Punctuator::Binary(_)
+            | Punctuator::Star
+            | Punctuator::Ampersand
             | Punctuator::Complement
             | Punctuator::Not => Nesting {
                 braces: self.braces,

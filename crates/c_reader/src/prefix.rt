@@ -96,7 +96,7 @@ static PUNCTUATORS: [(&[u8], Punctuator); 43] = [
 ];
 
 /// The reserved word that these bytes are, of those listed.
-fn keyword_among(entries: &[(&[u8], Keyword)], word: &[u8]) -> Option<Keyword>
+pub fn keyword_among(entries: &[(&[u8], Keyword)], word: &[u8]) -> Option<Keyword>
     ensures { result ≡ keyword_in (map (λ e. (e.0.now, e.1)) entries.now) word.now }
 {
     for (bytes, keyword) in entries {

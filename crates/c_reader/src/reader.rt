@@ -56,8 +56,8 @@ fn judge(
     requires high { IsFirstHigh (scanned_of found.now).tokens high }
     requires within { IfSome high (λ i. i < length found.now.tokens.items) }
     requires parsed { IsParsed language (scanned_of found.now) high outcome }
-    ensures read { IfOk result (λ tree. (text : List ℕ) → scanned_of found.now ≡ scanned text → IsRead language text (items_of tree)) }
-    ensures refused { IfErr result (λ e. IfSome (fault_in e) (λ f. (text : List ℕ) → scanned_of found.now ≡ scanned text → end ≡ length text
+    ensures read { IfOk result (λ tree. (text : List ℕ) → scanned_of found.now ≡ scanned language text → IsRead language text (items_of tree)) }
+    ensures refused { IfErr result (λ e. IfSome (fault_in e) (λ f. (text : List ℕ) → scanned_of found.now ≡ scanned language text → end ≡ length text
         → IsRefused language text f.rule f.place)) }
 {
     match outcome {
@@ -91,7 +91,7 @@ pub fn read(alloc: Global, language: Language, text: &[u8]) -> Result<Tree, Sour
     ensures shallow { IfOk result (λ tree. IsShallow MOST_NESTING (MOST_NESTING + 1) (items_of tree)) }
     ensures refused { IfErr result (λ e. IfSome (fault_in e) (λ f. IsRefused language text.now f.rule f.place)) }
 {
-    let found = scan(alloc, text)?;
+    let found = scan(alloc, language, text)?;
     let high = first_high(&found.tokens);
     let outcome = parse(alloc, language, looked_at(&found.tokens, high))?;
     judge(language, text.len() as u32, &found, high, outcome)

@@ -1,10 +1,12 @@
 //! The tokens of a text.
 ghost use Rattle.std.specs.Prelude.{◌≡◌, ◌<◌, ◌≤◌, ◌^◌, length, drop, IfOk};
-ghost use Rattle.c_tree.specs.LexicalScan.{scanned};
+ghost use Rattle.c_tree.specs.LexicalScan.{in_language, plain_scanned, scanned};
 ghost use Rattle.c_reader.specs.links.Prefixes.{scanned_of};
 
+use crate::full::full_tokens;
 use crate::prefix::{Prefix, read_prefix};
 use crate::token::Token;
+use c_tree::language::Language;
 use c_tree::refusal::Refusal;
 use ido_base::place::Place;
 use std::alloc::{AllocError, Global};
@@ -26,10 +28,10 @@ fn after<'a>(text: &'a [u8], bytes: usize) -> &'a [u8]
     rest
 }
 
-/// The tokens of a text.
-pub fn scan<'a>(alloc: Global, text: &'a [u8]) -> Result<Scanned<'a>, AllocError>
+/// The tokens of a text, as the plain language has them.
+fn scan_plain<'a>(alloc: Global, text: &'a [u8]) -> Result<Scanned<'a>, AllocError>
     requires { length text.now < 2 ^ 32 }
-    ensures { IfOk result (λ s. scanned_of s ≡ scanned text.entry.now) }
+    ensures { IfOk result (λ s. scanned_of s ≡ plain_scanned text.entry.now) }
 {
     let mut tokens = Vec::new(alloc);
     let mut rest = text;
@@ -51,4 +53,39 @@ pub fn scan<'a>(alloc: Global, text: &'a [u8]) -> Result<Scanned<'a>, AllocError
             }
         }
     }
+}
+
+/// The tokens of the plain language, as this one has them.
+fn in_language<'a>(
+    alloc: Global,
+    language: Language,
+    found: Scanned<'a>,
+) -> Result<Scanned<'a>, AllocError>
+    ensures { IfOk result (λ s. scanned_of s ≡ in_language language (scanned_of found.entry)) }
+{
+    match language {
+        Language::Plain => Ok(found),
+        Language::Full => {
+            let tokens = full_tokens(alloc, &found.tokens)?;
+            Ok(Scanned {
+                tokens,
+                fault: found.fault,
+            })
+        }
+    }
+}
+
+/// The tokens of a text in this language.
+#[tactic(auto, unfolding(c_tree::specs::LexicalScan::scanned))]
+pub fn scan<'a>(
+    alloc: Global,
+    language: Language,
+    text: &'a [u8],
+) -> Result<Scanned<'a>, AllocError>
+    requires { length text.now < 2 ^ 32 }
+    ensures { IfOk result (λ s. scanned_of s ≡ scanned language text.entry.now) }
+{
+    let found = scan_plain(alloc, text)?;
+    let made = in_language(alloc, language, found)?;
+    Ok(made)
 }

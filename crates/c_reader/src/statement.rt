@@ -7,14 +7,14 @@ ghost use Rattle.c_reader.specs.links.ParserFunctions as spec;
 ghost use Rattle.c_reader.specs.links.ParserContracts.{Reads};
 ghost use Rattle.c_reader.specs.links.ParserSteps.{maybe_initial, parse_assignment_statement, parse_declaration_statement, parse_lock};
 ghost use Rattle.c_reader.specs.links.ParserSteps.{parse_end_of_for, parse_head_of_for, parse_middle_of_for, parse_start_of_for};
-ghost use Rattle.c_reader.specs.links.ParserSteps.{parse_named_statement, parse_unlock, statement_past_name, statement_past_target};
+ghost use Rattle.c_reader.specs.links.ParserSteps.{parse_followed_statement, parse_named_statement, parse_unlock, statement_past_name, statement_past_target};
 ghost use Rattle.c_reader.specs.links.Rows.{for_head_of, key_of, lock_name_of};
 
-use crate::assignment::{RightSide, assignment, call_after, change, right};
+use crate::assignment::{RightSide, assignment, call_after, change, followed, right};
 use crate::cursor::Cursor;
 use crate::expression::{expression, index};
 use crate::halt::Halt;
-use crate::kind::kind;
+use crate::kind::type_name;
 use c_tree::language::Language;
 use c_tree::token::{Keyword, Punctuator};
 use c_tree::tree::{
@@ -54,12 +54,12 @@ pub fn declaration(alloc: Global, tokens: &mut Cursor<'_>, fuel: usize) -> Resul
     ensures { Reads declaration_of (spec.declaration_over (maybe_initial fuel) tokens.old) result tokens.new }
 {
     let place = tokens.place()?;
-    let kind = kind(tokens)?;
+    let type_name = type_name(alloc, tokens)?;
     let name = tokens.name(alloc)?;
     let initial = initial(alloc, tokens, fuel)?;
     Ok(Declaration {
         place,
-        kind,
+        type_name,
         name,
         initial,
     })
@@ -74,12 +74,12 @@ fn declaration_of_first(
     ensures { Reads declaration_of (spec.declaration_over (spec.parse_initial_of_first fuel) tokens.old) result tokens.new }
 {
     let place = tokens.place()?;
-    let kind = kind(tokens)?;
+    let type_name = type_name(alloc, tokens)?;
     let name = tokens.name(alloc)?;
     let initial = initial_of_first(alloc, tokens, fuel)?;
     Ok(Declaration {
         place,
-        kind,
+        type_name,
         name,
         initial,
     })
@@ -267,7 +267,7 @@ fn statement_after_target(
 ) -> Result<Statement, Halt>
     ensures { Reads statement_of (statement_past_target fuel (lvalue_of target) tokens.old) result tokens.new }
 {
-    let place = target.name.place;
+    let place = target.place();
     if !tokens.sees(Punctuator::Assign) {
         let change = change(alloc, tokens, fuel)?;
         let assigned = Assignment {
@@ -306,7 +306,7 @@ fn statement_after_name(
         return Ok(called_of(alloc, call)?);
     }
     let index = index(alloc, tokens, fuel)?;
-    statement_after_target(alloc, tokens, fuel, Lvalue { name, index })
+    statement_after_target(alloc, tokens, fuel, Lvalue::Named { name, index })
 }
 
 /// A statement that begins with a name.
@@ -320,6 +320,21 @@ pub fn named_statement(
 {
     let name = tokens.name(alloc)?;
     let statement = statement_after_name(alloc, tokens, fuel, name)?;
+    tokens.mark(Punctuator::Semicolon)?;
+    Ok(statement)
+}
+
+/// A statement that assigns the element of a reference.
+#[tactic(auto, using(crate::proofs::ParserStepEquations::followed_statement_is))]
+pub fn followed_statement(
+    alloc: Global,
+    tokens: &mut Cursor<'_>,
+    fuel: usize,
+) -> Result<Statement, Halt>
+    ensures { Reads statement_of (parse_followed_statement fuel tokens.old) result tokens.new }
+{
+    let target = followed(alloc, tokens)?;
+    let statement = statement_after_target(alloc, tokens, fuel, target)?;
     tokens.mark(Punctuator::Semicolon)?;
     Ok(statement)
 }

@@ -51,9 +51,9 @@ impl Lexeme<'_> {
         matches!(self, Lexeme::Keyword(own) if *own == word)
     }
 
-    /// Does it begin a type?
-    pub fn begins_type(&self) -> bool
-        ensures { result ≡ spec.begins_type (lexeme_of self.now) }
+    /// Does it begin a kind?
+    pub fn begins_kind(&self) -> bool
+        ensures { result ≡ spec.begins_kind (lexeme_of self.now) }
     {
         matches!(
             self,
@@ -66,6 +66,13 @@ impl Lexeme<'_> {
                     | Keyword::Unsigned
             )
         )
+    }
+
+    /// Does it begin a type?
+    pub fn begins_type(&self) -> bool
+        ensures { result ≡ spec.begins_type (lexeme_of self.now) }
+    {
+        self.begins_kind() || self.is_word(Keyword::Ref)
     }
 
     /// Does it begin a statement?
@@ -90,7 +97,20 @@ impl Lexeme<'_> {
                     | Punctuator::Semicolon
                     | Punctuator::Increment
                     | Punctuator::Decrement
+                    | Punctuator::Star
             ),
+        }
+    }
+
+    /// The operator with two operands that it is.
+    pub fn operator(&self) -> Option<Binary>
+        ensures { result ≡ spec.operator_of (lexeme_of self.now) }
+    {
+        match self {
+            Lexeme::Punctuator(Punctuator::Binary(operator)) => Some(*operator),
+            Lexeme::Punctuator(Punctuator::Star) => Some(Binary::Mul),
+            Lexeme::Punctuator(Punctuator::Ampersand) => Some(Binary::And),
+            _ => None,
         }
     }
 

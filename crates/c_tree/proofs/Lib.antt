@@ -14,6 +14,7 @@ mod WorkedTyping
 mod WorkedRanges
 mod WorkedReferences
 mod WorkedNulls
+mod WorkedReferenceReading
 mod WorkedInlining
 mod WorkedSource
 mod WorkedLocking

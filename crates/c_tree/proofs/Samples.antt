@@ -1,6 +1,7 @@
 -- Texts as trees, for worked rows. A number before a part is its place.
 use Rattle.std.proofs.Common.{ℕ, List, [], ◌∷◌, Option, Some, None, Bool, true, false}
 use Rattle.std.specs.Prelude.{pos, codes}
+use Rattle.std.specs.Option.{option_map}
 use Rattle.ido_base.specs.declared.place.Place.{Place}
 use Rattle.ido_ints.specs.declared.kinds.Kind.{Kind}
 use Rattle.ido_ints.specs.declared.kinds.Kind.TheVariants as kind
@@ -26,10 +27,10 @@ abbrev pub block : ℕ → List t.Statement → ℕ → t.Block
 block opening xs closing = t.Braced (at opening) (all_of xs) (at closing)
 
 abbrev pub scalar : t.Name → t.Lvalue
-scalar x = record { name = x; index = None }
+scalar x = t.Target x None
 
 abbrev pub element : t.Name → t.Expression → t.Lvalue
-element x index = record { name = x; index = Some index }
+element x index = t.Target x (Some index)
 
 abbrev pub assignment : ℕ → t.Lvalue → t.Change → t.Assignment
 assignment place target change = record { place = at place; target = target; change = change }
@@ -38,7 +39,7 @@ abbrev pub call : t.Name → List t.Expression → t.Call
 call x arguments = record { function = x; arguments = arguments }
 
 abbrev pub declaration : ℕ → Kind → t.Name → t.Initial → t.Declaration
-declaration place kind x initial = record { place = at place; kind = kind; name = x; initial = initial }
+declaration place kind x initial = record { place = at place; type_name = t.OfKind kind; name = x; initial = initial }
 
 abbrev pub signed : ℕ → Bool → Typed → t.Signed
 signed place negative value = record { place = at place; negative = negative; value = value }
@@ -48,13 +49,14 @@ length_at place value = record { place = at place; value = value }
 
 abbrev pub persistent : t.Name → Kind → t.Name → Option t.Length → Option t.Initialiser → t.Item
 persistent guard kind x length initialiser =
-    t.PersistentItem (record { guard = record { mutex = guard; each = false }; kind = kind; name = x; length = length; initialiser = initialiser })
+    t.PersistentItem
+    (record { guard = record { mutex = guard; each = false }; type_name = t.OfKind kind; name = x; length = length; initialiser = initialiser })
 
 abbrev pub thread : t.Name → t.Block → t.Item
 thread x inside = t.ThreadItem (record { name = x; block = inside })
 
 abbrev pub parameter : Kind → t.Name → t.Parameter
-parameter kind x = record { kind = kind; name = x }
+parameter kind x = record { type_name = t.OfKind kind; name = x }
 
 abbrev pub return_at : ℕ → Option t.Expression → t.Return
 return_at place value = record { place = at place; value = value }
@@ -62,7 +64,7 @@ return_at place value = record { place = at place; value = value }
 abbrev pub function : Option Kind → t.Name → List t.Parameter → ℕ → List t.Statement → Option t.Return → ℕ → t.Item
 function kind x parameters opening inside returned closing =
     t.FunctionItem (record {
-      kind = kind;
+      type_name = option_map t.OfKind kind;
       name = x;
       parameters = parameters;
       body = record { opening = at opening; statements = all_of inside; returned = returned; closing = at closing };
@@ -369,7 +371,7 @@ buckets =
     t.MutexItem (name (codes "m") 6) (Some (length_at 8 (int 4))) ∷
     t.PersistentItem (record {
       guard = record { mutex = name (codes "m") 23; each = true };
-      kind = kind.Long;
+      type_name = t.OfKind kind.Long;
       name = name (codes "a") 33;
       length = Some (length_at 35 (int 4));
       initialiser = None;
@@ -382,3 +384,48 @@ buckets =
     t.Assign (assignment 96 (element (name (codes "a") 96) (masked 98 102 3))
     (t.Set (t.Binary b.Add (t.Element (name (codes "a") 107) (masked 109 113 3)) (t.Named (name (codes "i") 118))))) ∷
     t.Unlock (at 121) (name (codes "m") 128) (Some (masked 130 134 3)) ∷ []) 139) ∷ []) 141) ∷ []
+
+-- ---- References
+
+-- `ref(a)`, where `a` stands at that place
+abbrev pub ref_to : List ℕ → ℕ → t.TypeName
+ref_to text place = t.RefTo (name text place)
+
+abbrev pub ref_declaration : ℕ → t.TypeName → t.Name → t.Initial → t.Declaration
+ref_declaration place type_name x initial = record { place = at place; type_name = type_name; name = x; initial = initial }
+
+abbrev pub through : ℕ → t.Name → t.Lvalue
+through place x = t.Followed (at place) x
+
+abbrev pub ref_variable : t.Name → t.TypeName → t.Name → Option t.Length → Option t.Initialiser → t.Item
+ref_variable guard type_name x length initialiser =
+    t.PersistentItem (record { guard = record { mutex = guard; each = false }; type_name = type_name; name = x; length = length; initialiser = initialiser })
+
+-- `mutex m; persistent(m) long a[4] = {10, 20, 30, 40}; persistent(m) ref(a) h;
+-- thread t { lock(m); ref(a) p = &a[2]; if (p != null) { *p = *p + 1; } h = p; unlock(m); }`
+abbrev pub references : List t.Item
+references =
+    t.MutexItem (name (codes "m") 6) None ∷
+    persistent (name (codes "m") 20) kind.Long (name (codes "a") 28) (Some (length_at 30 (int 4)))
+    (Some (t.InBraces (at 35) (signed 36 false (int 10) ∷ signed 40 false (int 20) ∷ signed 44 false (int 30) ∷ signed 48 false (int 40) ∷ []))) ∷
+    ref_variable (name (codes "m") 64) (ref_to (codes "a") 71) (name (codes "h") 74) None None ∷
+    thread (name (codes "t") 84) (block 86 (t.Lock (at 88) (name (codes "m") 93) None ∷
+    t.Declare (ref_declaration 97 (ref_to (codes "a") 101) (name (codes "p") 104)
+    (t.Value (t.Address (at 108) (name (codes "a") 109) (t.Number (at 111) (int 2))))) ∷
+    t.If (at 115) (t.arm_and (t.Binary b.NotEqual (t.Named (name (codes "p") 119)) (t.Null (at 124)))
+    (block 130 (t.Assign (assignment 132 (through 132 (name (codes "p") 133))
+    (t.Set (t.Binary b.Add (t.Referent (at 137) (name (codes "p") 138)) (t.Number (at 142) (int 1))))) ∷ []) 145) t.no_arm) t.Nothing ∷
+    t.Assign (assignment 147 (scalar (name (codes "h") 147)) (t.Set (t.Named (name (codes "p") 151)))) ∷
+    t.Unlock (at 154) (name (codes "m") 161) None ∷ []) 165) ∷
+    []
+
+-- `mutex m; persistent(m) long a[4]; thread t { ref(a) p = null; lock(m); *p = 1; unlock(m); }`
+abbrev pub null_followed : List t.Item
+null_followed =
+    t.MutexItem (name (codes "m") 6) None ∷
+    persistent (name (codes "m") 20) kind.Long (name (codes "a") 28) (Some (length_at 30 (int 4))) None ∷
+    thread (name (codes "t") 41) (block 43 (t.Declare (ref_declaration 45 (ref_to (codes "a") 49) (name (codes "p") 52) (t.Value (t.Null (at 56)))) ∷
+    t.Lock (at 62) (name (codes "m") 67) None ∷
+    t.Assign (assignment 71 (through 71 (name (codes "p") 72)) (t.Set (t.Number (at 76) (int 1)))) ∷
+    t.Unlock (at 79) (name (codes "m") 86) None ∷ []) 90) ∷
+    []

@@ -139,7 +139,7 @@ mutex count = t.MutexItem (name (codes "m") 6) (elim count [ None ↦ None | Som
 abbrev guarded : (each : Bool) → Option ℕ → t.Item
 guarded each count = t.PersistentItem (record {
   guard = record { mutex = name (codes "m") 20; each = each };
-  kind = kind.Long;
+  type_name = t.OfKind kind.Long;
   name = name (codes "a") 30;
   length = elim count [ None ↦ None | Some n ↦ Some (length_at 40 (int n)) ];
   initialiser = None;

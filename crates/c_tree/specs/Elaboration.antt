@@ -37,11 +37,18 @@ abbrev pub first_place : t.Expression → Place
 first_place (t.Number place value) = place
 first_place (t.Named x) = x.place
 first_place (t.Element array index) = array.place
+first_place (t.Null place) = place
+first_place (t.Address place array index) = place
+first_place (t.Referent place reference) = place
 first_place (t.Parenthesised place inner) = place
 first_place (t.Unary place operator operand) = place
 first_place (t.Cast place kind operand) = place
 first_place (t.Binary operator left right) = first_place left
 first_place (t.Conditional condition chosen otherwise) = first_place condition
+
+abbrev pub target_place : t.Lvalue → Place
+target_place (t.Target x index) = x.place
+target_place (t.Followed place reference) = place
 
 -- an `int`
 abbrev pub int : ℕ → e.Expr
@@ -55,7 +62,7 @@ conditional condition chosen otherwise = e.Conditional (common_of (kind_of chose
 
 abbrev pub with_parameters : n.Scope → List t.Parameter → n.Scope
 with_parameters s [] = s
-with_parameters s (x ∷ xs) = with_parameters (n.declared s x.name.text x.kind) xs
+with_parameters s (x ∷ xs) = with_parameters (n.declared s x.name.text (n.kind_named x.type_name)) xs
 
 abbrev pub body_of : t.Block → t.Statements
 body_of (t.Braced opening xs closing) = xs
@@ -89,7 +96,7 @@ numbers_of (Some (t.InBraces place xs)) = map signed_number xs
 abbrev pub filled : ℕ → List ℤ → List ℤ
 filled count zs = take count zs ++ replicate (count - length zs) (pos 0)
 
--- where a rule is broken, as by a name that isn't known, these take any expression or target
+-- where a rule is broken, as by a name that isn't known or by a reference, these take any expression or target
 module _ (gs : List n.Global) where
   abbrev pub named : n.Scope → t.Name → e.Expr
   named s x = elim (n.meaning gs s x.text) [
@@ -108,6 +115,9 @@ module _ (gs : List n.Global) where
   expr s (t.Number place value) = e.Constant value
   expr s (t.Named x) = named s x
   expr s (t.Element array index) = element s array (first_place index) (expr s index)
+  expr s (t.Null place) = int 0
+  expr s (t.Address place array index) = int 0
+  expr s (t.Referent place reference) = int 0
   expr s (t.Parenthesised place inner) = expr s inner
   expr s (t.Unary place operator operand) = e.Unary operator (expr s operand)
   expr s (t.Cast place kind operand) = e.Cast kind (expr s operand)
@@ -133,24 +143,22 @@ module _ (gs : List n.Global) where
   ]
 
   abbrev pub target : n.Scope → t.Lvalue → e.Lvalue
-  target s x = elim x.index [
-    | Some index ↦ target_element s x.name (placed s index)
-    | None ↦ target_named s x.name
-  ]
+  target s (t.Target x (Some index)) = target_element s x (placed s index)
+  target s (t.Target x None) = target_named s x
+  target s (t.Followed place reference) = e.ToLocal place 0 kind.Int
 
   -- what the target has before
   abbrev pub before : n.Scope → t.Lvalue → e.Expr
-  before s x = elim x.index [
-    | Some index ↦ element s x.name (first_place index) (expr s index)
-    | None ↦ named s x.name
-  ]
+  before s (t.Target x (Some index)) = element s x (first_place index) (expr s index)
+  before s (t.Target x None) = named s x
+  before s (t.Followed place reference) = int 0
 
-  -- the new value; that of `x op= v` is `x op v`, and begins with the target's name
+  -- the new value; that of `x op= v` is `x op v`, and begins with the target
   abbrev pub changed : n.Scope → t.Lvalue → t.Change → e.Placed
   changed s x (t.Set value) = placed s value
-  changed s x (t.Update operator value) = record { place = x.name.place; expr = e.Binary operator (before s x) (expr s value) }
-  changed s x t.Increment = record { place = x.name.place; expr = e.Binary b.Add (before s x) (int 1) }
-  changed s x t.Decrement = record { place = x.name.place; expr = e.Binary b.Sub (before s x) (int 1) }
+  changed s x (t.Update operator value) = record { place = target_place x; expr = e.Binary operator (before s x) (expr s value) }
+  changed s x t.Increment = record { place = target_place x; expr = e.Binary b.Add (before s x) (int 1) }
+  changed s x t.Decrement = record { place = target_place x; expr = e.Binary b.Sub (before s x) (int 1) }
 
   -- the parts of a `for` stand at the `for`
   abbrev pub assignment_at : Place → n.Scope → t.Assignment → p.Statement
@@ -164,7 +172,7 @@ module _ (gs : List n.Global) where
 
   -- the local that a declaration makes takes its value, or 0
   abbrev pub declaration_at : Place → n.Scope → t.Declaration → p.Statement
-  declaration_at place s x = let new = e.ToLocal x.place (length s.kinds) x.kind in elim x.initial [
+  declaration_at place s x = let new = e.ToLocal x.place (length s.kinds) (n.kind_named x.type_name) in elim x.initial [
     | t.Absent ↦ p.Assign place new (record { place = x.place; expr = int 0 })
     | t.Value value ↦ p.Assign place new (placed s value)
     | t.Result c ↦ call place s c (Some new)
@@ -174,7 +182,7 @@ module _ (gs : List n.Global) where
 
   abbrev pub first_at : Place → n.Scope → t.First → Made p.Statements
   first_at place s t.NoFirst = record { made = p.no_statement; scope = s }
-  first_at place s (t.Declared x) = record { made = one (declaration_at place s x); scope = n.declared s x.name.text x.kind }
+  first_at place s (t.Declared x) = record { made = one (declaration_at place s x); scope = n.declared s x.name.text (n.kind_named x.type_name) }
   first_at place s (t.Assigned x) = record { made = one (assignment_at place s x); scope = s }
 
   abbrev pub last_at : Place → n.Scope → Option t.Assignment → p.Statements
@@ -199,9 +207,9 @@ module _ (gs : List n.Global) where
     pub statement : n.Scope → t.Statement → Made p.Statements
     statement s (t.BlockOf x) = inside s x
     statement s (t.Empty place) = record { made = p.no_statement; scope = s }
-    statement s (t.Declare x) = record { made = one (declaration_at x.place s x); scope = n.declared s x.name.text x.kind }
+    statement s (t.Declare x) = record { made = one (declaration_at x.place s x); scope = n.declared s x.name.text (n.kind_named x.type_name) }
     statement s (t.Assign x) = record { made = one (assignment_at x.place s x); scope = s }
-    statement s (t.AssignResult x c) = record { made = one (call x.name.place s c (Some (target s x))); scope = s }
+    statement s (t.AssignResult x c) = record { made = one (call (target_place x) s c (Some (target s x))); scope = s }
     statement s (t.CallOnly c) = record { made = one (call c.function.place s c None); scope = s }
     statement s (t.If place arms otherwise) = let a = arms_of s arms in let o = otherwise_of a.scope otherwise in
         record { made = one (p.If place a.made o.made); scope = o.scope }
@@ -251,7 +259,7 @@ module _ (gs : List n.Global) where
     parameters = length x.parameters;
     locals = m.scope.kinds;
     body = m.made;
-    result = returned m.scope x.kind x.body.returned;
+    result = returned m.scope (option_map n.kind_named x.type_name) x.body.returned;
   }
 
   abbrev pub thread : t.Thread → p.Thread
@@ -266,9 +274,9 @@ module _ (gs : List n.Global) where
   variable x = record {
     name = x.name;
     guard = guard x.guard;
-    kind = x.kind;
+    kind = n.kind_named x.type_name;
     length = option_map length_number x.length;
-    initial = filled (element_count x.length) (map (reduced x.kind) (numbers_of x.initialiser));
+    initial = filled (element_count x.length) (map (reduced (n.kind_named x.type_name)) (numbers_of x.initialiser));
   }
 
   -- ---- Programs

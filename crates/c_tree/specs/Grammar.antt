@@ -38,8 +38,14 @@ spellings kind.UnsignedInt = (k.Unsigned ∷ []) ∷ (k.Unsigned ∷ k.Int ∷ [
 spellings kind.Long = (k.Long ∷ []) ∷ (k.Long ∷ k.Int ∷ []) ∷ (k.Signed ∷ k.Long ∷ []) ∷ (k.Signed ∷ k.Long ∷ k.Int ∷ []) ∷ []
 spellings kind.UnsignedLong = (k.Unsigned ∷ k.Long ∷ []) ∷ (k.Unsigned ∷ k.Long ∷ k.Int ∷ []) ∷ []
 
+-- a kind
 abbrev pub type : Kind → List Token → Type 0
 type x ts = (ks : List Keyword) × Contains (spellings x) ks × words ks ts
+
+-- a kind, or `ref(array)`
+abbrev pub type_name : t.TypeName → List Token → Type 0
+type_name (t.OfKind x) = type x
+type_name (t.RefTo array) = word k.Ref ⋅ mark p.OpenParenthesis ⋅ name array ⋅ mark p.CloseParenthesis
 
 -- ---- Expressions (C11 6.5)
 
@@ -74,16 +80,26 @@ unary_mark unary.Minus = p.Binary binary.Sub
 unary_mark unary.Complement = p.Complement
 unary_mark unary.Not = p.Not
 
+-- how an operator with two operands is written: each language has its own token for `*` and for `&`
+abbrev pub operator : Binary → List Token → Type 0
+operator binary.Mul = mark (p.Binary binary.Mul) or mark p.Star
+operator binary.And = mark (p.Binary binary.And) or mark p.Ampersand
+operator x = mark (p.Binary x)
+
 -- an expression whose operators, outside brackets, bind at least so tightly: 0 for any expression
 abbrev pub expression_from : t.Expression → ℕ → List Token → Type 0
 expression_from (t.Number place value) n = number_at place value
 expression_from (t.Named x) n = name x
 expression_from (t.Element array index) n = name array ⋅ mark p.OpenBracket ⋅ expression_from index 0 ⋅ mark p.CloseBracket
+expression_from (t.Null place) n = word_at place k.Null
+expression_from (t.Address place array index) n =
+    mark_at place p.Ampersand ⋅ name array ⋅ mark p.OpenBracket ⋅ expression_from index 0 ⋅ mark p.CloseBracket
+expression_from (t.Referent place reference) n = mark_at place p.Star ⋅ name reference
 expression_from (t.Parenthesised place inner) n = mark_at place p.OpenParenthesis ⋅ expression_from inner 0 ⋅ mark p.CloseParenthesis
-expression_from (t.Unary place operator operand) n = mark_at place (unary_mark operator) ⋅ expression_from operand highest_precedence
+expression_from (t.Unary place x operand) n = mark_at place (unary_mark x) ⋅ expression_from operand highest_precedence
 expression_from (t.Cast place x operand) n = mark_at place p.OpenParenthesis ⋅ type x ⋅ mark p.CloseParenthesis ⋅ expression_from operand highest_precedence
-expression_from (t.Binary operator left right) n =
-    provided (n ≤ precedence operator) (expression_from left (precedence operator) ⋅ mark (p.Binary operator) ⋅ expression_from right (precedence operator + 1))
+expression_from (t.Binary x left right) n =
+    provided (n ≤ precedence x) (expression_from left (precedence x) ⋅ operator x ⋅ expression_from right (precedence x + 1))
 expression_from (t.Conditional condition then otherwise) n =
     provided (n ≡ 0) (expression_from condition 1 ⋅ mark p.Question ⋅ expression_from then 0 ⋅ mark p.Colon ⋅ expression_from otherwise 0)
 
@@ -97,7 +113,8 @@ index None = empty
 index (Some x) = mark p.OpenBracket ⋅ expression x ⋅ mark p.CloseBracket
 
 abbrev pub target : t.Lvalue → List Token → Type 0
-target x = name x.name ⋅ index x.index
+target (t.Target x i) = name x ⋅ index i
+target (t.Followed place reference) = mark_at place p.Star ⋅ name reference
 
 abbrev pub changed : t.Lvalue → t.Change → List Token → Type 0
 changed x (t.Set value) = target x ⋅ mark p.Assign ⋅ expression value
@@ -119,7 +136,7 @@ initial (t.Value x) = mark p.Assign ⋅ expression x
 initial (t.Result x) = mark p.Assign ⋅ call x
 
 abbrev pub declaration : t.Declaration → List Token → Type 0
-declaration x = starting_at x.place (type x.kind ⋅ name x.name ⋅ initial x.initial)
+declaration x = starting_at x.place (type_name x.type_name ⋅ name x.name ⋅ initial x.initial)
 
 -- the first part of a `for` makes no call
 abbrev pub initial_of_first : t.Initial → List Token → Type 0
@@ -129,7 +146,7 @@ initial_of_first (t.Result x) = never
 
 abbrev pub first : t.First → List Token → Type 0
 first t.NoFirst = empty
-first (t.Declared x) = starting_at x.place (type x.kind ⋅ name x.name ⋅ initial_of_first x.initial)
+first (t.Declared x) = starting_at x.place (type_name x.type_name ⋅ name x.name ⋅ initial_of_first x.initial)
 first (t.Assigned x) = assignment x
 
 -- `(condition)`
@@ -185,16 +202,16 @@ abbrev pub returned : t.Return → List Token → Type 0
 returned x = word_at x.place k.Return ⋅ maybe expression x.value ⋅ mark p.Semicolon
 
 abbrev pub parameter : t.Parameter → List Token → Type 0
-parameter x = type x.kind ⋅ name x.name
+parameter x = type_name x.type_name ⋅ name x.name
 
 -- the parameters of a function; none at all may be written as `void`
 abbrev pub parameters : List t.Parameter → List Token → Type 0
 parameters [] = empty or word k.Void
 parameters (x ∷ xs) = some_of parameter (x ∷ xs)
 
-abbrev pub result : Option Kind → List Token → Type 0
+abbrev pub result : Option t.TypeName → List Token → Type 0
 result None = word k.Void
-result (Some x) = type x
+result (Some x) = type_name x
 
 abbrev pub sign : (negative : Bool) → List Token → Type 0
 sign true = mark (p.Binary binary.Sub)
@@ -227,11 +244,11 @@ module _ (l : Language) where
   body x = mark_at x.opening p.OpenBrace ⋅ statements l x.statements ⋅ maybe returned x.returned ⋅ mark_at x.closing p.CloseBrace
 
   abbrev pub function : t.Function → List Token → Type 0
-  function x = result x.kind ⋅ name x.name ⋅ mark p.OpenParenthesis ⋅ parameters x.parameters ⋅ mark p.CloseParenthesis ⋅ body x.body
+  function x = result x.type_name ⋅ name x.name ⋅ mark p.OpenParenthesis ⋅ parameters x.parameters ⋅ mark p.CloseParenthesis ⋅ body x.body
 
   abbrev pub persistent : t.Persistent → List Token → Type 0
   persistent x =
-      word k.Persistent ⋅ mark p.OpenParenthesis ⋅ name x.guard.mutex ⋅ brackets l x.guard.each ⋅ mark p.CloseParenthesis ⋅ type x.kind ⋅ name x.name
+      word k.Persistent ⋅ mark p.OpenParenthesis ⋅ name x.guard.mutex ⋅ brackets l x.guard.each ⋅ mark p.CloseParenthesis ⋅ type_name x.type_name ⋅ name x.name
       ⋅ maybe length_of x.length
       ⋅ maybe assigned x.initialiser ⋅ mark p.Semicolon
 

@@ -1,5 +1,5 @@
 -- The tokens of a text. Each is the longest that begins at its place.
-use Rattle.std.specs.Prelude.{ℕ, zero, suc, ◌+◌, List, [], ◌∷◌, length, drop, take_while, find, Option, Some}
+use Rattle.std.specs.Prelude.{ℕ, zero, suc, ◌+◌, List, [], ◌∷◌, length, drop, take_while, find, map, Option, Some}
 use Rattle.std.specs.Prelude.{None, Bool, not, ◌&&◌, ◌||◌, nat_eq, nat_le, ◌==◌, if◌then◌else◌, codes}
 use Rattle.std.specs.Option.{option_map}
 use Rattle.std.specs.Cmp.Lexicographic.{pointwise}
@@ -19,6 +19,8 @@ use Rattle.c_tree.specs.declared.token.Keyword as kw
 use Rattle.c_tree.specs.declared.token.Keyword.TheVariants as k
 use Rattle.c_tree.specs.declared.token.Punctuator as pn
 use Rattle.c_tree.specs.declared.token.Punctuator.TheVariants as p
+use Rattle.c_tree.specs.declared.language.Language.{Language}
+use Rattle.c_tree.specs.declared.language.Language.TheVariants.{Plain, Full}
 use Rattle.c_tree.specs.declared.rule.Rule as r
 use Rattle.c_tree.specs.declared.rule.Rule.TheVariants as rule
 use Rattle.c_tree.specs.Tokens.{Lexeme, Name, Keyword, Number, Punctuator, Token}
@@ -195,5 +197,43 @@ scanned_from (suc more) place text = elim (prefix text) [
   | End ↦ nothing_more
 ]
 
-unfoldable pub scanned : (text : List ℕ) → Scanned
-scanned text = scanned_from (suc (length text)) 0 text
+-- the tokens of a text in which two words aren't reserved, and `*` and `&` are operators with two operands alone
+unfoldable pub plain_scanned : (text : List ℕ) → Scanned
+plain_scanned text = scanned_from (suc (length text)) 0 text
+
+-- ---- Languages
+
+-- the words that the full language reserves, too
+abbrev pub more_reserved : List (List ℕ × kw.Keyword)
+more_reserved = (codes "ref", k.Ref) ∷ (codes "null", k.Null) ∷ []
+
+abbrev pub full_name : List ℕ → Lexeme
+full_name bytes = elim (find (λ e. same e.0 bytes) more_reserved) [
+  | Some entry ↦ Keyword entry.1
+  | None ↦ Name bytes
+]
+
+-- its `*` and `&` may begin operands
+abbrev pub full_mark : pn.Punctuator → pn.Punctuator
+full_mark (p.Binary b.Mul) = p.Star
+full_mark (p.Binary b.And) = p.Ampersand
+full_mark x = x
+
+abbrev pub full_lexeme : Lexeme → Lexeme
+full_lexeme (Name bytes) = full_name bytes
+full_lexeme (Keyword x) = Keyword x
+full_lexeme (Number value) = Number value
+full_lexeme (Punctuator x) = Punctuator (full_mark x)
+
+abbrev pub full_token : Token → Token
+full_token t = record t { lexeme = full_lexeme t.lexeme }
+
+abbrev pub tokens_in : Language → List Token → List Token
+tokens_in Plain ts = ts
+tokens_in Full ts = map full_token ts
+
+abbrev pub in_language : Language → Scanned → Scanned
+in_language l s = record s { tokens = tokens_in l s.tokens }
+
+unfoldable pub scanned : Language → (text : List ℕ) → Scanned
+scanned l text = in_language l (plain_scanned text)

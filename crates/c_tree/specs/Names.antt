@@ -3,10 +3,18 @@ use Rattle.std.specs.Prelude.{ℕ, ◌+◌, List, [], ◌∷◌, ◌++◌, lengt
 use Rattle.std.specs.Option.{option_map}
 use Rattle.std.specs.Cmp.Lexicographic.{pointwise}
 use Rattle.ido_ints.specs.declared.kinds.Kind.{Kind}
+use Rattle.ido_ints.specs.declared.kinds.Kind.TheVariants.{UnsignedLong}
 use Rattle.c_tree.specs.Trees as t
 
 abbrev pub same_name : List ℕ → List ℕ → Bool
 same_name = pointwise nat_eq
+
+-- ---- Types
+
+-- the kind of the numbers that a value of the type may be
+abbrev pub kind_named : t.TypeName → Kind
+kind_named (t.OfKind kind) = kind
+kind_named (t.RefTo array) = UnsignedLong
 
 -- ---- Names of the whole text
 
@@ -41,9 +49,10 @@ none_yet = record { mutexes = 0; variables = 0; functions = 0 }
 
 abbrev pub global_of : Counts → t.Item → Global
 global_of n (t.MutexItem x length) = record { name = x; sort = Mutex n.mutexes (option_map length_number length) }
-global_of n (t.PersistentItem x) = record { name = x.name; sort = Variable n.variables x.kind (is_some x.length) }
+global_of n (t.PersistentItem x) = record { name = x.name; sort = Variable n.variables (kind_named x.type_name) (is_some x.length) }
 global_of n (t.ThreadItem x) = record { name = x.name; sort = Thread }
-global_of n (t.FunctionItem x) = record { name = x.name; sort = Function n.functions x.kind (map (λ (y : t.Parameter). y.kind) x.parameters) }
+global_of n (t.FunctionItem x) =
+    record { name = x.name; sort = Function n.functions (option_map kind_named x.type_name) (map (λ (y : t.Parameter). kind_named y.type_name) x.parameters) }
 
 abbrev pub counted : Counts → t.Item → Counts
 counted n (t.MutexItem x length) = record n { mutexes = n.mutexes + element_count length }

@@ -41,6 +41,8 @@ within_mark p.OpenParenthesis n = record n { others = n.others + 1 }
 within_mark p.OpenBracket n = record n { others = n.others + 1 }
 within_mark p.Question n = record n { others = n.others + 1 }
 within_mark (p.Binary operator) n = record n { others = n.others + 1 }
+within_mark p.Star n = record n { others = n.others + 1 }
+within_mark p.Ampersand n = record n { others = n.others + 1 }
 within_mark p.Complement n = record n { others = n.others + 1 }
 within_mark p.Not n = record n { others = n.others + 1 }
 within_mark p.CloseParenthesis n = n
@@ -78,22 +80,22 @@ pub record IsWrong (l : Language) (before : List Token) (t : Token) : Type 0 whe
 -- the text is refused by the rule at the place: no rule is broken at an earlier one
 pub data IsRefused (l : Language) (text : List ℕ) (found : r.Rule) (place : Place) : Type 0 where
   -- no token begins there
-  no_token : (scanned text).fault ≡ Some (record { rule = found; place = place }) → BeginsProgram l (scanned text).tokens →
-      nests_high (scanned text).tokens ≡ false
+  no_token : (scanned l text).fault ≡ Some (record { rule = found; place = place }) → BeginsProgram l (scanned l text).tokens →
+      nests_high (scanned l text).tokens ≡ false
       → IsRefused l text found place
   -- the token there is wrong
-  wrong_token : (before : List Token) (t : Token) (after : List Token) → (scanned text).tokens ≡ before ++ t ∷ after → nests_high before ≡ false
+  wrong_token : (before : List Token) (t : Token) (after : List Token) → (scanned l text).tokens ≡ before ++ t ∷ after → nests_high before ≡ false
       → IsWrong l before t → t.place ≡ place → found ≡ rule.Syntax → IsRefused l text found place
   -- the token there isn't wrong, but nests too high
-  too_high : (before : List Token) (t : Token) (after : List Token) → (scanned text).tokens ≡ before ++ t ∷ after → nests_high before ≡ false
+  too_high : (before : List Token) (t : Token) (after : List Token) → (scanned l text).tokens ≡ before ++ t ∷ after → nests_high before ≡ false
       → BeginsProgram l (before ++ t ∷ []) → nests_high (before ++ t ∷ []) ≡ true → t.place ≡ place → found ≡ rule.High → IsRefused l text found place
   -- the text ends too early
-  wrong_end : (scanned text).fault ≡ None → nests_high (scanned text).tokens ≡ false → BeginsProgram l (scanned text).tokens →
-      (IsWhole l (scanned text).tokens → ⊥)
+  wrong_end : (scanned l text).fault ≡ None → nests_high (scanned l text).tokens ≡ false → BeginsProgram l (scanned l text).tokens →
+      (IsWhole l (scanned l text).tokens → ⊥)
       → place ≡ record { 0 = length text } → found ≡ rule.Syntax → IsRefused l text found place
 
 -- the text is these items
 pub record IsRead (l : Language) (text : List ℕ) (xs : List Item) : Type 0 where
-  pub scanned_whole : (scanned text).fault ≡ None
-  pub low : nests_high (scanned text).tokens ≡ false
-  pub spelled : program l xs (scanned text).tokens
+  pub scanned_whole : (scanned l text).fault ≡ None
+  pub low : nests_high (scanned l text).tokens ≡ false
+  pub spelled : program l xs (scanned l text).tokens

@@ -10,6 +10,14 @@ pub record Name : Type 0 where
   pub text : List ℕ
   pub place : Place
 
+-- ---- Types
+
+-- the type of a local, of a parameter, of a result or of a variable
+pub data TypeName : Type 0 where
+  OfKind : Kind → TypeName
+  -- `ref(array)`: references to elements of the array
+  RefTo : (array : Name) → TypeName
+
 -- ---- Expressions
 
 pub data Expression : Type 0 where
@@ -17,6 +25,12 @@ pub data Expression : Type 0 where
   Named : Name → Expression
   -- `array[index]`
   Element : (array : Name) → (index : Expression) → Expression
+  -- `null`
+  Null : (place : Place) → Expression
+  -- `&array[index]`
+  Address : (place : Place) → (array : Name) → (index : Expression) → Expression
+  -- `*reference`
+  Referent : (place : Place) → (reference : Name) → Expression
   -- `(inner)`
   Parenthesised : (place : Place) → (inner : Expression) → Expression
   Unary : (place : Place) → u.Unary → (operand : Expression) → Expression
@@ -28,10 +42,11 @@ pub data Expression : Type 0 where
 
 -- ---- Assignments and calls
 
--- a name, or an element of an array
-pub record Lvalue : Type 0 where
-  pub name : Name
-  pub index : Option Expression
+pub data Lvalue : Type 0 where
+  -- a name, or an element of an array
+  Target : Name → (index : Option Expression) → Lvalue
+  -- `*reference`
+  Followed : (place : Place) → (reference : Name) → Lvalue
 
 pub data Change : Type 0 where
   -- `= value`
@@ -61,10 +76,10 @@ pub data Initial : Type 0 where
   Value : Expression → Initial
   Result : Call → Initial
 
--- `kind name = initial`
+-- `type_name name = initial`
 pub record Declaration : Type 0 where
   pub place : Place
-  pub kind : Kind
+  pub type_name : TypeName
   pub name : Name
   pub initial : Initial
 
@@ -123,12 +138,12 @@ pub record Body : Type 0 where
   pub closing : Place
 
 pub record Parameter : Type 0 where
-  pub kind : Kind
+  pub type_name : TypeName
   pub name : Name
 
--- `void` is no kind
+-- `void` is no type of a result
 pub record Function : Type 0 where
-  pub kind : Option Kind
+  pub type_name : Option TypeName
   pub name : Name
   pub parameters : List Parameter
   pub body : Body
@@ -155,10 +170,10 @@ pub record Guard : Type 0 where
   pub mutex : Name
   pub each : Bool
 
--- `persistent(guard) kind name[length] = initialiser;`
+-- `persistent(guard) type_name name[length] = initialiser;`
 pub record Persistent : Type 0 where
   pub guard : Guard
-  pub kind : Kind
+  pub type_name : TypeName
   pub name : Name
   pub length : Option Length
   pub initialiser : Option Initialiser

@@ -56,9 +56,9 @@ too_many_mutexes most n (t.PersistentItem x ∷ xs) = too_many_mutexes most n xs
 too_many_mutexes most n (t.ThreadItem x ∷ xs) = too_many_mutexes most n xs
 too_many_mutexes most n (t.FunctionItem x ∷ xs) = too_many_mutexes most n xs
 
--- where a variable ends, if the one before it ends at n
-abbrev pub end_after : (n : ℕ) → t.Persistent → ℕ
-end_after n x = aligned_up n (bytes_of x.kind) + bytes_of x.kind * element_count x.length
+-- where a variable ends, if the one before it ends at k
+abbrev pub end_after : (k : ℕ) → t.Persistent → ℕ
+end_after k x = aligned_up k (bytes_of (n.kind_named x.type_name)) + bytes_of (n.kind_named x.type_name) * element_count x.length
 
 -- the first variable that ends too late
 abbrev pub too_many_bytes : (n : ℕ) → List t.Item → List Fault
@@ -86,6 +86,17 @@ abbrev pub initialiser_faults : Option t.Length → Option t.Initialiser → Lis
 initialiser_faults size None = []
 initialiser_faults size (Some (t.Single x)) = broken_if (is_some size) rule.WrongSort x.place
 initialiser_faults size (Some (t.InBraces place xs)) = numbers_past (element_count size) xs
+
+-- ---- Types
+
+-- no program has references yet
+abbrev pub type_name_faults : t.TypeName → List Fault
+type_name_faults (t.OfKind kind) = []
+type_name_faults (t.RefTo array) = broken rule.WrongSort array.place
+
+abbrev pub result_faults : Option t.TypeName → List Fault
+result_faults None = []
+result_faults (Some x) = type_name_faults x
 
 module _ (gs : List n.Global) where
   -- ---- Uses of names
@@ -118,6 +129,9 @@ module _ (gs : List n.Global) where
   expression_faults s (t.Number place value) = []
   expression_faults s (t.Named x) = use_faults s x false
   expression_faults s (t.Element array index) = use_faults s array true ++ expression_faults s index
+  expression_faults s (t.Null place) = broken rule.WrongSort place
+  expression_faults s (t.Address place array index) = broken rule.WrongSort place
+  expression_faults s (t.Referent place reference) = broken rule.WrongSort place
   expression_faults s (t.Parenthesised place inner) = expression_faults s inner
   expression_faults s (t.Unary place operator operand) = expression_faults s operand
   expression_faults s (t.Cast place kind operand) = expression_faults s operand
@@ -129,6 +143,9 @@ module _ (gs : List n.Global) where
   shared_faults s (t.Number place value) = []
   shared_faults s (t.Named x) = persistent_faults s x
   shared_faults s (t.Element array index) = persistent_faults s array ++ shared_faults s index
+  shared_faults s (t.Null place) = []
+  shared_faults s (t.Address place array index) = []
+  shared_faults s (t.Referent place reference) = []
   shared_faults s (t.Parenthesised place inner) = shared_faults s inner
   shared_faults s (t.Unary place operator operand) = shared_faults s operand
   shared_faults s (t.Cast place kind operand) = shared_faults s operand
@@ -148,7 +165,8 @@ module _ (gs : List n.Global) where
   maybe_faults s (Some x) = expression_faults s x
 
   abbrev pub target_faults : n.Scope → t.Lvalue → List Fault
-  target_faults s x = use_faults s x.name (is_some x.index) ++ maybe_faults s x.index
+  target_faults s (t.Target x index) = use_faults s x (is_some index) ++ maybe_faults s index
+  target_faults s (t.Followed place reference) = broken rule.WrongSort place
 
   abbrev pub change_faults : n.Scope → t.Change → List Fault
   change_faults s (t.Set value) = expression_faults s value
@@ -172,12 +190,13 @@ module _ (gs : List n.Global) where
   abbrev pub call_faults : n.Scope → t.Call → (assigned : Bool) → List Fault
   call_faults s x assigned = function_faults s x.function assigned (length x.arguments) ++ flat_map (expression_faults s) x.arguments
 
+  abbrev pub initial_faults : n.Scope → t.Initial → List Fault
+  initial_faults s t.Absent = []
+  initial_faults s (t.Value value) = expression_faults s value
+  initial_faults s (t.Result c) = call_faults s c true
+
   abbrev pub declaration_faults : n.Scope → t.Declaration → List Fault
-  declaration_faults s x = twice s.own x.name ++ elim x.initial [
-    | t.Absent ↦ []
-    | t.Value value ↦ expression_faults s value
-    | t.Result c ↦ call_faults s c true
-  ]
+  declaration_faults s x = twice s.own x.name ++ initial_faults s x.initial ++ type_name_faults x.type_name
 
   -- ---- Statements, each in the scope where it stands
 
@@ -230,7 +249,8 @@ module _ (gs : List n.Global) where
 
   abbrev pub parameters_faults : n.Scope → List t.Parameter → List Fault
   parameters_faults s [] = []
-  parameters_faults s (x ∷ xs) = twice s.own x.name ++ parameters_faults (n.declared s x.name.text x.kind) xs
+  parameters_faults s (x ∷ xs) =
+      twice s.own x.name ++ type_name_faults x.type_name ++ parameters_faults (n.declared s x.name.text (n.kind_named x.type_name)) xs
 
   -- the function returns a value exactly where it has a result
   abbrev pub returns_value : Option t.Return → Bool
@@ -238,7 +258,7 @@ module _ (gs : List n.Global) where
   returns_value (Some x) = is_some x.value
 
   abbrev pub return_faults : t.Function → List Fault
-  return_faults x = broken_if (if is_some x.kind then not (returns_value x.body.returned) else returns_value x.body.returned) rule.Return x.name.place
+  return_faults x = broken_if (if is_some x.type_name then not (returns_value x.body.returned) else returns_value x.body.returned) rule.Return x.name.place
 
   abbrev pub returned_faults : n.Scope → Option t.Return → List Fault
   returned_faults s None = []
@@ -267,11 +287,12 @@ module _ (gs : List n.Global) where
   item_faults (t.MutexItem x count) = length_faults count
   item_faults (t.PersistentItem x) =
       mutex_faults n.no_locals x.guard.mutex x.guard.each ++ each_faults x ++ length_faults x.length ++ initialiser_faults x.length x.initialiser
+      ++ type_name_faults x.type_name
   item_faults (t.ThreadItem x) = statements_faults n.no_locals (made.body_of x.block)
   item_faults (t.FunctionItem x) =
       let s = made.with_parameters n.no_locals x.parameters in
       parameters_faults n.no_locals x.parameters ++ statements_faults s x.body.statements
-      ++ returned_faults (made.statements gs s x.body.statements).scope x.body.returned ++ return_faults x
+      ++ returned_faults (made.statements gs s x.body.statements).scope x.body.returned ++ return_faults x ++ result_faults x.type_name
 
 -- ---- The first rule that a tree breaks
 

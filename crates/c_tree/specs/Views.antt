@@ -5,7 +5,10 @@ use Rattle.std.specs.Option.{option_map}
 use Rattle.c_tree.specs.Trees as t
 use Rattle.c_tree.specs.declared.tree.Name as n
 use Rattle.c_tree.specs.declared.tree.Expression as e
+use Rattle.c_tree.specs.declared.tree.TypeName.{TypeName}
+use Rattle.c_tree.specs.declared.tree.TypeName.TheVariants as type_name
 use Rattle.c_tree.specs.declared.tree.Lvalue.{Lvalue}
+use Rattle.c_tree.specs.declared.tree.Lvalue.TheVariants as lvalue
 use Rattle.c_tree.specs.declared.tree.Change.{Change}
 use Rattle.c_tree.specs.declared.tree.Change.TheVariants as change
 use Rattle.c_tree.specs.declared.tree.Assignment.{Assignment}
@@ -36,10 +39,17 @@ use Rattle.c_tree.specs.declared.tree.Tree.{Tree}
 abbrev pub name_of : n.Name → t.Name
 name_of x = record { text = x.text.items; place = x.place }
 
+abbrev pub type_name_of : TypeName → t.TypeName
+type_name_of (type_name.Kind kind) = t.OfKind kind
+type_name_of (type_name.Reference array) = t.RefTo (name_of array)
+
 abbrev pub expression_of : e.Expression → t.Expression
 expression_of (e.Number place value) = t.Number place value
 expression_of (e.Named x) = t.Named (name_of x)
 expression_of (e.Element' array _ index) = t.Element (name_of array) (expression_of index)
+expression_of (e.Null place) = t.Null place
+expression_of (e.Address' place array _ index) = t.Address place (name_of array) (expression_of index)
+expression_of (e.Referent place reference) = t.Referent place (name_of reference)
 expression_of (e.Parenthesised' place _ inner) = t.Parenthesised place (expression_of inner)
 expression_of (e.Unary' place operator _ operand) = t.Unary place operator (expression_of operand)
 expression_of (e.Cast' place kind _ operand) = t.Cast place kind (expression_of operand)
@@ -47,7 +57,8 @@ expression_of (e.Binary' operator _ left _ right) = t.Binary operator (expressio
 expression_of (e.Conditional' _ condition _ then _ otherwise) = t.Conditional (expression_of condition) (expression_of then) (expression_of otherwise)
 
 abbrev pub lvalue_of : Lvalue → t.Lvalue
-lvalue_of x = record { name = name_of x.name; index = option_map expression_of x.index }
+lvalue_of (lvalue.Named x index) = t.Target (name_of x) (option_map expression_of index)
+lvalue_of (lvalue.Followed place reference) = t.Followed place (name_of reference)
 
 abbrev pub change_of : Change → t.Change
 change_of (change.Set value) = t.Set (expression_of value)
@@ -67,7 +78,7 @@ initial_of (begins.Expression x) = t.Value (expression_of x)
 initial_of (begins.Call x) = t.Result (call_of x)
 
 abbrev pub declaration_of : Declaration → t.Declaration
-declaration_of x = record { place = x.place; kind = x.kind; name = name_of x.name; initial = initial_of x.initial }
+declaration_of x = record { place = x.place; type_name = type_name_of x.type_name; name = name_of x.name; initial = initial_of x.initial }
 
 abbrev pub first_of : First → t.First
 first_of first.Absent = t.NoFirst
@@ -123,10 +134,11 @@ abbrev pub body_of : Body → t.Body
 body_of x = record { opening = x.opening; statements = statements_of x.statements.items; returned = option_map return_of x.returned; closing = x.closing }
 
 abbrev pub parameter_of : Parameter → t.Parameter
-parameter_of x = record { kind = x.kind; name = name_of x.name }
+parameter_of x = record { type_name = type_name_of x.type_name; name = name_of x.name }
 
 abbrev pub function_of : Function → t.Function
-function_of x = record { kind = x.kind; name = name_of x.name; parameters = map parameter_of x.parameters.items; body = body_of x.body }
+function_of x =
+    record { type_name = option_map type_name_of x.type_name; name = name_of x.name; parameters = map parameter_of x.parameters.items; body = body_of x.body }
 
 abbrev pub signed_of : Signed → t.Signed
 signed_of x = record { place = x.place; negative = x.negative; value = x.value }
@@ -144,7 +156,7 @@ guard_of x = record { mutex = name_of x.mutex; each = x.each }
 abbrev pub persistent_of : Persistent → t.Persistent
 persistent_of x = record {
   guard = guard_of x.guard;
-  kind = x.kind;
+  type_name = type_name_of x.type_name;
   name = name_of x.name;
   length = option_map length_of x.length;
   initialiser = option_map initialiser_of x.initialiser;

@@ -22,6 +22,10 @@ pub enum Keyword {
     Do,
     For,
     Return,
+    /// Of the full language alone.
+    Ref,
+    /// Of the full language alone.
+    Null,
 }
 
 /// A punctuator.
@@ -53,6 +57,10 @@ pub enum Punctuator {
     Not,
     /// An operator with two operands; `+` and `-` are also operators with one.
     Binary(Binary),
+    /// `*` of the full language: it also begins the element of a reference.
+    Star,
+    /// `&` of the full language: it also begins the address of an element.
+    Ampersand,
     /// `=`
     Assign,
     /// An operator with `=` after it: one of `+= -= *= /= %= &= |= ^= <<= >>=`.

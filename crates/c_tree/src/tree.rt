@@ -1,4 +1,9 @@
 //! What was read, with places.
+ghost use Rattle.std.specs.Prelude.{◌≡◌};
+ghost use Rattle.c_tree.specs.Names.{kind_named};
+ghost use Rattle.c_tree.specs.Views.{lvalue_of, type_name_of};
+ghost use Rattle.c_tree.specs.Elaboration.{target_place};
+
 use ido_base::place::Place;
 use ido_ints::{Binary, Kind, Unary, Value};
 
@@ -9,6 +14,26 @@ pub struct Name {
     pub text: Vec<u8>,
     /// Where the name begins.
     pub place: Place,
+}
+
+/// The type of a local, of a parameter, of a result or of a variable.
+#[derive(Drop)]
+pub enum TypeName {
+    Kind(Kind),
+    /// `ref(array)`: references to elements of the array.
+    Reference { array: Name },
+}
+
+impl TypeName {
+    /// The kind of the numbers that a value of the type may be.
+    pub fn kind(&self) -> Kind
+        ensures { result ≡ kind_named (type_name_of self.now) }
+    {
+        match self {
+            TypeName::Kind(kind) => *kind,
+            TypeName::Reference { .. } => Kind::UnsignedLong,
+        }
+    }
 }
 
 /// An expression. Each place is that of its first token.
@@ -25,6 +50,21 @@ pub enum Expression {
     Element {
         array: Name,
         index: Box<Expression>,
+    },
+    /// `null`
+    Null {
+        place: Place,
+    },
+    /// `&array[index]`
+    Address {
+        place: Place,
+        array: Name,
+        index: Box<Expression>,
+    },
+    /// `*reference`
+    Referent {
+        place: Place,
+        reference: Name,
     },
     /// `(inner)`
     Parenthesised {
@@ -55,11 +95,31 @@ pub enum Expression {
     },
 }
 
-/// What is assigned: a name, or an element of an array.
+/// What is assigned. The place is that of the first token.
 #[derive(Drop)]
-pub struct Lvalue {
-    pub name: Name,
-    pub index: Option<Expression>,
+pub enum Lvalue {
+    /// A name, or an element of an array.
+    Named {
+        name: Name,
+        index: Option<Expression>,
+    },
+    /// `*reference`
+    Followed {
+        place: Place,
+        reference: Name,
+    },
+}
+
+impl Lvalue {
+    /// The place of its first token.
+    pub fn place(&self) -> Place
+        ensures { result ≡ target_place (lvalue_of self.now) }
+    {
+        match self {
+            Lvalue::Named { name, .. } => name.place,
+            Lvalue::Followed { place, .. } => *place,
+        }
+    }
 }
 
 /// How an assignment changes its target.
@@ -99,11 +159,11 @@ pub enum Initial {
     Call(Call),
 }
 
-/// `kind name = initial`
+/// `type_name name = initial`
 #[derive(Drop)]
 pub struct Declaration {
     pub place: Place,
-    pub kind: Kind,
+    pub type_name: TypeName,
     pub name: Name,
     pub initial: Initial,
 }
@@ -209,14 +269,14 @@ pub struct Body {
 /// A parameter of a function.
 #[derive(Drop)]
 pub struct Parameter {
-    pub kind: Kind,
+    pub type_name: TypeName,
     pub name: Name,
 }
 
-/// A function; `void` is no kind.
+/// A function; `void` is no type of a result.
 #[derive(Drop)]
 pub struct Function {
-    pub kind: Option<Kind>,
+    pub type_name: Option<TypeName>,
     pub name: Name,
     pub parameters: Vec<Parameter>,
     pub body: Body,
@@ -260,11 +320,11 @@ pub struct Mutex {
     pub length: Option<Length>,
 }
 
-/// `persistent(guard) kind name[length] = initialiser;`
+/// `persistent(guard) type_name name[length] = initialiser;`
 #[derive(Drop)]
 pub struct Persistent {
     pub guard: Guard,
-    pub kind: Kind,
+    pub type_name: TypeName,
     pub name: Name,
     pub length: Option<Length>,
     pub initialiser: Option<Initialiser>,

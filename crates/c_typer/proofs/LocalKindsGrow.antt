@@ -51,14 +51,14 @@ into_declared ks s name kind into = into (length s.kinds) kind (get_seam s.kinds
 module _ (gs : List n.Global) where
   pub grow_first : (place : Place) (s : n.Scope) (y : t.First) → Into s.kinds (made.first_at gs place s y).scope.kinds
   grow_first place s t.NoFirst = into_self s.kinds
-  grow_first place s (t.Declared y) = into_more s.kinds (y.kind ∷ [])
+  grow_first place s (t.Declared y) = into_more s.kinds (n.kind_named y.type_name ∷ [])
   grow_first place s (t.Assigned y) = into_self s.kinds
 
   mutual
     pub grow_statement : (s : n.Scope) (y : t.Statement) → Into s.kinds (made.statement gs s y).scope.kinds
     grow_statement s (t.BlockOf y) = grow_inside s y
     grow_statement s (t.Empty place) = into_self s.kinds
-    grow_statement s (t.Declare y) = into_more s.kinds (y.kind ∷ [])
+    grow_statement s (t.Declare y) = into_more s.kinds (n.kind_named y.type_name ∷ [])
     grow_statement s (t.Assign y) = into_self s.kinds
     grow_statement s (t.AssignResult y c) = into_self s.kinds
     grow_statement s (t.CallOnly c) = into_self s.kinds
@@ -95,13 +95,14 @@ module _ (gs : List n.Global) where
 pub grow_parameters : (s : n.Scope) (ys : List t.Parameter) → Into s.kinds (made.with_parameters s ys).kinds
 grow_parameters s [] = into_self s.kinds
 grow_parameters s (y ∷ ys) =
-    let s' = n.declared s y.name.text y.kind in into_both s.kinds s'.kinds (made.with_parameters s' ys).kinds (into_more s.kinds (y.kind ∷ []))
+    let s' = n.declared s y.name.text (n.kind_named y.type_name) in
+    into_both s.kinds s'.kinds (made.with_parameters s' ys).kinds (into_more s.kinds (n.kind_named y.type_name ∷ []))
     (grow_parameters s' ys)
 
 pub known_parameters : (ks : List Kind) (s : n.Scope) (ys : List t.Parameter) → Known ks s.known → Into (made.with_parameters s ys).kinds ks →
     Known ks (made.with_parameters s ys).known
 known_parameters ks s [] known into = known
 known_parameters ks s (y ∷ ys) known into =
-    let s' = n.declared s y.name.text y.kind in
+    let s' = n.declared s y.name.text (n.kind_named y.type_name) in
     let within = into_both s'.kinds (made.with_parameters s' ys).kinds ks (grow_parameters s' ys) into in
-    known_parameters ks s' ys (into_declared ks s y.name.text y.kind within, known) into
+    known_parameters ks s' ys (into_declared ks s y.name.text (n.kind_named y.type_name) within, known) into

@@ -16,7 +16,7 @@ use Rattle.c_tree.specs.TypeRules.{thread_names, most_mutexes, too_many_mutexes,
 use Rattle.c_tree.specs.TypeRules.{length_faults, numbers_past, initialiser_faults, use_faults, mutex_faults, expression_faults}
 use Rattle.c_tree.specs.TypeRules.{persistent_faults, shared_faults, key_faults, lock_faults, mutexes_of, count_faults, each_faults}
 use Rattle.c_tree.specs.TypeRules.{maybe_faults, target_faults, change_faults, assignment_faults}
-use Rattle.c_tree.specs.TypeRules.{function_faults, call_faults, declaration_faults, first_faults, last_faults}
+use Rattle.c_tree.specs.TypeRules.{function_faults, call_faults, initial_faults, declaration_faults, first_faults, last_faults, type_name_faults, result_faults}
 use Rattle.c_tree.specs.TypeRules.{after, statement_faults, block_faults, statements_faults, arms_faults}
 use Rattle.c_tree.specs.TypeRules.{otherwise_faults, parameters_faults, returns_value, return_faults, returned_faults}
 use Rattle.c_tree.specs.TypeRules.{item_faults, type_faults, order_of, IsNotAfter, IsFirst}
@@ -140,6 +140,14 @@ initialiser_ordered size None = tt
 initialiser_ordered size (Some (t.Single x)) = one_if (is_some size) rule.WrongSort x.place (omega arith)
 initialiser_ordered size (Some (t.InBraces place xs)) = numbers_ordered (element_count size) xs
 
+type_name_ordered : (x : t.TypeName) → Ordered (type_name_faults x)
+type_name_ordered (t.OfKind kind) = tt
+type_name_ordered (t.RefTo array) = (omega arith, tt)
+
+result_ordered : (x : Option t.TypeName) → Ordered (result_faults x)
+result_ordered None = tt
+result_ordered (Some x) = type_name_ordered x
+
 module _ (gs : List n.Global) where
   -- ---- Uses of names
 
@@ -179,6 +187,9 @@ module _ (gs : List n.Global) where
   expression_ordered s (t.Named x) = use_ordered s x false
   expression_ordered s (t.Element array index) =
       both (use_faults gs s array true) (expression_faults gs s index) (use_ordered s array true) (expression_ordered s index)
+  expression_ordered s (t.Null place) = (omega arith, tt)
+  expression_ordered s (t.Address place array index) = (omega arith, tt)
+  expression_ordered s (t.Referent place reference) = (omega arith, tt)
   expression_ordered s (t.Parenthesised place inner) = expression_ordered s inner
   expression_ordered s (t.Unary place operator operand) = expression_ordered s operand
   expression_ordered s (t.Cast place kind operand) = expression_ordered s operand
@@ -209,6 +220,9 @@ module _ (gs : List n.Global) where
   shared_ordered s (t.Named x) = persistent_ordered s x
   shared_ordered s (t.Element array index) =
       both (persistent_faults gs s array) (shared_faults gs s index) (persistent_ordered s array) (shared_ordered s index)
+  shared_ordered s (t.Null place) = tt
+  shared_ordered s (t.Address place array index) = tt
+  shared_ordered s (t.Referent place reference) = tt
   shared_ordered s (t.Parenthesised place inner) = shared_ordered s inner
   shared_ordered s (t.Unary place operator operand) = shared_ordered s operand
   shared_ordered s (t.Cast place kind operand) = shared_ordered s operand
@@ -232,8 +246,9 @@ module _ (gs : List n.Global) where
   maybe_ordered s (Some x) = expression_ordered s x
 
   target_ordered : (s : n.Scope) (x : t.Lvalue) → Ordered (target_faults gs s x)
-  target_ordered s x =
-      both (use_faults gs s x.name (is_some x.index)) (maybe_faults gs s x.index) (use_ordered s x.name (is_some x.index)) (maybe_ordered s x.index)
+  target_ordered s (t.Target x index) =
+      both (use_faults gs s x (is_some index)) (maybe_faults gs s index) (use_ordered s x (is_some index)) (maybe_ordered s index)
+  target_ordered s (t.Followed place reference) = (omega arith, tt)
 
   change_ordered : (s : n.Scope) (x : t.Change) → Ordered (change_faults gs s x)
   change_ordered s (t.Set value) = expression_ordered s value
@@ -271,20 +286,17 @@ module _ (gs : List n.Global) where
       (function_ordered s x.function assigned (length x.arguments))
       (each (expression_faults gs s) (expression_ordered s) x.arguments)
 
-  abbrev initial_faults : n.Scope → t.Initial → List Fault
-  initial_faults s x = elim x [
-    | t.Absent ↦ []
-    | t.Value value ↦ expression_faults gs s value
-    | t.Result c ↦ call_faults gs s c true
-  ]
-
-  initial_ordered : (s : n.Scope) (x : t.Initial) → Ordered (initial_faults s x)
+  initial_ordered : (s : n.Scope) (x : t.Initial) → Ordered (initial_faults gs s x)
   initial_ordered s t.Absent = tt
   initial_ordered s (t.Value value) = expression_ordered s value
   initial_ordered s (t.Result c) = call_ordered s c true
 
   declaration_ordered : (s : n.Scope) (x : t.Declaration) → Ordered (declaration_faults gs s x)
-  declaration_ordered s x = both (twice s.own x.name) (initial_faults s x.initial) (twice_ordered s.own x.name) (initial_ordered s x.initial)
+  declaration_ordered s x =
+      three (twice s.own x.name) (initial_faults gs s x.initial) (type_name_faults x.type_name)
+      (twice_ordered s.own x.name)
+      (initial_ordered s x.initial)
+      (type_name_ordered x.type_name)
 
   -- ---- Statements
 
@@ -345,8 +357,10 @@ module _ (gs : List n.Global) where
   parameters_ordered : (s : n.Scope) (xs : List t.Parameter) → Ordered (parameters_faults gs s xs)
   parameters_ordered s [] = tt
   parameters_ordered s (x ∷ xs) =
-      both (twice s.own x.name) (parameters_faults gs (n.declared s x.name.text x.kind) xs) (twice_ordered s.own x.name)
-      (parameters_ordered (n.declared s x.name.text x.kind) xs)
+      three (twice s.own x.name) (type_name_faults x.type_name) (parameters_faults gs (n.declared s x.name.text (n.kind_named x.type_name)) xs)
+      (twice_ordered s.own x.name)
+      (type_name_ordered x.type_name)
+      (parameters_ordered (n.declared s x.name.text (n.kind_named x.type_name)) xs)
 
   returned_ordered : (s : n.Scope) (x : Option t.Return) → Ordered (returned_faults gs s x)
   returned_ordered s None = tt
@@ -354,7 +368,7 @@ module _ (gs : List n.Global) where
 
   return_ordered : (x : t.Function) → Ordered (return_faults gs x)
   return_ordered x =
-      one_if (if is_some x.kind then not (returns_value gs x.body.returned) else returns_value gs x.body.returned) rule.Return x.name.place (omega arith)
+      one_if (if is_some x.type_name then not (returns_value gs x.body.returned) else returns_value gs x.body.returned) rule.Return x.name.place (omega arith)
 
   count_ordered : (mutexes : Option ℕ) (size : t.Length) → Ordered (count_faults gs mutexes size)
   count_ordered None size = tt
@@ -375,21 +389,24 @@ module _ (gs : List n.Global) where
   item_ordered (t.MutexItem x count) = length_ordered count
   item_ordered (t.PersistentItem x) =
       let guard = mutex_faults gs n.no_locals x.guard.mutex x.guard.each in
-      both (guard ++ each_faults gs x ++ length_faults x.length) (initialiser_faults x.length x.initialiser)
+      three (guard ++ each_faults gs x ++ length_faults x.length) (initialiser_faults x.length x.initialiser) (type_name_faults x.type_name)
       (three guard (each_faults gs x) (length_faults x.length) (mutex_ordered n.no_locals x.guard.mutex x.guard.each) (each_ordered x)
       (length_ordered x.length))
       (initialiser_ordered x.length x.initialiser)
+      (type_name_ordered x.type_name)
   item_ordered (t.ThreadItem x) = statements_ordered n.no_locals (made.body_of x.block)
   item_ordered (t.FunctionItem x) =
       let s = made.with_parameters n.no_locals x.parameters in
       let e = (made.statements gs s x.body.statements).scope in
-      both (parameters_faults gs n.no_locals x.parameters ++ statements_faults gs s x.body.statements ++ returned_faults gs e x.body.returned)
+      three (parameters_faults gs n.no_locals x.parameters ++ statements_faults gs s x.body.statements ++ returned_faults gs e x.body.returned)
       (return_faults gs x)
+      (result_faults x.type_name)
       (three (parameters_faults gs n.no_locals x.parameters) (statements_faults gs s x.body.statements) (returned_faults gs e x.body.returned)
       (parameters_ordered n.no_locals x.parameters)
       (statements_ordered s x.body.statements)
       (returned_ordered e x.body.returned))
       (return_ordered x)
+      (result_ordered x.type_name)
 
 -- ---- All faults of a tree
 

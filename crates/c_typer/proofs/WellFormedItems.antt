@@ -101,7 +101,7 @@ module _ (gs : List n.Global) where
       go true e more q = absurd (not_broken rule.Bytes x.name.place q)
       go false e more q =
           let fits : rules.end_after k x ≤ MOST_VARIABLE_BYTES = grind (arith, nat_tests) in
-          subst (λ (m : ℕ). end_from (aligned_up k (bytes_of x.kind) + bytes_of x.kind * m)
+          subst (λ (m : ℕ). end_from (aligned_up k (bytes_of (n.kind_named x.type_name)) + bytes_of (n.kind_named x.type_name) * m)
           (map shape_of (made.program_from gs xs).variables) ≤ MOST_VARIABLE_BYTES) (sym (size_is x.length)) (more fits q)
 
 -- ---- A variable
@@ -158,17 +158,20 @@ module _ (q : p.Program) (gs : List n.Global) (sorts : AllByRecursion (λ (y : n
   variable_formed x us d h =
       let a = rules.mutex_faults gs n.no_locals x.guard.mutex x.guard.each in
       let b = rules.each_faults gs x in
-      let first = nil_left ((a ++ b) ++ rules.length_faults x.length) (rules.initialiser_faults x.length x.initialiser) h in
+      let old = ((a ++ b) ++ rules.length_faults x.length) ++ rules.initialiser_faults x.length x.initialiser in
+      let first = nil_left ((a ++ b) ++ rules.length_faults x.length) (rules.initialiser_faults x.length x.initialiser)
+      (nil_left old (rules.type_name_faults x.type_name) h) in
+      let kind = n.kind_named x.type_name in
       let guard = nil_left a b (nil_left (a ++ b) (rules.length_faults x.length) first) in
       let size = bounds x.length (nil_right (a ++ b) (rules.length_faults x.length) first) in
       let count = element_count x.length in
-      let zs = map (reduced x.kind) (made.numbers_of x.initialiser) in record {
+      let zs = map (reduced kind) (made.numbers_of x.initialiser) in record {
         guarded = guard_formed x x.guard.each us refl d guard;
         not_empty = subst (λ (m : ℕ). 0 < m) (sym (size_is x.length)) size.not_empty;
         not_too_long = subst (λ (m : ℕ). m ≤ MOST_ELEMENTS) (sym (size_is x.length)) size.not_too_long;
         count = filled_length count zs ∙ sym (size_is x.length);
-        held = all_both (Holds x.kind) (take count zs) (replicate (count - length zs) (pos 0)) (all_taken x.kind count (made.numbers_of x.initialiser))
-            (all_zeros x.kind (count - length zs));
+        held = all_both (Holds kind) (take count zs) (replicate (count - length zs) (pos 0)) (all_taken kind count (made.numbers_of x.initialiser))
+            (all_zeros kind (count - length zs));
       }
 
   block_formed : (ks : List Kind) (s : n.Scope) (x : t.Block) (ts : List Token) → g.block Plain x ts → Known ks s.known →
@@ -201,17 +204,23 @@ module _ (q : p.Program) (gs : List n.Global) (sorts : AllByRecursion (λ (y : n
       let p1 = rules.parameters_faults gs n.no_locals x.parameters in
       let p2 = rules.statements_faults gs s x.body.statements in
       let p3 = rules.returned_faults gs m.scope x.body.returned in
-      let h3 = nil_left ((p1 ++ p2) ++ p3) (rules.return_faults gs x) h in
+      let h3 = nil_left ((p1 ++ p2) ++ p3) (rules.return_faults gs x)
+      (nil_left (((p1 ++ p2) ++ p3) ++ rules.return_faults gs x) (rules.result_faults x.type_name) h) in
       let h2 = nil_left (p1 ++ p2) p3 h3 in record {
         parameters = omega (arith, into_length s.kinds ks (grow_statements gs s x.body.statements), parameters_count n.no_locals x.parameters);
         body = statements_formed q gs sorts ks s x.body.statements d.4.4.4.4.4.4.0 d.4.4.4.4.4.4.3 known (into_self ks) (nil_right p1 p2 h2);
-        result = returned_formed ks m.scope x.kind x.body.returned (known_all q gs sorts ks s x.body.statements known (into_self ks))
+        result =
+            returned_formed ks m.scope (option_map n.kind_named x.type_name) x.body.returned (known_all q gs sorts ks s x.body.statements known (into_self ks))
             (nil_right (p1 ++ p2) p3 h3);
       }
     where
       parameters_count : (s : n.Scope) (ys : List t.Parameter) → length (made.with_parameters s ys).kinds ≡ length s.kinds + length ys
       parameters_count s [] = omega arith
-      parameters_count s (y ∷ ys) = omega (arith, parameters_count (n.declared s y.name.text y.kind) ys, length-append s.kinds (y.kind ∷ []))
+      parameters_count s (y ∷ ys) = omega (
+        arith,
+        parameters_count (n.declared s y.name.text (n.kind_named y.type_name)) ys,
+        length-append s.kinds (n.kind_named y.type_name ∷ []),
+      )
 
   -- the parts of a program that are made of the items
   record Parts (made_of : p.Program) : Type 0 where
@@ -246,9 +255,12 @@ some_mapped f (Some x) = refl
 
 module _ (q : p.Program) (gs : List n.Global) where
   -- the result is there where one is declared
-  gives_formed : (s : n.Scope) (x : t.Function) → rules.return_faults gs x ≡ [] → is_some (made.returned gs s x.kind x.body.returned) ≡ is_some x.kind
-  gives_formed s x h = go x.kind x.body.returned (unbroken
-      (if is_some x.kind then not (rules.returns_value gs x.body.returned) else rules.returns_value gs x.body.returned) rule.Return x.name.place h)
+  gives_formed : (s : n.Scope) (x : t.Function) → rules.return_faults gs x ≡ [] →
+      is_some (made.returned gs s (option_map n.kind_named x.type_name) x.body.returned) ≡ is_some (option_map n.kind_named x.type_name)
+  gives_formed s x h = go (option_map n.kind_named x.type_name) x.body.returned (subst
+      (λ (b : Bool). (if b then not (rules.returns_value gs x.body.returned) else rules.returns_value gs x.body.returned) ≡ false)
+      (sym (some_mapped n.kind_named x.type_name)) (unbroken
+      (if is_some x.type_name then not (rules.returns_value gs x.body.returned) else rules.returns_value gs x.body.returned) rule.Return x.name.place h))
     where
       value : (kind : Kind) (o : Option t.Expression) → not (is_some o) ≡ false →
           is_some {T = p.Returned} (option_map (λ v. record { kind = kind; value = made.placed gs s v }) o) ≡ true
@@ -300,8 +312,9 @@ module _ (q : p.Program) (gs : List n.Global) where
             record {
               it = made.function gs y;
               found = here;
-              count = length-map y.parameters (λ (z : t.Parameter). z.kind);
-              gives = gives_formed m.scope y (nil_right before (rules.return_faults gs y) k);
+              count = length-map y.parameters (λ (z : t.Parameter). n.kind_named z.type_name);
+              gives = gives_formed m.scope y (nil_right before (rules.return_faults gs y)
+                  (nil_left (before ++ rules.return_faults gs y) (rules.result_faults y.type_name) k));
             },
             rest (n.counted c (t.FunctionItem y)) (record {
               mutexes = e.mutexes;

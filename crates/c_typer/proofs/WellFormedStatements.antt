@@ -208,6 +208,9 @@ module _ (x : p.Program) (gs : List n.Global) (sorts : AllByRecursion (λ (y : n
         element_formed array (made.first_place index) (made.expr gs s index)
         (nil_left (rules.use_faults gs s array true) (rules.expression_faults gs s index) h)
         (expr_formed index (nil_right (rules.use_faults gs s array true) (rules.expression_faults gs s index) h))
+    expr_formed (t.Null place) h = absurd (not_broken rule.WrongSort place h)
+    expr_formed (t.Address place array index) h = absurd (not_broken rule.WrongSort place h)
+    expr_formed (t.Referent place reference) h = absurd (not_broken rule.WrongSort place h)
     expr_formed (t.Parenthesised place inner) h = expr_formed inner h
     expr_formed (t.Unary place operator operand) h = expr_formed operand h
     expr_formed (t.Cast place kind operand) h = expr_formed operand h
@@ -226,29 +229,19 @@ module _ (x : p.Program) (gs : List n.Global) (sorts : AllByRecursion (λ (y : n
     -- ---- Assignments and calls
 
     target_formed : (y : t.Lvalue) → rules.target_faults gs s y ≡ [] → IsTarget x.variables ks (made.target gs s y)
-    target_formed y h = go y.index h
-      where
-        go : (o : Option t.Expression) → rules.use_faults gs s y.name (is_some o) ++ rules.maybe_faults gs s o ≡ [] → IsTarget x.variables ks (elim o [
-          | Some index ↦ made.target_element gs s y.name (made.placed gs s index)
-          | None ↦ made.target_named gs s y.name
-        ])
-        go None q = target_named_formed y.name (nil_left (rules.use_faults gs s y.name false) [] q)
-        go (Some index) q =
-            target_element_formed y.name (made.placed gs s index) (nil_left (rules.use_faults gs s y.name true) (rules.expression_faults gs s index) q)
-            (expr_formed index (nil_right (rules.use_faults gs s y.name true) (rules.expression_faults gs s index) q))
+    target_formed (t.Target y None) h = target_named_formed y (nil_left (rules.use_faults gs s y false) [] h)
+    target_formed (t.Target y (Some index)) h =
+        target_element_formed y (made.placed gs s index) (nil_left (rules.use_faults gs s y true) (rules.expression_faults gs s index) h)
+        (expr_formed index (nil_right (rules.use_faults gs s y true) (rules.expression_faults gs s index) h))
+    target_formed (t.Followed place reference) h = absurd (not_broken rule.WrongSort place h)
 
     before_formed : (y : t.Lvalue) → rules.target_faults gs s y ≡ [] → IsExpr x.variables ks (made.before gs s y)
-    before_formed y h = go y.index h
-      where
-        go : (o : Option t.Expression) → rules.use_faults gs s y.name (is_some o) ++ rules.maybe_faults gs s o ≡ [] → IsExpr x.variables ks (elim o [
-          | Some index ↦ made.element gs s y.name (made.first_place index) (made.expr gs s index)
-          | None ↦ made.named gs s y.name
-        ])
-        go None q = named_formed y.name (nil_left (rules.use_faults gs s y.name false) [] q)
-        go (Some index) q =
-            element_formed y.name (made.first_place index) (made.expr gs s index)
-            (nil_left (rules.use_faults gs s y.name true) (rules.expression_faults gs s index) q)
-            (expr_formed index (nil_right (rules.use_faults gs s y.name true) (rules.expression_faults gs s index) q))
+    before_formed (t.Target y None) h = named_formed y (nil_left (rules.use_faults gs s y false) [] h)
+    before_formed (t.Target y (Some index)) h =
+        element_formed y (made.first_place index) (made.expr gs s index)
+        (nil_left (rules.use_faults gs s y true) (rules.expression_faults gs s index) h)
+        (expr_formed index (nil_right (rules.use_faults gs s y true) (rules.expression_faults gs s index) h))
+    before_formed (t.Followed place reference) h = absurd (not_broken rule.WrongSort place h)
 
     changed_formed : (y : t.Lvalue) (c : t.Change) → rules.target_faults gs s y ≡ [] → rules.change_faults gs s c ≡ [] →
         IsPlaced x.variables ks (made.changed gs s y c)
@@ -307,22 +300,25 @@ module _ (x : p.Program) (gs : List n.Global) (sorts : AllByRecursion (λ (y : n
             (record { it = k.it; found = k.found; count = length-map c.arguments (made.placed gs s) ∙ count ∙ k.count; gives = k.gives ∙ same }, passed, r)
         go (n.IsGlobal n.Thread) k q = absurd (not_broken rule.WrongSort c.function.place q)
 
-    declaration_formed : (place : Place) (y : t.Declaration) → rules.declaration_faults gs s y ≡ [] → slice_get ks (length s.kinds) ≡ Some y.kind →
+    declaration_formed : (place : Place) (y : t.Declaration) → rules.declaration_faults gs s y ≡ [] →
+        slice_get ks (length s.kinds) ≡ Some (n.kind_named y.type_name) →
         IsStatement x ks (made.declaration_at gs place s y)
-    declaration_formed place y h new = go y.initial (nil_right (rules.twice s.own y.name) _ h)
+    declaration_formed place y h new =
+        let twice = rules.twice s.own y.name in
+        let initial = rules.initial_faults gs s y.initial in
+        go y.initial (nil_right twice initial (nil_left (twice ++ initial) (rules.type_name_faults y.type_name) h))
       where
-        go : (i : t.Initial) → ◌≡◌ {A = List Fault} (elim i [
-          | t.Absent ↦ []
-          | t.Value value ↦ rules.expression_faults gs s value
-          | t.Result c ↦ rules.call_faults gs s c true
-        ]) [] → IsStatement x ks (elim i [
-          | t.Absent ↦ p.Assign place (e.ToLocal y.place (length s.kinds) y.kind) (record { place = y.place; expr = made.int 0 })
-          | t.Value value ↦ p.Assign place (e.ToLocal y.place (length s.kinds) y.kind) (made.placed gs s value)
-          | t.Result c ↦ made.call gs place s c (Some (e.ToLocal y.place (length s.kinds) y.kind))
+        local : e.Lvalue
+        local = e.ToLocal y.place (length s.kinds) (n.kind_named y.type_name)
+
+        go : (i : t.Initial) → rules.initial_faults gs s i ≡ [] → IsStatement x ks (elim i [
+          | t.Absent ↦ p.Assign place local (record { place = y.place; expr = made.int 0 })
+          | t.Value value ↦ p.Assign place local (made.placed gs s value)
+          | t.Result c ↦ made.call gs place s c (Some local)
         ])
         go t.Absent q = (new, tt)
         go (t.Value value) q = (new, expr_formed value q)
-        go (t.Result c) q = call_formed place c (Some (e.ToLocal y.place (length s.kinds) y.kind)) q new
+        go (t.Result c) q = call_formed place c (Some local) q new
 
     pub lock_formed : (y : t.Name) (keyed : Bool) → rules.mutex_faults gs s y keyed ≡ [] → made.mutex_number gs s y < length x.mutexes
     lock_formed y keyed h = go (n.meaning gs s y.text) (meaning_in s y.text known) h
@@ -357,7 +353,7 @@ module _ (x : p.Program) (gs : List n.Global) (sorts : AllByRecursion (λ (y : n
   known_first : (place : Place) (s : n.Scope) (y : t.First) → Known ks s.known → Into (made.first_at gs place s y).scope.kinds ks →
       Known ks (made.first_at gs place s y).scope.known
   known_first place s t.NoFirst known into = known
-  known_first place s (t.Declared y) known into = known_declared s y.name.text y.kind known into
+  known_first place s (t.Declared y) known into = known_declared s y.name.text (n.kind_named y.type_name) known into
   known_first place s (t.Assigned y) known into = known
 
   known_inside : (s : n.Scope) (y : t.Block) → Known ks s.known → Known ks (made.inside gs s y).scope.known
@@ -375,7 +371,7 @@ module _ (x : p.Program) (gs : List n.Global) (sorts : AllByRecursion (λ (y : n
       Known ks (made.statement gs s y).scope.known
   known_after s (t.BlockOf y) known into = known_inside s y known
   known_after s (t.Empty place) known into = known
-  known_after s (t.Declare y) known into = known_declared s y.name.text y.kind known into
+  known_after s (t.Declare y) known into = known_declared s y.name.text (n.kind_named y.type_name) known into
   known_after s (t.Assign y) known into = known
   known_after s (t.AssignResult y c) known into = known
   known_after s (t.CallOnly c) known into = known
@@ -398,7 +394,7 @@ module _ (x : p.Program) (gs : List n.Global) (sorts : AllByRecursion (λ (y : n
   first_formed : (place : Place) (s : n.Scope) (y : t.First) → Known ks s.known → Into (made.first_at gs place s y).scope.kinds ks →
       rules.first_faults gs s y ≡ [] → AreStatements x ks (made.first_at gs place s y).made
   first_formed place s t.NoFirst known into h = tt
-  first_formed place s (t.Declared y) known into h = (declaration_formed s known place y h (into_declared ks s y.name.text y.kind into), tt)
+  first_formed place s (t.Declared y) known into h = (declaration_formed s known place y h (into_declared ks s y.name.text (n.kind_named y.type_name) into), tt)
   first_formed place s (t.Assigned y) known into h = (assignment_formed s known place y h, tt)
 
   last_formed : (place : Place) (s : n.Scope) (y : Option t.Assignment) → Known ks s.known → rules.last_faults gs s y ≡ [] →
@@ -421,11 +417,12 @@ module _ (x : p.Program) (gs : List n.Global) (sorts : AllByRecursion (λ (y : n
         rules.statement_faults gs s y ≡ [] → AreStatements x ks (made.statement gs s y).made
     statement_formed s (t.BlockOf y) ts d known into h = inside_formed s y ts d known into h
     statement_formed s (t.Empty place) ts d known into h = tt
-    statement_formed s (t.Declare y) ts d known into h = (declaration_formed s known y.place y h (into_declared ks s y.name.text y.kind into), tt)
+    statement_formed s (t.Declare y) ts d known into h =
+        (declaration_formed s known y.place y h (into_declared ks s y.name.text (n.kind_named y.type_name) into), tt)
     statement_formed s (t.Assign y) ts d known into h = (assignment_formed s known y.place y h, tt)
     statement_formed s (t.AssignResult y c) ts d known into h =
         let first = nil_left (rules.target_faults gs s y) (rules.call_faults gs s c true) h in (
-          call_formed s known y.name.place c (Some (made.target gs s y)) (nil_right (rules.target_faults gs s y) (rules.call_faults gs s c true) h)
+          call_formed s known (made.target_place y) c (Some (made.target gs s y)) (nil_right (rules.target_faults gs s y) (rules.call_faults gs s c true) h)
               (target_formed s known y first),
           tt,
         )

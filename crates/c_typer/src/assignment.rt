@@ -19,9 +19,9 @@ use c_tree::expr::{Expr, Lvalue, Placed};
 use c_tree::program::Statement;
 use c_tree::rule::Rule;
 use c_tree::tree;
-use c_tree::tree::{Assignment, Call, Change, Declaration, Expression, Initial};
+use c_tree::tree::{Assignment, Call, Change, Declaration, Expression, Initial, TypeName};
 use ido_base::place::Place;
-use ido_ints::Binary;
+use ido_ints::{Binary, Kind};
 use std::alloc::{AllocError, Global};
 
 /// What is assigned.
@@ -37,16 +37,25 @@ pub fn target(
     ensures noted { OnOk result (first_of faults.new ≡ noted (first_of faults.old)
         (rules.target_faults (globals_of globals.now) (scope_of scope.now) (v.lvalue_of assigned.now))) }
 {
-    let name = &assigned.name;
-    match &assigned.index {
-        Some(index) => {
-            note_use(globals, scope, faults, name, true);
-            let index = placed(alloc, globals, scope, faults, index)?;
-            Ok(resolve(globals, scope, &name.text).target_element(name.place, index))
-        }
-        None => {
-            note_use(globals, scope, faults, name, false);
-            Ok(resolve(globals, scope, &name.text).target(name.place))
+    match assigned {
+        tree::Lvalue::Named { name, index } => match index {
+            Some(index) => {
+                note_use(globals, scope, faults, name, true);
+                let index = placed(alloc, globals, scope, faults, index)?;
+                Ok(resolve(globals, scope, &name.text).target_element(name.place, index))
+            }
+            None => {
+                note_use(globals, scope, faults, name, false);
+                Ok(resolve(globals, scope, &name.text).target(name.place))
+            }
+        },
+        tree::Lvalue::Followed { place, .. } => {
+            faults.note(Rule::WrongSort, *place);
+            Ok(Lvalue::Local {
+                place: *place,
+                local: 0,
+                kind: Kind::Int,
+            })
         }
     }
 }
@@ -60,12 +69,15 @@ fn before(
 ) -> Result<Expr, AllocError>
     ensures { IfOk result (λ x. expr_of x ≡ typing.before (globals_of globals.now) (scope_of scope.now) (v.lvalue_of assigned.now)) }
 {
-    match &assigned.index {
-        Some(index) => {
-            let index = placed(alloc, globals, scope, &mut Faults::new(), index)?;
-            element(alloc, globals, scope, &assigned.name, index)
-        }
-        None => Ok(named(globals, scope, &assigned.name)),
+    match assigned {
+        tree::Lvalue::Named { name, index } => match index {
+            Some(index) => {
+                let index = placed(alloc, globals, scope, &mut Faults::new(), index)?;
+                element(alloc, globals, scope, name, index)
+            }
+            None => Ok(named(globals, scope, name)),
+        },
+        tree::Lvalue::Followed { .. } => Ok(int(0)),
     }
 }
 
@@ -82,7 +94,7 @@ fn updated(
 {
     let before = before(alloc, globals, scope, assigned)?;
     Ok(Placed {
-        place: assigned.name.place,
+        place: assigned.place(),
         expr: binary_of(alloc, operator, before, value)?,
     })
 }
@@ -212,9 +224,8 @@ pub fn call(
     })
 }
 
-/// A declaration, as a statement at a place: the new local takes its value. The scope is the one before it.
-#[tactic(auto, using(crate::proofs::FirstFaultLaws::noted_append))]
-pub fn declaration(
+/// The value that a new local takes, as a statement at a place. The scope is the one before it.
+fn initial_value(
     alloc: Global,
     globals: &Globals,
     scope: &Scope,
@@ -224,13 +235,12 @@ pub fn declaration(
 ) -> Result<Statement, AllocError>
     ensures made { IfOk result (λ x. p.statement_of x ≡ typing.declaration_at (globals_of globals.now) place (scope_of scope.now) (v.declaration_of read.now)) }
     ensures noted { OnOk result (first_of faults.new ≡ noted (first_of faults.old)
-        (rules.declaration_faults (globals_of globals.now) (scope_of scope.now) (v.declaration_of read.now))) }
+        (rules.initial_faults (globals_of globals.now) (scope_of scope.now) (v.initial_of read.now.initial))) }
 {
-    note_twice(scope, faults, &read.name);
     let target = Lvalue::Local {
         place: read.place,
         local: scope.next_number()?,
-        kind: read.kind,
+        kind: read.type_name.kind(),
     };
     match &read.initial {
         Initial::Absent => Ok(Statement::Assign {
@@ -250,6 +260,36 @@ pub fn declaration(
             })
         }
         Initial::Call(read) => call(alloc, globals, scope, faults, place, read, Some(target)),
+    }
+}
+
+/// A declaration, as a statement at a place: the new local takes its value. The scope is the one before it.
+#[tactic(auto, using(crate::proofs::FirstFaultLaws::noted_append))]
+pub fn declaration(
+    alloc: Global,
+    globals: &Globals,
+    scope: &Scope,
+    faults: &mut Faults,
+    place: Place,
+    read: &Declaration,
+) -> Result<Statement, AllocError>
+    ensures made { IfOk result (λ x. p.statement_of x ≡ typing.declaration_at (globals_of globals.now) place (scope_of scope.now) (v.declaration_of read.now)) }
+    ensures noted { OnOk result (first_of faults.new ≡ noted (first_of faults.old)
+        (rules.declaration_faults (globals_of globals.now) (scope_of scope.now) (v.declaration_of read.now))) }
+{
+    note_twice(scope, faults, &read.name);
+    let made = initial_value(alloc, globals, scope, faults, place, read)?;
+    note_type_name(faults, &read.type_name);
+    Ok(made)
+}
+
+/// Notes a type of references: no program has them yet.
+pub fn note_type_name(faults: &mut Faults, type_name: &TypeName)
+    ensures { first_of faults.new ≡ noted (first_of faults.old) (rules.type_name_faults (v.type_name_of type_name.now)) }
+{
+    match type_name {
+        TypeName::Kind(_) => (),
+        TypeName::Reference { array } => faults.note(Rule::WrongSort, array.place),
     }
 }
 

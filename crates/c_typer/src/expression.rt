@@ -10,9 +10,10 @@ ghost use Rattle.c_typer.specs.links.Scopes.{globals_of, scope_of};
 
 use crate::faults::Faults;
 use crate::globals::Globals;
-use crate::meaning::resolve;
+use crate::meaning::{int, resolve};
 use crate::scope::Scope;
 use c_tree::expr::{Expr, Placed};
+use c_tree::rule::Rule;
 use c_tree::tree::{Expression, Name};
 use ido_base::place::Place;
 use ido_ints::{Binary, Kind, Unary, common};
@@ -24,6 +25,9 @@ pub fn first_place(expression: &Expression) -> Place
 {
     match expression {
         Expression::Number { place, .. }
+        | Expression::Null { place }
+        | Expression::Address { place, .. }
+        | Expression::Referent { place, .. }
         | Expression::Parenthesised { place, .. }
         | Expression::Unary { place, .. }
         | Expression::Cast { place, .. } => *place,
@@ -87,6 +91,12 @@ pub fn value(
             let expr = value(alloc, globals, scope, faults, index)?;
             element(alloc, globals, scope, array, Placed { place, expr })
         }
+        Expression::Null { place }
+        | Expression::Address { place, .. }
+        | Expression::Referent { place, .. } => {
+            faults.note(Rule::WrongSort, *place);
+            Ok(int(0))
+        }
         Expression::Parenthesised { inner, .. } => value(alloc, globals, scope, faults, inner),
         Expression::Unary {
             operator,
@@ -137,7 +147,10 @@ pub fn note_shared(globals: &Globals, scope: &Scope, faults: &mut Faults, expres
         (rules.shared_faults (globals_of globals.now) (scope_of scope.now) (expression_of expression.now)) }
 {
     match expression {
-        Expression::Number { .. } => (),
+        Expression::Number { .. }
+        | Expression::Null { .. }
+        | Expression::Address { .. }
+        | Expression::Referent { .. } => (),
         Expression::Named { name } => note_persistent(globals, scope, faults, name),
         Expression::Element { array, index } => {
             note_persistent(globals, scope, faults, array);

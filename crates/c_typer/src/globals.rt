@@ -2,13 +2,15 @@
 ghost use Rattle.std.specs.Prelude.{◌≡◌, ◌+◌, ℕ, List, map, IfOk, OnOk};
 ghost use Rattle.std.proofs.Props.{props};
 ghost use Rattle.c_tree.specs.Trees as t;
-ghost use Rattle.c_tree.specs.Views.{name_of, parameter_of};
+ghost use Rattle.std.specs.Option.{option_map};
+ghost use Rattle.c_tree.specs.Names.{kind_named};
+ghost use Rattle.c_tree.specs.Views.{name_of, parameter_of, type_name_of};
 ghost use Rattle.c_typer.specs.links.Declarations.{names_declared};
 ghost use Rattle.c_typer.specs.links.Places.{place_of, first_place};
 
 use crate::length::{element_count, length_of};
 use crate::names::Places;
-use c_tree::tree::{Item, Name, Parameter, Tree};
+use c_tree::tree::{Item, Name, Parameter, Tree, TypeName};
 use ido_ints::Kind;
 use std::alloc::{AllocError, Global};
 
@@ -61,7 +63,7 @@ impl Declared {
                 name: copied(&read.name)?,
                 sort: Sort::Variable {
                     number: counts.variables,
-                    kind: read.kind,
+                    kind: read.type_name.kind(),
                     is_array: read.length.is_some(),
                 },
             }),
@@ -73,7 +75,7 @@ impl Declared {
                 name: copied(&read.name)?,
                 sort: Sort::Function {
                     number: counts.functions,
-                    result: read.kind,
+                    result: kind_of_result(&read.type_name),
                     parameters: kinds_of(alloc, &read.parameters)?,
                 },
             }),
@@ -92,7 +94,6 @@ pub struct Globals {
 impl Globals {
     ghost use Rattle.std.specs.Prelude.{◌≤◌, find, length, take};
     ghost use Rattle.std.specs.List.{list_any};
-    ghost use Rattle.std.specs.Option.{option_map};
     ghost use Rattle.c_tree.specs.Names as n;
     ghost use Rattle.c_tree.specs.Views.{items_of};
     ghost use Rattle.c_typer.specs.links.Scopes.{global_of, globals_of, names_before};
@@ -187,12 +188,22 @@ pub fn copied(name: &Name) -> Result<Name, AllocError>
     })
 }
 
+/// The kind of a result of the type, where there is one.
+pub fn kind_of_result(type_name: &Option<TypeName>) -> Option<Kind>
+    ensures { result ≡ option_map kind_named (option_map type_name_of type_name.now) }
+{
+    match type_name {
+        Some(type_name) => Some(type_name.kind()),
+        None => None,
+    }
+}
+
 fn kinds_of(alloc: Global, parameters: &[Parameter]) -> Result<Vec<Kind>, AllocError>
-    ensures { IfOk result (λ xs. xs.items ≡ map (λ (x : t.Parameter). x.kind) (map parameter_of parameters.now)) }
+    ensures { IfOk result (λ xs. xs.items ≡ map (λ (x : t.Parameter). kind_named x.type_name) (map parameter_of parameters.now)) }
 {
     let mut kinds = Vec::new(alloc);
     for parameter in parameters {
-        kinds.push(parameter.kind)?;
+        kinds.push(parameter.type_name.kind())?;
     }
     Ok(kinds)
 }

@@ -12,10 +12,10 @@ ghost use Rattle.c_typer.specs.links.FirstFaults.{first_of, noted};
 ghost use Rattle.c_typer.specs.links.Scopes.{globals_of, scope_of};
 ghost use Rattle.ido_ints.specs.Reduction.{reduced};
 
-use crate::assignment::note_twice;
+use crate::assignment::{note_twice, note_type_name};
 use crate::expression::placed;
 use crate::faults::Faults;
-use crate::globals::{Globals, copied};
+use crate::globals::{Globals, copied, kind_of_result};
 use crate::length::{element_count, length_number};
 use crate::meaning::resolve;
 use crate::scope::Scope;
@@ -23,7 +23,7 @@ use crate::statement::{mutex, statements};
 use c_tree::program::{Function, Guard, Returned, Thread, Variable};
 use c_tree::rule::Rule;
 use c_tree::tree;
-use c_tree::tree::{Initialiser, Length, Parameter, Persistent, Return, Signed};
+use c_tree::tree::{Initialiser, Length, Parameter, Persistent, Return, Signed, TypeName};
 use ido_base::limits::MOST_ELEMENTS;
 use ido_ints::{Kind, Unary, Value, unary};
 use std::alloc::{AllocError, Global};
@@ -42,7 +42,8 @@ fn with_parameters(
     let mut scope = Scope::new(alloc);
     for parameter in parameters {
         note_twice(&scope, faults, &parameter.name);
-        scope.declare(&parameter.name.text, parameter.kind)?;
+        note_type_name(faults, &parameter.type_name);
+        scope.declare(&parameter.name.text, parameter.type_name.kind())?;
     }
     Ok(scope)
 }
@@ -86,8 +87,17 @@ fn note_return(faults: &mut Faults, read: &tree::Function)
         Some(returned) => returned.value.is_some(),
         None => false,
     };
-    if read.kind.is_some() != returns_value {
+    if read.type_name.is_some() != returns_value {
         faults.note(Rule::Return, read.name.place);
+    }
+}
+
+/// Notes a result that is a reference: no program has them yet.
+fn note_result(faults: &mut Faults, type_name: &Option<TypeName>)
+    ensures { first_of faults.new ≡ noted (first_of faults.old) (rules.result_faults (option_map v.type_name_of type_name.now)) }
+{
+    if let Some(type_name) = type_name {
+        note_type_name(faults, type_name);
     }
 }
 
@@ -118,10 +128,11 @@ pub fn function(
         globals,
         &scope,
         faults,
-        read.kind,
+        kind_of_result(&read.type_name),
         &read.body.returned,
     )?;
     note_return(faults, read);
+    note_result(faults, &read.type_name);
     Ok(Function {
         name: copied(&read.name)?,
         parameters: u32::try_from(read.parameters.len()).map_err(|_| AllocError)?,
@@ -338,12 +349,14 @@ pub fn variable(
     note_each(globals, &outside, faults, read);
     note_length(faults, &read.length);
     note_initialiser(faults, &read.length, &read.initialiser);
-    let mut initial = given_numbers(alloc, read.kind, &read.initialiser)?;
+    note_type_name(faults, &read.type_name);
+    let number_kind = read.type_name.kind();
+    let mut initial = given_numbers(alloc, number_kind, &read.initialiser)?;
     fill(&mut initial, checked_count(&read.length) as usize)?;
     Ok(Variable {
         name: copied(&read.name)?,
         guard,
-        kind: read.kind,
+        kind: number_kind,
         length: checked_length(&read.length),
         initial,
     })

@@ -155,11 +155,12 @@ fn declare(
     ensures made { IfOk result (λ x. p.statement_of x ≡ typing.declaration_at (globals_of globals.now) place (scope_of scope.old) (v.declaration_of read.now)) }
     ensures noted { OnOk result (first_of faults.new ≡ noted (first_of faults.old)
         (rules.declaration_faults (globals_of globals.now) (scope_of scope.old) (v.declaration_of read.now))) }
-    ensures scope { OnOk result (scope_of scope.new ≡ n.declared (scope_of scope.old) read.now.name.text.items read.now.kind) }
+    ensures scope { OnOk result (scope_of scope.new
+        ≡ n.declared (scope_of scope.old) read.now.name.text.items (n.kind_named (v.type_name_of read.now.type_name))) }
     ensures grows { OnOk result (ScopeGrows scope.old scope.new) }
 {
     let made = declaration(alloc, globals, scope, faults, place, read)?;
-    scope.declare(&read.name.text, read.kind)?;
+    scope.declare(&read.name.text, read.type_name.kind())?;
     Ok(made)
 }
 
@@ -268,7 +269,7 @@ fn statement(
             target: assigned,
             call: read,
         } => {
-            let place = assigned.name.place;
+            let place = assigned.place();
             let assigned = target(alloc, globals, scope, faults, assigned)?;
             let next = call(alloc, globals, scope, faults, place, read, Some(assigned))?;
             add(made, next)

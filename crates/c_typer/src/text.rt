@@ -74,7 +74,7 @@ fn end_after(end: u128, variable: &Persistent) -> u128
     requires { end ≤ MOST_VARIABLE_BYTES }
     ensures { result ≡ rules.end_after end (persistent_of variable.now) }
 {
-    let bytes = u128::from(variable.kind.bytes());
+    let bytes = u128::from(variable.type_name.kind().bytes());
     let start = (end + bytes - 1) / bytes * bytes;
     start + bytes * u128::from(element_count(&variable.length))
 }

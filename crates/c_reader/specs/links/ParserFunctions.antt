@@ -18,6 +18,7 @@ use Rattle.c_tree.specs.declared.token.Punctuator as pn
 use Rattle.c_tree.specs.declared.token.Punctuator.TheVariants as p
 use Rattle.c_tree.specs.Trees as t
 use Rattle.c_tree.specs.Grammar.{precedence}
+use Rattle.c_tree.specs.Elaboration.{target_place}
 
 -- ---- Parsers
 
@@ -111,6 +112,8 @@ number_of_mark p.Not = 11
 number_of_mark p.Assign = 12
 number_of_mark p.Increment = 13
 number_of_mark p.Decrement = 14
+number_of_mark p.Star = 15
+number_of_mark p.Ampersand = 16
 number_of_mark (p.Binary x) = 20 + number_of_operator x
 number_of_mark (p.Update x) = 40 + number_of_operator x
 
@@ -134,6 +137,8 @@ number_of_word k.While = 14
 number_of_word k.Do = 15
 number_of_word k.For = 16
 number_of_word k.Return = 17
+number_of_word k.Ref = 18
+number_of_word k.Null = 19
 
 -- a lexeme is this punctuator
 abbrev pub is_mark : pn.Punctuator → Lexeme → Bool
@@ -154,9 +159,13 @@ abbrev pub head_is : (Lexeme → Bool) → Option Lexeme → Bool
 head_is test None = false
 head_is test (Some x) = test x
 
+-- a token begins a kind
+abbrev pub begins_kind : Lexeme → Bool
+begins_kind x = is_word k.Char x || is_word k.Short x || is_word k.Int x || is_word k.Long x || is_word k.Signed x || is_word k.Unsigned x
+
 -- a token begins a type
 abbrev pub begins_type : Lexeme → Bool
-begins_type x = is_word k.Char x || is_word k.Short x || is_word k.Int x || is_word k.Long x || is_word k.Signed x || is_word k.Unsigned x
+begins_type x = begins_kind x || is_word k.Ref x
 
 -- a token begins a statement
 abbrev pub begins_statement : Lexeme → Bool
@@ -166,11 +175,14 @@ begins_statement (Keyword x) =
     begins_type (Keyword x) || is_word k.If (Keyword x) || is_word k.While (Keyword x) || is_word k.Do (Keyword x) || is_word k.For (Keyword x) ||
     is_word k.Lock (Keyword x) || is_word k.Unlock (Keyword x)
 begins_statement (Punctuator x) =
-    is_mark p.OpenBrace (Punctuator x) || is_mark p.Semicolon (Punctuator x) || is_mark p.Increment (Punctuator x) || is_mark p.Decrement (Punctuator x)
+    is_mark p.OpenBrace (Punctuator x) || is_mark p.Semicolon (Punctuator x) || is_mark p.Increment (Punctuator x) || is_mark p.Decrement (Punctuator x) ||
+    is_mark p.Star (Punctuator x)
 
 -- the operator with two operands that a token is
 abbrev pub operator_of : Lexeme → Option Binary
 operator_of (Punctuator (p.Binary x)) = Some x
+operator_of (Punctuator p.Star) = Some binary.Mul
+operator_of (Punctuator p.Ampersand) = Some binary.And
 operator_of _ = None
 
 -- the operator with two operands that a lexeme is, where it has this precedence
@@ -282,9 +294,19 @@ type_by (Some (Keyword k.Signed)) = do parse_word k.Signed; by_head signed_by
 type_by (Some (Keyword k.Unsigned)) = do parse_word k.Unsigned; by_head unsigned_by
 type_by _ = wrong
 
--- a type
+-- a kind
 abbrev pub parse_type : Parser Kind
 parse_type = by_head type_by
+
+-- a type, by its first token
+abbrev pub type_name_by : Option Lexeme → Parser t.TypeName
+type_name_by (Some (Keyword k.Ref)) =
+    do parse_word k.Ref; parse_mark p.OpenParenthesis; x ← parse_name; parse_mark p.CloseParenthesis; give (t.RefTo x)
+type_name_by _ = do x ← parse_type; give (t.OfKind x)
+
+-- a type
+abbrev pub parse_type_name : Parser t.TypeName
+parse_type_name = by_head type_name_by
 
 -- ---- Expressions
 
@@ -304,7 +326,7 @@ operand_after_name expression x = do i ← parse_index expression; give (element
 -- a cast or an expression in parentheses, after the opening one
 abbrev pub operand_after_opening : (operand expression : Parser t.Expression) → (opening : Place) → Parser t.Expression
 operand_after_opening operand expression opening =
-    where_head (head_is begins_type)
+    where_head (head_is begins_kind)
     (do x ← parse_type; parse_mark p.CloseParenthesis; y ← operand; give (t.Cast opening x y))
     (do x ← expression; parse_mark p.CloseParenthesis; give (t.Parenthesised opening x))
 
@@ -312,12 +334,20 @@ operand_after_opening operand expression opening =
 abbrev pub unary_in : Token → Option (Place × Unary)
 unary_in t = option_map (λ x. (t.place, x)) (unary_of t.lexeme)
 
+-- the address of an element, after the name of its array
+abbrev pub address_after_name : (expression : Parser t.Expression) → (place : Place) → t.Name → Parser t.Expression
+address_after_name expression place x = do parse_mark p.OpenBracket; y ← expression; parse_mark p.CloseBracket; give (t.Address place x y)
+
 -- an operand, by its first token
 abbrev pub operand_by : (operand expression : Parser t.Expression) → Option Lexeme → Parser t.Expression
 operand_by operand expression (Some (Number value)) = do x ← parse_number; give (t.Number x.0 x.1)
 operand_by operand expression (Some (Name bytes)) = do x ← parse_name; operand_after_name expression x
 operand_by operand expression (Some (Punctuator p.OpenParenthesis)) =
     do opening ← parse_mark p.OpenParenthesis; operand_after_opening operand expression opening
+operand_by operand expression (Some (Keyword k.Null)) = do place ← parse_word k.Null; give (t.Null place)
+operand_by operand expression (Some (Punctuator p.Star)) = do place ← parse_mark p.Star; x ← parse_name; give (t.Referent place x)
+operand_by operand expression (Some (Punctuator p.Ampersand)) =
+    do place ← parse_mark p.Ampersand; x ← parse_name; address_after_name expression place x
 operand_by operand expression _ = do x ← taking unary_in; y ← operand; give (t.Unary x.0 x.1 y)
 
 -- an operand: the parsers of operands and expressions serve inside it, after its first token
@@ -367,9 +397,17 @@ expression_after_name fuel x = do y ← operand_after_name (parse_expression fue
 
 -- ---- Assignments and calls
 
--- a name, perhaps with an index
+-- the target that begins with this name, read from after the name
+abbrev pub target_after_name : (fuel : ℕ) → t.Name → Parser t.Lvalue
+target_after_name fuel x = do i ← parse_index (parse_expression fuel); give (t.Target x i)
+
+-- the element of a reference
+abbrev pub parse_followed : Parser t.Lvalue
+parse_followed = do place ← parse_mark p.Star; x ← parse_name; give (t.Followed place x)
+
+-- what is assigned
 abbrev pub parse_target : (fuel : ℕ) → Parser t.Lvalue
-parse_target fuel = do x ← parse_name; i ← parse_index (parse_expression fuel); give (record { name = x; index = i })
+parse_target fuel = where_head (head_is (is_mark p.Star)) parse_followed (do x ← parse_name; target_after_name fuel x)
 
 -- the operator of an update
 abbrev pub update_in : Token → Option Binary
@@ -392,7 +430,7 @@ assignment_by fuel (Some (Punctuator p.Increment)) =
     do place ← parse_mark p.Increment; x ← parse_target fuel; give (record { place = place; target = x; change = t.Increment })
 assignment_by fuel (Some (Punctuator p.Decrement)) =
     do place ← parse_mark p.Decrement; x ← parse_target fuel; give (record { place = place; target = x; change = t.Decrement })
-assignment_by fuel _ = do x ← parse_target fuel; y ← parse_change fuel; give (record { place = x.name.place; target = x; change = y })
+assignment_by fuel _ = do x ← parse_target fuel; y ← parse_change fuel; give (record { place = target_place x; target = x; change = y })
 
 -- an assignment, which makes no call
 abbrev pub parse_assignment : (fuel : ℕ) → Parser t.Assignment
@@ -435,7 +473,8 @@ parse_initial_of_first fuel = where_head (head_is (is_mark p.Assign)) (do parse_
 
 -- a declaration: the parser is that of what its local begins with
 abbrev pub declaration_over : (initial : Parser t.Initial) → Parser t.Declaration
-declaration_over initial = do place ← here; x ← parse_type; n ← parse_name; y ← initial; give (record { place = place; kind = x; name = n; initial = y })
+declaration_over initial =
+    do place ← here; x ← parse_type_name; n ← parse_name; y ← initial; give (record { place = place; type_name = x; name = n; initial = y })
 
 -- the first part of a `for`, before its semicolon
 abbrev pub parse_first : (fuel : ℕ) → Parser t.First
@@ -460,21 +499,21 @@ parse_lock_name l fuel = do parse_mark p.OpenParenthesis; x ← parse_name; y �
 
 -- an assignment of the right side to the target
 abbrev pub assigned_from : t.Lvalue → t.Initial → t.Statement
-assigned_from x (t.Value y) = t.Assign (record { place = x.name.place; target = x; change = t.Set y })
+assigned_from x (t.Value y) = t.Assign (record { place = target_place x; target = x; change = t.Set y })
 assigned_from x (t.Result c) = t.AssignResult x c
-assigned_from x t.Absent = t.Empty x.name.place
+assigned_from x t.Absent = t.Empty (target_place x)
 
 -- what stands after the target of a statement, before its semicolon
 abbrev pub statement_after_target : (fuel : ℕ) → t.Lvalue → Parser t.Statement
 statement_after_target fuel x = where_head (head_is (is_mark p.Assign))
     (do parse_mark p.Assign; y ← parse_right fuel; give (assigned_from x y))
-    (do y ← parse_change fuel; give (t.Assign (record { place = x.name.place; target = x; change = y })))
+    (do y ← parse_change fuel; give (t.Assign (record { place = target_place x; target = x; change = y })))
 
 -- what stands after the name that a statement begins with, before its semicolon
 abbrev pub statement_after_name : (fuel : ℕ) → t.Name → Parser t.Statement
 statement_after_name fuel x = where_head (head_is (is_mark p.OpenParenthesis))
     (do c ← call_after fuel x; give (t.CallOnly c))
-    (do i ← parse_index (parse_expression fuel); statement_after_target fuel (record { name = x; index = i }))
+    (do i ← parse_index (parse_expression fuel); statement_after_target fuel (t.Target x i))
 
 -- a statement that a semicolon ends
 abbrev pub ended : Parser t.Statement → Parser t.Statement
@@ -522,6 +561,7 @@ statement_by l block fuel (Some (Punctuator p.OpenBrace)) = do b ← block; give
 statement_by l block fuel (Some (Punctuator p.Semicolon)) = do place ← parse_mark p.Semicolon; give (t.Empty place)
 statement_by l block fuel (Some (Punctuator p.Increment)) = ended (do x ← parse_assignment fuel; give (t.Assign x))
 statement_by l block fuel (Some (Punctuator p.Decrement)) = ended (do x ← parse_assignment fuel; give (t.Assign x))
+statement_by l block fuel (Some (Punctuator p.Star)) = ended (do x ← parse_followed; statement_after_target fuel x)
 statement_by l block fuel (Some (Keyword k.If)) = do
   place ← parse_word k.If
   x ← parse_condition fuel
@@ -591,7 +631,7 @@ parse_body l fuel = do
 
 -- a parameter
 abbrev pub parse_parameter : Parser t.Parameter
-parse_parameter = do x ← parse_type; n ← parse_name; give (record { kind = x; name = n })
+parse_parameter = do x ← parse_type_name; n ← parse_name; give (record { type_name = x; name = n })
 
 -- the parameters of a function, between its parentheses
 abbrev pub parse_parameters : (fuel : ℕ) → Parser (List t.Parameter)
@@ -599,9 +639,9 @@ parse_parameters fuel =
     where_head (head_is (is_mark p.CloseParenthesis)) (give [])
     (where_head (head_is (is_word k.Void)) (do parse_word k.Void; give []) (parse_some_of fuel parse_parameter))
 
--- the kind of a function's result, or `void`
-abbrev pub parse_result : Parser (Option Kind)
-parse_result = where_head (head_is (is_word k.Void)) (do parse_word k.Void; give None) (do x ← parse_type; give (Some x))
+-- the type of a function's result, or `void`
+abbrev pub parse_result : Parser (Option t.TypeName)
+parse_result = where_head (head_is (is_word k.Void)) (do parse_word k.Void; give None) (do x ← parse_type_name; give (Some x))
 
 -- a function
 abbrev pub parse_function : Language → (fuel : ℕ) → Parser t.Function
@@ -612,7 +652,7 @@ parse_function l fuel = do
   xs ← parse_parameters fuel
   parse_mark p.CloseParenthesis
   b ← parse_body l fuel
-  give (record { kind = x; name = n; parameters = xs; body = b })
+  give (record { type_name = x; name = n; parameters = xs; body = b })
 
 -- a `-` that may stand there
 abbrev pub parse_sign : Parser Bool
@@ -667,12 +707,12 @@ abbrev pub parse_persistent : Language → (fuel : ℕ) → Parser t.Persistent
 parse_persistent l fuel = do
   parse_word k.Persistent
   guard ← parse_guard l
-  x ← parse_type
+  x ← parse_type_name
   n ← parse_name
   size ← parse_maybe (is_mark p.OpenBracket) parse_length
   y ← parse_maybe (is_mark p.Assign) (do parse_mark p.Assign; parse_initialiser fuel)
   parse_mark p.Semicolon
-  give (record { guard = guard; kind = x; name = n; length = size; initialiser = y })
+  give (record { guard = guard; type_name = x; name = n; length = size; initialiser = y })
 
 -- an item, by its first token
 abbrev pub item_by : Language → (fuel : ℕ) → Option Lexeme → Parser t.Item

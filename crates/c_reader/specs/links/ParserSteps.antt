@@ -17,7 +17,7 @@ use Rattle.c_reader.specs.links.ParserFunctions.{parse_mark, parse_word, parse_n
 use Rattle.c_reader.specs.links.ParserFunctions.{parse_expression, parse_assignment, parse_condition, parse_unless, parse_first}
 use Rattle.c_reader.specs.links.ParserFunctions.{parse_block, taking, unary_in, update_in, operators_at, operators_after}
 use Rattle.c_reader.specs.links.ParserFunctions.{parse_operand, expression_after_name, right_after_name, parse_right}
-use Rattle.c_reader.specs.links.ParserFunctions.{parse_initial, statement_after_target, statement_after_name}
+use Rattle.c_reader.specs.links.ParserFunctions.{parse_initial, parse_followed, statement_after_target, statement_after_name}
 
 -- an operator with one operand
 abbrev pub parse_unary : Parser (Place × Unary)
@@ -70,6 +70,9 @@ statement_past_name fuel x ts = statement_after_name fuel x ts
 -- the kinds of statements, by their first tokens
 unfoldable pub parse_named_statement : (fuel : ℕ) → Parser t.Statement
 parse_named_statement fuel ts = ended (do x ← parse_name; statement_after_name fuel x) ts
+
+unfoldable pub parse_followed_statement : (fuel : ℕ) → Parser t.Statement
+parse_followed_statement fuel ts = ended (do x ← parse_followed; statement_after_target fuel x) ts
 
 unfoldable pub parse_declaration_statement : (fuel : ℕ) → Parser t.Statement
 parse_declaration_statement fuel ts = ended (do x ← declaration_over (parse_initial fuel); give (t.Declare x)) ts
@@ -146,6 +149,7 @@ statement_by_word l fuel _ = parse_declaration_statement fuel
 abbrev pub statement_by_mark : Language → (fuel : ℕ) → Punctuator → Parser t.Statement
 statement_by_mark l fuel p.OpenBrace = do b ← parse_block l (fuel - 1); give (t.BlockOf b)
 statement_by_mark l fuel p.Semicolon = do place ← parse_mark p.Semicolon; give (t.Empty place)
+statement_by_mark l fuel p.Star = parse_followed_statement fuel
 statement_by_mark l fuel p.Increment = parse_assignment_statement fuel
 statement_by_mark l fuel p.Decrement = parse_assignment_statement fuel
 statement_by_mark l fuel _ = parse_declaration_statement fuel

@@ -92,4 +92,4 @@ count_rule _ arguments = None
 
 -- the value that `x op= v` gives
 abbrev pub updated_as : List n.Global → n.Scope → t.Lvalue → b.Binary → e.Expr → e.Placed
-updated_as gs s x operator value = record { place = x.name.place; expr = e.Binary operator (typing.before gs s x) value }
+updated_as gs s x operator value = record { place = typing.target_place x; expr = e.Binary operator (typing.before gs s x) value }

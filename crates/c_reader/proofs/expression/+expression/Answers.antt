@@ -35,6 +35,26 @@ pub operand-returns-in_ok-opening-in-Some-Punctuator-OpenParenthesis : goal.oper
 operand-returns-in_ok-opening-in-Some-Punctuator-OpenParenthesis t c =
     let e = operand_at c.args.fuel c.args.tokens.now (omega arith) in grind (arith, common_steps)
 
+pub operand-returns-in_ok-place-in-Some-Keyword-Null : goal.operand-returns-in_ok-place-in-Some-Keyword-Null
+operand-returns-in_ok-place-in-Some-Keyword-Null t c =
+    let e = operand_at c.args.fuel c.args.tokens.now (omega arith) in grind (arith, common_steps)
+
+pub operand-returns-in_err-reference-in-Some-Punctuator-Star : goal.operand-returns-in_err-reference-in-Some-Punctuator-Star
+operand-returns-in_err-reference-in-Some-Punctuator-Star t c =
+    let e = operand_at c.args.fuel c.args.tokens.now (omega arith) in grind (arith, common_steps)
+
+pub operand-returns-in_ok-reference-in-Some-Punctuator-Star : goal.operand-returns-in_ok-reference-in-Some-Punctuator-Star
+operand-returns-in_ok-reference-in-Some-Punctuator-Star t c =
+    let e = operand_at c.args.fuel c.args.tokens.now (omega arith) in grind (arith, common_steps)
+
+pub operand-returns-in_err-array-in-Some-Punctuator-Ampersand : goal.operand-returns-in_err-array-in-Some-Punctuator-Ampersand
+operand-returns-in_err-array-in-Some-Punctuator-Ampersand t c =
+    let e = operand_at c.args.fuel c.args.tokens.now (omega arith) in grind (arith, common_steps)
+
+pub operand-returns-in_ok-array-in-Some-Punctuator-Ampersand : goal.operand-returns-in_ok-array-in-Some-Punctuator-Ampersand
+operand-returns-in_ok-array-in-Some-Punctuator-Ampersand t c =
+    let e = operand_at c.args.fuel c.args.tokens.now (omega arith) in grind (arith, common_steps)
+
 pub operand-returns-in_ok-unary_of-in_default : goal.operand-returns-in_ok-unary_of-in_default
 operand-returns-in_ok-unary_of-in_default t c = let e = operand_at c.args.fuel c.args.tokens.now (omega arith) in grind (arith, common_steps)
 

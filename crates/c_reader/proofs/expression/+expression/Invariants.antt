@@ -24,6 +24,9 @@ decreases-operand_after_name l = 20 * l.fuel + 14
 abbrev pub decreases-operand_after_opening : goal.decreases-operand_after_opening
 decreases-operand_after_opening l = 20 * l.fuel + 14
 
+abbrev pub decreases-address : goal.decreases-address
+decreases-address l = 20 * l.fuel + 14
+
 abbrev pub invariant-operators-loop-turn : goal.invariant-operators-loop-turn
 invariant-operators-loop-turn l =
     operators_past l.fuel l.precedences (expression_of l.fn.first) l.fn.tokens

@@ -36,6 +36,10 @@ returns-clause-noted c =
     let before = rules.parameters_faults gs n.no_locals parameters in
     let inside = rules.statements_faults gs s body in
     let given = rules.returned_faults gs (typing.statements gs s body).scope gives in
-    noted_both faults h (first_of c.note_return.new.faults) (before ++ inside ++ given) (rules.return_faults gs (v.function_of x))
+    let returns = rules.return_faults gs (v.function_of x) in
+    let result = rules.result_faults (option_map v.type_name_of x.type_name) in
+    let all = noted_both faults h (first_of c.note_return.new.faults) (before ++ inside ++ given) returns
     (noted_both faults g h (before ++ inside) given (noted_both faults f g before inside first second) third)
-    c.note_return.ensures
+    c.note_return.ensures in
+    noted_both faults (first_of c.note_return.new.faults) (first_of c.note_result.new.faults) (before ++ inside ++ given ++ returns) result all
+    c.note_result.ensures

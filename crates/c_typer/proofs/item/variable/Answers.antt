@@ -1,5 +1,7 @@
-use Rattle.std.proofs.Common.{ℕ, ◌++◌, sym, ap, ◌∙◌}
+use Rattle.std.proofs.Common.{ℕ, ◌++◌, map, sym, ap, ◌∙◌}
 use Rattle.std.specs.Option.{option_map}
+use Rattle.ido_ints.specs.declared.kinds.Kind.{Kind}
+use Rattle.ido_ints.specs.Reduction.{reduced}
 use Rattle.c_tree.specs.Names as n
 use Rattle.c_tree.specs.Names.{element_count}
 use Rattle.c_tree.specs.TypeRules as rules
@@ -16,14 +18,23 @@ returns-clause-made c none =
     let x = c.args.read.now in
     let size = option_map v.length_of x.length in
     let given = typing.numbers_of (option_map v.initialiser_of x.initialiser) in
+    let typed = noted_none (first_of c.note_initialiser.new.faults) (rules.type_name_faults (v.type_name_of x.type_name))
+    (sym c.note_type_name.ensures ∙ none) in
     let earlier = noted_none (first_of c.note_length.new.faults) (rules.initialiser_faults size (option_map v.initialiser_of x.initialiser))
-    (sym c.note_initialiser.ensures ∙ none) in
+    (sym c.note_initialiser.ensures ∙ typed.0) in
     let allowed = noted_none (first_of c.note_each.new.faults) (rules.length_faults size) (sym c.note_length.ensures ∙ earlier.0) in
     let count = c.checked_count.ensures allowed.1 in
     let initial = c.in_ok-fill.ensures ∙ ap (λ (k : ℕ). typing.filled k c.in_ok-initial.initial.items) count
-    ∙ ap (typing.filled (element_count size)) c.in_ok-initial.ensures in
+    ∙ ap (typing.filled (element_count size)) c.in_ok-initial.ensures
+    ∙ ap (λ (k : Kind). typing.filled (element_count size) (map (reduced k) given)) c.kind-number_kind.ensures in
     let length = c.checked_length.ensures allowed.1 in
-    (λ i. record { name = c.in_ok-copied.ensures i; guard = c.in_ok-guard.ensures.made i; kind = x.kind; length = length i; initial = initial i })
+    (λ i. record {
+      name = c.in_ok-copied.ensures i;
+      guard = c.in_ok-guard.ensures.made i;
+      kind = c.kind-number_kind.ensures i;
+      length = length i;
+      initial = initial i;
+    })
 
 pub returns-clause-noted : goal.returns-clause-noted
 returns-clause-noted c =
@@ -34,6 +45,7 @@ returns-clause-noted c =
     let each = rules.each_faults gs (v.persistent_of x) in
     let long = rules.length_faults size in
     let given = rules.initialiser_faults size (option_map v.initialiser_of x.initialiser) in
-    noted_both _ _ _ (guard ++ each ++ long) given
+    noted_both _ _ _ (guard ++ each ++ long ++ given) (rules.type_name_faults (v.type_name_of x.type_name))
+    (noted_both _ _ _ (guard ++ each ++ long) given
     (noted_both _ _ _ (guard ++ each) long (noted_both _ _ _ guard each c.in_ok-guard.ensures.noted c.note_each.ensures) c.note_length.ensures)
-    c.note_initialiser.ensures
+    c.note_initialiser.ensures) c.note_type_name.ensures

@@ -5,7 +5,7 @@ use Rattle.c_tree.specs.LexicalScan.{Blank, Lexed}
 use Rattle.c_reader.specs.declared.token.Token.{Token}
 use Rattle.c_reader.specs.links.Tokens.{lexeme_of, token_of, tokens_of}
 use Rattle.c_reader.proofs.Scans.{IsTextLeft, IsLeft-start, IsLeft-Blank, IsLeft-Lexed, some_of}
-use Rattle.c_reader.proofs.scanner.scan.Goals as goal
+use Rattle.c_reader.proofs.scanner.scan_plain.Goals as goal
 
 pub loop-bytes-init : goal.loop-bytes-init
 loop-bytes-init c =
