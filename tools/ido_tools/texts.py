@@ -124,6 +124,8 @@ def parse_script(script):
         line = line[:-1] if line.endswith(b"\r") else line
         if not line:
             continue
+        if line == b"r":
+            raise BadInput(f"line {number} of the script begins another life, which the tools don't take")
         parsed = parse_line(line)
         if parsed is None:
             raise BadInput(f"line {number} of the script is none: {line.decode('utf-8', 'replace')}")

@@ -12,7 +12,7 @@ PUNCTUATORS = (
 ).split()
 
 # Lines of scripts, and the word that a schedule may begin with.
-SCRIPT_LETTERS = "s b f g e c".split()
+SCRIPT_LETTERS = "s b f g e c r".split()
 SCHEDULE = "schedule"
 
 # Each command with the words behind it, its input and its output.

@@ -13,8 +13,6 @@ use Rattle.flow_graph.specs.Refusals.{IsAccepted, IsRefusedBy}
 use Rattle.ido_compile.specs.CompileAnswers.{IsCompileAnswer}
 use Rattle.ido_compile.specs.declared.error.CompileError.{CompileError}
 use Rattle.ido_compile.specs.declared.error.CompileError.TheVariants as error
-use Rattle.run_scripts.specs.declared.few.Excess.{Excess}
-use Rattle.run_scripts.specs.FewEvents.{IsExcess}
 use Rattle.run_scripts.specs.Plays.{script_events}
 use Rattle.run_scripts.specs.Rounds.{AreWholeRounds, HasRounds}
 use Rattle.run_scripts.specs.Scripts as e
@@ -127,10 +125,6 @@ module _ (flat : f.Flat) (object : Object) (marks : Marks) (cuts : Cuts) (lines 
       length (events_by made lines) ≤ most
   counted_few most few =
       subst (λ (x : Course). length (script_events living (length x.runs.program) (played living (opening_of x) x.journal) lines) ≤ most) is few
-
-  pub passed_few : (most : ℕ) (x : Excess) → IsExcess living (length begun.runs.program) (played living (opening_of begun) begun.journal) most lines x →
-      IsExcess living (length made.runs.program) (beginning made) most lines x
-  passed_few most x past = subst (λ (y : Course). IsExcess living (length y.runs.program) (played living (opening_of y) y.journal) most lines x) is past
 
 -- ---- What a source and a script are answered
 

@@ -1,6 +1,6 @@
 -- What `play` answers to a journal.
 use Rattle.std.proofs.Common.{◌≡◌, ℕ, suc, ◌<◌, ◌≤◌, List, [], ◌∷◌, ◌++◌, length, map, Bool, true, codes, flat_map}
-use Rattle.std.proofs.Common.{sym, ap, subst, ◌∙◌, ◌==◌, if◌then◌else◌, arith, append_assoc}
+use Rattle.std.proofs.Common.{Some, None, sym, ap, subst, ◌∙◌, ◌==◌, if◌then◌else◌, arith, append_assoc}
 use Rattle.std.proofs.lemmas.Bool.{eqb-true}
 use Rattle.std.proofs.lemmas.List.{length-map}
 use Rattle.std.specs.Prelude.{◌-◌, slice_index}
@@ -15,7 +15,7 @@ use Rattle.ido_compile.proofs.Public.{few_accepted}
 use Rattle.ido_compile.specs.Verdicts.{OneFlat, NotBoth}
 use Rattle.run_scripts.specs.Journals.{command_text, commands_of, ends_line, journal_text}
 use Rattle.run_scripts.specs.Laws.{ArePlayedBack, IsPlayedBack}
-use Rattle.run_scripts.specs.Plays.{script_events}
+use Rattle.run_scripts.specs.Plays.{MayStart, PlayFault, play_fault, script_events}
 use Rattle.run_scripts.specs.Reports.{line}
 use Rattle.run_scripts.specs.Scripts as scripts
 use Rattle.run_scripts.specs.Scripts.{IsEviction}
@@ -23,7 +23,7 @@ use Rattle.run_tracker.specs.ObjectLives.{living}
 use Rattle.ido_cli.specs.Answers.{ScriptedAnswer, unplayed, no_script, of_script}
 use Rattle.ido_cli.specs.Inputs.{rest_from, rest_of, source_from, source_of}
 use Rattle.ido_cli.specs.Laws.{IsAlone, JournalsArePlayed}
-use Rattle.ido_cli.specs.Plays.{IsRunBy, IsTranslationOf, ScriptAnswer, beginning, events_by, too_long, ran}
+use Rattle.ido_cli.specs.Plays.{IsRunBy, IsTranslationOf, ScriptAnswer, barred, beginning, events_by, faulty, ran}
 use Rattle.ido_cli.proofs.JournalInputs.{Ends, split_at}
 use Rattle.ido_cli.proofs.PlayedRuns.{as_many_threads}
 
@@ -86,36 +86,47 @@ module _ (one_flat : OneFlat) (not_both : NotBoth) (input : List ℕ) (flat : f.
       translation : Translation
       made : IsTranslationOf flat translation
       begins : ℕ
-      says : ScriptAnswer translation (Says translation) (record { lines = lines; input = input; begins = begins }) status output
+      says : ScriptAnswer translation true (Says translation) (record { lines = lines; input = input; begins = begins }) status output
 
     of_script_at : (other : f.Flat) → other ≡ flat → (found : List scripts.Line) → found ≡ lines → (c : Translation) → IsTranslationOf other c →
         (begins status : ℕ) (output : List ℕ) →
-        ScriptAnswer c (Says c) (record { lines = found; input = input; begins = begins }) status output → IsOfScript status output
+        ScriptAnswer c true (Says c) (record { lines = found; input = input; begins = begins }) status output → IsOfScript status output
     of_script_at other same found equal c made begins status output answer = record {
       translation = c;
       made = subst (λ (z : f.Flat). IsTranslationOf z c) same made;
       begins = begins;
-      says = subst (λ (ls : List scripts.Line). ScriptAnswer c (Says c) (record { lines = ls; input = input; begins = begins }) status output) equal answer;
+      says =
+          subst (λ (ls : List scripts.Line). ScriptAnswer c true (Says c) (record { lines = ls; input = input; begins = begins }) status output) equal
+          answer;
     }
 
-    is_of_script : (status : ℕ) (output : List ℕ) → ScriptedAnswer Says input status output → IsOfScript status output
+    is_of_script : (status : ℕ) (output : List ℕ) → ScriptedAnswer true Says input status output → IsOfScript status output
     is_of_script status output (unplayed found place is told) = absurd (not_both (source_of input) flat found place accepted is)
     is_of_script status output (no_script other is x read told) = absurd (none_refused other is x read)
     is_of_script status output (of_script other is found read c made answer) =
         of_script_at other (same_flat other is) found (same_lines other is found read) c made _ status output answer
 
 module _ (flat : f.Flat) (events : List Event) (played : IsPlayedBack living (length flat.threads) events) (few : length events ≤ MOST_EVENTS)
-    (c : Translation) (made : IsTranslationOf flat c) where
+    (c : Translation) (made : IsTranslationOf flat c) (may : MayStart living (beginning c) events) where
   events_are : events_by c played.lines ≡ events
-  events_are = ap (λ n. script_events living n (beginning c) played.lines) (threads_are flat c made) ∙ played.events_are (beginning c)
+  events_are = ap (λ n. script_events living n (beginning c) played.lines) (threads_are flat c made) ∙ played.events_are (beginning c) may
+
+  none_found : (fault : PlayFault) → play_fault living (length c.runs.program) (beginning c) MOST_EVENTS played.lines ≡ Some fault → ⊥
+  none_found fault at =
+      apart fault (sym (played.faultless (beginning c) may MOST_EVENTS few)
+      ∙ ap (λ n. play_fault living n (beginning c) MOST_EVENTS played.lines) (sym (threads_are flat c made)) ∙ at)
+    where
+      apart : (x : PlayFault) → None ≡ Some x → ⊥
+      apart x e = cc e
 
   run_is : (input : List ℕ) (begins status : ℕ) (output : List ℕ) →
-      ScriptAnswer c (IsRunBy c) (record { lines = played.lines; input = input; begins = begins }) status output → IsRunBy c events status output
-  run_is input begins status output (too_long many place excess refused) = let n = ap length events_are in absurd (omega (arith, many, n, few))
-  run_is input begins status output (ran fits said) = subst (λ (es : List Event). IsRunBy c es status output) events_are said
+      ScriptAnswer c true (IsRunBy c) (record { lines = played.lines; input = input; begins = begins }) status output → IsRunBy c events status output
+  run_is input begins status output (barred place start refused) = absurd (cc start)
+  run_is input begins status output (faulty free fault at refused) = absurd (none_found fault at)
+  run_is input begins status output (ran free none fits said) = subst (λ (es : List Event). IsRunBy c es status output) events_are said
 
 pub journals_are_played : OneFlat → NotBoth → ArePlayedBack living → JournalsArePlayed
-journals_are_played one_flat not_both back source events flat status output alone accepted few valid answer =
+journals_are_played one_flat not_both back source events flat status output alone accepted few valid may answer =
     let limit : length events < 4294967296 = omega (arith, few) in
     let played = back (length flat.threads) events (few_accepted source flat accepted) limit valid in
     let both = parts source events alone in
@@ -124,4 +135,5 @@ journals_are_played one_flat not_both back source events flat status output alon
     let read_is : scripts.read (length flat.threads) (rest_of input) ≡ scripts.Lines played.lines =
     ap (scripts.read (length flat.threads)) both.1 ∙ played.read_is in
     let it = is_of_script one_flat not_both input flat accepted_in played.lines read_is IsRunBy status output answer in
-    (it.translation, it.made, run_is flat events played few it.translation it.made input it.begins status output it.says)
+    let starts = may it.translation it.made in
+    (it.translation, it.made, run_is flat events played few it.translation it.made starts input it.begins status output it.says)

@@ -1,7 +1,6 @@
 -- What is played of a compiled source: the machine and the kept steps of its translation, which are those of the source.
-use Rattle.std.proofs.Common.{◌≡◌, refl, ℕ, suc, ◌+◌, ◌<◌, ◌≤◌, List, [], ◌∷◌, ◌++◌, length, map, take}
-use Rattle.std.proofs.Common.{sym, ◌∙◌, ap, ap₂, subst, Some, None, ◌-◌, ◌^◌, flat_map, min, arith}
-use Rattle.std.specs.Prelude.{codes}
+use Rattle.std.proofs.Common.{◌≡◌, refl, Bool, ℕ, suc, ◌+◌, ◌<◌, ◌≤◌, List, [], ◌∷◌, ◌++◌, length, map, take}
+use Rattle.std.proofs.Common.{sym, ◌∙◌, ap, ap₂, subst, Option, Some, None, ◌-◌, ◌^◌, flat_map, min}
 use Rattle.std.proofs.lemmas.List.{length-map, take_all}
 use Rattle.ido_base.specs.declared.log.Log.{Log}
 use Rattle.ido_base.specs.declared.event.Event.{Event}
@@ -30,20 +29,20 @@ use Rattle.source_machine.specs.Laws.{SizesStay}
 use Rattle.flat_compile.specs.TranslatedForms.{IsTranslated}
 use Rattle.compiler_correctness.specs.Translations.{world, steps, translation_to}
 use Rattle.compiler_correctness.specs.Compilations.{IsCompilation}
-use Rattle.run_scripts.proofs.Public.{events_few}
+use Rattle.run_scripts.proofs.Public.{fault_by_bound}
 use Rattle.run_scripts.specs.Bounds.{lines_bound}
 use Rattle.run_scripts.specs.Reports as r
-use Rattle.run_scripts.specs.Plays.{excess_at, script_events}
+use Rattle.run_scripts.specs.Plays.{PlayFault, play_fault, script_events}
 use Rattle.run_scripts.specs.Scripts.{Line}
 use Rattle.run_tracker.specs.ObjectLives.{Course, LifeConfig, ends_at_point, living, new_life, opening_of, steps_in, world_of}
-use Rattle.ido_cli.specs.Plays.{IsRunBy, ScriptAnswer, beginning, events_by, too_long}
-use Rattle.ido_cli.specs.Refusals.{IsRefusedAt}
+use Rattle.ido_cli.specs.Plays.{IsRunBy, ScriptAnswer, barred_start, beginning, events_by, faulty}
+use Rattle.ido_cli.specs.Refusals.{IsRefusedAt, play_fault_code, play_fault_place}
 use Rattle.ido_cli.specs.Reports.{machine_state, unsettled_harts}
 use Rattle.ido_cli.specs.links.CountedSections.{CountsSections}
 use Rattle.ido_cli.specs.Runs.{IsReport, counted, named, run_state, taken, unsettled_threads}
 use Rattle.ido_cli.proofs.EndedSections.{are_ended}
 use Rattle.ido_cli.proofs.GatheredReports.{reported_is}
-use Rattle.ido_cli.proofs.ScriptEventCount.{events_fit, events_pass}
+use Rattle.ido_cli.proofs.ScriptEventCount.{events_fit}
 use Rattle.ido_cli.proofs.SettledReports.{run_of}
 use Rattle.source_machine.specs.Lives.{ended_lives}
 
@@ -131,57 +130,50 @@ module _ (flat : f.Flat) (object : Object) (marks : Marks) (cuts : Cuts) (life :
 
 -- what is played is the script's events, up to so many
 module _ (flat : f.Flat) (object : Object) (marks : Marks) (cuts : Cuts) (lines : List Line) where
+  -- the first fault that is found where so many events may be made
+  abbrev found : (room : ℕ) → Option PlayFault
+  found room =
+      play_fault living (length (translation_to flat object marks cuts).runs.program) (beginning (translation_to flat object marks cuts)) room lines
+
   module _ (room cap : ℕ) (old : Course) (is : old ≡ new_life object marks cap) where
-    -- no line is too much, and all of it is played
+    pub found_by : (fault : Option PlayFault) →
+        play_fault living (length old.runs.program) (played living (opening_of old) old.journal) room lines ≡ fault → found room ≡ fault
+    found_by fault at = subst (λ (x : Course). play_fault living (length x.runs.program) (played living (opening_of x) x.journal) room lines ≡ fault) is at
+
+    -- no line is too much, no start comes too soon, and all of it is played
     pub has_played : (life : Course) → opening_of life ≡ opening_of old →
         life.journal ≡ old.journal ++ take room (script_events living (length old.runs.program) (played living (opening_of old) old.journal) lines) →
-        excess_at living (length old.runs.program) (played living (opening_of old) old.journal) room lines ≡ None →
+        play_fault living (length old.runs.program) (played living (opening_of old) old.journal) room lines ≡ None →
         HasPlayed object marks life (events_by (translation_to flat object marks cuts) lines)
     has_played life opening journal none =
         let begin = opening_of (new_life object marks cap) in
         let harts = length (new_life object marks cap).runs.program in
-        let here = subst (λ (x : Course). excess_at living (length x.runs.program) (played living (opening_of x) x.journal) room lines ≡ None) is none in
+        let here = subst (λ (x : Course). play_fault living (length x.runs.program) (played living (opening_of x) x.journal) room lines ≡ None) is none in
         let made = subst (λ (x : Course). life.journal
         ≡ x.journal ++ take room (script_events living (length x.runs.program) (played living (opening_of x) x.journal) lines)) is journal in
         record {
           begins = opening ∙ ap opening_of is;
-          journal = made ∙ take_all room (script_events living harts begin lines) (events_fit living harts begin room lines here);
+          journal = made ∙ take_all room (script_events living harts begin lines) (events_fit living harts begin room room lines here);
         }
 
-    pub fits : excess_at living (length old.runs.program) (played living (opening_of old) old.journal) room lines ≡ None →
+    pub fits : play_fault living (length old.runs.program) (played living (opening_of old) old.journal) room lines ≡ None →
         length (events_by (translation_to flat object marks cuts) lines) ≤ room
     fits none =
-        let here = subst (λ (x : Course). excess_at living (length x.runs.program) (played living (opening_of x) x.journal) room lines ≡ None) is none in
-        events_fit living (length (translation_to flat object marks cuts).runs.program) (beginning (translation_to flat object marks cuts)) room lines here
+        events_fit living (length (translation_to flat object marks cuts).runs.program) (beginning (translation_to flat object marks cuts)) room room lines
+        (found_by None none)
 
-    pub passed_at : (place : ℕ) → excess_at living (length old.runs.program) (played living (opening_of old) old.journal) room lines ≡ Some place →
-        excess_at living (length (translation_to flat object marks cuts).runs.program) (beginning (translation_to flat object marks cuts)) room
-        lines ≡ Some place
-    passed_at place some =
-        subst (λ (x : Course). excess_at living (length x.runs.program) (played living (opening_of x) x.journal) room lines ≡ Some place) is some
+  -- a room that its lines can't go past finds the faults that the greatest one does
+  pub found_at_most : (cap : ℕ) (fault : Option PlayFault) → cap ≡ min MOST_EVENTS (lines_bound lines) → found cap ≡ fault → found MOST_EVENTS ≡ fault
+  found_at_most cap fault is at =
+      sym (fault_by_bound living (length (translation_to flat object marks cuts).runs.program) (beginning (translation_to flat object marks cuts)) cap
+      MOST_EVENTS lines is)
+      ∙ at
 
-  -- what goes past a bound of the events goes past the greatest one
-  pub past_most : (cap place : ℕ) → cap ≡ min MOST_EVENTS (lines_bound lines) →
-      excess_at living (length (translation_to flat object marks cuts).runs.program) (beginning (translation_to flat object marks cuts)) cap
-      lines ≡ Some place →
-      excess_at living (length (translation_to flat object marks cuts).runs.program) (beginning (translation_to flat object marks cuts)) MOST_EVENTS
-      lines ≡ Some place
-  past_most cap place is some =
-      let harts = length (translation_to flat object marks cuts).runs.program in
-      let begin = beginning (translation_to flat object marks cuts) in
-      let past = events_pass living harts begin cap place lines some in
-      let few = events_few living harts begin lines in
-      let full : cap ≡ MOST_EVENTS = omega (arith, past, few, is) in
-      subst (λ (n : ℕ). excess_at living harts begin n lines ≡ Some place) full some
-
-  pub refused : (Says : List Event → ℕ → List ℕ → Type 0) (input : List ℕ) (begins place status : ℕ) (output : List ℕ) →
-      excess_at living (length (translation_to flat object marks cuts).runs.program) (beginning (translation_to flat object marks cuts)) MOST_EVENTS
-      lines ≡ Some place →
-      IsRefusedAt 6 (codes "E1") input (begins + place) status output →
-      ScriptAnswer (translation_to flat object marks cuts) Says (record { lines = lines; input = input; begins = begins }) status output
-  refused Says input begins place status output some told =
-      too_long (events_pass living (length (translation_to flat object marks cuts).runs.program) (beginning (translation_to flat object marks cuts)) MOST_EVENTS
-      place lines some) place some told
+  pub refused : (lives : Bool) (Says : List Event → ℕ → List ℕ → Type 0) (input : List ℕ) (begins : ℕ) (fault : PlayFault) (status : ℕ) (output : List ℕ) →
+      barred_start lives lines ≡ None → found MOST_EVENTS ≡ Some fault →
+      IsRefusedAt 6 (play_fault_code fault) input (begins + play_fault_place fault) status output →
+      ScriptAnswer (translation_to flat object marks cuts) lives Says (record { lines = lines; input = input; begins = begins }) status output
+  refused lives Says input begins fault status output free some told = faulty free fault some told
 
 -- ---- What is reported
 

@@ -19,13 +19,13 @@ use Rattle.ido_cli.specs.Commands.{command_of, is_unread, reads_input}
 use Rattle.ido_cli.specs.Runs.{RunAnswer, ran, stopped, run_state, status_by}
 use Rattle.ido_cli.specs.Images.{IsImageAfter}
 use Rattle.ido_cli.specs.Inputs.{source_of}
-use Rattle.ido_cli.specs.Plays.{IsRunBy, too_long, ran as ran_by}
+use Rattle.ido_cli.specs.Plays.{IsRunBy, barred, faulty, ran as ran_by}
 use Rattle.ido_cli.specs.Answers.{CompileAnswer, uncompiled, compiled, RegionsAnswer, uncut, cut, ScriptedAnswer}
 use Rattle.ido_cli.specs.Answers.{unplayed, no_script, of_script, SourceAnswer, unaccepted, no_schedule, of_schedule}
 use Rattle.ido_cli.specs.Answers.{OrderAnswer, unlocked, unordered, ordered}
 use Rattle.ido_cli.specs.Answers.{CommandAnswer, ListAnswer, no_object, of_object, RecoverAnswer, no_image, of_image, SeededAnswer, undrawn, drawn}
 use Rattle.ido_cli.specs.Answers.{SweepAnswer, no_points, of_points, unswept}
-use Rattle.ido_cli.specs.Sweeps.{status_of, swept, too_long as past_script, too_many as past_few}
+use Rattle.ido_cli.specs.Sweeps.{status_of, swept, faulty as unswept_script}
 use Rattle.ido_cli.specs.Answers.{LiveAnswer, unrun, ran as ran_on_threads, LoadAnswer, unloaded, loaded}
 use Rattle.ido_cli.specs.Answers.{IsPastLimits, AnswerToInput, past_limits, within_limits, Refuses, wrong_words, taken_words}
 use Rattle.ido_cli.specs.Answers.{IsAnswer, IsAnswered, Outside, answered, no_memory, sink_failed, source_failed}
@@ -151,14 +151,16 @@ of_order source status output (unlocked found place is refused) h = not_four_or_
 of_order source status output (unordered flat is fault breaks e told) h = not_four_or_seven status 1 e (inl (omega arith)) h
 of_order source status output (ordered flat is none e told) h = not_four_or_seven status 0 e (inl (omega arith)) h
 
-of_scripted : (Says : Translation → List Event → ℕ → List ℕ → Type 0) →
+of_scripted : (lives : Bool) (Says : Translation → List Event → ℕ → List ℕ → Type 0) →
     ((c : Translation) (events : List Event) (status : ℕ) (output : List ℕ) → Says c events status output → (status ≡ 4) ⊎ (status ≡ 7) → ⊥) →
-    (input : List ℕ) (status : ℕ) (output : List ℕ) → ScriptedAnswer Says input status output → (status ≡ 4) ⊎ (status ≡ 7) → ⊥
-of_scripted Says others input status output (unplayed found place is refused) h = not_four_or_seven status 1 refused.0 (inl (omega arith)) h
-of_scripted Says others input status output (no_script flat is x read refused) h = not_four_or_seven status 6 refused.0 (inr refl) h
-of_scripted Says others input status output (of_script flat is lines read c made (too_long many place excess refused)) h =
+    (input : List ℕ) (status : ℕ) (output : List ℕ) → ScriptedAnswer lives Says input status output → (status ≡ 4) ⊎ (status ≡ 7) → ⊥
+of_scripted lives Says others input status output (unplayed found place is refused) h = not_four_or_seven status 1 refused.0 (inl (omega arith)) h
+of_scripted lives Says others input status output (no_script flat is x read refused) h = not_four_or_seven status 6 refused.0 (inr refl) h
+of_scripted lives Says others input status output (of_script flat is lines read c made (barred place start refused)) h =
     not_four_or_seven status 6 refused.0 (inr refl) h
-of_scripted Says others input status output (of_script flat is lines read c made (ran_by fits said)) h = others c _ status output said h
+of_scripted lives Says others input status output (of_script flat is lines read c made (faulty free fault at refused)) h =
+    not_four_or_seven status 6 refused.0 (inr refl) h
+of_scripted lives Says others input status output (of_script flat is lines read c made (ran_by free none fits said)) h = others c _ status output said h
 
 by_settled : (settled : Bool) (status : ℕ) → status ≡ status_of settled → (status ≡ 4) ⊎ (status ≡ 7) → ⊥
 by_settled true status e h = not_four_or_seven status 0 e (inl (omega arith)) h
@@ -167,9 +169,8 @@ by_settled false status e h = not_four_or_seven status 3 e (inl (omega arith)) h
 of_sweep : (input : List ℕ) (status : ℕ) (output : List ℕ) → SweepAnswer input status output → (status ≡ 4) ⊎ (status ≡ 7) → ⊥
 of_sweep input status output (unswept found place is refused) h = not_four_or_seven status 1 refused.0 (inl (omega arith)) h
 of_sweep input status output (no_points flat is x read refused) h = not_four_or_seven status 6 refused.0 (inr refl) h
-of_sweep input status output (of_points flat is lines read c made (past_script place excess refused)) h = not_four_or_seven status 6 refused.0 (inr refl) h
-of_sweep input status output (of_points flat is lines read c made (past_few place excess refused)) h = not_four_or_seven status 6 refused.0 (inr refl) h
-of_sweep input status output (of_points flat is lines read c made (swept few all)) h = by_settled _ status all.status_is h
+of_sweep input status output (of_points flat is lines read c made (unswept_script fault at refused)) h = not_four_or_seven status 6 refused.0 (inr refl) h
+of_sweep input status output (of_points flat is lines read c made (swept none few all)) h = by_settled _ status all.status_is h
 
 of_recover : (turns : ℕ) (input : List ℕ) (status : ℕ) (output : List ℕ) → RecoverAnswer turns input status output → (status ≡ 4) ⊎ (status ≡ 7) → ⊥
 of_recover turns input status output (no_image error is e told) h = not_four_or_seven status 6 e (inr refl) h
@@ -199,11 +200,12 @@ of_command : (c : Command) (input : List ℕ) (status : ℕ) (output : List ℕ)
 of_command command.Compile input status output answer h = of_compile input status output answer h
 of_command (command.Regions least) input status output answer h = of_regions least input status output answer h
 of_command command.Play input status output answer h =
-    of_scripted IsRunBy (λ c events s o run. by_unsettled _ s run.reported.status_is) input status output answer h
+    of_scripted true IsRunBy (λ c events s o run. by_unsettled _ s run.reported.status_is) input status output answer h
 of_command command.Source input status output answer h = of_source input status output answer h
 of_command command.List input status output answer h = of_list input status output answer h
 of_command command.Image input status output answer h =
-    of_scripted (IsImageAfter (source_of input)) (λ c events s o image. not_four_or_seven s 0 image.status_is (inl (omega arith))) input status output answer h
+    of_scripted false (IsImageAfter (source_of input)) (λ c events s o image. not_four_or_seven s 0 image.status_is (inl (omega arith))) input status output
+    answer h
 of_command command.Order input status output answer h = of_order input status output answer h
 of_command (command.Recover turns) input status output answer h = of_recover turns input status output answer h
 of_command (command.Make rounds seed) input status output answer h = not_four_or_seven status 0 answer.status_is (inl (omega arith)) h

@@ -1,19 +1,21 @@
 -- What words and an input are answered is at most one thing; an image that `image` wrote is recovered from, and a journal is played.
 use Rattle.std.specs.Prelude.{◌≡◌, ◌≤◌, ℕ, List, All, length, true, Option, Some, None}
 use Rattle.ido_base.specs.declared.event.Event.{Event}
-use Rattle.ido_base.specs.Cores.{IsValid}
+use Rattle.ido_base.specs.Cores.{IsValidNow}
 use Rattle.ido_base.specs.declared.limits.TheConstants.{MOST_EVENTS}
 use Rattle.c_tree.specs.Flats.{Flat}
 use Rattle.flow_graph.specs.Refusals.{IsAccepted}
 use Rattle.compiler_correctness.specs.Translations.{Translation}
 use Rattle.run_scripts.specs.Journals.{ends_line, journal_text}
+use Rattle.run_scripts.specs.Plays.{MayStart}
 use Rattle.run_scripts.specs.Scripts.{Fault, IsEviction, Refused, read}
 use Rattle.ido_cli.specs.declared.command.Command.{Command}
 use Rattle.ido_cli.specs.declared.command.Command.TheVariants as command
 use Rattle.ido_cli.specs.Commands.{command_of}
 use Rattle.ido_cli.specs.Images.{IsImageAfter}
 use Rattle.ido_cli.specs.Inputs.{source_of, rest_of}
-use Rattle.ido_cli.specs.Plays.{IsRunBy, IsTranslationOf}
+use Rattle.ido_cli.specs.Plays.{IsRunBy, IsTranslationOf, beginning}
+use Rattle.run_tracker.specs.ObjectLives.{living}
 use Rattle.ido_cli.specs.Recoveries.{IsRecoveredRun}
 use Rattle.ido_cli.specs.Answers.{Answer, IsPastLimits, PlayAnswer, RecoverAnswer}
 use Rattle.rv64_isa.specs.Schedule.{HaveNoStart}
@@ -78,8 +80,9 @@ pub record IsAlone (source : List ℕ) : Type 0 where
   pub ends : ends_line source ≡ true
   pub whole : source_of source ≡ source
 
--- a journal of events of such a source is answered by `play` with what is said of these events
+-- a journal of events of such a source, whose starts each of its translations may make, is answered by `play` with what is said of these events
 abbrev pub JournalsArePlayed : Type 0
 JournalsArePlayed = (source : List ℕ) (events : List Event) (flat : Flat) (status : ℕ) (output : List ℕ) → IsAlone source → IsAccepted source flat →
-    length events ≤ MOST_EVENTS → All (IsValid (length flat.threads) (IsEviction (length flat.threads))) events →
+    length events ≤ MOST_EVENTS → All (IsValidNow (length flat.threads) (IsEviction (length flat.threads)) true) events →
+    ((c : Translation) → IsTranslationOf flat c → MayStart living (beginning c) events) →
     PlayAnswer (journal_text source events) status output → (c : Translation) × IsTranslationOf flat c × IsRunBy c events status output

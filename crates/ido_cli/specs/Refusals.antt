@@ -6,6 +6,7 @@ use Rattle.c_tree.specs.declared.rule.Rule.TheVariants as rule
 use Rattle.file_fields.specs.Fields as fields
 use Rattle.image_checks.specs.declared.error.ImageError.{ImageError}
 use Rattle.image_checks.specs.declared.error.ImageError.TheVariants as image
+use Rattle.run_scripts.specs.Plays as p
 use Rattle.run_scripts.specs.Reports.{line}
 use Rattle.run_scripts.specs.Schedules as s
 use Rattle.run_scripts.specs.Scripts as c
@@ -64,6 +65,17 @@ script_fault_place (c.BadWord place) = place
 script_fault_place (c.BadNumber place) = place
 script_fault_place (c.NoHart place) = place
 script_fault_place (c.NoLine place) = place
+
+-- the code of a fault that is found while a script is played; its place is one in the script's text
+abbrev pub play_fault_code : p.PlayFault → List ℕ
+play_fault_code (p.TooMany place) = codes "E1"
+play_fault_code (p.BadStart place) = codes "E6"
+play_fault_code (p.PastFew place) = codes "E7"
+
+abbrev pub play_fault_place : p.PlayFault → ℕ
+play_fault_place (p.TooMany place) = place
+play_fault_place (p.BadStart place) = place
+play_fault_place (p.PastFew place) = place
 
 -- the code of a step that can't be made
 abbrev pub stop_code : RefusedKind → List ℕ

@@ -1,20 +1,19 @@
 -- What is said of every point of a script at which power may be lost.
-use Rattle.std.specs.Prelude.{◌≡◌, ◌≢◌, ℕ, ◌+◌, ◌≤◌, List, [], ◌∷◌, ◌++◌, length, map, replicate, take, Bool, true, false, slice_get, Some, codes, decimal}
-use Rattle.std.specs.Prelude.{◌&&◌}
+use Rattle.std.specs.Prelude.{◌≡◌, ◌≢◌, ℕ, ◌+◌, ◌≤◌, List, [], ◌∷◌, ◌++◌, length, map, replicate, take, Bool, true, false, slice_get, Some, None}
+use Rattle.std.specs.Prelude.{◌&&◌, codes, decimal}
+use Rattle.ido_base.specs.declared.limits.TheConstants.{MOST_EVENTS}
 use Rattle.ido_base.specs.declared.event.Event.{Event}
 use Rattle.ido_base.specs.declared.event.Event.TheVariants.{Crash}
-use Rattle.ido_base.specs.declared.place.Place.{Place}
 use Rattle.ido_base.specs.Cores.{played}
 use Rattle.compiler_correctness.specs.Translations.{Translation}
 use Rattle.hart_driver.specs.declared.sweep.Outcome.{Outcome}
 use Rattle.hart_driver.specs.Outcomes.{AreOutcomes}
-use Rattle.run_scripts.specs.declared.few.Excess.TheVariants as excess
-use Rattle.run_scripts.specs.FewEvents.{IsExcess}
+use Rattle.run_scripts.specs.Plays.{PlayFault, fault_within}
 use Rattle.run_scripts.specs.Reports.{line}
 use Rattle.run_scripts.specs.Rounds.{AreWholeRounds}
 use Rattle.run_tracker.specs.ObjectLives.{living}
 use Rattle.ido_cli.specs.Plays.{IsRunBy, PlacedScript, beginning, events_by}
-use Rattle.ido_cli.specs.Refusals.{IsRefusedAt}
+use Rattle.ido_cli.specs.Refusals.{IsRefusedAt, play_fault_code, play_fault_place}
 
 -- events of the script at most
 abbrev pub most_sweep_events : ℕ
@@ -66,11 +65,11 @@ pub record IsSweep (c : Translation) (events : List Event) (status : ℕ) (outpu
 
 -- ---- A script
 
--- What a script that begins at a place of an input is answered: a refusal at the first line whose events pass 10,000, E1 where those up to its own also pass
--- 4,000,000 and else E7; or the sweep of its events.
+-- What a script that begins at a place of an input is answered: a refusal at the first line that can't be played so: E1 where the events up to its own pass
+-- 4,000,000, else E6 where no life may begin by it, else E7 where they pass 10,000; or the sweep of its events.
 pub data SweptScript (c : Translation) (script : PlacedScript) (status : ℕ) (output : List ℕ) : Type 0 where
-  too_long : (place : Place) → IsExcess living (length c.runs.program) (beginning c) most_sweep_events script.lines (excess.Script place) →
-      IsRefusedAt 6 (codes "E1") script.input (script.begins + place.0) status output → SweptScript c script status output
-  too_many : (place : Place) → IsExcess living (length c.runs.program) (beginning c) most_sweep_events script.lines (excess.Few place) →
-      IsRefusedAt 6 (codes "E7") script.input (script.begins + place.0) status output → SweptScript c script status output
-  swept : length (events_by c script.lines) ≤ most_sweep_events → IsSweep c (events_by c script.lines) status output → SweptScript c script status output
+  faulty : (fault : PlayFault) →
+      fault_within living (length c.runs.program) (beginning c) MOST_EVENTS most_sweep_events script.lines ≡ Some fault →
+      IsRefusedAt 6 (play_fault_code fault) script.input (script.begins + play_fault_place fault) status output → SweptScript c script status output
+  swept : fault_within living (length c.runs.program) (beginning c) MOST_EVENTS most_sweep_events script.lines ≡ None →
+      length (events_by c script.lines) ≤ most_sweep_events → IsSweep c (events_by c script.lines) status output → SweptScript c script status output

@@ -8,6 +8,8 @@ ghost use Rattle.ido_compile.specs.CompileAnswers.{IsCompiled, translation_in};
 ghost use Rattle.ido_cli.specs.Inputs.{source_of, rest_of};
 ghost use Rattle.ido_cli.specs.Answers.{SweepAnswer};
 ghost use Rattle.ido_cli.specs.Plays.{events_by};
+ghost use Rattle.ido_cli.specs.Refusals.{IsRefusedAt, play_fault_code, play_fault_place};
+ghost use Rattle.run_scripts.specs.links.ScriptViews as scripts;
 ghost use Rattle.ido_cli.specs.Sweeps.{IsSweep, IsTable, SweptScript, are_settled, most_sweep_events, reports_of, status_of};
 ghost use Rattle.ido_cli.specs.links.CrashPoints.{CanSweep, HasAllPoints, HasLivedTo, HasPoint, IsCounted, IsOutcomeAt, lines_in, translation_at};
 
@@ -198,6 +200,26 @@ fn sweep_all<R: Threads + Sync, G: Gate + Sync>(
     swept(rt, &points, last, gate)
 }
 
+/// The refusal of a script that begins at a place of an input, by what was found while its events were counted.
+fn excess_refused(
+    alloc: Global,
+    input: &[u8],
+    begins: u64,
+    excess: Excess,
+) -> Result<Said, OutOfMemory>
+    requires short { length input.now ≤ MOST_INPUT_BYTES }
+    requires within { begins ≤ length input.now }
+    ensures { IfOk result (λ said. let x = scripts.few_fault_of excess in
+        IsRefusedAt 6 (play_fault_code x) input.now (begins + play_fault_place x) said.status said.output.items) }
+{
+    let (code, place) = match excess {
+        Excess::Script(place) => ("E1", place),
+        Excess::Start(place) => ("E6", place),
+        Excess::Few(place) => ("E7", place),
+    };
+    refused_at(alloc, 6, code, input, begins + u64::from(place.0))
+}
+
 /// What is said of a script, which begins at a place of an input.
 fn script_answer<R: Threads + Sync, G: Gate + Sync>(
     rt: &R,
@@ -216,8 +238,7 @@ fn script_answer<R: Threads + Sync, G: Gate + Sync>(
 {
     match count_events(alloc, &compiled, &script)? {
         Ok(last) => sweep_all(rt, alloc, compiled, script, last, gate),
-        Err(Excess::Script(line)) => refused_at(alloc, 6, "E1", input, begins + u64::from(line.0)),
-        Err(Excess::Few(line)) => refused_at(alloc, 6, "E7", input, begins + u64::from(line.0)),
+        Err(excess) => excess_refused(alloc, input, begins, excess),
     }
 }
 

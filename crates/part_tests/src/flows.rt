@@ -66,6 +66,13 @@ fn keep(
     Ok(assign(HERE, target, binary(a, operator, left, right)?))
 }
 
+/// Another life of the source begins, if one may.
+fn begin_another(source: &mut SourceState<'_>) {
+    if source.can_restart() {
+        source.restart();
+    }
+}
+
 #[test]
 fn in_step_with_the_source(rt: HostRuntime) -> Result<(), Fail> {
     let a = rt.alloc();
@@ -107,5 +114,8 @@ fn in_step_with_the_source(rt: HostRuntime) -> Result<(), Fail> {
     }
     assert!(rt; flow.threads() > 0);
     assert_eq!(rt; (flow.ended_sections(0), flow.between(0)), (1, true));
+    begin_another(&mut source);
+    assert!(rt; source.threads() > 0);
+    assert_eq!(rt; source.step(0), Stepped::Did);
     Ok(())
 }

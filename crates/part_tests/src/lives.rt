@@ -1,4 +1,4 @@
-//! The journal of a life, and what runs ahead of a hart of one.
+//! The journal of a life, what runs ahead of a hart of one, and a life after another.
 ghost use Rattle.std.specs.Prelude.{◌≡◌, ◌+◌, ◌<◌, ◌≤◌, ℕ, [], length, IfOk};
 
 use ido_base::event::{Event, Reply};
@@ -151,5 +151,66 @@ fn ahead_of_a_hart(rt: HostRuntime) -> Result<(), Fail> {
     assert!(rt; life.harts() > 0 && life.room() > 0);
     assert_eq!(rt; life.event(Event::Step(0)), Reply::Moved);
     assert_eq!(rt; life.live_word(0, 0), 14);
+    Ok(())
+}
+
+/// lui x8, 0x10000; ld x6, 0(x8); addi x6, x6, 1; sd x6, 0(x8); addi x17, x0, 3; ecall: one more in the first word, and the end.
+const ONE_MORE: [u32; 6] = [
+    0x1000_0437,
+    0x0004_3303,
+    0x0013_0313,
+    0x0064_3023,
+    0x0030_0893,
+    0x73,
+];
+
+/// One thread with this code, without marks.
+fn counting_life(alloc: Global) -> Result<Life, OutOfMemory> {
+    let mut code: Vec<Vec<u32>> = Vec::new(alloc);
+    let mut threads = Vec::new(alloc);
+    code.push(ONE_MORE.to_vec(alloc)?)?;
+    threads.push(ThreadMarks {
+        nodes: Vec::new(alloc),
+        resumes: Vec::new(alloc),
+    })?;
+    let object = Object {
+        code,
+        initial: Vec::new(alloc),
+        mutexes: 0,
+        log: Log::V1,
+    };
+    Life::new(alloc, &object, &Marks { threads }, 16)
+}
+
+/// A step of the first hart, if there is one, and room.
+fn step(life: &mut Life) {
+    if life.harts() > 0 && life.room() > 0 {
+        life.event(Event::Step(0));
+    }
+}
+
+/// Another life begins, if one may, and there is room.
+fn begin_another(life: &mut Life) {
+    if life.can_start() && life.room() > 0 {
+        life.event(Event::Start);
+    }
+}
+
+/// The second life adds to what the first one has left, and a third one begins only once that has ended.
+#[test]
+fn a_life_after_another(rt: HostRuntime) -> Result<(), Fail> {
+    let mut life = counting_life(rt.alloc())?;
+    for _ in 0..6 {
+        step(&mut life);
+    }
+    begin_another(&mut life);
+    for _ in 0..6 {
+        step(&mut life);
+        begin_another(&mut life);
+    }
+    assert_eq!(rt;
+        [life.lives() as u64, life.live_word(0, 0), life.events()],
+        [3, 2, 14]
+    );
     Ok(())
 }

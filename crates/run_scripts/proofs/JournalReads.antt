@@ -1,8 +1,10 @@
 -- A journal that is read back: its lines, and that they make its events.
-use Rattle.std.proofs.Common.{◌≡◌, ℕ, suc, ◌+◌, ◌*◌, ◌^◌, ◌<◌, ◌≤◌, List, [], ◌∷◌, ◌++◌, length}
+use Rattle.std.proofs.Common.{◌≡◌, ℕ, suc, ◌+◌, ◌-◌, ◌*◌, ◌^◌, ◌<◌, ◌≤◌, List, [], ◌∷◌, ◌++◌, length}
 use Rattle.std.proofs.Common.{take, drop, flat_map, replicate, Bool, true, false, ◌==◌}
-use Rattle.std.proofs.Common.{Option, Some, None, refl, sym, ap, ◌∙◌, arith, append_assoc, length-append, add-one, codes, if◌then◌else◌}
-use Rattle.std.proofs.lemmas.Bool.{eqb-true, lt-ltb, le-leb, ne_eqb}
+use Rattle.std.proofs.Common.{Option, Some, None, refl, sym, subst, ap, ◌∙◌, arith, append_assoc, inl, inr, length-append, add-one, codes}
+use Rattle.std.proofs.Common.{if◌then◌else◌}
+use Rattle.std.specs.Prelude.{not}
+use Rattle.std.proofs.lemmas.Bool.{eqb-true, lt-ltb, le-leb, le-ltb, ne_eqb}
 use Rattle.std.proofs.lemmas.Fmt.{decimal_is_IsNumeral}
 use Rattle.std.proofs.lemmas.List.{append-nil}
 use Rattle.std.proofs.lemmas.List.Elements.{recursion_from_All}
@@ -14,14 +16,14 @@ use Rattle.std.specs.List.{AllByRecursion, prefix_len}
 use Rattle.std.specs.Str.Parse.{AllDigits, digits_value}
 use Rattle.ido_base.specs.declared.event.Event.{Event}
 use Rattle.ido_base.specs.declared.event.Event.TheVariants as events
-use Rattle.ido_base.specs.Cores.{Behaviour, IsValid, played}
+use Rattle.ido_base.specs.Cores.{Behaviour, IsValid, IsValidNow, played}
 use Rattle.ido_base.specs.declared.limits.TheConstants.{MOST_THREADS}
 use Rattle.run_scripts.specs.declared.script.Command.{Command}
 use Rattle.run_scripts.specs.declared.script.Command.TheVariants.{Steps, Point, Fence, Enabled, Evict, Crash, Start}
 use Rattle.run_scripts.specs.Journals.{command_text, commands_of, with_step}
 use Rattle.run_scripts.specs.Laws.{ArePlayedBack}
 use Rattle.run_scripts.specs.Pieces.{begins_line_end, lines_at, with_byte}
-use Rattle.run_scripts.specs.Plays.{script_events}
+use Rattle.run_scripts.specs.Plays.{PlayFault, TooMany, BadStart, PastFew, MayStart, is_refused, line_events, play_fault, script_events}
 use Rattle.run_scripts.specs.Reports.{line}
 use Rattle.run_scripts.specs.Schedules.{is_digit}
 use Rattle.run_scripts.specs.Scripts.{Fault, BadWord, IsEviction, Line, LineRead, Fails, Lines, Rule, Says, any_number, argument_then}
@@ -42,7 +44,7 @@ Fits harts most (Fence hart) = ⊥
 Fits harts most (Enabled count) = ⊥
 Fits harts most (Evict evicted mask) = IsEviction harts evicted mask
 Fits harts most Crash = Unit {0}
-Fits harts most Start = ⊥
+Fits harts most Start = Unit {0}
 
 abbrev made : List Command → List Event
 made [] = []
@@ -79,20 +81,68 @@ made-commands_of (events.Crash ∷ es) = ap (λ xs. events.Crash ∷ xs) (made-c
 made-commands_of (events.Start ∷ es) = ap (λ xs. events.Start ∷ xs) (made-commands_of es)
 
 module _ {M : Type 0} (b : Behaviour M) (harts most : ℕ) where
-  script_made : (m : M) (place : ℕ) (cs : List Command) → AllByRecursion (Fits harts most) cs → script_events b harts m (placed place cs) ≡ made cs
-  script_made m place [] fit = refl
-  script_made m place (Steps hart count ∷ cs) fit =
+  -- of events after events
+  starts_after : (m : M) (es more : List Event) → MayStart b m (es ++ more) → MayStart b (played b m es) more
+  starts_after m [] more may = may
+  starts_after m (e ∷ es) more may = starts_after (b.next m e) es more may.1
+
+  script_made : (m : M) (place : ℕ) (cs : List Command) → AllByRecursion (Fits harts most) cs → MayStart b m (made cs) →
+      script_events b harts m (placed place cs) ≡ made cs
+  script_made m place [] fit may = refl
+  script_made m place (Steps hart count ∷ cs) fit may =
       ap (λ xs. replicate count (events.Step hart) ++ xs)
-      (script_made (played b m (replicate count (events.Step hart))) (place + length (command_text (Steps hart count))) cs fit.1)
-  script_made m place (Point hart ∷ cs) fit = absurd fit.0
-  script_made m place (Fence hart ∷ cs) fit = absurd fit.0
-  script_made m place (Enabled count ∷ cs) fit = absurd fit.0
-  script_made m place (Evict evicted mask ∷ cs) fit =
+      (script_made (played b m (replicate count (events.Step hart))) (place + length (command_text (Steps hart count))) cs fit.1
+      (starts_after m (replicate count (events.Step hart)) (made cs) may))
+  script_made m place (Point hart ∷ cs) fit may = absurd fit.0
+  script_made m place (Fence hart ∷ cs) fit may = absurd fit.0
+  script_made m place (Enabled count ∷ cs) fit may = absurd fit.0
+  script_made m place (Evict evicted mask ∷ cs) fit may =
       ap (λ xs. events.Evict evicted mask ∷ xs)
-      (script_made (b.next m (events.Evict evicted mask)) (place + length (command_text (Evict evicted mask))) cs fit.1)
-  script_made m place (Crash ∷ cs) fit =
-      ap (λ xs. events.Crash ∷ xs) (script_made (b.next m events.Crash) (place + length (command_text Crash)) cs fit.1)
-  script_made m place (Start ∷ cs) fit = absurd fit.0
+      (script_made (b.next m (events.Evict evicted mask)) (place + length (command_text (Evict evicted mask))) cs fit.1 may.1)
+  script_made m place (Crash ∷ cs) fit may =
+      ap (λ xs. events.Crash ∷ xs) (script_made (b.next m events.Crash) (place + length (command_text Crash)) cs fit.1 may.1)
+  script_made m place (Start ∷ cs) fit may =
+      ap (λ t. if not t then [] else events.Start ∷ script_events b harts (b.next m events.Start) (placed (place + length (command_text Start)) cs))
+      (may.0 refl)
+      ∙ ap (λ xs. events.Start ∷ xs) (script_made (b.next m events.Start) (place + length (command_text Start)) cs fit.1 may.1)
+
+  -- a line that isn't refused, and for whose events there is room, is no fault
+  goes : (m : M) (line : Line) (lines : List Line) (room : ℕ) → is_refused b m line.command ≡ false → length (line_events b harts m line.command) ≤ room →
+      play_fault b harts m room (line ∷ lines)
+      ≡ play_fault b harts (played b m (line_events b harts m line.command)) (room - length (line_events b harts m line.command)) lines
+  goes m line lines room free fits =
+      let within = le-ltb room (length (line_events b harts m line.command)) fits in
+      ap (λ t. by t (is_refused b m line.command) t) within ∙ ap (λ t. by false t false) free
+    where
+      by : (past refused over : Bool) → Option PlayFault
+      by past refused over =
+          if past then Some (TooMany line.place) else if refused then Some (BadStart line.place) else if over then Some (PastFew line.place)
+          else play_fault b harts (played b m (line_events b harts m line.command)) (room - length (line_events b harts m line.command)) lines
+
+  faultless : (m : M) (place : ℕ) (cs : List Command) (room : ℕ) → AllByRecursion (Fits harts most) cs → MayStart b m (made cs) → length (made cs) ≤ room →
+      play_fault b harts m room (placed place cs) ≡ None
+  faultless m place [] room fit may fits = refl
+  faultless m place (Steps hart count ∷ cs) room fit may fits =
+      let es = replicate count (events.Step hart) in
+      let after = place + length (command_text (Steps hart count)) in
+      let sum = length-append es (made cs) in
+      goes m (record { place = place; command = Steps hart count }) (placed after cs) room refl (omega (arith, sum, fits))
+      ∙ faultless (played b m es) after cs (room - length es) fit.1 (starts_after m es (made cs) may) (omega (arith, sum, fits))
+  faultless m place (Point hart ∷ cs) room fit may fits = absurd fit.0
+  faultless m place (Fence hart ∷ cs) room fit may fits = absurd fit.0
+  faultless m place (Enabled count ∷ cs) room fit may fits = absurd fit.0
+  faultless m place (Evict evicted mask ∷ cs) room fit may fits =
+      let after = place + length (command_text (Evict evicted mask)) in
+      goes m (record { place = place; command = Evict evicted mask }) (placed after cs) room refl (omega (arith, fits))
+      ∙ faultless (b.next m (events.Evict evicted mask)) after cs (room - 1) fit.1 may.1 (omega (arith, fits))
+  faultless m place (Crash ∷ cs) room fit may fits =
+      let after = place + length (command_text Crash) in
+      goes m (record { place = place; command = Crash }) (placed after cs) room refl (omega (arith, fits))
+      ∙ faultless (b.next m events.Crash) after cs (room - 1) fit.1 may.1 (omega (arith, fits))
+  faultless m place (Start ∷ cs) room fit may fits =
+      let after = place + length (command_text Start) in
+      goes m (record { place = place; command = Start }) (placed after cs) room (ap not (may.0 refl)) (omega (arith, fits))
+      ∙ faultless (b.next m events.Start) after cs (room - 1) fit.1 may.1 (omega (arith, fits))
 
 module _ (harts : ℕ) where
   fits_more : (most more : ℕ) → most ≤ more → (c : Command) → Fits harts most c → Fits harts more c
@@ -116,7 +166,7 @@ module _ (harts : ℕ) where
   with_step_fits most hart below (Enabled count ∷ cs) fit = absurd fit.0
   with_step_fits most hart below (Evict evicted mask ∷ cs) fit = ((below, omega arith), (fit.0, all_fit_more most (suc most) (omega arith) cs fit.1))
   with_step_fits most hart below (Crash ∷ cs) fit = ((below, omega arith), (tt, all_fit_more most (suc most) (omega arith) cs fit.1))
-  with_step_fits most hart below (Start ∷ cs) fit = absurd fit.0
+  with_step_fits most hart below (Start ∷ cs) fit = ((below, omega arith), (tt, all_fit_more most (suc most) (omega arith) cs fit.1))
   with_step_fits most hart below (Steps other count ∷ cs) fit = by (other == hart)
     where
       few : count ≤ most
@@ -129,13 +179,21 @@ module _ (harts : ℕ) where
       by true = ((below, omega (arith, few)), rest)
       by false = ((below, omega arith), ((fit.0.0, omega (arith, few)), rest))
 
-  pub journal_fits : (es : List Event) → AllByRecursion (IsValid harts (IsEviction harts)) es → AllByRecursion (Fits harts (length es)) (commands_of es)
+  -- what may be asked where another life may begin, and is no start, may be asked at any time
+  at_any_time : (e : Event) → IsValidNow harts (IsEviction harts) true e → (e ≡ events.Start → ⊥) → IsValid harts (IsEviction harts) e
+  at_any_time e (inl valid) other = valid
+  at_any_time e (inr start) other = absurd (other start.0)
+
+  pub journal_fits : (es : List Event) → AllByRecursion (IsValidNow harts (IsEviction harts) true) es → AllByRecursion (Fits harts (length es)) (commands_of es)
   journal_fits [] valid = tt
-  journal_fits (events.Step hart ∷ es) valid = with_step_fits (length es) hart valid.0 (commands_of es) (journal_fits es valid.1)
-  journal_fits (events.Evict evicted mask ∷ es) valid =
-      (valid.0, all_fit_more (length es) (suc (length es)) (omega arith) (commands_of es) (journal_fits es valid.1))
+  journal_fits (events.Step hart ∷ es) valid =
+      with_step_fits (length es) hart (at_any_time (events.Step hart) valid.0 (λ e. cc e)) (commands_of es) (journal_fits es valid.1)
+  journal_fits (events.Evict evicted mask ∷ es) valid = (
+    at_any_time (events.Evict evicted mask) valid.0 (λ e. cc e),
+    all_fit_more (length es) (suc (length es)) (omega arith) (commands_of es) (journal_fits es valid.1),
+  )
   journal_fits (events.Crash ∷ es) valid = (tt, all_fit_more (length es) (suc (length es)) (omega arith) (commands_of es) (journal_fits es valid.1))
-  journal_fits (events.Start ∷ es) valid = absurd valid.0
+  journal_fits (events.Start ∷ es) valid = (tt, all_fit_more (length es) (suc (length es)) (omega arith) (commands_of es) (journal_fits es valid.1))
 
 -- ---- Lines, byte by byte
 
@@ -276,7 +334,7 @@ module _ (harts most : ℕ) (machine : harts ≤ MOST_THREADS) (few : most < 429
       ∙ number_read mask_number (place + 1 + 1 + length (decimal evicted) + 1) mask [] (ends evicted) (omega (arith, within))
       (mask_allowed (place + 1 + 1 + length (decimal evicted) + 1) mask within) tt
   line_read place Crash fit = refl
-  line_read place Start fit = absurd fit
+  line_read place Start fit = refl
 
   plain_both : (xs ys : List ℕ) → AllByRecursion Plain xs → AllByRecursion Plain ys → AllByRecursion Plain (xs ++ ys)
   plain_both [] ys left right = right
@@ -322,7 +380,7 @@ module _ (harts most : ℕ) (machine : harts ≤ MOST_THREADS) (few : most < 429
           line_first place (Evict evicted mask) 101 (32 ∷ (decimal evicted ++ codes " " ++ decimal mask)) (flat_map command_text cs) refl
           ((refl, refl), ((refl, refl), plain_numbers evicted mask (omega (arith, below, machine)) (omega (arith, within)))) f
       by Crash f = line_first place Crash 99 [] (flat_map command_text cs) refl ((refl, refl), tt) f
-      by Start f = absurd f
+      by Start f = line_first place Start 114 [] (flat_map command_text cs) refl ((refl, refl), tt) f
 
 -- ---- Whole journals
 
@@ -330,8 +388,12 @@ module _ (harts most : ℕ) (machine : harts ≤ MOST_THREADS) (few : most < 429
 pub journal_plays : {M : Type 0} (b : Behaviour M) → ArePlayedBack b
 unfolding read
 journal_plays b harts es machine few valid =
-    let fit = journal_fits harts es (recursion_from_All (IsValid harts (IsEviction harts)) es valid) in record {
+    let fit = journal_fits harts es (recursion_from_All (IsValidNow harts (IsEviction harts) true) es valid) in record {
       lines = placed 0 (commands_of es);
       read_is = lines_read harts (length es) machine few 0 (commands_of es) fit;
-      events_are = λ m. script_made b harts (length es) m 0 (commands_of es) fit ∙ made-commands_of es;
+      events_are = λ m may.
+          script_made b harts (length es) m 0 (commands_of es) fit (subst (MayStart b m) (sym (made-commands_of es)) may) ∙ made-commands_of es;
+      faultless = λ m may room fits.
+          let same = ap length (made-commands_of es) in
+          faultless b harts (length es) m 0 (commands_of es) room fit (subst (MayStart b m) (sym (made-commands_of es)) may) (omega (arith, same, fits));
     }

@@ -3,7 +3,6 @@ mod EventsWithinRoom
 mod ScriptTargetsExist
 mod Gaps
 mod Lines
-mod FewLines
 mod RoundsMade
 mod Numbers
 mod LineReader

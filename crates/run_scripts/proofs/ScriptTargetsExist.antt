@@ -14,7 +14,7 @@ use Rattle.run_scripts.specs.declared.script.Command.{Command}
 use Rattle.run_scripts.specs.declared.script.Line as declared
 use Rattle.run_scripts.specs.links.ScriptViews.{line_of as shown}
 use Rattle.std.proofs.lemmas.List.Elements.{All-from_recursion}
-use Rattle.run_scripts.specs.declared.script.Command.TheVariants.{Steps, Point, Fence, Enabled, Evict, Crash}
+use Rattle.run_scripts.specs.declared.script.Command.TheVariants.{Steps, Point, Fence, Enabled, Evict, Crash, Start}
 
 -- ---- Numbers that aren't refused
 
@@ -121,7 +121,8 @@ module _ (harts : ℕ) where
       (either (c == 102) _ _ x (one_line Fence (place + 1) cs x (λ n h. h))
       (either (c == 103) _ _ x (enabled_doable (place + 1) cs x)
       (either (c == 101) _ _ x (evict_doable (place + 1) cs x)
-      (either (c == 99) _ _ x (λ s. subst (IsDoable harts (IsEviction harts)) (ended (place + 1) cs Crash x s) tt) (λ s. cc)))))) e
+      (either (c == 99) _ _ x (λ s. subst (IsDoable harts (IsEviction harts)) (ended (place + 1) cs Crash x s) tt)
+      (either (c == 114) _ _ x (λ s. subst (IsDoable harts (IsEviction harts)) (ended (place + 1) cs Start x s) tt) (λ s. cc))))))) e
 
   -- ---- All lines
 

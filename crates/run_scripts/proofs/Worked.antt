@@ -1,14 +1,17 @@
 -- What the definitions compute.
-use Rattle.std.specs.Prelude.{◌≡◌, [], ◌∷◌, ◌++◌, refl, codes, pos, negsuc}
+use Rattle.std.specs.Prelude.{◌≡◌, ◌==◌, ℕ, suc, [], ◌∷◌, ◌++◌, List, Some, None, false, refl, codes, pos, negsuc}
 use Rattle.std.specs.Fmt.{digits}
 use Rattle.rand_core.specs.Steps.{first_words}
 use Rattle.ido_base.specs.declared.event.Event.TheVariants as events
+use Rattle.ido_base.specs.declared.event.Reply.TheVariants.{Moved}
+use Rattle.ido_base.specs.Cores.{Behaviour}
 use Rattle.run_scripts.specs.Draws.{drawn_event, drawn_evictions, drawn_run, events_from}
 use Rattle.run_scripts.specs.GeneratedSources.{generated_source, mutex_item, section_line, thread_head, thread_item, variable_item}
 use Rattle.run_scripts.specs.Journals.{command_text, journal_text}
+use Rattle.run_scripts.specs.Plays.{BadStart, PastFew, TooMany, fault_within, play_fault, script_events}
 use Rattle.run_scripts.specs.Reports.{variable_line, element_text, ended_line, ended_lines, schedule_line, run_text, hart_text, unsettled_line}
 use Rattle.run_scripts.specs.Scripts as s
-use Rattle.run_scripts.specs.declared.script.Command.TheVariants.{Point, Evict}
+use Rattle.run_scripts.specs.declared.script.Command.TheVariants.{Point, Evict, Start}
 use Rattle.run_scripts.specs.declared.script.Command.TheVariants.{Steps as StepsOf}
 use Rattle.run_scripts.specs.Schedules.{read, Steps, Refused, BadWord, BadNumber, TooMany}
 
@@ -120,6 +123,53 @@ two_spaces : s.read 1 (codes "s  0 1") ≡ s.Refused (s.BadWord 2)
 unfolding s.read
 two_spaces = refl
 
+start_is_read : s.read 1 (codes "r\r\nr") ≡ s.Lines (record { place = 0; command = Start } ∷ record { place = 3; command = Start } ∷ [])
+unfolding s.read
+start_is_read = refl
+
+start_with_number : s.read 1 (codes "r 1") ≡ s.Refused (s.BadWord 1)
+unfolding s.read
+start_with_number = refl
+
+-- ---- Plays
+
+-- a core that counts its events, and in which another life may begin after two of them
+abbrev counting : Behaviour ℕ
+counting = record {
+  next = λ n e. suc n;
+  reply = λ n e. Moved;
+  is_stopped = λ n h. false;
+  can_start = λ n. n == 2;
+  stores_point = λ n h e. false;
+  finishes_fence = λ n h e. false;
+}
+
+-- so many steps, a start and one step more
+abbrev steps_and_start : (count : ℕ) → List s.Line
+steps_and_start count =
+    record { place = 0; command = StepsOf 0 count } ∷ record { place = 6; command = Start } ∷ record { place = 8; command = StepsOf 0 1 } ∷ []
+
+start_in_time : script_events counting 1 0 (steps_and_start 2) ≡ events.Step 0 ∷ events.Step 0 ∷ events.Start ∷ events.Step 0 ∷ []
+start_in_time = refl
+
+start_too_soon : script_events counting 1 0 (steps_and_start 1) ≡ events.Step 0 ∷ []
+start_too_soon = refl
+
+no_fault : play_fault counting 1 0 4 (steps_and_start 2) ≡ None
+no_fault = refl
+
+bad_start : play_fault counting 1 0 4 (steps_and_start 1) ≡ Some (BadStart 6)
+bad_start = refl
+
+too_many_at_bad_start : play_fault counting 1 0 1 (steps_and_start 1) ≡ Some (TooMany 6)
+too_many_at_bad_start = refl
+
+bad_start_past_few : fault_within counting 1 0 4 1 (steps_and_start 1) ≡ Some (BadStart 6)
+bad_start_past_few = refl
+
+start_past_few : fault_within counting 1 0 4 2 (steps_and_start 2) ≡ Some (PastFew 6)
+start_past_few = refl
+
 -- ---- Drawn runs
 
 nothing_is_drawn : drawn_run 7 0 [] 1 1 ≡ []
@@ -174,6 +224,10 @@ events_by_line : journal_text (codes "mutex m;") (
     ) ≡ codes "mutex m;\n%%\ns 0 2\ns 10 1\nc\nc\ns 10 1\ne 1024 255\ns 10 1\n"
 unfolding journal_text command_text digits
 events_by_line = refl
+
+start_by_line : journal_text (codes "mutex m;") (events.Step 0 ∷ events.Start ∷ events.Step 0 ∷ []) ≡ codes "mutex m;\n%%\ns 0 1\nr\ns 0 1\n"
+unfolding journal_text command_text digits
+start_by_line = refl
 
 source_that_ends_a_line : journal_text (codes "mutex m;\n") [] ≡ codes "mutex m;\n%%\n"
 unfolding journal_text

@@ -1,6 +1,5 @@
 pub mod Bounds
 pub mod Draws
-pub mod FewEvents
 pub mod GeneratedSources
 pub mod Journals
 pub mod Laws

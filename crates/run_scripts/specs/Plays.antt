@@ -1,5 +1,5 @@
 -- The events of a script, made by a core.
-use Rattle.std.specs.Prelude.{ℕ, zero, suc, ◌-◌, List, [], ◌∷◌, ◌++◌, length, replicate, Option, Some, None, Bool, nat_lt, if◌then◌else◌}
+use Rattle.std.specs.Prelude.{◌≡◌, ℕ, zero, suc, ◌-◌, List, [], ◌∷◌, ◌++◌, length, replicate, Option, Some, None, Bool, true, false, not, nat_lt, if◌then◌else◌}
 use Rattle.ido_base.specs.declared.event.Event.{Event}
 use Rattle.ido_base.specs.declared.event.Event.TheVariants as events
 use Rattle.ido_base.specs.Cores.{Behaviour, played, least_enabled}
@@ -34,14 +34,51 @@ line_events b harts m (Evict line mask) = events.Evict line mask ∷ []
 line_events b harts m Crash = events.Crash ∷ []
 line_events b harts m Start = events.Start ∷ []
 
--- the events of lines, each by what the core represents before it
+-- the line is a start, and no life may begin now
+abbrev pub is_refused : {M : Type 0} → Behaviour M → M → Command → Bool
+is_refused b m (Steps hart count) = false
+is_refused b m (Point hart) = false
+is_refused b m (Fence hart) = false
+is_refused b m (Enabled count) = false
+is_refused b m (Evict line mask) = false
+is_refused b m Crash = false
+is_refused b m Start = not (b.can_start m)
+
+-- the events of lines, each by what the core represents before it, up to a start by which no life may begin
 abbrev pub script_events : {M : Type 0} → Behaviour M → (harts : ℕ) → M → List Line → List Event
 script_events b harts m [] = []
-script_events b harts m (line ∷ lines) = line_events b harts m line.command ++ script_events b harts (played b m (line_events b harts m line.command)) lines
+script_events b harts m (line ∷ lines) =
+    let es = line_events b harts m line.command in
+    if is_refused b m line.command then [] else es ++ script_events b harts (played b m es) lines
 
--- the place of the line whose events are the first past so many
-abbrev pub excess_at : {M : Type 0} → Behaviour M → (harts : ℕ) → M → (room : ℕ) → List Line → Option ℕ
-excess_at b harts m room [] = None
-excess_at b harts m room (line ∷ lines) =
-    let events = line_events b harts m line.command in
-    if nat_lt room (length events) then Some line.place else excess_at b harts (played b m events) (room - length events) lines
+-- ---- Faults that are found while lines are played
+
+-- why lines aren't played to their end, at the line that stands at this place
+pub data PlayFault : Type 0 where
+  -- its events go past as many as a script may make
+  TooMany : (place : ℕ) → PlayFault
+  -- it is a start by which no life may begin
+  BadStart : (place : ℕ) → PlayFault
+  -- its events go past the few that there may be
+  PastFew : (place : ℕ) → PlayFault
+
+-- the first fault, where at most so many events may be made, and at most so few are wanted; of one line the first of these three
+abbrev pub fault_within : {M : Type 0} → Behaviour M → (harts : ℕ) → M → (room few : ℕ) → List Line → Option PlayFault
+fault_within b harts m room few [] = None
+fault_within b harts m room few (line ∷ lines) =
+    let es = line_events b harts m line.command in
+    if nat_lt room (length es) then Some (TooMany line.place)
+    else if is_refused b m line.command then Some (BadStart line.place)
+    else if nat_lt few (length es) then Some (PastFew line.place)
+    else fault_within b harts (played b m es) (room - length es) (few - length es) lines
+
+-- the first fault, where as many are wanted as may be made
+abbrev pub play_fault : {M : Type 0} → Behaviour M → (harts : ℕ) → M → (room : ℕ) → List Line → Option PlayFault
+play_fault b harts m room lines = fault_within b harts m room room lines
+
+-- ---- Events that are made again
+
+-- another life may begin at each start among the events
+abbrev pub MayStart : {M : Type 0} → Behaviour M → M → List Event → Type 0
+MayStart b m [] = Unit {0}
+MayStart b m (event ∷ more) = (event ≡ events.Start → b.can_start m ≡ true) × MayStart b (b.next m event) more

@@ -1,5 +1,5 @@
 -- Scripts: each line that isn't empty says which events are made.
-use Rattle.std.specs.Prelude.{ℕ, ◌+◌, ◌<◌, ◌≤◌, List, [], ◌∷◌, Option, Some, None, nat_lt, nat_le, ◌==◌, if◌then◌else◌, take, drop}
+use Rattle.std.specs.Prelude.{ℕ, ◌+◌, ◌<◌, ◌≤◌, List, [], ◌∷◌, Bool, true, false, Option, Some, None, nat_lt, nat_le, ◌==◌, if◌then◌else◌, take, drop}
 use Rattle.std.specs.List.{prefix_len}
 use Rattle.std.specs.Str.Parse.{digits_value}
 use Rattle.ido_base.specs.declared.log.Log.TheVariants.{V1}
@@ -93,6 +93,7 @@ line_of harts place (c ∷ cs) =
     else if c == 103 then enabled_line (place + 1) cs
     else if c == 101 then evict_line harts (place + 1) cs
     else if c == 99 then end_then (place + 1) cs Crash
+    else if c == 114 then end_then (place + 1) cs Start
     else Fails (BadWord place)
 
 -- ---- A script
@@ -122,7 +123,17 @@ lines_of harts (p ∷ ps) = with_line p.place (line_of harts p.place p.bytes) (l
 unfoldable pub read : (harts : ℕ) → List ℕ → Read
 read harts text = lines_of harts (lines_at 0 text)
 
--- what the line asks for exists, at so many harts and where these evictions (line, mask) are valid
+-- the line is a start
+abbrev pub is_start : Command → Bool
+is_start (Steps hart count) = false
+is_start (Point hart) = false
+is_start (Fence hart) = false
+is_start (Enabled count) = false
+is_start (Evict line mask) = false
+is_start Crash = false
+is_start Start = true
+
+-- what the line asks for exists, at so many harts and where these evictions (line, mask) are valid; whether a life may begin is found when a start is played
 abbrev pub IsDoable : (harts : ℕ) → (ℕ → ℕ → Type 0) → Command → Type 0
 IsDoable harts evictable (Steps hart count) = hart < harts
 IsDoable harts evictable (Point hart) = hart < harts
@@ -130,8 +141,7 @@ IsDoable harts evictable (Fence hart) = hart < harts
 IsDoable harts evictable (Enabled count) = Unit {0}
 IsDoable harts evictable (Evict line mask) = evictable line mask
 IsDoable harts evictable Crash = Unit {0}
--- no script is read with such a line
-IsDoable harts evictable Start = ⊥
+IsDoable harts evictable Start = Unit {0}
 
 -- the line exists, and the mask has eight bits
 abbrev pub IsEviction : (harts line mask : ℕ) → Type 0

@@ -1,9 +1,10 @@
 //! The play of a script on a core.
-ghost use Rattle.std.specs.Prelude.{◌≡◌, ◌↔◌, ◌+◌, ◌-◌, ◌<◌, ◌≤◌, ◌++◌, ◌∷◌, [], ℕ, All, length, map, nat_le, replicate, take, Some, None, IfOk, IfErr};
+ghost use Rattle.std.specs.Prelude.{◌≡◌, ◌↔◌, ◌+◌, ◌-◌, ◌<◌, ◌≤◌, ◌++◌, ◌∷◌, ◌&&◌, [], ℕ, All, length, map, nat_le, nat_lt, replicate, take};
+ghost use Rattle.std.specs.Prelude.{false, true, Some, None, IfOk, IfErr};
 ghost use Rattle.ido_base.specs.declared.event.Event.TheVariants as events;
 ghost use Rattle.ido_base.specs.Cores.{IsValid, played, passed_count};
 ghost use Rattle.run_scripts.specs.Scripts.{IsDoable};
-ghost use Rattle.run_scripts.specs.Plays.{enabled_steps, line_events, script_events, excess_at, steps_until};
+ghost use Rattle.run_scripts.specs.Plays.{enabled_steps, is_refused, line_events, play_fault, script_events, steps_until};
 ghost use Rattle.run_scripts.specs.links.Goals.{reaches};
 ghost use Rattle.run_scripts.specs.links.ScriptViews as views;
 
@@ -14,12 +15,15 @@ use ido_base::machine::Core;
 use ido_base::place::Place;
 use thiserror::Error;
 
-/// The events go past as many as there may be with those of this line.
+/// Why a script isn't played to its end, and where the line stands at which that is found.
 #[derive(Clone, Copy, Debug, PartialEq, Eq, Drop, Error)]
-#[error("too many events")]
-pub struct TooManyEvents {
-    /// Where the line stands.
-    pub line: Place,
+pub enum PlayError {
+    /// With its events they go past as many as there may be.
+    #[error("too many events")]
+    Many(Place),
+    /// It is a start, and no life may begin.
+    #[error("a start where no life may begin")]
+    Start(Place),
 }
 
 /// What a hart is stepped to.
@@ -152,9 +156,42 @@ fn play_event<C: Core>(core: &mut C, event: Event, floor: u64) -> bool
     true
 }
 
+/// Makes a start if there is room above the floor. Answers whether there was.
+fn play_start<C: Core>(core: &mut C, floor: u64) -> bool
+    requires may { floor < C.space core.old → C.behaviour.can_start (played C.behaviour (C.opening core.old) (C.history core.old)) ≡ true }
+    requires floor { floor ≤ C.space core.old }
+    ensures opening { C.opening core.new ≡ C.opening core.old }
+    ensures history { C.history core.new ≡ C.history core.old ++ take (C.space core.old - floor) (events.Start ∷ []) }
+    ensures all { result ≡ nat_le 1 (C.space core.old - floor) }
+    ensures room { C.space core.new + length (C.history core.new) ≡ C.space core.old + length (C.history core.old) }
+    ensures floor { floor ≤ C.space core.new }
+    ensures harts { C.hart_count core.new ≡ C.hart_count core.old }
+    ensures evictable { (line mask : ℕ) → C.evictable core.new line mask ↔ C.evictable core.old line mask }
+{
+    if core.room() == floor {
+        return false;
+    }
+    core.event(Event::Start);
+    true
+}
+
+/// The line is a start for which there is room above the floor, and no life may begin by it.
+pub(crate) fn is_refused<C: Core>(core: &C, command: Command, floor: u64) -> bool
+    ensures { result
+        ≡ (is_refused C.behaviour (played C.behaviour (C.opening core.now) (C.history core.now)) command && nat_lt floor (C.space core.now)) }
+{
+    match command {
+        Command::Start => !core.can_start() && core.room() > floor,
+        Command::Steps { .. } | Command::Point { .. } | Command::Fence { .. } => false,
+        Command::Enabled { .. } | Command::Evict { .. } | Command::Crash => false,
+    }
+}
+
 /// Makes the events of a line as long as there is room above the floor. Answers whether these were all of them.
 pub(crate) fn play_line<C: Core>(core: &mut C, command: Command, floor: u64) -> bool
     requires doable { IsDoable (C.hart_count core.old) (C.evictable core.old) command }
+    requires starts { floor < C.space core.old →
+        is_refused C.behaviour (played C.behaviour (C.opening core.old) (C.history core.old)) command ≡ false }
     requires floor { floor ≤ C.space core.old }
     ensures opening { C.opening core.new ≡ C.opening core.old }
     ensures history { C.history core.new
@@ -175,13 +212,13 @@ pub(crate) fn play_line<C: Core>(core: &mut C, command: Command, floor: u64) -> 
         Command::Enabled { count } => play_enabled(core, count, floor),
         Command::Evict { line, mask } => play_event(core, Event::Evict { line, mask }, floor),
         Command::Crash => play_event(core, Event::Crash, floor),
-        Command::Start => play_event(core, Event::Start, floor),
+        Command::Start => play_start(core, floor),
     }
 }
 
-/// Makes the events of a script on a core, at most so many of them. Where there are more, the answer is the line whose events go past that, and those
-/// before the excess are made.
-pub fn play<C: Core>(script: &Script, core: &mut C, most: u64) -> Result<(), TooManyEvents>
+/// Makes the events of a script on a core, at most so many of them. Where there are more, or where no life may begin by a start, the answer is the first such
+/// line, and the events before the excess, or before the start, are made.
+pub fn play<C: Core>(script: &Script, core: &mut C, most: u64) -> Result<(), PlayError>
     requires lines { All (λ line. IsDoable (C.hart_count core.old) (C.evictable core.old) line.command) script.now.lines.items }
     requires room { most ≤ C.space core.old }
     ensures opening { C.opening core.new ≡ C.opening core.old }
@@ -190,20 +227,23 @@ pub fn play<C: Core>(script: &Script, core: &mut C, most: u64) -> Result<(), Too
         (script_events C.behaviour (C.hart_count core.old) (played C.behaviour (C.opening core.old) (C.history core.old))
         (map views.line_of script.now.lines.items)) }
     ensures whole { IfOk result (λ x.
-        excess_at C.behaviour (C.hart_count core.old) (played C.behaviour (C.opening core.old) (C.history core.old)) most
+        play_fault C.behaviour (C.hart_count core.old) (played C.behaviour (C.opening core.old) (C.history core.old)) most
         (map views.line_of script.now.lines.items) ≡ None) }
-    ensures excess { IfErr result (λ e.
-        excess_at C.behaviour (C.hart_count core.old) (played C.behaviour (C.opening core.old) (C.history core.old)) most
+    ensures refused { IfErr result (λ e.
+        play_fault C.behaviour (C.hart_count core.old) (played C.behaviour (C.opening core.old) (C.history core.old)) most
         (map views.line_of script.now.lines.items)
-        ≡ Some e.line.0) }
+        ≡ Some (views.play_fault_of e)) }
     ensures room { C.space core.new + length (C.history core.new) ≡ C.space core.old + length (C.history core.old) }
     ensures harts { C.hart_count core.new ≡ C.hart_count core.old }
     ensures evictable { (line mask : ℕ) → C.evictable core.new line mask ↔ C.evictable core.old line mask }
 {
     let floor = core.room() - most;
     for line in &script.lines {
+        if is_refused(core, line.command, floor) {
+            return Err(PlayError::Start(line.place));
+        }
         if !play_line(core, line.command, floor) {
-            return Err(TooManyEvents { line: line.place });
+            return Err(PlayError::Many(line.place));
         }
     }
     Ok(())

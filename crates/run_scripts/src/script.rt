@@ -35,7 +35,7 @@ pub enum Command {
     Evict { line: u32, mask: u32 },
     /// `c`: a crash.
     Crash,
-    /// `r`: another life begins. Journals have such lines; no script is read with one.
+    /// `r`: another life begins, where each hart has stopped between sections.
     Start,
 }
 
@@ -293,6 +293,16 @@ fn crash_line(line: &[u8], place: u32) -> Result<Command, ScriptFault>
     Ok(Command::Crash)
 }
 
+/// The line `r`.
+fn start_line(line: &[u8], place: u32) -> Result<Command, ScriptFault>
+    requires within { 1 ≤ length line.now }
+    requires short { place + length line.now < 2 ^ 32 }
+    ensures { views.IsLineRead (end_then (place + 1) (drop 1 line.now) c.Start) result }
+{
+    end(line, place, 1)?;
+    Ok(Command::Start)
+}
+
 /// What a line says that stands at a place, at a machine of so many harts.
 fn command_of(line: &[u8], place: u32, harts: u32) -> Result<Command, ScriptFault>
     requires { place + length line.now < 2 ^ 32 }
@@ -308,6 +318,7 @@ fn command_of(line: &[u8], place: u32, harts: u32) -> Result<Command, ScriptFaul
         b'g' => enabled_line(line, place),
         b'e' => evict_line(line, place, harts),
         b'c' => crash_line(line, place),
+        b'r' => start_line(line, place),
         _ => Err(ScriptFault::Word(Place(place))),
     }
 }

@@ -13,7 +13,7 @@ syntax region idoComment start="/\*" end="\*/" keepend
 syntax match idoComment "//.*$"
 syntax region idoScript start=/^%%\r\=$/ end=/\%$/ contains=idoMark,idoStep,idoCount
 syntax match idoMark /^%%\r\=$/ contained
-syntax match idoStep /^\%([sbfgec]\|schedule\)\>/ contained
+syntax match idoStep /^\%([sbfgecr]\|schedule\)\>/ contained
 syntax match idoCount /[0-9]\+/ contained
 
 highlight default link idoDeclaration StorageClass

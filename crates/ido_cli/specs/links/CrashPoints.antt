@@ -1,5 +1,5 @@
 -- The points of a script at which power may be lost, and what a life comes to from there.
-use Rattle.std.specs.Prelude.{◌≡◌, ℕ, ◌≤◌, List, [], ◌∷◌, ◌++◌, length, map, take, All, Result, Ok, Err}
+use Rattle.std.specs.Prelude.{◌≡◌, ℕ, ◌≤◌, List, [], ◌∷◌, ◌++◌, length, map, take, All, Option, Some, None, Result, Ok, Err}
 use Rattle.ido_base.specs.declared.log.Log.TheVariants.{V1}
 use Rattle.ido_base.specs.declared.event.Event.{Event}
 use Rattle.ido_base.specs.declared.event.Event.TheVariants.{Crash}
@@ -14,7 +14,8 @@ use Rattle.compiler_correctness.specs.Translations.{Translation, translation_to}
 use Rattle.rv64_isa.specs.Machine.{IsEviction}
 use Rattle.run_scripts.specs.declared.few.Excess.{Excess}
 use Rattle.run_scripts.specs.declared.script.Script.{Script}
-use Rattle.run_scripts.specs.FewEvents.{IsExcess}
+use Rattle.ido_base.specs.declared.limits.TheConstants.{MOST_EVENTS}
+use Rattle.run_scripts.specs.Plays.{PlayFault, fault_within}
 use Rattle.run_scripts.specs.Rounds.{AreWholeRounds}
 use Rattle.run_scripts.specs.Scripts.{IsDoable, Line}
 use Rattle.run_scripts.specs.links.ScriptViews as scripts
@@ -57,7 +58,12 @@ pub record HasAllPoints (points : CrashPoints) (last : ℕ) : Type 0 where
   pub all : length (events_by (translation_at points) (lines_in points.script)) ≡ last
   pub few : last ≤ most_sweep_events
 
--- what is told of a script: how many events it makes, or its first line with too many
+-- the first fault of a script of few events
+abbrev pub sweep_fault : Translation → List Line → Option PlayFault
+sweep_fault c lines = fault_within living (length c.runs.program) (beginning c) MOST_EVENTS most_sweep_events lines
+
+-- what is told of a script: how many events it makes, or its first fault
 abbrev pub IsCounted : Translation → Script → Result ℕ Excess → Type 0
-IsCounted c script (Ok count) = (length (events_by c (lines_in script)) ≡ count) × (count ≤ most_sweep_events)
-IsCounted c script (Err excess) = IsExcess living (length c.runs.program) (beginning c) most_sweep_events (lines_in script) excess
+IsCounted c script (Ok count) =
+    (length (events_by c (lines_in script)) ≡ count) × (count ≤ most_sweep_events) × (sweep_fault c (lines_in script) ≡ None)
+IsCounted c script (Err excess) = sweep_fault c (lines_in script) ≡ Some (scripts.few_fault_of excess)

@@ -1,6 +1,11 @@
 -- What the types of `script` represent.
 use Rattle.std.specs.Prelude.{◌≡◌, ℕ, List, ◌++◌, Option, Some, None, Result, Ok, Err}
+use Rattle.run_scripts.specs.Plays as p
 use Rattle.run_scripts.specs.Scripts as s
+use Rattle.run_scripts.specs.declared.few.Excess.{Excess}
+use Rattle.run_scripts.specs.declared.few.Excess.TheVariants as few
+use Rattle.run_scripts.specs.declared.play.PlayError.{PlayError}
+use Rattle.run_scripts.specs.declared.play.PlayError.TheVariants as play
 use Rattle.run_scripts.specs.declared.script.Command.{Command}
 use Rattle.run_scripts.specs.declared.script.Line.{Line}
 use Rattle.run_scripts.specs.declared.script.Rule.{Rule}
@@ -29,6 +34,16 @@ fault_of (f.Line place) = s.NoLine place.0
 abbrev pub refused_fault : ScriptError → Option s.Fault
 refused_fault (e.Refused fault) = Some (fault_of fault)
 refused_fault e.Memory = None
+
+-- what is found while a script is played
+abbrev pub play_fault_of : PlayError → p.PlayFault
+play_fault_of (play.Many place) = p.TooMany place.0
+play_fault_of (play.Start place) = p.BadStart place.0
+
+abbrev pub few_fault_of : Excess → p.PlayFault
+few_fault_of (few.Script place) = p.TooMany place.0
+few_fault_of (few.Start place) = p.BadStart place.0
+few_fault_of (few.Few place) = p.PastFew place.0
 
 -- the line ends after its last number
 abbrev pub ending : (make : ℕ → Command) → (number place : ℕ) → List ℕ → s.LineRead

@@ -1,22 +1,48 @@
-use Rattle.std.proofs.Common.{sym, ◌∙◌, refl}
+use Rattle.std.proofs.Common.{sym, ◌∙◌, refl, arith}
 use Rattle.run_scripts.specs.declared.script.Line.{Line}
 use Rattle.run_scripts.specs.declared.script.Command.TheVariants.{Steps}
-use Rattle.run_scripts.proofs.Lines.{excess_left, goes_on, plays_all}
+use Rattle.run_scripts.proofs.Lines.{all_before, bad_start, excess_left, goes_on, is_bad, may_go, none_found, past_room, playing, plays_all}
 use Rattle.run_scripts.proofs.play.play.Goals as goal
 
 abbrev none : Line
 none = record { place = record { 0 = 0 }; command = Steps 0 0 }
 
+pub loop-line-init : goal.loop-line-init
+loop-line-init g c = playing g.C.Core _ _ _ _ _ (omega (arith, c.room.ensures, c.requires.room))
+
+pub play_line-requires-clause-starts : goal.play_line-requires-clause-starts
+play_line-requires-clause-starts g c = λ _ _ more. may_go _ _ _ (sym c.is_refused.ensures ∙ c.if-is_refused.false) more
+
 pub loop-line-preserved : goal.loop-line-preserved
 loop-line-preserved g c =
     goes_on g.C.Core c.loop-line.invariant c.deref-line-items.result.now c.deref-line-items.ensures.value none c.loop-line-test.true
-    (g.C.Core.history c.play_line.new.core) c.play_line.ensures.history (sym c.play_line.ensures.all ∙ c.if-not-play_line.false) c.play_line.new.core
+    (g.C.Core.history c.play_line.new.core) c.play_line.ensures.history (sym c.play_line.ensures.all ∙ c.if-not-play_line.false)
+    (may_go _ _ _ (sym c.is_refused.ensures ∙ c.if-is_refused.false)) c.play_line.new.core
     c.play_line.ensures.opening refl c.play_line.ensures.room c.play_line.ensures.floor c.play_line.ensures.harts c.play_line.ensures.evictable
+    (omega arith)
+
+pub returns-then-is_refused-clause-events : goal.returns-then-is_refused-clause-events
+returns-then-is_refused-clause-events g c =
+    let both = is_bad _ _ _ (sym c.is_refused.ensures ∙ c.if-is_refused.true) in
+    all_before g.C.Core c.loop-line.invariant c.deref-line-items.result.now c.deref-line-items.ensures.value none c.loop-line-test.true both.0 both.1
+
+pub returns-then-is_refused-clause-refused : goal.returns-then-is_refused-clause-refused
+returns-then-is_refused-clause-refused g c =
+    let both = is_bad _ _ _ (sym c.is_refused.ensures ∙ c.if-is_refused.true) in
+    bad_start g.C.Core c.loop-line.invariant c.deref-line-items.result.now c.deref-line-items.ensures.value none c.loop-line-test.true both.0 both.1
 
 pub returns-then-not-play_line-clause-events : goal.returns-then-not-play_line-clause-events
 returns-then-not-play_line-clause-events g c =
     excess_left g.C.Core c.loop-line.invariant c.deref-line-items.result.now c.deref-line-items.ensures.value none c.loop-line-test.true
     (g.C.Core.history c.play_line.new.core) c.play_line.ensures.history (sym c.play_line.ensures.all ∙ c.if-not-play_line.true)
 
+pub returns-then-not-play_line-clause-refused : goal.returns-then-not-play_line-clause-refused
+returns-then-not-play_line-clause-refused g c =
+    past_room g.C.Core c.loop-line.invariant c.deref-line-items.result.now c.deref-line-items.ensures.value none c.loop-line-test.true
+    (g.C.Core.history c.play_line.new.core) c.play_line.ensures.history (sym c.play_line.ensures.all ∙ c.if-not-play_line.true)
+
 pub returns-clause-events : goal.returns-clause-events
 returns-clause-events g c = plays_all g.C.Core c.loop-line.invariant c.deref-line-items.result.now c.deref-line-items.ensures.value c.loop-line-test.false
+
+pub returns-clause-whole : goal.returns-clause-whole
+returns-clause-whole g c = none_found g.C.Core c.loop-line.invariant c.deref-line-items.result.now c.deref-line-items.ensures.value c.loop-line-test.false
