@@ -18,8 +18,8 @@ use Rattle.rv64_isa.specs.Rows.{Effect, Continues, Stores, Cleans, row, read, ne
 use Rattle.rv64_isa.specs.Arithmetic.{sign_extended, result_of}
 use Rattle.memory_layout.specs.Roles.{is_temporary, is_kept}
 use Rattle.operator_code.specs.StraightLineCode.{IsConstant, registers_after}
-use Rattle.boundary_code.specs.Boundaries.{lines_in_use, bank_lines, listed_from, IsOnSide, IsUnderWay, GiveNumbers}
-use Rattle.boundary_code.specs.links.InstructionLists.{KeptCode, keep_slots, keep_locks, clean_lines, bank_part, opening_list}
+use Rattle.boundary_code.specs.Boundaries.{lines_in_use, bank_lines, listed_from, IsOnSide, IsUnderWay, GiveNumbers, keep_locks}
+use Rattle.boundary_code.specs.links.InstructionLists.{KeptCode, keep_slots, clean_lines, bank_part, opening_list}
 use Rattle.operator_code.proofs.Public.{RunsFrom, stop, go, store, clean, along, constant_runs, read_same, read_other, length-changed, small_immediate}
 use Rattle.operator_code.proofs.Public.{add_small, displaced_small}
 use Rattle.boundary_code.proofs.Registers.{ready, ready_still, flip, bank_immediate, base_small, not_temporary}

@@ -13,8 +13,8 @@ use Rattle.rv64_isa.specs.Signed.{twos_complement}
 use Rattle.memory_layout.specs.Roles.{is_kept}
 use Rattle.operator_code.specs.StraightLineCode.{IsConstant}
 use Rattle.operator_code.proofs.Public.{stop}
-use Rattle.boundary_code.specs.Boundaries.{Boundary, HasEffects, HasOffset, KeepsRegisters, GiveNumbers, listed_from, is_empty}
-use Rattle.boundary_code.specs.links.InstructionLists.{KeptCode, keep_locks, boundary_list, last_list}
+use Rattle.boundary_code.specs.Boundaries.{Boundary, HasEffects, HasOffset, KeepsRegisters, GiveNumbers, listed_from, is_empty, keep_locks}
+use Rattle.boundary_code.specs.links.InstructionLists.{KeptCode, boundary_list, last_list}
 use Rattle.boundary_code.proofs.Banks.{locks_run}
 use Rattle.boundary_code.proofs.WholeBoundaries.{Pieces, boundary-effects, boundary-offset, boundary-others, last-effects, last-offset, last-others}
 

@@ -7,8 +7,8 @@ use Rattle.ido_base.specs.declared.log.Log.{Log}
 use Rattle.rv64_isa.specs.declared.instr.Instr.{Instr}
 use Rattle.rv64_isa.specs.declared.instr.Instr.TheVariants.{Fence, Store}
 use Rattle.rv64_isa.specs.declared.instr.StoreKind.TheVariants.{Sd}
-use Rattle.boundary_code.specs.Boundaries.{bank_lines, lines_in_use}
-use Rattle.boundary_code.specs.links.InstructionLists.{KeptCode, AreShort, keep_slots, keep_locks, clean_lines, commit, boundary_list, last_list}
+use Rattle.boundary_code.specs.Boundaries.{bank_lines, lines_in_use, keep_locks, number_words}
+use Rattle.boundary_code.specs.links.InstructionLists.{KeptCode, keep_slots, clean_lines, commit, boundary_list, last_list}
 
 slots_length : (live : List ℕ) → length (keep_slots live) ≡ length live
 slots_length [] = refl
@@ -29,17 +29,13 @@ fewer test (line ∷ lines) = by (test line) (fewer test lines)
 lines_length : (log : Log) (slots : List ℕ) → length (lines_in_use log slots) ≤ length (bank_lines log)
 lines_length log slots = fewer (λ line. list_any (λ slot. slot / 8 == line) slots) (bank_lines log)
 
--- the code of the locks in slots of their own, where each lock has this many instructions at most
-pub locks_length : (slot most : ℕ) (codes : List (List Instr)) → AreShort most codes → length (keep_locks slot codes) ≤ (most + 1) * length codes
-locks_length slot most [] short = omega arith
-locks_length slot most (code ∷ codes) short =
-    let more = locks_length (slot + 1) most codes short.1 in
+-- the code of the locks in slots of their own
+pub locks_length : (slot : ℕ) (codes : List (List Instr)) → length (keep_locks slot codes) ≡ number_words codes
+locks_length slot [] = refl
+locks_length slot (code ∷ codes) =
+    let more = locks_length (slot + 1) codes in
     let e = length-append code (Store Sd 5 30 (64 + 8 * slot) ∷ keep_locks (slot + 1) codes) in
-    let first = short.0 in
-    omega (arith, more, e, first, sums most (length codes))
-  where
-    sums : (m n : ℕ) → (m + 1) * (n + 1) ≡ (m + 1) * n + m + 1
-    sums m n = omega arith
+    omega (arith, more, e)
 
 pub boundary_short : (log : Log) (address : List Instr) (kept : KeptCode) (live : List ℕ) (resume : ℕ) → length address ≤ 8 → length kept.first ≤ 8 →
     length (boundary_list log address kept live resume) ≤ length live + length kept.others + 27 + 2 * length (bank_lines log)

@@ -18,9 +18,9 @@ use Rattle.rv64_isa.specs.Signed.{twos_complement}
 use Rattle.memory_layout.specs.Roles.{is_kept}
 use Rattle.operator_code.specs.StraightLineCode.{IsConstant}
 use Rattle.operator_code.proofs.Public.{RunsFrom, along}
-use Rattle.boundary_code.specs.Boundaries.{Boundary, IsUnderWay, Opens, Closes, lines_in_use, slots_kept, resume_address}
-use Rattle.boundary_code.specs.links.InstructionLists.{keep_slots, keep_locks, clean_lines, point, commit, boundary_list}
-use Rattle.boundary_code.specs.links.InstructionLists.{opening_list, closing_list, IsListCode}
+use Rattle.boundary_code.specs.Boundaries.{Boundary, IsUnderWay, Opens, Closes, lines_in_use, slots_kept, resume_address, keep_locks, IsListCode}
+use Rattle.boundary_code.specs.links.InstructionLists.{keep_slots, clean_lines, point, commit, boundary_list}
+use Rattle.boundary_code.specs.links.InstructionLists.{opening_list, closing_list}
 use Rattle.boundary_code.proofs.Banks.{opened, kept_registers, slots_run, cleans_run, are_lines}
 use Rattle.boundary_code.proofs.Points.{Left, close, committed}
 use Rattle.boundary_code.proofs.BoundariesByPieces.{Parts, slots_listed, renamed}

@@ -8,8 +8,8 @@ use Rattle.rv64_isa.specs.declared.instr.ImmediateOperation.TheVariants.{Addi}
 use Rattle.rv64_isa.specs.Rows.{Stores, Cleans, Fences, row, read}
 use Rattle.rv64_isa.specs.Arithmetic.{result_of}
 use Rattle.operator_code.specs.StraightLineCode.{effects, registers_after}
-use Rattle.boundary_code.specs.Boundaries.{Boundary, boundary_effects, lines_in_use}
-use Rattle.boundary_code.specs.links.InstructionLists.{boundary_list, keep_locks, last_list}
+use Rattle.boundary_code.specs.Boundaries.{Boundary, boundary_effects, lines_in_use, keep_locks}
+use Rattle.boundary_code.specs.links.InstructionLists.{boundary_list, last_list}
 
 first : Boundary
 first = record { log = V1; thread = 0; locks = 0 ∷ []; live = []; resume = pos 0 }

@@ -1,12 +1,15 @@
 -- What the code of a boundary does.
 use Rattle.std.specs.Prelude.{◌≡◌, ◌≢◌, ℕ, ℤ, ◌+◌, ◌-◌, ◌*◌, ◌/◌, ◌%◌, ◌^◌, ◌<◌, ◌≤◌, List, [], ◌∷◌, ◌++◌, map, filter, length, Bool, true, false, ◌==◌}
-use Rattle.std.specs.Prelude.{if◌then◌else◌}
+use Rattle.std.specs.Prelude.{if◌then◌else◌, Vec}
+use Rattle.std.specs.Global.{Global}
 use Rattle.std.specs.List.{list_any}
 use Rattle.ido_base.specs.declared.log.Log.{Log}
 use Rattle.ido_base.specs.declared.log.Log.TheVariants.{V1, V2}
 use Rattle.ido_base.specs.Layout.{log_of, point_at, slot_at, bank_bytes}
 use Rattle.ido_base.specs.Locks.{locks_in, mask_with}
 use Rattle.rv64_isa.specs.declared.instr.Instr.{Instr}
+use Rattle.rv64_isa.specs.declared.instr.Instr.TheVariants.{Store}
+use Rattle.rv64_isa.specs.declared.instr.StoreKind.TheVariants.{Sd}
 use Rattle.rv64_isa.specs.Rows.{Effect, Stores, Cleans, Fences, read}
 use Rattle.rv64_isa.specs.Signed.{twos_complement}
 use Rattle.memory_layout.specs.Roles.{bank_offset, is_temporary}
@@ -56,10 +59,15 @@ abbrev pub HaveRoom : Log → (locks : List ℕ) → Type 0
 HaveRoom V1 locks = AreOfMask locks
 HaveRoom V2 locks = length locks ≤ 16
 
--- how many words a boundary's code has at most, beside one for each live register, where one instruction gives each lock's number
-abbrev pub words_beside : Log → (locks : List ℕ) → ℕ
-words_beside V1 locks = 35
-words_beside V2 locks = 39 + 2 * length locks
+-- how many words the codes of the locks' numbers have, each with the store into its slot
+abbrev pub number_words : (codes : List (List Instr)) → ℕ
+number_words [] = 0
+number_words (code ∷ codes) = length code + 1 + number_words codes
+
+-- how many words a boundary's code has at most, beside one for each live register, where a log that lists its locks has these codes for their numbers
+abbrev pub words_beside : Log → (codes : List (List Instr)) → ℕ
+words_beside V1 codes = 35
+words_beside V2 codes = 39 + number_words codes
 
 -- the slots of a bank that a boundary writes
 abbrev pub slots_kept : Log → (locks live : List ℕ) → List ℕ
@@ -149,7 +157,25 @@ pub record Closes (b : Boundary) (code : List Instr) : Type 0 where
   pub others : (x y : List ℕ) (pc side : ℕ) → IsUnderWay b.log b.thread (other_side side) x y → (r : ℕ) → is_temporary r ≡ false → r ≢ bank_offset →
       read (registers_after code y pc) r ≡ read x r
 
+-- each lock's number gets a slot, from this one on
+abbrev pub keep_locks : (slot : ℕ) → (codes : List (List Instr)) → List Instr
+keep_locks slot [] = []
+keep_locks slot (code ∷ codes) = code ++ Store Sd 5 30 (64 + 8 * slot) ∷ keep_locks (slot + 1) codes
+
+-- between the two parts stands for each lock the code that leaves its number in x5, and a store into its slot
+pub record IsListCode (thread : ℕ) (live : List ℕ) (resume : ℤ) (codes : List (List Instr)) (code : List Instr) : Type 0 where
+  pub opening : List Instr
+  pub closing : List Instr
+  pub split : code ≡ opening ++ (keep_locks 32 codes ++ closing)
+  pub opens : Opens V2 thread (length codes) opening
+  pub closes : (numbers : List ℕ) → length numbers ≡ length codes →
+      Closes (record { log = V2; thread = thread; locks = numbers; live = live; resume = resume }) closing
+
 -- ---- Numbers of locks
+
+-- the instructions in each of the lists
+abbrev pub lists_of : List (Vec Instr Global) → List (List Instr)
+lists_of codes = map (λ (code : Vec Instr Global). code.items) codes
 
 -- code that leaves the number of a lock in x5. It writes no registers but x5, x6, x7 and x30, and memory sees nothing of it. Where x30 has the sum of x31
 -- and x3, it has it again in the end: code that needs it for something else adds them once more

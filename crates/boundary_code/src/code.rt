@@ -9,9 +9,10 @@ ghost use Rattle.rv64_isa.specs.Machine.{numbers_from};
 ghost use Rattle.rv64_isa.specs.Signed.{twos_complement};
 ghost use Rattle.memory_layout.specs.Roles.{is_kept};
 ghost use Rattle.boundary_code.specs.Boundaries.{HasEffects, HasOffset, KeepsRegisters, GiveNumbers, bank_lines, lines_in_use};
-ghost use Rattle.boundary_code.specs.links.InstructionLists.{keep_slots, keep_locks, clean_lines, clean_where};
+ghost use Rattle.boundary_code.specs.Boundaries.{keep_locks, IsListCode, lists_of, number_words};
+ghost use Rattle.boundary_code.specs.links.InstructionLists.{keep_slots, clean_lines, clean_where};
 ghost use Rattle.boundary_code.specs.links.InstructionLists.{offset_bits, point, commit, bank_part, boundary_list};
-ghost use Rattle.boundary_code.specs.links.InstructionLists.{AreShort, IsListCode, last_list, lists_of};
+ghost use Rattle.boundary_code.specs.links.InstructionLists.{last_list};
 
 use ido_base::log::Log;
 use ido_base::memory::OutOfMemory;
@@ -288,8 +289,7 @@ pub fn boundary_list(
     requires live { IsTrue (list_all is_kept live.now) }
     requires low { negsuc 262143 ≤ℤ resume }
     requires high { resume ≤ℤ pos 262144 }
-    ensures short { (most : ℕ) → AreShort most (lists_of locks.now) →
-        IfOk result (λ code. length code.items ≤ length live.now + 39 + (most + 1) * length locks.now) }
+    ensures short { IfOk result (λ code. length code.items ≤ length live.now + 39 + number_words (lists_of locks.now)) }
     ensures effects { (numbers : List ℕ) → GiveNumbers numbers (lists_of locks.now) → IfOk result (λ code.
         HasEffects (record { log = V2; thread = thread; locks = numbers; live = live.now; resume = resume }) code.items) }
     ensures offset { (numbers : List ℕ) → GiveNumbers numbers (lists_of locks.now) → IfOk result (λ code. HasOffset V2 numbers code.items) }

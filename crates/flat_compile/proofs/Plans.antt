@@ -16,7 +16,6 @@ use Rattle.c_tree.specs.Flats.{Flat, flat_of}
 use Rattle.c_tree.specs.LockDiscipline.{key_locals}
 use Rattle.c_tree.specs.LockNames.{Held, count_held, held_names, holds, lock_names}
 use Rattle.c_tree.specs.Values.{lock_number}
-use Rattle.c_tree.specs.Prices.{node_price}
 use Rattle.rv64_isa.specs.declared.object.Code.{Code}
 use Rattle.rv64_isa.specs.declared.object.CodeItem.{CodeItem}
 use Rattle.rv64_isa.specs.declared.object.Object.{Object}
@@ -28,7 +27,7 @@ use Rattle.rv64_link.specs.LinkedCode.{AreLinked}
 use Rattle.rv64_link.specs.links.Threads.{items_in}
 use Rattle.c_tree.specs.WellFormed.{IsSingle, initial_numbers, shape_of}
 use Rattle.memory_layout.specs.Variables.{AreInitial}
-use Rattle.boundary_code.specs.Boundaries.{HaveRoom, words_beside}
+use Rattle.boundary_code.specs.Boundaries.{HaveRoom}
 use Rattle.lock_discipline.specs.HeldSetsByStep.{AreAllSetsOf, AreSetsOf, HeldBefore}
 use Rattle.flow_graph.specs.declared.cuts.Cuts.{Cuts}
 use Rattle.flow_graph.specs.Liveness.{IsLive}
@@ -81,15 +80,6 @@ room_for V1 x single small sets all few locals thread step = of_mask x single sm
 room_for V2 x single small sets all few locals thread step =
     let set : Held = slice_index_or (slice_index_or sets thread []) step [] in
     let names : List LockName = slice_index_or (map (λ (t : f.Thread). lock_names x t) x.threads) thread [] in
-    let most : count_held set ≤ MOST_HELD = few thread step in
-    omega (arith, most, few_numbers locals names set)
-
--- a node's price pays for each set
-paid_for : (log : Log) (sets : List (List Held)) → AreFewHeld log sets → (locals : List ℤ) (names : List LockName) (thread step : ℕ) →
-    words_beside log (map (lock_number locals) (held_names names (slice_index_or (slice_index_or sets thread []) step []))) + 24 ≤ node_price 0
-paid_for V1 sets few locals names thread step = omega arith
-paid_for V2 sets few locals names thread step =
-    let set : Held = slice_index_or (slice_index_or sets thread []) step [] in
     let most : count_held set ≤ MOST_HELD = few thread step in
     omega (arith, most, few_numbers locals names set)
 
@@ -151,7 +141,6 @@ plan_is log a cuts is few chosen places = record {
   priced = is.accepted.priced;
   room = λ t locals node. room_for log (flat_of a.flat.now) is.accepted.formed.single (omega (arith, is.accepted.formed.shared.mutexes)) a.held is.held few
       locals t.number (node - t.part.first);
-  paid = λ t locals node. paid_for log a.held few locals (names_in (plan_at log a cuts) t) t.number (node - t.part.first);
 }
 
 -- ---- Its code

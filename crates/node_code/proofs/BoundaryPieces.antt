@@ -1,6 +1,6 @@
 -- Boundaries.
 use Rattle.std.proofs.Common.{◌≡◌, ℕ, ◌+◌, ◌-◌, ◌*◌, ◌%◌, ◌^◌, ◌<◌, List, [], ◌∷◌, ◌++◌, length, map, refl, ap, sym, ◌∙◌, arith, subst, Bool, true}
-use Rattle.std.proofs.Common.{false, ◌==◌, ◌≤◌}
+use Rattle.std.proofs.Common.{false, ◌==◌}
 use Rattle.std.specs.Prelude.{sum_by, if◌then◌else◌, slice_set, pos, ℤ}
 use Rattle.std.specs.List.{list_any}
 use Rattle.ido_base.specs.declared.log.Log.{Log}
@@ -17,21 +17,19 @@ use Rattle.rv64_isa.specs.declared.object.CodeItem.TheVariants.{ResumeNext}
 use Rattle.rv64_isa.specs.Rows.{Effect, Stores, Cleans, row, read, written}
 use Rattle.rv64_link.specs.LabelledCode.{most_words_of, stands_here, is_mark, is_resume, positions_from}
 use Rattle.boundary_code.specs.Boundaries.{Boundary, IsOnSide, boundary_effects, bank_effects, commit_effects}
-use Rattle.boundary_code.specs.Boundaries.{lines_in_use, kept_locks, slots_kept, resume_address, is_empty, words_beside}
+use Rattle.boundary_code.specs.Boundaries.{lines_in_use, kept_locks, slots_kept, resume_address, is_empty}
 use Rattle.operator_code.specs.StraightLineCode.{registers_after, left_by}
 use Rattle.operator_code.proofs.Public as s
 use Rattle.code_runs.specs.CodeTraces.{GoesThrough, AreMemory}
-use Rattle.node_code.specs.Sites.{Linking, IsPart, mark_waits, begin_of, end_of}
-use Rattle.node_code.specs.Pieces.{LeavesRegisters, boundary_observations, IsBoundaryPiece, words_in}
-use Rattle.node_code.specs.links.BoundaryCode.{IsCodeOf}
+use Rattle.node_code.specs.Sites.{Linking, IsPart, mark_waits}
+use Rattle.node_code.specs.Pieces.{LeavesRegisters, boundary_observations}
+use Rattle.node_code.specs.BoundaryCode.{IsStraightCodeOf}
 use Rattle.node_code.specs.links.ItemLists.{plain, boundary_items}
-use Rattle.node_code.proofs.Fences.{boundary_items_fences}
-use Rattle.node_code.proofs.PieceCleans.{boundary_cleans}
-use Rattle.node_code.proofs.ItemAddresses.{part_left, part_right, waits_left, waits_append, waits_plain_on, labels_append, labels_plain}
+use Rattle.node_code.proofs.ItemAddresses.{part_right, waits_append, waits_plain_on, labels_append, labels_plain}
 use Rattle.node_code.proofs.ItemAddresses.{positions_append, no_marks_in, no_resumes_in}
-use Rattle.node_code.proofs.Words.{AreExact, exact_plain, exact_append, exact_words}
-use Rattle.node_code.proofs.LinkedPartRuns.{waiting, stays_at, has_room, code_end}
-use Rattle.node_code.proofs.LegComposition.{fragment, end_is, weaker, more_room, straight_leg, words_of_plain}
+use Rattle.node_code.proofs.Words.{AreExact, exact_plain, exact_append}
+use Rattle.node_code.proofs.LinkedPartRuns.{waiting, stays_at, code_end}
+use Rattle.node_code.proofs.LegComposition.{fragment, end_is, weaker, straight_leg, words_of_plain}
 
 -- ---- Registers after code
 
@@ -106,8 +104,8 @@ boundary_memory b side resume x = by (is_empty b.locks)
 
 -- ---- Code of a boundary
 
-pub some_code : (b : Boundary) (x : List ℕ) (side : ℕ) → IsOnSide b.log side x → IsCodeOf b [] → ⊥
-some_code b x side a h = by (is_empty b.locks) (h.effects_are.does x 0 side a)
+some_straight : (b : Boundary) (x : List ℕ) (side : ℕ) → IsOnSide b.log side x → IsStraightCodeOf b [] → ⊥
+some_straight b x side a h = by (is_empty b.locks) (h.effects_are.does x 0 side a)
   where
     by : (m : Bool) → [] ≡ (if m then commit_effects b.log b.thread 0 else bank_effects b (1 - side) x ++ commit_effects b.log b.thread
         ((resume_address b [] 0 + (1 - side)) % 2 ^ 64)) → ⊥
@@ -116,7 +114,7 @@ some_code b x side a h = by (is_empty b.locks) (h.effects_are.does x 0 side a)
         let all = length-append (bank_effects b (1 - side) x) (commit_effects b.log b.thread ((resume_address b [] 0 + (1 - side)) % 2 ^ 64)) in
         absurd (omega (arith, ap (λ (es : List Effect). length es) e, all))
 
-pub left_is : (b : Boundary) (code : List Instr) (x : List ℕ) (pc side : ℕ) → IsCodeOf b code → IsOnSide b.log side x →
+pub left_is : (b : Boundary) (code : List Instr) (x : List ℕ) (pc side : ℕ) → IsStraightCodeOf b code → IsOnSide b.log side x →
     LeavesRegisters b side x (registers_after code x pc)
 left_is b code x pc side h a = record {
   at_side = record {
@@ -136,13 +134,13 @@ module _ (all : List CodeItem) (n : Linking all) where
   abbrev at : ℕ → ℕ
   at = n.linked.address_of
 
-  -- a boundary's code, after the mark that waits for it
+  -- a boundary's code that is straight, after the mark that waits for it
   pub boundary_leg : (k : ℕ) (b : Boundary) (code : List Instr) (p : IsPart all k (plain code)) (x : List ℕ) (side resume : ℕ) (w : Bool) →
       mark_waits false p.before ≡ w →
-      IsCodeOf b code → IsOnSide b.log side x → resume_address b code (at k) ≡ resume →
+      IsStraightCodeOf b code → IsOnSide b.log side x → resume_address b code (at k) ≡ resume →
       GoesThrough n.environment (fragment x (at k) (at (k + length (plain code))) (length code)) (waiting w ++ boundary_observations b side resume x)
       (LeavesRegisters b side x)
-  boundary_leg k b [] p x side resume w waits h a e = absurd (some_code b x side a h)
+  boundary_leg k b [] p x side resume w waits h a e = absurd (some_straight b x side a h)
   boundary_leg k b (i ∷ is) p x side resume w waits h a e =
       let y : List ℕ = registers_after (i ∷ is) x (at k) in
       let run : s.RunsFrom (i ∷ is) x (at k) (boundary_effects b side resume x) y = record {
@@ -169,25 +167,6 @@ module _ (all : List CodeItem) (n : Linking all) where
       let e : k + length (boundary_items code) ≡ k + length (plain code) + 1 = omega (arith, length-append (plain code) (ResumeNext ∷ [])) in
       ap at e ∙ stays_at all n (k + length (plain code)) ResumeNext [] q refl
 
-  pub boundary_items_leg : (k : ℕ) (b : Boundary) (code : List Instr) (p : IsPart all k (boundary_items code)) (x : List ℕ) (side : ℕ) →
-      mark_waits false p.before ≡ false →
-      IsCodeOf b code → b.resume ≡ pos 0 → IsOnSide b.log side x →
-      GoesThrough n.environment (fragment x (at k) (at (k + length (boundary_items code))) (length code))
-      (boundary_observations b side (at (k + length (boundary_items code))) x)
-      (LeavesRegisters b side x)
-  boundary_items_leg k b code p x side closed h e a =
-      let q : IsPart all k (plain code) = part_left all k (plain code) (ResumeNext ∷ []) p in
-      let stays : at (k + length (boundary_items code)) ≡ at (k + length (plain code)) = resume_stays k code p in
-      let low : at (k + length (plain code)) < 2 ^ 64 = has_room all n k (plain code) q in
-      let resume : resume_address b code (at k) ≡ at (k + length (boundary_items code)) =
-      resumed_at k b 0 code q e (omega arith) ∙ omega arith in
-      let leg : GoesThrough n.environment (fragment x (at k) (at (k + length (plain code))) (length code))
-      (boundary_observations b side (at (k + length (boundary_items code))) x) (LeavesRegisters b side x) =
-      boundary_leg k b code q x side (at (k + length (boundary_items code))) false (waits_left all k (plain code) (ResumeNext ∷ []) p ∙ closed) h a resume in
-      subst (λ (m : ℕ). GoesThrough n.environment (fragment x (at k) m (length code)) (boundary_observations b side (at (k + length (boundary_items code))) x)
-      (LeavesRegisters b side x))
-      (sym stays) leg
-
   pub boundary_marks : (k : ℕ) (code : List Instr) → positions_from k is_mark (boundary_items code) ≡ []
   boundary_marks k code = positions_append k is_mark (plain code) (ResumeNext ∷ []) ∙ ap (λ (ns : List ℕ). ns ++ []) (no_marks_in code k)
 
@@ -207,27 +186,3 @@ boundary_waits_on code = waits_append false (plain code) (ResumeNext ∷ []) ∙
 
 pub boundary_labels : (label : ℕ) (code : List Instr) → list_any (stands_here label) (boundary_items code) ≡ false
 boundary_labels label code = labels_append label (plain code) (ResumeNext ∷ []) (labels_plain label code) refl
-
-pub is_boundary : (b : Boundary) (code : List Instr) → b.resume ≡ pos 0 → IsCodeOf b code → IsBoundaryPiece b (boundary_items code)
-is_boundary b code e h = record {
-  closed = record { waits = boundary_waits_on code; labels = λ label. boundary_labels label code };
-  few =
-      let z : sum_by most_words_of (boundary_items code) ≡ length code = boundary_words code in
-      let l : length code ≤ length b.live + words_beside b.log b.locks = h.short in
-      omega arith;
-  fences = boundary_items_fences b code h.effects_are;
-  cleans = boundary_cleans b code h.effects_are;
-  at = λ at. record {
-    keeps = λ x side a.
-        more_room at.linking.environment x (begin_of (boundary_items code) at) (end_of (boundary_items code) at) (length code)
-        (words_in (boundary_items code) at)
-        (boundary_observations b side (end_of (boundary_items code) at) x) (LeavesRegisters b side x)
-        (let z : words_in (boundary_items code) at ≡ length code = exact_words (boundary_items code) at (boundary_exact code) ∙ boundary_words code in
-        omega (arith, z))
-        (boundary_items_leg at.items at.linking at.position b code at.is_part x side at.closed h e a);
-    marks = ap (λ (ns : List ℕ). map at.linking.linked.address_of ns) (boundary_marks at.items at.linking at.position code);
-    resumes =
-        ap (λ (ns : List ℕ). map at.linking.linked.address_of ns) (boundary_resumes at.items at.linking at.position code) ∙
-        ap (λ (m : ℕ). m ∷ []) (sym (resume_stays at.items at.linking at.position code at.is_part));
-  };
-}

@@ -27,9 +27,11 @@ use Rattle.node_code.specs.Sites.{Site, Linking, IsPart, mark_waits, begin_of, e
 use Rattle.node_code.specs.Pieces.{IsClosed, resumes_in, Asks, LeavesRegisters, boundary_observations}
 use Rattle.node_code.specs.Pieces.{IsLockPiece, Locks, IsUnlockPiece, Unlocks, IsEnd, PieceLeads}
 use Rattle.node_code.specs.Pieces.{takes, gives, words_in}
+use Rattle.node_code.specs.BoundaryCode.{IsBoundaryCode}
+use Rattle.node_code.specs.Numbers.{LeaveLocks}
 use Rattle.node_code.specs.links.BoundaryCode.{IsCodeOf}
 use Rattle.node_code.specs.links.ItemLists.{plain, asking, boundary_items, lock_items, unlock_items, end_items}
-use Rattle.node_code.proofs.Fences.{lock_items_fences, unlock_items_fences}
+use Rattle.node_code.proofs.Fences.{lock_items_fences, some_code, unlock_items_fences}
 use Rattle.node_code.proofs.PieceCleans.{lock_cleans, unlock_cleans}
 use Rattle.node_code.proofs.ItemAddresses.{part_left, part_right, waits_left, waits_right, waits_append, waits_plain, labels_append, labels_plain}
 use Rattle.node_code.proofs.ItemAddresses.{positions_append, no_marks_in, no_resumes_in}
@@ -37,7 +39,8 @@ use Rattle.node_code.proofs.Words.{AreExact, exact_plain, exact_append, exact_wo
 use Rattle.node_code.proofs.LinkedPartRuns.{unmarked_code, stays_at, has_room, code_end, stands_part}
 use Rattle.node_code.proofs.LegComposition.{fragment, weaker, more_room, two_legs, moved, straight_leg_on}
 use Rattle.node_code.proofs.LegComposition.{marked_leg, mark_part, mark_waits_there, words_of_plain}
-use Rattle.node_code.proofs.BoundaryPieces.{some_code, boundary_leg, resumed_at, boundary_items_leg, resume_stays, boundary_marks, boundary_resumes}
+use Rattle.node_code.proofs.BoundaryLegs.{code_leg, boundary_items_leg}
+use Rattle.node_code.proofs.BoundaryPieces.{resumed_at, resume_stays, boundary_marks, boundary_resumes}
 use Rattle.node_code.proofs.BoundaryPieces.{boundary_words, boundary_exact, boundary_waits_on, boundary_labels}
 
 -- ---- Registers that ask
@@ -94,7 +97,8 @@ module _ (all : List CodeItem) (n : Linking all) where
 
 -- ---- A mutex is taken
 
-module _ (b : Boundary) (mutex : ℕ) (code : List Instr) (small : mutex < 2048) (resume : b.resume ≡ pos 0) (h : IsCodeOf b code) where
+module _ (b : Boundary) (mutex : ℕ) (codes : List (List Instr)) (code : List Instr) (small : mutex < 2048) (resume : b.resume ≡ pos 0)
+    (h : IsCodeOf b codes code) where
   abbrev piece : List CodeItem
   piece = lock_items mutex code
 
@@ -147,7 +151,7 @@ module _ (b : Boundary) (mutex : ℕ) (code : List Instr) (small : mutex < 2048)
     end_is : to (k + 2 + 1 + 1 + length after_call) ≡ end_of piece site
     end_is = let e : k + 2 + 1 + 1 + length after_call ≡ k + length piece = omega arith in ap to e
 
-    pub locks : Locks b mutex piece site
+    pub locks : Locks b (LeaveLocks b.log b.thread b.locks codes) mutex piece site
     locks = record {
       call = to (k + 2);
       calling = omega (arith, words);
@@ -157,10 +161,10 @@ module _ (b : Boundary) (mutex : ℕ) (code : List Instr) (small : mutex < 2048)
           (waits_left site.items k (plain (asking mutex 1)) from_mark site.is_part ∙ site.closed) small (lit< tt) are);
       stands = subst (λ (a : ℕ). IsInstructionAt site.linking.program.start site.linking.program.code a Ecall) at_call
           (stands_part site.items site.linking (k + 2 + 1) Ecall (part_left site.items (k + 2 + 1) (Instruction Ecall ∷ []) after_call called));
-      keeps = λ x side a.
+      keeps = λ x side leave a.
           let leg : GoesThrough site.linking.environment (fragment x (to (k + 2 + 1 + 1)) (to (k + 2 + 1 + 1 + length after_call)) (length code))
           (boundary_observations b side (to (k + 2 + 1 + 1 + length after_call)) x) (LeavesRegisters b side x) =
-          boundary_items_leg site.items site.linking (k + 2 + 1 + 1) b code kept x side kept_closed h resume a in
+          boundary_items_leg site.items site.linking (k + 2 + 1 + 1) b codes code kept x side kept_closed h.is resume leave a in
           let leg' : GoesThrough site.linking.environment (fragment x (to (k + 2 + 1 + 1)) (end_of piece site) (length code))
           (boundary_observations b side (end_of piece site) x)
           (LeavesRegisters b side x) =
@@ -184,12 +188,12 @@ module _ (b : Boundary) (mutex : ℕ) (code : List Instr) (small : mutex < 2048)
           ap (λ (m : ℕ). m ∷ []) (sym (resume_stays site.items site.linking (k + 2 + 1 + 1) code kept) ∙ end_is);
     }
 
-  pub is_lock : IsLockPiece b mutex piece
+  pub is_lock : IsLockPiece b (LeaveLocks b.log b.thread b.locks codes) (words_beside b.log codes) mutex piece
   is_lock = record {
     closed = record { waits = boundary_waits_on code; labels = λ label. boundary_labels label code };
-    few = let l : length code ≤ length b.live + words_beside b.log b.locks = h.short in omega (arith, lock_words);
-    fences = lock_items_fences b mutex code h.effects_are;
-    cleans = lock_cleans b mutex code h.effects_are;
+    few = let l : length code ≤ length b.live + words_beside b.log codes = h.short in omega (arith, lock_words);
+    fences = lock_items_fences b mutex codes code h.is;
+    cleans = lock_cleans b mutex codes code h.is;
     at = locks;
   }
 
@@ -199,7 +203,8 @@ append_none : (ss : List Observation) → ss ++ [] ≡ ss
 append_none [] = refl
 append_none (x ∷ ss) = ap (λ (ts : List Observation). x ∷ ts) (append_none ss)
 
-module _ (b : Boundary) (mutex : ℕ) (code : List Instr) (small : mutex < 2048) (resume : b.resume ≡ pos 12) (h : IsCodeOf b code) where
+module _ (b : Boundary) (mutex : ℕ) (codes : List (List Instr)) (code : List Instr) (small : mutex < 2048) (resume : b.resume ≡ pos 12)
+    (h : IsCodeOf b codes code) where
   abbrev given : List CodeItem
   given = unlock_items mutex (is_empty b.locks) code
 
@@ -297,42 +302,42 @@ module _ (b : Boundary) (mutex : ℕ) (code : List Instr) (small : mutex < 2048)
         let fits : too (k' + 1 + length (plain code)) + 12 < 2 ^ 64 = omega (arith, after_call_is, asking_ends) in
         resumed_at site.items site.linking (k' + 1) b 12 code q resume fits ∙ omega (arith, f, after_call_is, asking_ends)
 
-    marked_boundary : (x : List ℕ) (side : ℕ) → IsOnSide b.log side x →
+    marked_boundary : (x : List ℕ) (side : ℕ) → LeaveLocks b.log b.thread b.locks codes x → IsOnSide b.log side x →
         GoesThrough site.linking.environment (fragment x (too k') (too k₂) (length code)) (Mark ∷ boundary_observations b side (end_of given site) x)
         (LeavesRegisters b side x)
-    marked_boundary x side a =
+    marked_boundary x side leave a =
         let q : IsPart site.items (k' + 1) (plain code) = mark_part site.items site.linking k' (plain code) first_part in
         let here : too (k' + 1) ≡ too k' = stays_at site.items site.linking k' MarkNext (plain code) first_part refl in
         let e : k' + 1 + length (plain code) ≡ k₂ = omega arith in
         moved site.linking.environment x (too (k' + 1)) (too k') (too (k' + 1 + length (plain code))) (too k₂) (length code)
         (Mark ∷ boundary_observations b side (end_of given site) x) (LeavesRegisters b side x)
         here (ap too e)
-        (boundary_leg site.items site.linking (k' + 1) b code q x side (end_of given site) true
-        (mark_waits_there site.items site.linking k' (plain code) first_part) h a resumes_after)
+        (code_leg site.items site.linking (k' + 1) b codes code q x side (end_of given site) true
+        (mark_waits_there site.items site.linking k' (plain code) first_part) h.is leave a resumes_after)
 
     -- a boundary has code, so no mark waits after it
-    asking_closed : (x : List ℕ) (side : ℕ) → IsOnSide b.log side x → mark_waits false asking_part.before ≡ false
+    asking_closed : mark_waits false asking_part.before ≡ false
     unfolding asking_part
-    asking_closed x side a =
+    asking_closed =
         waits_right site.items k' (MarkNext ∷ plain code) from_asking site.is_part ∙ ap (λ (w : Bool). mark_waits w (MarkNext ∷ plain code)) site.closed ∙
-        by code h
+        by code h.is
       where
-        by : (code : List Instr) → IsCodeOf b code → mark_waits true (plain code) ≡ false
-        by [] h = absurd (some_code b x side a h)
+        by : (code : List Instr) → IsBoundaryCode b codes code → mark_waits true (plain code) ≡ false
+        by [] h = absurd (some_code b codes h)
         by (i ∷ is) h = waits_plain true i is
 
-    gives_it : (x : List ℕ) (side : ℕ) → IsOnSide b.log side x →
+    gives_it : (x : List ℕ) (side : ℕ) → LeaveLocks b.log b.thread b.locks codes x → IsOnSide b.log side x →
         PieceLeads site x (begin_of given site) (too (k₂ + 2)) (Mark ∷ boundary_observations b side (end_of given site) x)
         (λ y. (z : List ℕ) × LeavesRegisters b side x z × Asks gives mutex z y)
-    gives_it x side a =
+    gives_it x side leave a =
         let P : List ℕ → Type 0 = λ y. (z : List ℕ) × LeavesRegisters b side x z × Asks gives mutex z y in
         let both : GoesThrough site.linking.environment (fragment x (too k') (too (k₂ + 2)) (length code + 2))
         ((Mark ∷ boundary_observations b side (end_of given site) x) ++ []) P =
         two_legs site.linking.environment x (too k') (too k₂) (too (k₂ + 2)) (length code) 2 (Mark ∷ boundary_observations b side (end_of given site) x) []
-        (LeavesRegisters b side x) P (marked_boundary x side a)
+        (LeavesRegisters b side x) P (marked_boundary x side leave a)
         (λ z left. weaker site.linking.environment (fragment z (too k₂) (too (k₂ + 2)) 2) [] (Asks gives mutex z) P (λ y asks. (z, left, asks))
         (asking_leg site.items site.linking k₂ mutex 2 (part_left site.items k₂ (plain (asking mutex 2)) from_call asking_part) z
-        (waits_left site.items k₂ (plain (asking mutex 2)) from_call asking_part ∙ asking_closed x side a) small (lit< tt)
+        (waits_left site.items k₂ (plain (asking mutex 2)) from_call asking_part ∙ asking_closed) small (lit< tt)
         (registers_at b.log (side_after b side) z left.at_side))) in
         more_room site.linking.environment x (too k') (too (k₂ + 2)) (length code + 2) (words_in given site)
         (Mark ∷ boundary_observations b side (end_of given site) x) P (omega (arith, given_words))
@@ -373,7 +378,7 @@ module _ (b : Boundary) (mutex : ℕ) (code : List Instr) (small : mutex < 2048)
         subst (λ (ms : List ℕ). walks.marked ms (too (k₂ + 2)) ≡ []) site.linking.meets.marks
         (unmarked_code site.items site.linking k₂ (asking mutex 2 ++ Ecall ∷ []) q (too (k₂ + 2)) (omega (arith, asking_ends)) (omega (arith, asking_ends)))
 
-    pub unlocks : Unlocks b mutex given site
+    pub unlocks : Unlocks b (LeaveLocks b.log b.thread b.locks codes) mutex given site
     unlocks = record {
       call = too (k₂ + 2);
       calling = omega (arith, given_words);
@@ -399,12 +404,12 @@ module _ (b : Boundary) (mutex : ℕ) (code : List Instr) (small : mutex < 2048)
       labels_by label true = refl
       labels_by label false = refl
 
-  pub is_unlock : IsUnlockPiece b mutex given
+  pub is_unlock : IsUnlockPiece b (LeaveLocks b.log b.thread b.locks codes) (words_beside b.log codes) mutex given
   is_unlock = record {
     closed = unlock_closed;
-    few = let l : length code ≤ length b.live + words_beside b.log b.locks = h.short in omega (arith, unlock_words);
-    fences = unlock_items_fences b mutex (is_empty b.locks) code h.effects_are;
-    cleans = unlock_cleans b mutex (is_empty b.locks) code h.effects_are;
+    few = let l : length code ≤ length b.live + words_beside b.log codes = h.short in omega (arith, unlock_words);
+    fences = unlock_items_fences b mutex (is_empty b.locks) codes code h.is;
+    cleans = unlock_cleans b mutex (is_empty b.locks) codes code h.is;
     at = unlocks;
   }
 

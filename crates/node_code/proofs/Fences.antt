@@ -1,6 +1,6 @@
 -- The FENCEs of pieces, and the words of parts: all are instructions.
 use Rattle.std.proofs.Common.{◌≡◌, ℕ, ◌+◌, ◌-◌, ◌*◌, ◌%◌, ◌^◌, ◌<◌, ◌≤◌, zero, suc, List, [], ◌∷◌, ◌++◌}
-use Rattle.std.proofs.Common.{length, map, Some, refl, ap, sym, ◌∙◌, arith, subst, Bool, true, false, lit<}
+use Rattle.std.proofs.Common.{length, map, Some, refl, ap, sym, ◌∙◌, arith, subst, Bool, true, false}
 use Rattle.std.specs.Prelude.{slice_get, ◌==◌, if◌then◌else◌}
 use Rattle.std.proofs.lemmas.List.{length-append}
 use Rattle.std.proofs.lemmas.List.Sums.{sum_by-append, sum_by-cons}
@@ -16,15 +16,21 @@ use Rattle.rv64_isa.specs.Rows.{Effect, Continues, Loads, Stores, Cleans, Fences
 use Rattle.rv64_link.specs.LabelledCode.{is_fence, one_if, fences_of, fences_in}
 use Rattle.rv64_link.specs.LinkedCode.{AreInstructions}
 use Rattle.rv64_link.proofs.Public.{no_instructions, more_instructions, within, some_at}
-use Rattle.boundary_code.specs.Boundaries.{Boundary, IsOnSide, HasEffects, boundary_effects, bank_effects}
+use Rattle.boundary_code.specs.Boundaries.{Boundary, HasEffects, boundary_effects, bank_effects}
 use Rattle.boundary_code.specs.Boundaries.{commit_effects, lines_in_use, kept_locks, slots_kept, resume_address}
-use Rattle.operator_code.specs.StraightLineCode.{effects, seen, left_by}
+use Rattle.boundary_code.specs.Boundaries.{IsUnderWay, Opens, Closes, closing_effects, keep_locks, other_side}
+use Rattle.operator_code.specs.StraightLineCode.{effects, registers_after, seen, left_by}
 use Rattle.operator_code.specs.declared.branches.Test.{Test}
 use Rattle.node_code.specs.Sites.{Linking, IsPart, Site, begin_of, end_of}
 use Rattle.node_code.specs.links.ItemLists.{plain, asking, boundary_items, lock_items, unlock_items, computing_items, choice_items}
 use Rattle.node_code.proofs.ItemAddresses.{item_at}
 use Rattle.boundary_code.specs.Boundaries.{is_empty}
 use Rattle.boundary_code.proofs.Public.{fresh_on_side}
+use Rattle.node_code.specs.BoundaryCode.{IsQuiet, IsListedCodeOf, IsBoundaryCode, undivided, in_parts}
+use Rattle.node_code.proofs.ListLegs.{plain_both}
+use Rattle.rv64_isa.specs.declared.instr.StoreKind.TheVariants.{Sd}
+use Rattle.ido_base.specs.declared.log.Log.TheVariants.{V2}
+use Rattle.std.specs.List.{AllByRecursion}
 
 -- ---- Items
 
@@ -128,25 +134,89 @@ two_seen b side resume x = by (is_empty b.locks)
 abbrev zeros : List ℕ
 zeros = 0 ∷ 0 ∷ 0 ∷ 0 ∷ 0 ∷ 0 ∷ 0 ∷ 0 ∷ 0 ∷ 0 ∷ 0 ∷ 0 ∷ 0 ∷ 0 ∷ 0 ∷ 0 ∷ 0 ∷ 0 ∷ 0 ∷ 0 ∷ 0 ∷ 0 ∷ 0 ∷ 0 ∷ 0 ∷ 0 ∷ 0 ∷ 0 ∷ 0 ∷ 0 ∷ 0 ∷ 0 ∷ []
 
-pub boundary_fences : (b : Boundary) (code : List Instr) → HasEffects b code → fences_in (plain code) ≡ 2
-boundary_fences b code h =
+straight_fences : (b : Boundary) (code : List Instr) → HasEffects b code → fences_in (plain code) ≡ 2
+straight_fences b code h =
     sym (fences_are_seen code zeros 0) ∙ ap fences_seen (h.does zeros 0 0 (fresh_on_side b.log)) ∙ two_seen b 0 (resume_address b code 0) zeros
 
-pub boundary_items_fences : (b : Boundary) (code : List Instr) → HasEffects b code → fences_in (boundary_items code) ≡ 2
-boundary_items_fences b code h = let two = boundary_fences b code h in let sum = fences_append (plain code) (ResumeNext ∷ []) in omega (arith, two, sum)
+-- of two parts the first one has none, and the last one both
+opening_fences : (thread count : ℕ) (code : List Instr) → Opens V2 thread count code → fences_in (plain code) ≡ 0
+opening_fences thread count code opens = sym (fences_are_seen code zeros 0) ∙ ap fences_seen (opens.does zeros 0 0 (fresh_on_side V2))
+
+closing_seen : (b : Boundary) (bank resume : ℕ) (x : List ℕ) → fences_seen (closing_effects b bank resume x) ≡ 2
+closing_seen b bank resume x =
+    let at : ℕ → ℕ = slot_at b.log b.thread bank in
+    let lines : List ℕ = lines_in_use b.log (slots_kept b.log b.locks b.live) in
+    let stored = map (λ (r : ℕ). Stores (at r) 8 (read x r)) b.live in
+    let cleaned = map (λ (line : ℕ). Cleans (at (8 * line))) lines in
+    let first : fences_seen stored ≡ 0 = stores_have_none b.live at (read x) in
+    let second : fences_seen cleaned ≡ 0 = cleans_have_none lines (λ line. at (8 * line)) in
+    let both : fences_seen (stored ++ cleaned) ≡ fences_seen stored + fences_seen cleaned = seen_append stored cleaned in
+    let all = seen_append (stored ++ cleaned) (commit_effects b.log b.thread ((resume + bank) % 2 ^ 64)) in
+    omega (arith, first, second, both, all)
+
+closing_fences : (b : Boundary) (code : List Instr) (z : List ℕ) → Closes b code → IsUnderWay b.log b.thread (other_side 0) zeros z →
+    fences_in (plain code) ≡ 2
+closing_fences b code z closes under =
+    sym (fences_are_seen code z 0)
+    ∙ (ap fences_seen (closes.does zeros z 0 0 under) ∙ closing_seen b (other_side 0) (resume_address b code 0) zeros)
+
+locks_fences : (slot : ℕ) (codes : List (List Instr)) → AllByRecursion IsQuiet codes → fences_in (plain (keep_locks slot codes)) ≡ 0
+locks_fences slot [] quiet = refl
+locks_fences slot (code ∷ codes) quiet =
+    let store : Instr = Store Sd 5 30 (64 + 8 * slot) in
+    let rest : List Instr = keep_locks (slot + 1) codes in
+    let more : fences_in (plain rest) ≡ 0 = locks_fences (slot + 1) codes quiet.1 in
+    let sum : fences_in (plain (code ++ store ∷ rest)) ≡ fences_in (plain code) + fences_in (plain (store ∷ rest)) =
+    ap (λ (is : List CodeItem). fences_in is) (plain_both code (store ∷ rest)) ∙ fences_append (plain code) (plain (store ∷ rest)) in
+    let one : fences_in (plain (store ∷ rest)) ≡ 0 + fences_in (plain rest) = fences_cons (Instruction store) (plain rest) in
+    let first = quiet.0.fences in
+    omega (arith, more, sum, one, first)
+
+listed_fences : (b : Boundary) (codes : List (List Instr)) (code : List Instr) → IsListedCodeOf b codes code → fences_in (plain code) ≡ 2
+listed_fences b codes code h =
+    let opening : List Instr = h.parts.opening in
+    let middle : List Instr = keep_locks 32 codes in
+    let closing : List Instr = h.parts.closing in
+    let made : Boundary = record { log = V2; thread = b.thread; locks = b.locks; live = b.live; resume = b.resume } in
+    let first : fences_in (plain opening) ≡ 0 = opening_fences b.thread (length codes) opening h.parts.opens in
+    let second : fences_in (plain middle) ≡ 0 = locks_fences 32 codes h.quiet in
+    let third : fences_in (plain closing) ≡ 2 =
+    closing_fences made closing (registers_after opening zeros 0) (h.parts.closes b.locks h.many)
+    (h.parts.opens.leaves zeros 0 0 (fresh_on_side V2)) in
+    let outer : fences_in (plain code) ≡ fences_in (plain opening) + fences_in (plain (middle ++ closing)) =
+    ap (λ (is : List Instr). fences_in (plain is)) h.parts.split
+    ∙ (ap (λ (is : List CodeItem). fences_in is) (plain_both opening (middle ++ closing)) ∙ fences_append (plain opening) (plain (middle ++ closing))) in
+    let inner : fences_in (plain (middle ++ closing)) ≡ fences_in (plain middle) + fences_in (plain closing) =
+    ap (λ (is : List CodeItem). fences_in is) (plain_both middle closing) ∙ fences_append (plain middle) (plain closing) in
+    omega (arith, first, second, third, outer, inner)
+
+pub boundary_fences : (b : Boundary) (codes : List (List Instr)) (code : List Instr) → IsBoundaryCode b codes code → fences_in (plain code) ≡ 2
+boundary_fences b codes code (undivided h) = straight_fences b code h.effects_are
+boundary_fences b codes code (in_parts h) = listed_fences b codes code h
+
+-- it isn't empty
+pub some_code : (b : Boundary) (codes : List (List Instr)) → IsBoundaryCode b codes [] → ⊥
+some_code b codes h = let two : 0 ≡ 2 = boundary_fences b codes [] h in omega (arith, two)
+
+pub boundary_items_fences : (b : Boundary) (codes : List (List Instr)) (code : List Instr) → IsBoundaryCode b codes code →
+    fences_in (boundary_items code) ≡ 2
+boundary_items_fences b codes code h =
+    let two = boundary_fences b codes code h in let sum = fences_append (plain code) (ResumeNext ∷ []) in omega (arith, two, sum)
 
 -- ---- Calls
 
-pub lock_items_fences : (b : Boundary) (mutex : ℕ) (code : List Instr) → HasEffects b code → fences_in (lock_items mutex code) ≡ 2
-lock_items_fences b mutex code h =
+pub lock_items_fences : (b : Boundary) (mutex : ℕ) (codes : List (List Instr)) (code : List Instr) → IsBoundaryCode b codes code →
+    fences_in (lock_items mutex code) ≡ 2
+lock_items_fences b mutex codes code h =
     fences_append (plain (asking mutex 1)) ((MarkNext ∷ Instruction Ecall ∷ []) ++ boundary_items code) ∙
     ap (λ (n : ℕ). 0 + n) (fences_append (MarkNext ∷ Instruction Ecall ∷ []) (boundary_items code)) ∙
-    ap (λ (n : ℕ). 0 + (0 + n)) (boundary_items_fences b code h)
+    ap (λ (n : ℕ). 0 + (0 + n)) (boundary_items_fences b codes code h)
 
-pub unlock_items_fences : (b : Boundary) (mutex : ℕ) (ends : Bool) (code : List Instr) → HasEffects b code → fences_in (unlock_items mutex ends code) ≡ 2
-unlock_items_fences b mutex ends code h =
+pub unlock_items_fences : (b : Boundary) (mutex : ℕ) (ends : Bool) (codes : List (List Instr)) (code : List Instr) → IsBoundaryCode b codes code →
+    fences_in (unlock_items mutex ends code) ≡ 2
+unlock_items_fences b mutex ends codes code h =
     let sum = fences_append (MarkNext ∷ plain code) (plain (asking mutex 2) ++ (Instruction Ecall ∷ (if ends then [] else ResumeNext ∷ []))) in
-    let marked : fences_in (MarkNext ∷ plain code) ≡ 2 = fences_cons MarkNext (plain code) ∙ ap (λ (n : ℕ). 0 + n) (boundary_fences b code h) in
+    let marked : fences_in (MarkNext ∷ plain code) ≡ 2 = fences_cons MarkNext (plain code) ∙ ap (λ (n : ℕ). 0 + n) (boundary_fences b codes code h) in
     let rest : fences_in (plain (asking mutex 2) ++ (Instruction Ecall ∷ (if ends then [] else ResumeNext ∷ []))) ≡ 0 = by ends in
     omega (arith, sum, marked, rest)
   where

@@ -8,8 +8,10 @@ mod NumberRuns
 mod ListLegs
 mod BoundaryPieces
 mod ListBoundaries
+mod BoundaryLegs
 mod CallPieces
 mod LockNumbers
+mod MadeBoundaries
 mod JumpPieces
 mod ComputingPieces
 mod PiecePlaces

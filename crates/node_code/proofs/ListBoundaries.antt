@@ -1,5 +1,5 @@
 -- A boundary whose bank lists locks is a run: what stands before the locks, the locks, and what stands after them.
-use Rattle.std.proofs.Common.{◌≡◌, ◌≢◌, ℕ, ◌+◌, ◌-◌, ◌*◌, ◌%◌, ◌^◌, ◌<◌, ◌≤◌, List, [], ◌∷◌, ◌++◌, length, map, refl, ap, sym, ◌∙◌, arith, subst}
+use Rattle.std.proofs.Common.{◌≡◌, ◌≢◌, ℕ, ◌+◌, ◌*◌, ◌%◌, ◌^◌, ◌<◌, ◌≤◌, List, [], ◌∷◌, ◌++◌, length, map, refl, ap, sym, ◌∙◌, arith, subst}
 use Rattle.std.proofs.Common.{append_assoc, Bool, false}
 use Rattle.std.specs.Prelude.{ℤ, if◌then◌else◌}
 use Rattle.std.proofs.lemmas.List.{length-append}
@@ -14,8 +14,7 @@ use Rattle.rv64_isa.specs.Signed.{twos_complement}
 use Rattle.operator_code.specs.StraightLineCode.{effects, registers_after}
 use Rattle.operator_code.proofs.Public as s
 use Rattle.boundary_code.specs.Boundaries.{Boundary, IsOnSide, IsUnderWay, Opens, Closes, boundary_effects, closing_effects, commit_effects}
-use Rattle.boundary_code.specs.Boundaries.{is_empty, lines_in_use, listed_from, other_side, resume_address, side_after, slots_kept}
-use Rattle.boundary_code.specs.links.InstructionLists.{keep_locks, IsListCode}
+use Rattle.boundary_code.specs.Boundaries.{is_empty, lines_in_use, listed_from, other_side, resume_address, slots_kept, keep_locks, IsListCode}
 use Rattle.boundary_code.proofs.Public.{stores_of}
 use Rattle.code_runs.specs.CodeTraces.{AreMemory, Does, GoesThrough, Observation, seen_effects}
 use Rattle.node_code.specs.Numbers.{LeaveNumbers}

@@ -1,5 +1,5 @@
 -- The locks of a boundary whose bank lists them: of each the code that leaves its number, and a store into its slot.
-use Rattle.std.proofs.Common.{◌≡◌, ℕ, zero, suc, ◌+◌, ◌*◌, ◌^◌, ◌<◌, ◌≤◌, List, [], ◌∷◌, ◌++◌, length, map, refl, ap, sym, ◌∙◌, arith, subst, Bool, false}
+use Rattle.std.proofs.Common.{◌≡◌, ℕ, zero, suc, ◌+◌, ◌*◌, ◌^◌, ◌<◌, ◌≤◌, List, [], ◌∷◌, ◌++◌, length, refl, ap, sym, ◌∙◌, arith, subst, Bool, false}
 use Rattle.std.proofs.lemmas.List.{length-append}
 use Rattle.ido_base.specs.declared.limits.TheConstants.{MOST_THREADS}
 use Rattle.ido_base.specs.declared.log.Log.{Log}
@@ -10,8 +10,7 @@ use Rattle.rv64_isa.specs.declared.instr.StoreKind.TheVariants.{Sd}
 use Rattle.rv64_isa.specs.declared.object.CodeItem.{CodeItem}
 use Rattle.rv64_isa.specs.declared.object.CodeItem.TheVariants.{Instruction}
 use Rattle.rv64_isa.specs.Rows.{Stores, read}
-use Rattle.boundary_code.specs.Boundaries.{IsUnderWay, listed_from}
-use Rattle.boundary_code.specs.links.InstructionLists.{keep_locks}
+use Rattle.boundary_code.specs.Boundaries.{IsUnderWay, listed_from, keep_locks}
 use Rattle.boundary_code.proofs.Public.{number_stored, stores_of}
 use Rattle.code_runs.specs.ComputingRuns as r
 use Rattle.code_runs.specs.CodeTraces.{Observation, Does, GoesThrough, seen_effects}

@@ -7,9 +7,10 @@ use Rattle.rv64_isa.specs.declared.instr.Instr.TheVariants.{Ecall}
 use Rattle.rv64_isa.specs.declared.object.CodeItem.{CodeItem}
 use Rattle.rv64_isa.specs.declared.object.CodeItem.TheVariants.{Instruction, BranchTo, MarkNext, ResumeNext}
 use Rattle.rv64_isa.specs.declared.object.Label.{Label}
-use Rattle.boundary_code.specs.Boundaries.{Boundary, HasEffects}
+use Rattle.boundary_code.specs.Boundaries.{Boundary}
 use Rattle.operator_code.specs.declared.branches.Test.{Test}
-use Rattle.node_code.specs.Cleans.{cleans_of, cleans_in, CleansInBoundary}
+use Rattle.node_code.specs.Cleans.{cleans_of, cleans_in}
+use Rattle.node_code.specs.BoundaryCode.{IsBoundaryCode, CleansInBoundary}
 use Rattle.node_code.specs.links.ItemLists.{plain, asking, boundary_items, lock_items, unlock_items, computing_items, choice_items}
 
 pub cleans_append : (xs ys : List CodeItem) → cleans_in (xs ++ ys) ≡ cleans_in xs + cleans_in ys
@@ -20,12 +21,10 @@ cleans_cons x xs = sum_by-cons cleans_of x xs
 
 -- ---- Boundaries
 
-pub boundary_cleans : (b : Boundary) (code : List Instr) → HasEffects b code → CleansInBoundary b (boundary_items code)
-boundary_cleans b code h = record { before = []; code = code; after = ResumeNext ∷ []; split = refl; does = h; none_before = refl; none_after = refl }
-
-pub lock_cleans : (b : Boundary) (mutex : ℕ) (code : List Instr) → HasEffects b code → CleansInBoundary b (lock_items mutex code)
-lock_cleans b mutex code h = record {
-  before = plain (asking mutex 1) ++ (MarkNext ∷ Instruction Ecall ∷ []);
+pub boundary_cleans : (b : Boundary) (codes : List (List Instr)) (code : List Instr) → IsBoundaryCode b codes code → CleansInBoundary b (boundary_items code)
+boundary_cleans b codes code h = record {
+  before = [];
+  codes = codes;
   code = code;
   after = ResumeNext ∷ [];
   split = refl;
@@ -34,9 +33,24 @@ lock_cleans b mutex code h = record {
   none_after = refl;
 }
 
-pub unlock_cleans : (b : Boundary) (mutex : ℕ) (ends : Bool) (code : List Instr) → HasEffects b code → CleansInBoundary b (unlock_items mutex ends code)
-unlock_cleans b mutex ends code h = record {
+pub lock_cleans : (b : Boundary) (mutex : ℕ) (codes : List (List Instr)) (code : List Instr) → IsBoundaryCode b codes code →
+    CleansInBoundary b (lock_items mutex code)
+lock_cleans b mutex codes code h = record {
+  before = plain (asking mutex 1) ++ (MarkNext ∷ Instruction Ecall ∷ []);
+  codes = codes;
+  code = code;
+  after = ResumeNext ∷ [];
+  split = refl;
+  does = h;
+  none_before = refl;
+  none_after = refl;
+}
+
+pub unlock_cleans : (b : Boundary) (mutex : ℕ) (ends : Bool) (codes : List (List Instr)) (code : List Instr) → IsBoundaryCode b codes code →
+    CleansInBoundary b (unlock_items mutex ends code)
+unlock_cleans b mutex ends codes code h = record {
   before = MarkNext ∷ [];
+  codes = codes;
   code = code;
   after = plain (asking mutex 2) ++ (Instruction Ecall ∷ (if ends then [] else ResumeNext ∷ []));
   split = refl;

@@ -1,15 +1,13 @@
 -- Which items of pieces clean lines.
-use Rattle.std.specs.Prelude.{◌≡◌, ℕ, List, [], ◌∷◌, ◌++◌, map, sum_by, Bool, if◌then◌else◌}
+use Rattle.std.specs.Prelude.{◌≡◌, ℕ, List, [], ◌∷◌, sum_by, Bool, if◌then◌else◌}
 use Rattle.ido_ints.specs.declared.kinds.Kind.{Kind}
 use Rattle.ido_ints.specs.Kinds.{bytes_of}
-use Rattle.rv64_isa.specs.declared.instr.Instr.{Instr}
 use Rattle.rv64_isa.specs.declared.instr.Instr.TheVariants.{Store, CboClean}
 use Rattle.rv64_isa.specs.declared.instr.StoreKind.{StoreKind}
 use Rattle.rv64_isa.specs.declared.object.CodeItem.{CodeItem}
 use Rattle.rv64_isa.specs.declared.object.CodeItem.TheVariants.{Instruction, MarkNext}
 use Rattle.rv64_isa.specs.Rows.{store_bytes}
 use Rattle.memory_layout.specs.Roles.{pending_address, pending_value}
-use Rattle.boundary_code.specs.Boundaries.{Boundary, HasEffects}
 
 -- 1 for an item that cleans a line, 0 for any other
 abbrev pub cleans_of : CodeItem → ℕ
@@ -19,16 +17,6 @@ cleans_of _ = 0
 -- how many of the items clean a line
 abbrev pub cleans_in : List CodeItem → ℕ
 cleans_in items = sum_by cleans_of items
-
--- among the items stands the code of the boundary, and none of the others cleans a line
-pub record CleansInBoundary (b : Boundary) (items : List CodeItem) : Type 0 where
-  pub before : List CodeItem
-  pub code : List Instr
-  pub after : List CodeItem
-  pub split : items ≡ before ++ (map Instruction code ++ after)
-  pub does : HasEffects b code
-  pub none_before : cleans_in before ≡ 0
-  pub none_after : cleans_in after ≡ 0
 
 -- the mark, the store of what is pending, and at once the clean of its line or nothing
 pub record IsStoreThenClean (kind : Kind) (cleans : Bool) (items : List CodeItem) : Type 0 where

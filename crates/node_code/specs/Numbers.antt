@@ -1,6 +1,7 @@
 -- Code that leaves the number of a lock, wherever it stands in a boundary.
 use Rattle.std.specs.Prelude.{◌≡◌, ℕ, ◌+◌, ◌*◌, ◌^◌, ◌<◌, ◌≤◌, List, [], ◌∷◌, length}
 use Rattle.ido_base.specs.declared.log.Log.{Log}
+use Rattle.ido_base.specs.declared.log.Log.TheVariants.{V1, V2}
 use Rattle.rv64_isa.specs.declared.instr.Instr.{Instr}
 use Rattle.rv64_isa.specs.Rows.{read}
 use Rattle.boundary_code.specs.Boundaries.{IsUnderWay}
@@ -26,3 +27,8 @@ LeaveNumbers log thread x [] [] = Unit {0}
 LeaveNumbers log thread x [] (code ∷ codes) = ⊥
 LeaveNumbers log thread x (number ∷ numbers) [] = ⊥
 LeaveNumbers log thread x (number ∷ numbers) (code ∷ codes) = LeavesNumber log thread x number code × LeaveNumbers log thread x numbers codes
+
+-- registers from which codes leave the numbers of the locks, where the log lists them
+abbrev pub LeaveLocks : Log → (thread : ℕ) → (locks : List ℕ) → (codes : List (List Instr)) → (x : List ℕ) → Type 0
+LeaveLocks V1 thread locks codes x = Unit {0}
+LeaveLocks V2 thread locks codes x = LeaveNumbers V2 thread x locks codes

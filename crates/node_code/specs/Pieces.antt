@@ -1,6 +1,8 @@
 -- What pieces of a thread's code do, wherever they stand in its linked code.
 use Rattle.std.specs.Prelude.{◌≡◌, ◌≢◌, ℕ, ◌+◌, ◌-◌, ◌*◌, ◌/◌, ◌^◌, ◌<◌, ◌≤◌, List, [], ◌∷◌, ◌++◌, length, map, sum_by, Bool, false, if◌then◌else◌, pos}
 use Rattle.std.specs.List.{list_any}
+use Rattle.ido_base.specs.declared.log.Log.{Log}
+use Rattle.ido_base.specs.declared.log.Log.TheVariants.{V1, V2}
 use Rattle.ido_base.specs.Locks.{locks_in}
 use Rattle.ido_ints.specs.declared.kinds.Kind.{Kind}
 use Rattle.ido_ints.specs.Kinds.{bytes_of}
@@ -13,14 +15,16 @@ use Rattle.rv64_link.specs.LabelledCode.{most_words_of, stands_here, is_mark, is
 use Rattle.rv64_link.specs.LinkedCode.{IsInstructionAt}
 use Rattle.memory_layout.specs.Roles as roles
 use Rattle.memory_layout.specs.Roles.{is_temporary}
-use Rattle.boundary_code.specs.Boundaries.{Boundary, IsOnSide, boundary_effects, side_after, is_empty, words_beside}
+use Rattle.boundary_code.specs.Boundaries.{Boundary, IsOnSide, boundary_effects, side_after, is_empty, lists_of, words_beside}
 use Rattle.operator_code.specs.declared.branches.Test.{Test}
 use Rattle.operator_code.specs.ComputingCode.{AreRegisters, passes}
 use Rattle.code_runs.specs.ComputingRuns as r
 use Rattle.code_runs.specs.ComputingRuns.{Environment, config}
 use Rattle.code_runs.specs.CodeTraces.{Observation, Mark, Does, GoesThrough, seen_effects, marked}
 use Rattle.node_code.specs.declared.kept.Kept as kept
-use Rattle.node_code.specs.Cleans.{cleans_in, CleansInBoundary, IsStoreThenClean}
+use Rattle.node_code.specs.Cleans.{cleans_in, IsStoreThenClean}
+use Rattle.node_code.specs.BoundaryCode.{CleansInBoundary}
+use Rattle.node_code.specs.Numbers.{LeaveLocks}
 use Rattle.node_code.specs.Sites.{Site, mark_waits, begin_of, end_of, label_of}
 
 -- the items are what was there, and a piece after that
@@ -77,9 +81,26 @@ pub record IsStorePiece (kind : Kind) (cleans : Bool) (piece : List CodeItem) : 
 
 -- ---- Boundaries
 
--- the boundary that keeps these, and resumes so many bytes after its end
-abbrev pub boundary_of : kept.Kept → (resume : ℕ) → Boundary
-boundary_of k resume = record { log = k.log; thread = k.thread; locks = locks_in k.mask; live = k.live.now; resume = pos resume }
+-- of each lock that is held after the boundary the code of its number, where the log lists locks
+abbrev pub codes_of : kept.Kept → List (List Instr)
+codes_of k = lists_of k.numbers.now
+
+-- the locks that a boundary keeps: those of the mask, or one for each code
+abbrev pub MayKeep : Log → (mask : ℕ) → (codes : List (List Instr)) → (locks : List ℕ) → Type 0
+MayKeep V1 mask codes locks = locks ≡ locks_in mask
+MayKeep V2 mask codes locks = length locks ≡ length codes
+
+-- the boundary that keeps these locks, and resumes so many bytes after its end
+abbrev pub boundary_of : kept.Kept → (locks : List ℕ) → (resume : ℕ) → Boundary
+boundary_of k locks resume = record { log = k.log; thread = k.thread; locks = locks; live = k.live.now; resume = pos resume }
+
+-- registers with which its codes leave the numbers of these locks
+abbrev pub KeepsFrom : kept.Kept → (locks : List ℕ) → (x : List ℕ) → Type 0
+KeepsFrom k locks x = LeaveLocks k.log k.thread locks (codes_of k) x
+
+-- how many words it has at most, beside one for each live register
+abbrev pub kept_words : kept.Kept → ℕ
+kept_words k = words_beside k.log (codes_of k)
 
 abbrev pub boundary_observations : Boundary → (side resume : ℕ) → (x : List ℕ) → List Observation
 boundary_observations b side resume x = seen_effects (boundary_effects b side resume x)
@@ -89,19 +110,25 @@ pub record LeavesRegisters (b : Boundary) (side : ℕ) (x y : List ℕ) : Type 0
   pub at_side : IsOnSide b.log (side_after b side) y
   pub others : (r : ℕ) → is_temporary r ≡ false → r ≢ roles.bank_offset → read y r ≡ read x r
 
--- the point gets the address of the piece's end, from where the thread may be resumed
-pub record Keeps (b : Boundary) (piece : List CodeItem) (at : Site piece) : Type 0 where
-  pub keeps : (x : List ℕ) (side : ℕ) → IsOnSide b.log side x →
+-- from registers that have the property the point gets the address of the piece's end, from where the thread may be resumed
+pub record Keeps (b : Boundary) (from : List ℕ → Type 0) (piece : List CodeItem) (at : Site piece) : Type 0 where
+  pub keeps : (x : List ℕ) (side : ℕ) → from x → IsOnSide b.log side x →
       PieceLeads at x (begin_of piece at) (end_of piece at) (boundary_observations b side (end_of piece at) x) (LeavesRegisters b side x)
   pub marks : marks_in piece at ≡ []
   pub resumes : resumes_in piece at ≡ end_of piece at ∷ []
 
-pub record IsBoundaryPiece (b : Boundary) (piece : List CodeItem) : Type 0 where
+-- so many words it has at most, beside one for each live register
+pub record IsBoundaryPiece (b : Boundary) (from : List ℕ → Type 0) (words : ℕ) (piece : List CodeItem) : Type 0 where
   pub closed : IsClosed piece
-  pub few : sum_by most_words_of piece ≤ length b.live + words_beside b.log b.locks
+  pub few : sum_by most_words_of piece ≤ length b.live + words
   pub fences : fences_in piece ≡ 2
   pub cleans : CleansInBoundary b piece
-  pub at : (at : Site piece) → Keeps b piece at
+  pub at : (at : Site piece) → Keeps b from piece at
+
+-- whatever locks are kept, it is the boundary that keeps them
+abbrev pub IsBoundaryOf : kept.Kept → (piece : List CodeItem) → Type 0
+IsBoundaryOf k piece =
+    (locks : List ℕ) → MayKeep k.log k.mask (codes_of k) locks → IsBoundaryPiece (boundary_of k locks 0) (KeepsFrom k locks) (kept_words k) piece
 
 -- ---- Calls
 
@@ -122,32 +149,36 @@ pub record Asks (number mutex : ℕ) (x y : List ℕ) : Type 0 where
   pub lock : read y roles.lock ≡ mutex
   pub others : (r : ℕ) → r ≢ roles.lock → r ≢ roles.call → read y r ≡ read x r
 
--- the call is the mark; after it stands a boundary
-pub record Locks (b : Boundary) (mutex : ℕ) (piece : List CodeItem) (at : Site piece) : Type 0 where
+-- the call is the mark; after it stands a boundary, from registers that have the property
+pub record Locks (b : Boundary) (from : List ℕ → Type 0) (mutex : ℕ) (piece : List CodeItem) (at : Site piece) : Type 0 where
   pub call : ℕ
   -- it takes three words, with those that set its registers
   pub calling : 3 ≤ words_in piece at
   pub asks : (x : List ℕ) → AreRegisters x → PieceLeads at x (begin_of piece at) call [] (Asks takes mutex x)
   pub stands : IsInstructionAt at.linking.program.start at.linking.program.code call Ecall
-  pub keeps : (x : List ℕ) (side : ℕ) → IsOnSide b.log side x → PieceLeads at x (call + 4) (end_of piece at) (boundary_observations b side (end_of piece at) x)
-      (LeavesRegisters b side x)
+  pub keeps : (x : List ℕ) (side : ℕ) → from x → IsOnSide b.log side x →
+      PieceLeads at x (call + 4) (end_of piece at) (boundary_observations b side (end_of piece at) x) (LeavesRegisters b side x)
   pub marks : marks_in piece at ≡ call ∷ []
   pub resumes : resumes_in piece at ≡ end_of piece at ∷ []
 
-pub record IsLockPiece (b : Boundary) (mutex : ℕ) (piece : List CodeItem) : Type 0 where
+pub record IsLockPiece (b : Boundary) (from : List ℕ → Type 0) (words mutex : ℕ) (piece : List CodeItem) : Type 0 where
   pub closed : IsClosed piece
-  pub few : sum_by most_words_of piece ≤ length b.live + words_beside b.log b.locks + 3
+  pub few : sum_by most_words_of piece ≤ length b.live + words + 3
   pub fences : fences_in piece ≡ 2
   pub cleans : CleansInBoundary b piece
-  pub at : (at : Site piece) → Locks b mutex piece at
+  pub at : (at : Site piece) → Locks b from mutex piece at
+
+abbrev pub IsLockOf : kept.Kept → (mutex : ℕ) → (piece : List CodeItem) → Type 0
+IsLockOf k mutex piece =
+    (locks : List ℕ) → MayKeep k.log k.mask (codes_of k) locks → IsLockPiece (boundary_of k locks 0) (KeepsFrom k locks) (kept_words k) mutex piece
 
 -- first the mark and a boundary, then the call, which is no mark; the point gets the address after the call, where the thread may be resumed if it still
 -- holds a mutex
-pub record Unlocks (b : Boundary) (mutex : ℕ) (piece : List CodeItem) (at : Site piece) : Type 0 where
+pub record Unlocks (b : Boundary) (from : List ℕ → Type 0) (mutex : ℕ) (piece : List CodeItem) (at : Site piece) : Type 0 where
   pub call : ℕ
   -- it takes three words, with those that set its registers
   pub calling : 3 ≤ words_in piece at
-  pub asks : (x : List ℕ) (side : ℕ) → IsOnSide b.log side x →
+  pub asks : (x : List ℕ) (side : ℕ) → from x → IsOnSide b.log side x →
       PieceLeads at x (begin_of piece at) call (Mark ∷ boundary_observations b side (end_of piece at) x)
       (λ y. (z : List ℕ) × LeavesRegisters b side x z × Asks gives mutex z y)
   pub stands : IsInstructionAt at.linking.program.start at.linking.program.code call Ecall
@@ -156,12 +187,16 @@ pub record Unlocks (b : Boundary) (mutex : ℕ) (piece : List CodeItem) (at : Si
   pub marks : marks_in piece at ≡ begin_of piece at ∷ []
   pub resumes : resumes_in piece at ≡ (if is_empty b.locks then [] else end_of piece at ∷ [])
 
-pub record IsUnlockPiece (b : Boundary) (mutex : ℕ) (piece : List CodeItem) : Type 0 where
+pub record IsUnlockPiece (b : Boundary) (from : List ℕ → Type 0) (words mutex : ℕ) (piece : List CodeItem) : Type 0 where
   pub closed : IsClosed piece
-  pub few : sum_by most_words_of piece ≤ length b.live + words_beside b.log b.locks + 3
+  pub few : sum_by most_words_of piece ≤ length b.live + words + 3
   pub fences : fences_in piece ≡ 2
   pub cleans : CleansInBoundary b piece
-  pub at : (at : Site piece) → Unlocks b mutex piece at
+  pub at : (at : Site piece) → Unlocks b from mutex piece at
+
+abbrev pub IsUnlockOf : kept.Kept → (mutex : ℕ) → (piece : List CodeItem) → Type 0
+IsUnlockOf k mutex piece =
+    (locks : List ℕ) → MayKeep k.log k.mask (codes_of k) locks → IsUnlockPiece (boundary_of k locks 12) (KeepsFrom k locks) (kept_words k) mutex piece
 
 pub record IsEndPiece (piece : List CodeItem) (at : Site piece) : Type 0 where
   pub call : ℕ

@@ -1,31 +1,66 @@
 //! Boundaries.
-ghost use Rattle.std.specs.Prelude.{◌≡◌, ◌<◌, ◌++◌, IsTrue, IfOk, OnOk, pos, ◌≤ℤ◌, negsuc};
-ghost use Rattle.std.specs.List.{list_all};
+ghost use Rattle.std.specs.Prelude.{◌≡◌, ◌<◌, ◌≤◌, ◌++◌, ◌∷◌, [], IsTrue, IfOk, OnOk, pos, ◌≤ℤ◌, negsuc, map, length, if◌then◌else◌};
+ghost use Rattle.std.specs.List.{list_all, AllByRecursion};
 ghost use Rattle.ido_base.specs.Locks.{locks_in};
 ghost use Rattle.ido_base.specs.declared.limits.TheConstants.{MOST_THREADS};
 ghost use Rattle.ido_base.specs.declared.log.Log.TheVariants.{V1, V2};
 ghost use Rattle.memory_layout.specs.Roles.{is_kept};
-ghost use Rattle.boundary_code.specs.Boundaries.{HaveRoom};
-ghost use Rattle.boundary_code.specs.links.InstructionLists.{lists_of};
-ghost use Rattle.node_code.specs.Pieces.{Appends, IsBoundaryPiece, boundary_of};
+ghost use Rattle.boundary_code.specs.Boundaries.{lists_of};
+ghost use Rattle.node_code.specs.BoundaryCode.{IsQuiet};
+ghost use Rattle.node_code.specs.Pieces.{Appends, IsBoundaryOf, codes_of};
 ghost use Rattle.node_code.specs.links.ItemLists.{boundary_items};
-ghost use Rattle.node_code.specs.links.BoundaryCode.{AreNumbered, IsCodeOf};
+ghost use Rattle.node_code.specs.links.BoundaryCode.{IsCodeFor, number_code};
 
-use crate::items::push_plain;
+use crate::items::{load_small, push_plain};
 use crate::kept::Kept;
 use boundary_code::{boundary, boundary_list};
 use ido_base::log::Log;
 use ido_base::memory::OutOfMemory;
+use rv64_isa::field::Register;
 use rv64_isa::instr::Instr;
 use rv64_isa::object::CodeItem;
 use std::alloc::Global;
+
+/// The register in which a lock's number is left for a list.
+const NUMBER: Register = Register::X5;
+
+/// Appends code that leaves the mutex's number, where it is held.
+fn push_number(
+    alloc: Global,
+    codes: &mut Vec<Vec<Instr>>,
+    mutex: u16,
+    is_held: bool,
+) -> Result<(), OutOfMemory>
+    requires { mutex < 2048 }
+    ensures { OnOk result
+        (lists_of codes.new.items ≡ lists_of codes.old.items ++ (if is_held then number_code mutex ∷ [] else [])) }
+{
+    if is_held {
+        let code: Vec<Instr> = vec![in alloc; load_small(NUMBER, mutex)]?;
+        codes.push(code)?;
+    }
+    Ok(())
+}
+
+/// Of each mutex of the mask code that leaves its number.
+pub fn number_codes(alloc: Global, mask: u64) -> Result<Vec<Vec<Instr>>, OutOfMemory>
+    ensures { IfOk result (λ codes. lists_of codes.items ≡ map number_code (locks_in mask)) }
+{
+    let mut codes: Vec<Vec<Instr>> = Vec::new(alloc);
+    let mut rest = mask;
+    for mutex in 0..64 {
+        push_number(alloc, &mut codes, mutex, rest % 2 == 1)?;
+        rest /= 2;
+    }
+    Ok(codes)
+}
 
 /// The code of a boundary of a log that keeps a mask.
 fn mask_code(alloc: Global, kept: &Kept, resume: u16) -> Result<Vec<Instr>, OutOfMemory>
     requires log { kept.now.log ≡ V1 }
     requires thread { kept.now.thread < MOST_THREADS }
     requires live { IsTrue (list_all is_kept kept.now.live.now) }
-    ensures { IfOk result (λ code. IsCodeOf (boundary_of kept.now resume) code.items) }
+    ensures { IfOk result (λ code. IsCodeFor kept.now resume code.items) }
 {
     let code = boundary(alloc, kept.thread, kept.mask, kept.live, i32::from(resume))?;
     Ok(code)
@@ -36,9 +71,9 @@ fn list_code(alloc: Global, kept: &Kept, resume: u16) -> Result<Vec<Instr>, OutO
     requires log { kept.now.log ≡ V2 }
     requires thread { kept.now.thread < MOST_THREADS }
     requires live { IsTrue (list_all is_kept kept.now.live.now) }
-    requires room { HaveRoom V2 (locks_in kept.now.mask) }
-    requires numbers { AreNumbered V2 (locks_in kept.now.mask) (lists_of kept.now.numbers.now) }
-    ensures { IfOk result (λ code. IsCodeOf (boundary_of kept.now resume) code.items) }
+    requires room { length kept.now.numbers.now ≤ 16 }
+    requires quiet { AllByRecursion IsQuiet (codes_of kept.now) }
+    ensures { IfOk result (λ code. IsCodeFor kept.now resume code.items) }
 {
     let code = boundary_list(
         alloc,
@@ -58,9 +93,9 @@ pub(crate) fn boundary_code(
 ) -> Result<Vec<Instr>, OutOfMemory>
     requires thread { kept.now.thread < MOST_THREADS }
     requires live { IsTrue (list_all is_kept kept.now.live.now) }
-    requires room { HaveRoom kept.now.log (locks_in kept.now.mask) }
-    requires numbers { AreNumbered kept.now.log (locks_in kept.now.mask) (lists_of kept.now.numbers.now) }
-    ensures { IfOk result (λ code. IsCodeOf (boundary_of kept.now resume) code.items) }
+    requires room { length kept.now.numbers.now ≤ 16 }
+    requires quiet { AllByRecursion IsQuiet (codes_of kept.now) }
+    ensures { IfOk result (λ code. IsCodeFor kept.now resume code.items) }
 {
     match kept.log {
         Log::V1 => mask_code(alloc, kept, resume),
@@ -85,9 +120,9 @@ pub fn push_boundary(
 ) -> Result<(), OutOfMemory>
     requires thread { kept.now.thread < MOST_THREADS }
     requires live { IsTrue (list_all is_kept kept.now.live.now) }
-    requires room { HaveRoom kept.now.log (locks_in kept.now.mask) }
-    requires numbers { AreNumbered kept.now.log (locks_in kept.now.mask) (lists_of kept.now.numbers.now) }
-    ensures { OnOk result (Appends items.old.items items.new.items (IsBoundaryPiece (boundary_of kept.now 0))) }
+    requires room { length kept.now.numbers.now ≤ 16 }
+    requires quiet { AllByRecursion IsQuiet (codes_of kept.now) }
+    ensures { OnOk result (Appends items.old.items items.new.items (IsBoundaryOf kept.now)) }
 {
     let code = boundary_code(alloc, kept, 0)?;
     append_boundary(items, &code)

@@ -1,18 +1,17 @@
 //! Calls: a mutex is taken or given back, a thread ends.
-ghost use Rattle.std.specs.Prelude.{◌≡◌, ◌<◌, ◌++◌, ◌∷◌, ◌==◌, [], IsTrue, OnOk};
-ghost use Rattle.std.specs.List.{list_all};
-ghost use Rattle.ido_base.specs.Locks.{locks_in};
+ghost use Rattle.std.specs.Prelude.{◌≡◌, ◌<◌, ◌≤◌, ◌++◌, ◌∷◌, [], IsTrue, OnOk, length};
+ghost use Rattle.std.specs.List.{list_all, AllByRecursion};
 ghost use Rattle.ido_base.specs.declared.limits.TheConstants.{MOST_THREADS};
 ghost use Rattle.memory_layout.specs.Roles.{is_kept};
-ghost use Rattle.boundary_code.specs.Boundaries.{HaveRoom};
-ghost use Rattle.boundary_code.specs.links.InstructionLists.{lists_of};
-ghost use Rattle.node_code.specs.Pieces.{Appends, IsLockPiece, IsUnlockPiece, IsEnd, boundary_of};
-ghost use Rattle.node_code.specs.links.BoundaryCode.{AreNumbered};
+ghost use Rattle.node_code.specs.BoundaryCode.{IsQuiet};
+ghost use Rattle.node_code.specs.Pieces.{Appends, IsLockOf, IsUnlockOf, IsEnd, codes_of};
+ghost use Rattle.node_code.specs.links.BoundaryCode.{keeps_none};
 ghost use Rattle.node_code.specs.links.ItemLists.{plain, asking, lock_items, unlock_items, end_items};
 
 use crate::boundaries::{append_boundary, boundary_code};
 use crate::items::{load_small, push_plain};
 use crate::kept::Kept;
+use ido_base::log::Log;
 use ido_base::memory::OutOfMemory;
 use rv64_isa::field::Register;
 use rv64_isa::instr::Instr;
@@ -59,21 +58,31 @@ fn append_lock(items: &mut Vec<CodeItem>, mutex: u16, boundary: &[Instr]) -> Res
     append_boundary(items, boundary)
 }
 
-/// The boundary, after which a mutex is given back.
+/// Whether no lock is kept, by the mask or by so many codes.
+fn keeps_none(log: Log, mask: u64, codes: usize) -> bool
+    ensures { result ≡ keeps_none log mask codes }
+{
+    match log {
+        Log::V1 => mask == 0,
+        Log::V2 => codes == 0,
+    }
+}
+
+/// The boundary, after which a mutex is given back; it may end a section.
 fn append_unlock(
     items: &mut Vec<CodeItem>,
     mutex: u16,
-    mask: u64,
+    ends: bool,
     boundary: &[Instr],
 ) -> Result<(), OutOfMemory>
     requires { mutex < 2048 }
-    ensures { OnOk result (items.new.items ≡ items.old.items ++ unlock_items mutex (mask == 0) boundary.now) }
+    ensures { OnOk result (items.new.items ≡ items.old.items ++ unlock_items mutex ends boundary.now) }
 {
     items.push(CodeItem::MarkNext)?;
     push_plain(items, boundary)?;
     append_asking(items, mutex, GIVES)?;
     items.push(CodeItem::Instruction(Instr::Ecall))?;
-    if mask != 0 {
+    if !ends {
         items.push(CodeItem::ResumeNext)?;
     }
     Ok(())
@@ -98,10 +107,10 @@ pub fn push_lock(
 ) -> Result<(), OutOfMemory>
     requires thread { kept.now.thread < MOST_THREADS }
     requires live { IsTrue (list_all is_kept kept.now.live.now) }
-    requires room { HaveRoom kept.now.log (locks_in kept.now.mask) }
-    requires numbers { AreNumbered kept.now.log (locks_in kept.now.mask) (lists_of kept.now.numbers.now) }
+    requires room { length kept.now.numbers.now ≤ 16 }
+    requires quiet { AllByRecursion IsQuiet (codes_of kept.now) }
     requires mutex { mutex < 2048 }
-    ensures { OnOk result (Appends items.old.items items.new.items (IsLockPiece (boundary_of kept.now 0) mutex)) }
+    ensures { OnOk result (Appends items.old.items items.new.items (IsLockOf kept.now mutex)) }
 {
     let boundary = boundary_code(alloc, kept, 0)?;
     append_lock(items, mutex, &boundary)
@@ -117,13 +126,19 @@ pub fn push_unlock(
 ) -> Result<(), OutOfMemory>
     requires thread { kept.now.thread < MOST_THREADS }
     requires live { IsTrue (list_all is_kept kept.now.live.now) }
-    requires room { HaveRoom kept.now.log (locks_in kept.now.mask) }
-    requires numbers { AreNumbered kept.now.log (locks_in kept.now.mask) (lists_of kept.now.numbers.now) }
+    requires room { length kept.now.numbers.now ≤ 16 }
+    requires quiet { AllByRecursion IsQuiet (codes_of kept.now) }
     requires mutex { mutex < 2048 }
-    ensures { OnOk result (Appends items.old.items items.new.items (IsUnlockPiece (boundary_of kept.now 12) mutex)) }
+    ensures { OnOk result (Appends items.old.items items.new.items (IsUnlockOf kept.now mutex)) }
 {
     let boundary = boundary_code(alloc, kept, GIVING_BYTES)?;
-    append_unlock(items, mutex, kept.mask, &boundary)
+    let count = kept.numbers.len();
+    append_unlock(
+        items,
+        mutex,
+        keeps_none(kept.log, kept.mask, count),
+        &boundary,
+    )
 }
 
 /// Appends the code that ends the thread; its first instruction is the mark.

@@ -10,9 +10,10 @@ pub struct Kept<'a> {
     pub log: Log,
     /// The number of the thread, below 8.
     pub thread: u32,
-    /// The mutexes that are held after the boundary, bit i for mutex i. 0 ends a section.
+    /// Where the log keeps a mask, the mutexes that are held after the boundary, bit i for mutex i. 0 ends a section.
     pub mask: u64,
-    /// Where a bank lists its locks, of each mutex that is held code that leaves its number; else nothing.
+    /// Where the log lists locks, of each that is held after the boundary code that leaves its number in x5, in the list's order. Where there
+    /// is none, it ends a section.
     pub numbers: &'a [Vec<Instr>],
     /// The registers that are live after it, each that of a local or one of the pending store.
     pub live: &'a [Register],

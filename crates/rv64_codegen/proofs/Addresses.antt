@@ -1,27 +1,15 @@
 -- Addresses of items that lie one after another: they go up by whole words, and a mark's instruction takes one.
-use Rattle.std.proofs.Common.{◌≡◌, ℕ, zero, suc, ◌+◌, ◌-◌, ◌*◌, ◌%◌, ◌^◌, ◌<◌, ◌≤◌, List, [], ◌∷◌, ◌++◌, length, map, replicate, refl, ap, sym, ◌∙◌}
-use Rattle.std.proofs.Common.{arith, subst, length-append}
-use Rattle.std.proofs.Common.{inl, inr, Bool, true, false, Some, None, lit≤}
-use Rattle.std.specs.Prelude.{slice_get, slice_index_or, Contains, if◌then◌else◌, ◌⊎◌}
+use Rattle.std.proofs.Common.{◌≡◌, ℕ, zero, suc, ◌+◌, ◌-◌, ◌*◌, ◌<◌, ◌≤◌, List, [], ◌∷◌, length, map, refl, ◌∙◌, ap, arith, subst, inl, inr}
+use Rattle.std.proofs.Common.{Bool, true, false, lit≤}
+use Rattle.std.specs.Prelude.{slice_index_or, Contains, ◌⊎◌}
 use Rattle.std.proofs.lemmas.Bool.{true≢false}
-use Rattle.std.proofs.lemmas.List.{append-nil, length-map}
 use Rattle.std.proofs.lemmas.List.Elements.{Contains-append_cases}
-use Rattle.std.proofs.lemmas.Option.{none-some, same_Some}
-use Rattle.rv64_isa.specs.declared.instr.Instr.{Instr}
 use Rattle.rv64_isa.specs.declared.object.CodeItem.{CodeItem}
 use Rattle.rv64_isa.specs.declared.object.CodeItem.TheVariants.{Instruction, BranchTo, JumpTo, Here, MarkNext, ResumeNext}
-use Rattle.rv64_isa.specs.declared.object.Slot.TheVariants.{Row}
-use Rattle.rv64_isa.specs.Rows.{Effect}
-use Rattle.rv64_link.specs.LabelledCode.{does, most_words_of, least_words_of, is_mark, is_resume, positions_from, fences_of}
-use Rattle.rv64_link.specs.LinkedCode.{IsRoom, IsLinked}
-use Rattle.boundary_code.specs.Boundaries.{Boundary, bank_effects, commit_effects, is_empty}
-use Rattle.boundary_code.proofs.Public.{fresh_on_side}
-use Rattle.code_runs.specs.ComputingRuns.{LocalConfig}
-use Rattle.code_runs.specs.CodeTraces as walks
-use Rattle.code_runs.specs.CodeTraces.{Program, MarkedEnvironment, Meets, Observation, Trace, GoesThrough}
-use Rattle.node_code.specs.Sites.{Site, mark_waits}
-use Rattle.node_code.specs.Pieces.{IsBoundaryPiece}
-use Rattle.node_code.proofs.Public.{Lies}
+use Rattle.rv64_link.specs.LabelledCode.{most_words_of, least_words_of, is_mark, positions_from, fences_of, fences_in}
+use Rattle.rv64_link.specs.LinkedCode.{IsRoom}
+use Rattle.node_code.specs.Sites.{mark_waits}
+use Rattle.node_code.proofs.Public.{Lies, fences_cons}
 use Rattle.thread_code.specs.Programs.{IsOn}
 
 -- ---- Whole words
@@ -160,104 +148,25 @@ grows_or_not at k (x ∷ xs) h = by x h (grows_or_not at (k + 1) xs h.1)
     by MarkNext h rest = stays MarkNext refl refl h rest
     by ResumeNext h rest = stays ResumeNext refl refl h rest
 
-weightless_at : (items : List CodeItem) (p : ℕ) (x : CodeItem) → Weightless items → slice_get items p ≡ Some x → least_words_of x ≡ 0
-weightless_at [] p x h e = absurd (none-some x e)
-weightless_at (y ∷ ys) zero x h e = subst (λ (z : CodeItem). least_words_of z ≡ 0) (same_Some y x e) h.0
-weightless_at (y ∷ ys) (suc p) x h e = weightless_at ys p x h.1 e
+no_fences : (item : CodeItem) → least_words_of item ≡ 0 → fences_of item ≡ 0
+no_fences (Instruction instr) e = absurd (omega (arith, e))
+no_fences (BranchTo condition rs1 rs2 to) e = refl
+no_fences (JumpTo rd to) e = refl
+no_fences (Here label) e = refl
+no_fences MarkNext e = refl
+no_fences ResumeNext e = refl
 
--- code of no words in which they stand alone
-module _ (items : List CodeItem) (none : Weightless items) where
-  abbrev nowhere : ℕ → ℕ
-  nowhere p = 0
+weightless_fences : (items : List CodeItem) → Weightless items → fences_in items ≡ 0
+weightless_fences [] none = refl
+weightless_fences (x ∷ xs) none =
+    let here = no_fences x none.0 in
+    let rest = weightless_fences xs none.1 in
+    let sum = fences_cons x xs in
+    omega (arith, here, rest, sum)
 
-  abbrev empty : Program
-  empty = record {
-    start = 0;
-    code = [];
-    nodes = map nowhere (positions_from 0 is_mark items);
-    resumes = map nowhere (positions_from 0 is_resume items);
-  }
-
-  no_effect : (p : ℕ) (x : List ℕ) (effect : Effect) (item : CodeItem) → least_words_of item ≡ 0 → does items nowhere p x item ≡ Some effect → ⊥
-  no_effect p x effect (Instruction instr) e d = omega (arith, e)
-  no_effect p x effect (BranchTo condition rs1 rs2 to) e d = omega (arith, e)
-  no_effect p x effect (JumpTo rd to) e d = omega (arith, e)
-  no_effect p x effect (Here label) e d = none-some effect d
-  no_effect p x effect MarkNext e d = none-some effect d
-  no_effect p x effect ResumeNext e d = none-some effect d
-
-  no_fences : (item : CodeItem) → least_words_of item ≡ 0 → 0 ≡ fences_of item
-  no_fences (Instruction instr) e = absurd (omega (arith, e))
-  no_fences (BranchTo condition rs1 rs2 to) e = refl
-  no_fences (JumpTo rd to) e = refl
-  no_fences (Here label) e = refl
-  no_fences MarkNext e = refl
-  no_fences ResumeNext e = refl
-
-  stand_nowhere : (p : ℕ) (instr : Instr) → slice_get items p ≡ Some (Instruction instr) → ⊥
-  stand_nowhere p instr there = let e : least_words_of (Instruction instr) ≡ 0 = weightless_at items p (Instruction instr) none there in omega (arith, e)
-
-  linked : IsLinked 0 items [] empty.nodes empty.resumes
-  linked = record {
-    address_of = nowhere;
-    begins = refl;
-    ends = refl;
-    room = λ p item there. record {
-      words = 0;
-      to_is = refl;
-      least = let e : least_words_of item ≡ 0 = weightless_at items p item none there in omega (arith, e);
-      most = omega arith;
-    };
-    stands = λ p instr there. absurd (stand_nowhere p instr there);
-    lockstep = λ p item x effect there d. absurd (no_effect p x effect item (weightless_at items p item none there) d);
-    nodes_are = refl;
-    resumes_are = refl;
-    words = λ p item there. record {
-      first = 0;
-      count = 0;
-      from_is = refl;
-      to_is = refl;
-      inside = omega arith;
-      rows = tt;
-      fences_are = no_fences item (weightless_at items p item none there);
-    };
-  }
-
-  abbrev environment : MarkedEnvironment
-  environment = record { around = record { fetch = λ address. None; loads = λ address bytes. None }; marks = empty.nodes }
-
-  meets : Meets empty environment
-  meets = record { fetches = λ address instr st. absurd (none-some (Row instr) st.2); marks = refl }
-
-  abbrev site : Site items
-  site = record {
-    items = items;
-    position = 0;
-    linking = record { program = empty; linked = linked; room = omega arith; environment = environment; meets = meets };
-    is_part = record { before = []; after = []; split = sym (append-nil items); at = refl };
-    closed = refl;
-  }
-
-  nothing_seen : (steps : ℕ) (m to : LocalConfig) (seen : List Observation) → Trace environment steps m seen to → seen ≡ []
-  nothing_seen zero m to seen walk = walk.1
-  nothing_seen (suc steps) m to seen walk = absurd (none-some walk.3.instr walk.3.stands)
-
-  sees : (b : Boundary) (resume : ℕ) (z : Bool) →
-      map walks.Does (if z then commit_effects b.log b.thread 0 else bank_effects b 1 (replicate 32 0) ++ commit_effects b.log b.thread resume) ≡ [] → ⊥
-  sees b resume true e = cc
-  sees b resume false e =
-      let bank = bank_effects b 1 (replicate 32 0) in
-      let commit = commit_effects b.log b.thread resume in
-      omega (arith, length-map (bank ++ commit) walks.Does, length-append bank commit, ap (λ (os : List Observation). length os) e)
-
-  no_boundary : (b : Boundary) → IsBoundaryPiece b items → ⊥
-  unfolding linked
-  no_boundary b is =
-      let goes = (is.at site).keeps (replicate 32 0) 0 (fresh_on_side b.log) in
-      sees b (1 % 2 ^ 64) (is_empty b.locks) (nothing_seen goes.steps _ _ _ goes.walks)
-
-pub boundary_grows : (b : Boundary) (piece : List CodeItem) → IsBoundaryPiece b piece → (at : ℕ → ℕ) (k : ℕ) → Lies at k piece → at k < at (k + length piece)
-boundary_grows b piece is at k lie = elim (grows_or_not at k piece lie) [
+-- it has two FENCEs
+pub boundary_grows : (piece : List CodeItem) → fences_in piece ≡ 2 → (at : ℕ → ℕ) (k : ℕ) → Lies at k piece → at k < at (k + length piece)
+boundary_grows piece two at k lie = elim (grows_or_not at k piece lie) [
   | inl grows ↦ grows
-  | inr none ↦ absurd (no_boundary piece none b is)
+  | inr none ↦ let zero_is = weightless_fences piece none in absurd (let z : ⊥ = omega (arith, two, zero_is) in z)
 ]

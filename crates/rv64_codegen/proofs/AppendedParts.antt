@@ -1,5 +1,5 @@
 -- What each node does, of the parts that are appended for it.
-use Rattle.std.proofs.Common.{◌≡◌, refl, ℕ, ◌+◌, ◌-◌, ◌*◌, List, length, ap, subst, arith, Bool, true, false}
+use Rattle.std.proofs.Common.{◌≡◌, refl, ℕ, ◌+◌, ◌-◌, ◌*◌, List, [], length, ap, subst, arith, Bool, true, false}
 use Rattle.ido_ints.specs.declared.kinds.Kind.{Kind}
 use Rattle.c_tree.specs.Exprs as e
 use Rattle.c_tree.specs.Prices.{nodes_of}
@@ -8,14 +8,15 @@ use Rattle.boundary_code.specs.Boundaries.{Boundary}
 use Rattle.expr_code.specs.EvaluationCode.{Homes, homes_of}
 use Rattle.flow_graph.specs.Nodes.{Eval, Store, Test, Lock, Unlock, End}
 use Rattle.node_code.specs.declared.kept.Kept as kept
-use Rattle.node_code.specs.Pieces.{Appends, IsStorePiece, IsLockPiece, IsUnlockPiece, IsEnd, boundary_of}
-use Rattle.thread_code.specs.Plans.{homes}
+use Rattle.node_code.specs.Pieces.{Appends, IsStorePiece, IsLockPiece, IsLockOf, IsUnlockPiece, IsUnlockOf, IsEnd, KeepsFrom, boundary_of, kept_words}
+use Rattle.node_code.proofs.Public.{lock_from, unlock_from}
+use Rattle.thread_code.specs.Plans.{Plan, Thread, homes, locks_before}
 use Rattle.thread_code.specs.Programs as programs
 use Rattle.rv64_codegen.specs.declared.thread.ThreadPlan as opened
 use Rattle.rv64_codegen.specs.Evaluations.{IsEvaluation, IsTest, target_nodes}
-use Rattle.rv64_codegen.specs.ThreadPieces.{turned, straight}
+use Rattle.rv64_codegen.specs.ThreadPieces.{MayEnter, boundary_words, turned, straight}
 use Rattle.rv64_codegen.specs.links.Threads.{IsOwn, HasAction, IsKeptFor, GoesToNode, DoesAction, plan_in, thread_of, choices_of}
-use Rattle.rv64_codegen.proofs.NodePieces.{two_appended, one_appended, boundary_is, few_beside, few_live}
+use Rattle.rv64_codegen.proofs.NodePieces.{two_appended, one_appended, boundary_is, few_live}
 
 pub nodes_lockstep : (t : e.Lvalue) → target_nodes t ≡ programs.target_nodes t
 nodes_lockstep (e.ToLocal place local kind) = refl
@@ -64,24 +65,46 @@ module _ (x : opened.ThreadPlan) (node : ℕ) where
 
   pub lock_done : (lock : e.LockName) (next : ℕ) (k : kept.Kept) (old mid new : List CodeItem) → HasAction x node (Lock lock next) → IsOwn x next →
       IsKeptFor x next k →
-      Appends old mid (IsLockPiece (boundary_of k 0) lock.mutex) → Appends mid new (GoesToNode x node next) →
+      Appends old mid (IsLockOf k lock.mutex) → Appends mid new (GoesToNode x node next) →
       Appends old new (DoesAction x node (Lock lock next))
   lock_done lock next k old mid new at own is_kept a g =
       let o = at.own.open_is in
-      two_appended x o node next old mid new (IsLockPiece (boundary_of k 0) lock.mutex) (Lock lock next) 95 a g
-      (λ does goes is fragment. (λ locals. subst (λ (b : Boundary). IsLockPiece b lock.mutex does) (boundary_is x o locals next k 0 is_kept) is, fragment))
-      (λ does is. omega (arith, is.few, few_live x o next own.own, few_beside x o next k is_kept, ap (λ (l : List ℕ). length l) is_kept.live_is))
+      let p : Plan = plan_in x in
+      let t : Thread = thread_of x in
+      two_appended x o node next old mid new (IsLockOf k lock.mutex) (Lock lock next) 95 a g
+      (λ does goes is fragment. (
+        λ locals.
+            let locks : List ℕ = locks_before p t locals next in
+            subst (λ (b : Boundary). IsLockPiece b (MayEnter p t locals next) boundary_words lock.mutex does) (boundary_is x o locals next k 0 is_kept)
+            (lock_from (boundary_of k locks 0) (KeepsFrom k locks) (MayEnter p t locals next) (kept_words k) boundary_words does (is_kept.leave locals)
+            is_kept.few lock.mutex (is locks (is_kept.locks_are locals))),
+        fragment,
+      ))
+      (λ does is.
+      let few = (is (locks_before p t [] next) (is_kept.locks_are [])).few in
+      omega (arith, few, few_live x o next own.own, is_kept.few, ap (λ (l : List ℕ). length l) is_kept.live_is))
       (omega arith)
 
   pub unlock_done : (lock : e.LockName) (next : ℕ) (k : kept.Kept) (old mid new : List CodeItem) → HasAction x node (Unlock lock next) → IsOwn x next →
       IsKeptFor x next k →
-      Appends old mid (IsUnlockPiece (boundary_of k 12) lock.mutex) → Appends mid new (GoesToNode x node next) →
+      Appends old mid (IsUnlockOf k lock.mutex) → Appends mid new (GoesToNode x node next) →
       Appends old new (DoesAction x node (Unlock lock next))
   unlock_done lock next k old mid new at own is_kept a g =
       let o = at.own.open_is in
-      two_appended x o node next old mid new (IsUnlockPiece (boundary_of k 12) lock.mutex) (Unlock lock next) 95 a g
-      (λ does goes is fragment. (λ locals. subst (λ (b : Boundary). IsUnlockPiece b lock.mutex does) (boundary_is x o locals next k 12 is_kept) is, fragment))
-      (λ does is. omega (arith, is.few, few_live x o next own.own, few_beside x o next k is_kept, ap (λ (l : List ℕ). length l) is_kept.live_is))
+      let p : Plan = plan_in x in
+      let t : Thread = thread_of x in
+      two_appended x o node next old mid new (IsUnlockOf k lock.mutex) (Unlock lock next) 95 a g
+      (λ does goes is fragment. (
+        λ locals.
+            let locks : List ℕ = locks_before p t locals next in
+            subst (λ (b : Boundary). IsUnlockPiece b (MayEnter p t locals next) boundary_words lock.mutex does) (boundary_is x o locals next k 12 is_kept)
+            (unlock_from (boundary_of k locks 12) (KeepsFrom k locks) (MayEnter p t locals next) (kept_words k) boundary_words does (is_kept.leave locals)
+            is_kept.few lock.mutex (is locks (is_kept.locks_are locals))),
+        fragment,
+      ))
+      (λ does is.
+      let few = (is (locks_before p t [] next) (is_kept.locks_are [])).few in
+      omega (arith, few, few_live x o next own.own, is_kept.few, ap (λ (l : List ℕ). length l) is_kept.live_is))
       (omega arith)
 
   pub end_done : (old new : List CodeItem) → HasAction x node End → Appends old new IsEnd → Appends old new (DoesAction x node End)

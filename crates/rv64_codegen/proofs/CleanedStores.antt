@@ -12,7 +12,8 @@ use Rattle.boundary_code.specs.Boundaries.{Boundary}
 use Rattle.flow_graph.specs.Nodes.{Action, Eval, Store, Test, Lock, Unlock, End, Node}
 use Rattle.flow_graph.specs.IdempotentCuts.{IsChosen}
 use Rattle.flow_graph.specs.Liveness.{NodeAt}
-use Rattle.node_code.specs.Cleans.{cleans_in, CleansInBoundary, IsStoreThenClean}
+use Rattle.node_code.specs.BoundaryCode.{CleansInBoundary}
+use Rattle.node_code.specs.Cleans.{cleans_in, IsStoreThenClean}
 use Rattle.node_code.proofs.Public.{cleans_append}
 use Rattle.thread_code.specs.Plans.{Plan, Thread, IsPlan, IsThread, IsNodeOf}
 use Rattle.rv64_codegen.specs.ThreadPieces.{Choices, AreChoices, GoesTo, IsChoosing, turned, straight, IsDoing, IsNodePiece, IsEmitted}
@@ -26,6 +27,7 @@ use Rattle.rv64_codegen.proofs.PlannedNodes.{chosen_stores, IsStoring, node_exis
 more : (b : Boundary) (xs ys : List CodeItem) → CleansInBoundary b xs → cleans_in ys ≡ 0 → CleansInBoundary b (xs ++ ys)
 more b xs ys c none = record {
   before = c.before;
+  codes = c.codes;
   code = c.code;
   after = c.after ++ ys;
   split = ap (λ (zs : List CodeItem). zs ++ ys) c.split ∙ append_assoc c.before (map Instruction c.code ++ c.after) ys

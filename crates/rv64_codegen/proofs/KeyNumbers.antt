@@ -1,5 +1,5 @@
 -- Code that leaves the number of a lock with a key, in a boundary whose bank lists the locks.
-use Rattle.std.proofs.Common.{◌≡◌, ◌≢◌, ℕ, ◌+◌, ◌*◌, ◌%◌, ◌^◌, ◌<◌, List, [], ◌∷◌, ◌++◌, length, refl, ap, sym, ◌∙◌, arith, lit<}
+use Rattle.std.proofs.Common.{◌≡◌, ℕ, ◌+◌, ◌*◌, ◌^◌, ◌<◌, List, [], ◌∷◌, ◌++◌, length, refl, ap, sym, ◌∙◌, arith, lit<}
 use Rattle.std.proofs.Common.{Bool, true, false, Option, ◌==◌, ◌||◌}
 use Rattle.std.specs.Prelude.{pos, slice_set}
 use Rattle.std.proofs.lemmas.Bool.{eqb-true, true≢false}
@@ -14,7 +14,7 @@ use Rattle.rv64_isa.specs.declared.instr.ImmediateOperation.TheVariants.{Addi}
 use Rattle.rv64_isa.specs.declared.instr.Operation.TheVariants.{Add}
 use Rattle.rv64_isa.specs.Arithmetic.{result_of, sign_extended}
 use Rattle.rv64_isa.specs.Rows.{Continues, next, read, row}
-use Rattle.memory_layout.specs.Roles.{is_local, is_temporary}
+use Rattle.memory_layout.specs.Roles.{is_temporary}
 use Rattle.operator_code.specs.ComputingCode.{Carries, Computes}
 use Rattle.operator_code.specs.StraightLineCode.{IsConstant}
 use Rattle.operator_code.proofs.Public.{RunsFrom, add_small, go, small_immediate, stop}

@@ -21,7 +21,6 @@ mod RegistersAfterNodes
 mod LegalEvaluations
 mod PieceParts
 mod NodeCorrectness
-mod HeldNumbers
 mod KeyNumbers
 mod NameNumbers
 mod FenceCounts
@@ -30,6 +29,7 @@ mod LoweredNodes
 mod PlannedNodes
 mod Homes
 mod LiveRegisterLists
+mod KeptNumbers
 mod NodePieces
 mod JoinedPieces
 mod AppendedParts

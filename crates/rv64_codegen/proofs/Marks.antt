@@ -14,7 +14,7 @@ use Rattle.node_code.proofs.Public.{Lies}
 use Rattle.thread_code.specs.Plans.{Plan, Thread, locks_before}
 use Rattle.thread_code.specs.NodeCodeEffects.{Places}
 use Rattle.thread_code.specs.Programs.{mark_of, IsOn, IsCallWithin, IsWithin}
-use Rattle.rv64_codegen.specs.ThreadPieces.{Choices, GoesTo, IsChoosing, turned, straight, IsDoing, boundary_before}
+use Rattle.rv64_codegen.specs.ThreadPieces.{Choices, GoesTo, IsChoosing, turned, straight, IsDoing}
 use Rattle.rv64_codegen.proofs.JoinedAddresses.{Ascends}
 use Rattle.rv64_codegen.proofs.Addresses.{on_here, on_then, on_up, lies_on, IsAmong, marked_among, boundary_grows}
 use Rattle.rv64_codegen.proofs.PieceSites.{spot_site, AgreesAt, bare, bare_meets}
@@ -285,7 +285,7 @@ module _ {p : Plan} {t : Thread} {c : Choices} (places : Places) (it : PlacedNod
     chosen_grows : IsChosen p.graph p.boundaries node → places.entry node < places.core node
     chosen_grows chosen =
         let lie : Lies at k before = part_lies at items whole k before first_site.is_part in
-        let up : at k < at k₁ = boundary_grows (boundary_before p t c [] node 0) before (guarded.chosen chosen []) at k lie in
+        let up : at k < at k₁ = boundary_grows before (guarded.chosen chosen []).fences at k lie in
         let begin : at k ≡ places.entry node = sited.begin in
         let core : places.core node ≡ at k₁ = g.core in
         omega (arith, up, begin, core)

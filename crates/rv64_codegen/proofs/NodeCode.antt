@@ -32,7 +32,7 @@ use Rattle.thread_code.specs.Plans.{Plan, Thread, IsNodeOf, homes}
 use Rattle.thread_code.specs.RegistersAtNodes.{Enters, source_of, IsAnswered}
 use Rattle.thread_code.specs.NodeCodeEffects.{Places, Entrance, EntersAt, keeping, BoundaryCode, Performs, GoesOnAfter}
 use Rattle.thread_code.specs.Programs.{IsAtOwnNode, IsPlainCall, IsCalling, IsCleaning, IsNodeCode, IsWithin, action_nodes, boundary_count}
-use Rattle.rv64_codegen.specs.ThreadPieces.{Choices, GoesTo, IsDoing, boundary_before}
+use Rattle.rv64_codegen.specs.ThreadPieces.{Choices, GoesTo, IsDoing, MayEnter, boundary_before, boundary_words}
 use Rattle.rv64_codegen.proofs.ReadLocals.{left_held}
 use Rattle.rv64_codegen.proofs.Nodes.{Known}
 use Rattle.rv64_codegen.proofs.PieceSites.{Spot, spot_site, site_in, bare, bare_meets}
@@ -83,7 +83,7 @@ module _ {p : Plan} {t : Thread} {c : Choices} (places : Places) (it : PlacedNod
 
   -- ---- The boundary before it
 
-  chosen_by : ((locals : List ℤ) → IsBoundaryPiece (boundary_before p t c locals node 0) before) →
+  chosen_by : ((locals : List ℤ) → IsBoundaryPiece (boundary_before p t c locals node 0) (MayEnter p t locals node) boundary_words before) →
       (s : MarkedEnvironment) (seen : Seen) (side : ℕ) (x : List ℕ) → Meets places.program s →
       Enters p t node seen side x →
       BoundaryCode p t places (record { environment = s; node = node; seen = seen; side = side; registers = x }) node (places.entry node) (places.core node)
@@ -104,7 +104,7 @@ module _ {p : Plan} {t : Thread} {c : Choices} (places : Places) (it : PlacedNod
       (weaker s (fragment x (addr sited.position) (addr core_at) (parts.before_words it)) (boundary_observations b side (addr core_at) x)
       (LeavesRegisters b side x) P
       (λ y left. enters_kept p t plan of c choices node 0 own seen side x y enters left)
-      (((boundary seen.locals).at site).keeps x side enters.at_side))))
+      (((boundary seen.locals).at site).keeps x side (record { seen = seen; side = side; enters = enters; locals_are = refl }) enters.at_side))))
 
   chosen : IsChosen p.graph p.boundaries node → (m : Entrance) → m.node ≡ node → IsAtOwnNode p t places m →
       BoundaryCode p t places m node (places.entry node) (places.core node) (places.core node)
@@ -243,7 +243,8 @@ module _ {p : Plan} {t : Thread} {c : Choices} (places : Places) (it : PlacedNod
       let x : List ℕ = m.registers in
       let b : Boundary = boundary_before p t c m.seen.locals next 0 in
       let P : List ℕ → Type 0 = Enters p t next m.seen (side_after b m.side) in
-      let locks : Locks b lock.mutex does (site_of s (met s meets)) = (d.0 m.seen.locals).at (site_of s (met s meets)) in
+      let locks : Locks b (MayEnter p t m.seen.locals next) lock.mutex does (site_of s (met s meets)) = (d.0 m.seen.locals).at (site_of s (met s meets)) in
+      let from : MayEnter p t m.seen.locals next x = record { seen = m.seen; side = m.side; enters = enters; locals_are = refl } in
       let at_call : locks.call + 4 ≡ places.call node + 4 = ap (λ (z : ℕ). z + 4) (lock_call lock next d s (met s meets) m.seen.locals ∙ sym call) in
       let lockstep : boundary_observations b m.side (addr on_at) x
       ≡ boundary_observations (keeping p t places m.seen.locals next) m.side (places.after node) x =
@@ -259,7 +260,7 @@ module _ {p : Plan} {t : Thread} {c : Choices} (places : Places) (it : PlacedNod
       (parts.within it words agrees.words s x (locks.call + 4) (addr on_at) (boundary_observations b m.side (addr on_at) x) P
       (weaker s (fragment x (locks.call + 4) (addr on_at) (parts.does_words it)) (boundary_observations b m.side (addr on_at) x)
       (LeavesRegisters b m.side x) P
-      (λ y left. enters_kept p t plan of c choices next 0 of_next m.seen m.side x y enters left) (locks.keeps x m.side enters.at_side)))))
+      (λ y left. enters_kept p t plan of c choices next 0 of_next m.seen m.side x y enters left) (locks.keeps x m.side from enters.at_side)))))
 
   stands_there : (call : ℕ) → places.call node ≡ call → IsInstructionAt program.start program.code call Ecall →
       IsInstructionAt places.program.start places.program.code (places.call node) Ecall

@@ -1,5 +1,5 @@
 -- What the code of a node does is what the node does.
-use Rattle.std.proofs.Common.{◌≡◌, ◌≢◌, ℕ, ◌+◌, ◌^◌, ◌<◌, List, [], ◌∷◌, ◌++◌, map, refl, ap, arith, sym, ◌∙◌, subst, Bool}
+use Rattle.std.proofs.Common.{◌≡◌, ◌≢◌, ℕ, ◌^◌, ◌<◌, List, [], ◌∷◌, ◌++◌, map, refl, ap, arith, sym, ◌∙◌, subst, Bool}
 use Rattle.c_tree.specs.Exprs.{LockName}
 use Rattle.std.proofs.Common.{true, false, Some, None, ◌==◌, ◌||◌, if◌then◌else◌}
 use Rattle.std.specs.Prelude.{slice_get, Contains, pos, not}
@@ -44,7 +44,7 @@ use Rattle.thread_code.specs.NodeCodeEffects.{Places, Entrance, kind_at, keeping
 use Rattle.thread_code.proofs.Public.{enters_again}
 use Rattle.rv64_codegen.specs.Evaluations.{IsAssigned, may_write, IsTest, IsTested, is_taken, is_in}
 use Rattle.rv64_codegen.specs.Locals.{HoldsEach}
-use Rattle.rv64_codegen.specs.ThreadPieces.{Choices, AreChoices, GoesTo, IsChoosing, turned, straight, boundary_before, label_of_node, IsDoing}
+use Rattle.rv64_codegen.specs.ThreadPieces.{Choices, AreChoices, GoesTo, IsChoosing, turned, straight, boundary_before, label_of_node, IsDoing, MayEnter}
 use Rattle.rv64_codegen.proofs.EvaluationCode.{spare, local_spare}
 use Rattle.rv64_codegen.proofs.ReadLocals.{live_is_enough, left_held, right_held}
 use Rattle.rv64_codegen.proofs.Nodes.{Known, EvalKnown, StoreKnown, TestKnown, CallKnown, StoresThere, node_known}
@@ -385,8 +385,17 @@ module _ {p : Plan} {t : Thread} {c : Choices} (places : Places) (it : PlacedNod
               (λ r is_one. asks.others r (local_other r 10 refl is_one) (local_other r 17 refl is_one) ∙ kept r is_one);
         }
 
+        -- they may enter the next node already
+        enters_next : MayEnter p t seen.locals next x
+        enters_next = record {
+          seen = seen;
+          side = side;
+          enters = enters_on p t plan of node next is at follows_it seen side x enters seen side x none free refl enters.at_side (λ r is_one. refl);
+          locals_are = refl;
+        }
+
       pub takes_it : (lock : LockName) (next : ℕ) → is.action ≡ Lock lock next → CallKnown p.flat t.kinds t.part.first t.part.end p.graph.nodes lock next is →
-          (locks : Locks (boundary_before p t c seen.locals next 0) lock.mutex does does_site) → places.call node ≡ locks.call →
+          (locks : Locks (boundary_before p t c seen.locals next 0) (MayEnter p t seen.locals next) lock.mutex does does_site) → places.call node ≡ locks.call →
           Performs p t places m (a.Takes lock.mutex next)
       takes_it lock next same known locks call =
           within x (places.call node) [] (Asking p t places takes lock.mutex next seen side)
@@ -398,7 +407,8 @@ module _ {p : Plan} {t : Thread} {c : Choices} (places : Places) (it : PlacedNod
           (locks.asks x are)))
 
       pub gives_it : (lock : LockName) (next : ℕ) → is.action ≡ Unlock lock next → CallKnown p.flat t.kinds t.part.first t.part.end p.graph.nodes lock next is →
-          (unlocks : Unlocks (boundary_before p t c seen.locals next 12) lock.mutex does does_site) → places.call node ≡ unlocks.call →
+          (unlocks : Unlocks (boundary_before p t c seen.locals next 12) (MayEnter p t seen.locals next) lock.mutex does does_site) →
+          places.call node ≡ unlocks.call →
           places.after node ≡ to goes_at →
           Performs p t places m (a.Gives lock.mutex next)
       gives_it lock next same known unlocks call after =
@@ -418,7 +428,9 @@ module _ {p : Plan} {t : Thread} {c : Choices} (places : Places) (it : PlacedNod
           (λ y got. asks_enter next known.assigns (ap owes same) (subst (λ (d : Action). Contains (successors d) next) (sym same)
           (0, omega arith, refl)) gives lock.mutex
           (side_after b side) got.0 y got.1.at_side (λ r is_one. got.1.others r (local_plain r is_one) (local_other r 3 refl is_one)) got.2)
-          (unlocks.asks x side enters.at_side))))
+          (unlocks.asks x side
+          (enters_next next known.assigns (ap owes same) (subst (λ (d : Action). Contains (successors d) next) (sym same) (0, omega arith, refl)))
+          enters.at_side))))
 
       pub ends_it : (ending : IsEndPiece does does_site) → places.call node ≡ ending.call → Performs p t places m a.Ends
       ends_it ending call =

@@ -6,7 +6,6 @@ use Rattle.std.specs.Global.{Global}
 use Rattle.std.specs.List.{list_all}
 use Rattle.std.proofs.lemmas.List.Sums.{sum_by-append}
 use Rattle.ido_base.specs.declared.log.Log.{Log}
-use Rattle.ido_base.specs.Locks.{locks_in}
 use Rattle.ido_base.specs.declared.limits.TheConstants.{MOST_PRICE, MOST_THREADS}
 use Rattle.c_tree.specs.Exprs as e
 use Rattle.c_tree.specs.Prices.{node_price}
@@ -14,26 +13,24 @@ use Rattle.c_tree.specs.WellFormed.{IsExpr, IsTarget}
 use Rattle.rv64_isa.specs.declared.object.CodeItem.{CodeItem}
 use Rattle.rv64_link.specs.LabelledCode.{most_words_of}
 use Rattle.memory_layout.specs.Roles.{is_kept}
-use Rattle.boundary_code.specs.Boundaries.{Boundary, HaveRoom, words_beside}
+use Rattle.boundary_code.specs.Boundaries.{Boundary}
 use Rattle.expr_code.specs.EvaluationCode.{Homes, AreAtHome, homes_of}
 use Rattle.flow_graph.specs.Nodes.{Action, Eval, Store, Test, Lock, Unlock, End, Node}
 use Rattle.flow_graph.specs.IdempotentCuts.{IsChosen}
 use Rattle.flow_graph.specs.Liveness.{NodeAt}
 use Rattle.flow_graph.proofs.Public.{found_in}
 use Rattle.node_code.specs.declared.kept.Kept as kept
-use Rattle.node_code.specs.Pieces.{Appends, IsBoundaryPiece, boundary_of}
-use Rattle.node_code.specs.links.BoundaryCode.{AreNumbered}
-use Rattle.boundary_code.specs.links.InstructionLists.{lists_of}
-use Rattle.rv64_isa.specs.declared.instr.Instr.{Instr}
+use Rattle.node_code.specs.Pieces.{Appends, IsBoundaryPiece, IsBoundaryOf, KeepsFrom, boundary_of, kept_words}
+use Rattle.node_code.proofs.Public.{boundary_from}
 use Rattle.thread_code.specs.Plans.{Plan, Thread, IsNodeOf, homes, locks_before}
 use Rattle.thread_code.specs.Programs.{action_nodes}
 use Rattle.rv64_codegen.specs.declared.thread.ThreadPlan as opened
 use Rattle.rv64_codegen.specs.Evaluations.{IsAtHome, NeedFew}
-use Rattle.rv64_codegen.specs.ThreadPieces.{Choices, AreChoices, IsGuarded, IsDoing, IsNodePiece, boundary_before}
+use Rattle.rv64_codegen.specs.ThreadPieces.{Choices, AreChoices, IsGuarded, IsDoing, IsNodePiece, MayEnter, boundary_before, boundary_words}
 use Rattle.rv64_codegen.specs.links.LiveRegisters.{AreLiveRegisters}
 use Rattle.rv64_codegen.specs.links.Threads.{IsOpen, IsOwn, HasAction, IsKeptFor, Guards, stands, absent}
 use Rattle.rv64_codegen.specs.links.Threads.{GoesToNode, DoesAction, DoesAt, IsPiece, action_exprs, most_doing, list_at}
-use Rattle.rv64_codegen.specs.links.Threads.{choices_of, mask_before, plan_in, thread_of}
+use Rattle.rv64_codegen.specs.links.Threads.{plan_in, thread_of, choices_of}
 use Rattle.rv64_codegen.proofs.Homes.{has_homes}
 use Rattle.rv64_codegen.proofs.PlannedNodes.{chosen_stores, IsStoring, sound_node, cheap_node, few_nodes, end_within, thread_below}
 use Rattle.rv64_codegen.proofs.LiveRegisterLists.{are_kept}
@@ -93,33 +90,26 @@ module _ (x : opened.ThreadPlan) (o : IsOpen x) where
   kept_live node k own is = ap (λ (rs : List ℕ). list_all is_kept rs) is.live_is ∙ (live_at node own).kept
 
   pub boundary_is : (locals : List ℤ) (node : ℕ) (k : kept.Kept) (resume : ℕ) → IsKeptFor x node k →
-      boundary_of k resume ≡ boundary_before p t c locals node resume
+      boundary_of k (locks_before p t locals node) resume ≡ boundary_before p t c locals node resume
   boundary_is locals node k resume is =
-      ap (λ (log : Log). made log k.thread (locks_in k.mask) k.live.now resume) is.log_is
-      ∙ ap (λ (n : ℕ). made p.log n (locks_in k.mask) k.live.now resume) is.thread_is
-      ∙ ap (λ (ls : List ℕ). made p.log x.number ls k.live.now resume) (is.locks_are locals)
-      ∙ ap (λ (l : List ℕ). made p.log x.number (locks_before p t locals node) l resume) is.live_is
+      let locks : List ℕ = locks_before p t locals node in
+      ap (λ (log : Log). made log k.thread locks k.live.now resume) is.log_is
+      ∙ ap (λ (n : ℕ). made p.log n locks k.live.now resume) is.thread_is
+      ∙ ap (λ (l : List ℕ). made p.log x.number locks l resume) is.live_is
 
   pub few_live : (node : ℕ) → IsNodeOf t node → length (c.live node) ≤ 20
   few_live node own = (live_at node own).few
 
-  pub few_beside : (node : ℕ) (k : kept.Kept) → IsKeptFor x node k → words_beside k.log (locks_in k.mask) ≤ 72
-  few_beside node k is =
-      let paid : words_beside p.log (locks_before p t [] node) + 24 ≤ node_price 0 = o.plan.paid t [] node in
-      let same : words_beside k.log (locks_in k.mask) ≡ words_beside p.log (locks_before p t [] node) =
-      ap (λ (log : Log). words_beside log (locks_in k.mask)) is.log_is ∙ ap (λ (ls : List ℕ). words_beside p.log ls) (is.locks_are []) in
-      omega (arith, paid, same)
-
-  pub kept_room : (node : ℕ) (k : kept.Kept) → IsKeptFor x node k → HaveRoom k.log (locks_in k.mask)
-  kept_room node k is =
-      subst (λ (log : Log). HaveRoom log (locks_in k.mask)) (sym is.log_is) (subst (HaveRoom p.log) (sym (is.locks_are [])) (o.plan.room t [] node))
-
   -- ---- A node's piece
 
   pub guard_stands : (node : ℕ) (k : kept.Kept) (piece : List CodeItem) → IsKeptFor x node k → IsChosen p.graph p.boundaries node →
-      IsBoundaryPiece (boundary_of k 0) piece → Guards x node piece
+      IsBoundaryOf k piece → Guards x node piece
   guard_stands node k piece is chosen own =
-      stands chosen (λ locals. subst (λ (b : Boundary). IsBoundaryPiece b piece) (boundary_is locals node k 0 is) own)
+      stands chosen (λ locals.
+      let locks : List ℕ = locks_before p t locals node in
+      subst (λ (b : Boundary). IsBoundaryPiece b (MayEnter p t locals node) boundary_words piece) (boundary_is locals node k 0 is)
+      (boundary_from (boundary_of k locks 0) (KeepsFrom k locks) (MayEnter p t locals node) (kept_words k) boundary_words piece (is.leave locals) is.few
+      (own locks (is.locks_are locals))))
 
   guard_is : (node : ℕ) (before : List CodeItem) → Guards x node before → IsGuarded p t c node before
   guard_is node before g = elim g [
@@ -147,8 +137,7 @@ module _ (x : opened.ThreadPlan) (o : IsOpen x) where
       sum_by most_words_of before + most_doing is.action ≤ node_price (action_nodes is.action)
   guard_price node is before own at g = elim g [
     | stands chosen b ↦
-        let paid : words_beside p.log (locks_before p t [] node) + 24 ≤ node_price 0 = o.plan.paid t [] node in
-        omega (arith, (b []).few, few_live node own, paid, within_store is.action (chosen_stores p o.plan node is at chosen))
+        omega (arith, (b []).few, few_live node own, within_store is.action (chosen_stores p o.plan node is at chosen))
     | absent none e ↦ omega (arith, ap (λ (xs : List CodeItem). sum_by most_words_of xs) e, within is.action)
   ]
 
@@ -218,12 +207,6 @@ module _ (x : opened.ThreadPlan) (o : IsOpen x) where
       append_nil : (xs : List CodeItem) → xs ++ [] ≡ xs
       append_nil [] = refl
       append_nil (y ∷ ys) = ap (λ (zs : List CodeItem). y ∷ zs) (append_nil ys)
-
--- codes that give the numbers of what is held do so as they are passed on
-pub numbered : (x : opened.ThreadPlan) (node : ℕ) (codes passed : List (Vec Instr Global)) → passed ≡ codes →
-    AreNumbered (plan_in x).log (locks_in (mask_before x node)) (lists_of codes) → AreNumbered (plan_in x).log (locks_in (mask_before x node)) (lists_of passed)
-numbered x node codes passed same are =
-    subst (λ (cs : List (Vec Instr Global)). AreNumbered (plan_in x).log (locks_in (mask_before x node)) (lists_of cs)) (sym same) are
 
 -- ---- What is known at a node
 

@@ -14,9 +14,10 @@ use Rattle.boundary_code.specs.Boundaries.{Boundary}
 use Rattle.flow_graph.specs.Nodes.{Action, Eval, Store, Test, Lock, Unlock, End, Node}
 use Rattle.flow_graph.specs.OmittedCleans.{IsCleanedLater}
 use Rattle.flow_graph.specs.Liveness.{NodeAt}
-use Rattle.node_code.specs.Cleans.{cleans_in, CleansInBoundary}
+use Rattle.node_code.specs.Cleans.{cleans_in}
 use Rattle.node_code.specs.JoinedPieces.{joined, AreClosed}
 use Rattle.thread_code.specs.Plans.{Plan, Thread, IsThread}
+use Rattle.node_code.specs.BoundaryCode.{CleansInBoundary}
 
 module _ (p : Plan) (t : Thread) where
   -- none of the items cleans a line, but in the code of a boundary of the thread

@@ -9,6 +9,7 @@ use Rattle.rv64_link.specs.LabelledCode.{most_words_of}
 use Rattle.rv64_link.specs.LinkedCode.{IsLinked}
 use Rattle.boundary_code.specs.Boundaries.{Boundary}
 use Rattle.code_runs.specs.CodeTraces.{Program}
+use Rattle.flow_graph.specs.Actions.{Seen}
 use Rattle.flow_graph.specs.Nodes.{Action, Eval, Store, Test, Lock, Unlock, End, Node}
 use Rattle.flow_graph.specs.OmittedCleans.{IsCleanedLater}
 use Rattle.flow_graph.specs.IdempotentCuts.{IsChosen}
@@ -17,6 +18,7 @@ use Rattle.node_code.specs.Pieces.{IsStorePiece, IsBoundaryPiece, IsLockPiece, I
 use Rattle.node_code.specs.JoinedPieces.{joined}
 use Rattle.thread_code.specs.Plans.{Plan, IsPlan, Thread, IsThread, IsNodeOf, AreKept, homes, locks_before}
 use Rattle.thread_code.specs.Programs.{IsThreadCode, action_nodes}
+use Rattle.thread_code.specs.RegistersAtNodes.{Enters}
 use Rattle.rv64_codegen.specs.Evaluations.{IsEvaluation, IsTest}
 
 -- of each node the registers that a boundary before it keeps, and of each store whether its line is cleaned at once
@@ -29,6 +31,17 @@ pub record AreChoices (p : Plan) (t : Thread) (c : Choices) : Type 0 where
   pub kept : (node : ℕ) → IsNodeOf t node → AreKept p t node (c.live node)
   pub cleaned : (node : ℕ) (is : Node) (variable : ℕ) (k : Kind) (next : ℕ) → IsNodeOf t node → NodeAt p.graph node is → is.action ≡ Store variable k next →
       (c.cleans node ≡ false) ↔ IsCleanedLater p.graph p.boundaries (map shape_of p.flat.variables) node
+
+-- registers with which the thread may stand at the node's entry, where its locals have these numbers
+pub record MayEnter (p : Plan) (t : Thread) (locals : List ℤ) (node : ℕ) (registers : List ℕ) : Type 0 where
+  pub seen : Seen
+  pub side : ℕ
+  pub enters : Enters p t node seen side registers
+  pub locals_are : seen.locals ≡ locals
+
+-- how many words a boundary has at most, beside one for each live register
+abbrev pub boundary_words : ℕ
+boundary_words = 72
 
 module _ (p : Plan) (t : Thread) (c : Choices) where
   -- the label at which a node's code begins
@@ -44,7 +57,8 @@ module _ (p : Plan) (t : Thread) (c : Choices) where
 
   -- before what it does stands a boundary, or nothing
   pub record IsGuarded (node : ℕ) (piece : List CodeItem) : Type 0 where
-    pub chosen : IsChosen p.graph p.boundaries node → (locals : List ℤ) → IsBoundaryPiece (boundary_before locals node 0) piece
+    pub chosen : IsChosen p.graph p.boundaries node → (locals : List ℤ) →
+        IsBoundaryPiece (boundary_before locals node 0) (MayEnter p t locals node) boundary_words piece
     pub plain : ¬ (IsChosen p.graph p.boundaries node) → piece ≡ []
 
   -- the next node follows, or a jump leads to it
@@ -64,8 +78,10 @@ module _ (p : Plan) (t : Thread) (c : Choices) where
   IsDoing node (Eval target value next) does goes = IsEvaluation (homes p t) target value.expr does × GoesTo node next goes
   IsDoing node (Store variable kind next) does goes = IsStorePiece kind (c.cleans node) does × GoesTo node next goes
   IsDoing node (Test condition holds fails) does goes = IsChoosing node condition holds fails does goes
-  IsDoing node (Lock lock next) does goes = ((locals : List ℤ) → IsLockPiece (boundary_before locals next 0) lock.mutex does) × GoesTo node next goes
-  IsDoing node (Unlock lock next) does goes = ((locals : List ℤ) → IsUnlockPiece (boundary_before locals next 12) lock.mutex does) × GoesTo node next goes
+  IsDoing node (Lock lock next) does goes =
+      ((locals : List ℤ) → IsLockPiece (boundary_before locals next 0) (MayEnter p t locals next) boundary_words lock.mutex does) × GoesTo node next goes
+  IsDoing node (Unlock lock next) does goes =
+      ((locals : List ℤ) → IsUnlockPiece (boundary_before locals next 12) (MayEnter p t locals next) boundary_words lock.mutex does) × GoesTo node next goes
   IsDoing node End does goes = IsEnd does × (goes ≡ [])
 
   -- the piece of a node, within its price

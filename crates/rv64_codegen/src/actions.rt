@@ -2,11 +2,10 @@
 ghost use Rattle.std.specs.Prelude.{◌≡◌, ◌==◌, ◌+◌, ◌<◌, OnOk};
 ghost use Rattle.c_tree.specs.Exprs.{placed_of, lvalue_of, lock_name_of};
 ghost use Rattle.flow_graph.specs.Nodes.{Eval, Store, Test, Lock, Unlock, End, action_of};
-ghost use Rattle.node_code.specs.Pieces.{Appends, IsLockPiece, IsUnlockPiece, boundary_of};
+ghost use Rattle.node_code.specs.Pieces.{Appends, IsLockOf, IsUnlockOf};
 ghost use Rattle.rv64_codegen.specs.links.Threads.{AppendsKept, DoesAction, DoesAt, GoesToNode, HasAction, IsOwn};
 
 use crate::evaluations::push_evaluation;
-use crate::numbers::held_numbers;
 use crate::tests_of_conditions::push_test;
 use crate::thread::ThreadPlan;
 use c_tree::expr::{LockName, Lvalue, Placed};
@@ -141,9 +140,9 @@ fn push_held_lock(
 ) -> Result<(), OutOfMemory>
     requires own { IsOwn thread.now next }
     requires mutex { mutex < 2048 }
-    ensures { OnOk result (AppendsKept thread.now next items.old.items items.new.items (λ k. IsLockPiece (boundary_of k 0) mutex)) }
+    ensures { OnOk result (AppendsKept thread.now next items.old.items items.new.items (λ k. IsLockOf k mutex)) }
 {
-    let numbers = held_numbers(alloc, thread, next)?;
+    let numbers = thread.numbers(alloc, next)?;
     let kept = thread.kept(next, &numbers);
     push_lock(alloc, items, &kept, mutex)
 }
@@ -175,9 +174,9 @@ fn push_held_unlock(
 ) -> Result<(), OutOfMemory>
     requires own { IsOwn thread.now next }
     requires mutex { mutex < 2048 }
-    ensures { OnOk result (AppendsKept thread.now next items.old.items items.new.items (λ k. IsUnlockPiece (boundary_of k 12) mutex)) }
+    ensures { OnOk result (AppendsKept thread.now next items.old.items items.new.items (λ k. IsUnlockOf k mutex)) }
 {
-    let numbers = held_numbers(alloc, thread, next)?;
+    let numbers = thread.numbers(alloc, next)?;
     let kept = thread.kept(next, &numbers);
     push_unlock(alloc, items, &kept, mutex)
 }

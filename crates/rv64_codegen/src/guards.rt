@@ -5,7 +5,6 @@ ghost use Rattle.flow_graph.specs.IdempotentCuts.{IsChosen, boundaries_of};
 ghost use Rattle.node_code.specs.Pieces.{Appends};
 ghost use Rattle.rv64_codegen.specs.links.Threads.{IsOwn, Guards, gives};
 
-use crate::numbers::held_numbers;
 use crate::plan::Plan;
 use crate::thread::ThreadPlan;
 use flow_graph::graph::{Action, Node};
@@ -46,7 +45,7 @@ pub(crate) fn push_guard(
     if !is_chosen(thread.plan, node) {
         return Ok(());
     }
-    let numbers = held_numbers(alloc, thread, node)?;
+    let numbers = thread.numbers(alloc, node)?;
     let kept = thread.kept(node, &numbers);
     push_boundary(alloc, items, &kept)
 }

@@ -7,7 +7,6 @@ mod evaluations;
 mod guards;
 mod initial;
 pub mod laws;
-mod numbers;
 mod plan;
 mod registers;
 mod targets;

@@ -1,17 +1,18 @@
 //! A thread whose code is made.
-ghost use Rattle.std.specs.Prelude.{◌≡◌, ◌<◌, ◌≤◌, ◌-◌, ◌+◌, ◌^◌};
-ghost use Rattle.ido_base.specs.Locks.{locks_in};
-ghost use Rattle.boundary_code.specs.links.InstructionLists.{lists_of};
-ghost use Rattle.node_code.specs.links.BoundaryCode.{AreNumbered};
-ghost use Rattle.rv64_codegen.specs.links.Threads.{IsKeptFor, IsOwn, mask_before, plan_in};
+ghost use Rattle.std.specs.Prelude.{◌≡◌, ◌<◌, ◌≤◌, ◌-◌, ◌+◌, ◌^◌, IfOk};
+ghost use Rattle.boundary_code.specs.Boundaries.{lists_of};
+ghost use Rattle.rv64_codegen.specs.links.Threads.{IsOwn, IsKeptFor, AreNumbersOf, listed_codes};
 
 use crate::plan::Plan;
 use expr_code::Frame;
 use flow_graph::graph::Part;
-use node_code::Kept;
+use ido_base::log::Log;
+use ido_base::memory::OutOfMemory;
+use node_code::{Kept, number_codes};
 use rv64_isa::field::Register;
 use rv64_isa::instr::Instr;
 use rv64_isa::object::Label;
+use std::alloc::Global;
 
 /// A thread, where its locals and the variables are, and what was found out about its nodes.
 #[derive(Clone, Copy)]
@@ -28,7 +29,17 @@ pub(crate) struct ThreadPlan<'a, 'p> {
     pub later: &'a [bool],
 }
 
-impl<'a> ThreadPlan<'a, '_> {
+/// Of each lock of a mask code that leaves its number, where the log lists locks.
+fn listed_codes(alloc: Global, log: Log, mask: u64) -> Result<Vec<Vec<Instr>>, OutOfMemory>
+    ensures { IfOk result (λ codes. lists_of codes.items ≡ listed_codes log mask) }
+{
+    match log {
+        Log::V1 => Ok(Vec::new(alloc)),
+        Log::V2 => number_codes(alloc, mask),
+    }
+}
+
+impl ThreadPlan<'_, '_> {
     /// The label at which a node's code begins, with the boundary before it.
     pub(crate) fn label(&self, node: usize) -> Label
         requires { IsOwn self.now node }
@@ -37,27 +48,29 @@ impl<'a> ThreadPlan<'a, '_> {
         Label((node - self.part.first) as u32)
     }
 
-    /// The mutexes that the thread holds before a node.
-    pub(crate) fn mask(&self, node: usize) -> u64
+    /// Of each lock that is held at a node code that leaves its number, where the log lists locks.
+    pub(crate) fn numbers(&self, alloc: Global, node: usize) -> Result<Vec<Vec<Instr>>, OutOfMemory>
         requires { IsOwn self.now node }
-        ensures { result ≡ mask_before self.now node }
+        ensures { IfOk result (λ codes. AreNumbersOf self.now node (lists_of codes.items)) }
     {
         let step = node - self.part.first;
-        self.plan.held.held(self.number, step as u32)
+        let mask = self.plan.held.held(self.number, step as u32);
+        listed_codes(alloc, self.plan.log, mask)
     }
 
-    /// What a boundary keeps that lets the thread go on at a node, with code of the numbers of what is held there.
+    /// What a boundary keeps that lets the thread go on at a node, where these are the codes of the locks held there.
     pub(crate) fn kept<'k>(&'k self, node: usize, numbers: &'k [Vec<Instr>]) -> Kept<'k>
         requires own { IsOwn self.now node }
-        requires numbers { AreNumbered (plan_in self.now).log (locks_in (mask_before self.now node)) (lists_of numbers.now) }
+        requires numbers { AreNumbersOf self.now node (lists_of numbers.now) }
         ensures { IsKeptFor self.now node result }
     {
+        let step = node - self.part.first;
         Kept {
             log: self.plan.log,
             thread: self.number,
-            mask: self.mask(node),
+            mask: self.plan.held.held(self.number, step as u32),
             numbers,
-            live: &self.live[node - self.part.first],
+            live: &self.live[step],
         }
     }
 }

@@ -6,7 +6,6 @@ use Rattle.ido_base.specs.Layout.{variable_at}
 use Rattle.ido_ints.specs.declared.kinds.Kind.{Kind}
 use Rattle.c_tree.specs.Flats as f
 use Rattle.c_tree.specs.WellFormed.{shape_of, IsWellFormed}
-use Rattle.c_tree.specs.Prices.{node_price}
 use Rattle.c_tree.specs.declared.language.Language.TheVariants.{Plain}
 use Rattle.c_tree.specs.HoldPrices.{price_fault}
 use Rattle.c_tree.specs.Exprs.{LockName}
@@ -15,7 +14,7 @@ use Rattle.c_tree.specs.Values.{lock_number}
 use Rattle.c_tree.specs.LockDiscipline.{key_locals, numbers_below}
 use Rattle.memory_layout.specs.declared.roles.TheConstants.{LOCALS}
 use Rattle.memory_layout.specs.Roles.{pending_address, pending_value}
-use Rattle.boundary_code.specs.Boundaries.{HaveRoom, words_beside}
+use Rattle.boundary_code.specs.Boundaries.{HaveRoom}
 use Rattle.lock_discipline.specs.HeldSetsByStep.{AreAllSetsOf}
 use Rattle.flow_graph.specs.declared.graph.Part.{Part}
 use Rattle.flow_graph.specs.Nodes.{Graph}
@@ -132,5 +131,3 @@ pub record IsPlan (p : Plan) : Type 0 where
   pub priced : price_fault Plain p.flat ≡ None
   -- a bank of the threads' logs has room for the locks that are held before each node
   pub room : (t : Thread) (locals : List ℤ) (node : ℕ) → HaveRoom p.log (locks_before p t locals node)
-  -- a node's price pays for a boundary with these locks and 20 registers, and four words beside it
-  pub paid : (t : Thread) (locals : List ℤ) (node : ℕ) → words_beside p.log (locks_before p t locals node) + 24 ≤ node_price 0

@@ -1,6 +1,5 @@
 -- Names for the pieces of the code of boundaries and constants. What they do is said in Boundaries and Straight.
-use Rattle.std.specs.Prelude.{◌≡◌, ℕ, ℤ, ◌+◌, ◌*◌, ◌/◌, ◌%◌, ◌^◌, ◌≤◌, List, [], ◌∷◌, ◌++◌, length, map, Vec, Bool, true, false}
-use Rattle.std.specs.Global.{Global}
+use Rattle.std.specs.Prelude.{ℕ, ◌+◌, ◌*◌, ◌/◌, ◌%◌, ◌^◌, List, [], ◌∷◌, ◌++◌, Bool, true, false}
 use Rattle.ido_base.specs.declared.log.Log.{Log}
 use Rattle.ido_base.specs.declared.log.Log.TheVariants.{V1, V2}
 use Rattle.ido_base.specs.Layout.{bank_bytes}
@@ -10,7 +9,7 @@ use Rattle.rv64_isa.specs.declared.instr.Operation.TheVariants.{Add}
 use Rattle.rv64_isa.specs.declared.instr.ImmediateOperation.TheVariants.{Addi, Xori}
 use Rattle.rv64_isa.specs.declared.instr.ShiftOperation.TheVariants.{Srli}
 use Rattle.rv64_isa.specs.declared.instr.StoreKind.TheVariants.{Sd}
-use Rattle.boundary_code.specs.Boundaries.{Opens, Closes, lines_in_use}
+use Rattle.boundary_code.specs.Boundaries.{lines_in_use}
 
 -- what a log's bank needs of the code beside the live registers: the instructions that leave in x7 what slot 0 gets, those that store the locks in
 -- slots of their own, and the slots that are written
@@ -22,11 +21,6 @@ pub record KeptCode : Type 0 where
 abbrev pub keep_slots : (live : List ℕ) → List Instr
 keep_slots [] = []
 keep_slots (r ∷ rs) = Store Sd r 30 (64 + 8 * r) ∷ keep_slots rs
-
--- each lock's number gets a slot, from this one on
-abbrev pub keep_locks : (slot : ℕ) → (codes : List (List Instr)) → List Instr
-keep_locks slot [] = []
-keep_locks slot (code ∷ codes) = code ++ Store Sd 5 30 (64 + 8 * slot) ∷ keep_locks (slot + 1) codes
 
 abbrev pub clean_lines : (lines : List ℕ) → List Instr
 clean_lines [] = []
@@ -69,21 +63,3 @@ boundary_list log address kept live resume = bank_part log address kept live ++ 
 
 abbrev pub last_list : (address : List Instr) → List Instr
 last_list address = address ++ Fence ∷ commit 0
-
--- the code of a boundary whose bank lists locks: between its two parts stands for each lock the code that leaves its number in x5, and a store into its slot
-pub record IsListCode (thread : ℕ) (live : List ℕ) (resume : ℤ) (codes : List (List Instr)) (code : List Instr) : Type 0 where
-  pub opening : List Instr
-  pub closing : List Instr
-  pub split : code ≡ opening ++ (keep_locks 32 codes ++ closing)
-  pub opens : Opens V2 thread (length codes) opening
-  pub closes : (numbers : List ℕ) → length numbers ≡ length codes →
-      Closes (record { log = V2; thread = thread; locks = numbers; live = live; resume = resume }) closing
-
--- each of the lists has so many instructions at most
-abbrev pub AreShort : (most : ℕ) → List (List Instr) → Type 0
-AreShort most [] = Unit {0}
-AreShort most (code ∷ codes) = (length code ≤ most) × AreShort most codes
-
--- the instructions in each of them
-abbrev pub lists_of : List (Vec Instr Global) → List (List Instr)
-lists_of codes = map (λ (code : Vec Instr Global). code.items) codes

@@ -1,25 +1,29 @@
--- Code of boundaries.
-use Rattle.std.specs.Prelude.{ℕ, ◌+◌, ◌≤◌, List, [], ◌∷◌, length}
+-- Code of boundaries, as it is made.
+use Rattle.std.specs.Prelude.{ℕ, ◌+◌, ◌≤◌, List, [], ◌∷◌, length, ◌==◌, Bool}
 use Rattle.ido_base.specs.declared.log.Log.{Log}
 use Rattle.ido_base.specs.declared.log.Log.TheVariants.{V1, V2}
 use Rattle.rv64_isa.specs.declared.instr.Instr.{Instr}
 use Rattle.rv64_isa.specs.declared.instr.Instr.TheVariants.{OpImmediate}
 use Rattle.rv64_isa.specs.declared.instr.ImmediateOperation.TheVariants.{Addi}
-use Rattle.boundary_code.specs.Boundaries.{Boundary, GiveNumbers, HasEffects, HasOffset, KeepsRegisters, words_beside}
-use Rattle.boundary_code.specs.links.InstructionLists.{AreShort}
+use Rattle.boundary_code.specs.Boundaries.{Boundary, words_beside}
+use Rattle.node_code.specs.declared.kept.Kept as kept
+use Rattle.node_code.specs.BoundaryCode.{IsBoundaryCode}
+use Rattle.node_code.specs.Pieces.{MayKeep, boundary_of, codes_of}
 
 -- leaves the number of a mutex in x5
 abbrev pub number_code : (mutex : ℕ) → List Instr
 number_code mutex = OpImmediate Addi 5 0 mutex ∷ []
 
--- where a bank lists its locks, each of these has code of one instruction for its number
-abbrev pub AreNumbered : Log → (locks : List ℕ) → (codes : List (List Instr)) → Type 0
-AreNumbered V1 locks codes = Unit {0}
-AreNumbered V2 locks codes = GiveNumbers locks codes × AreShort 1 codes
+-- the code is that of the boundary, and not long
+pub record IsCodeOf (b : Boundary) (codes : List (List Instr)) (code : List Instr) : Type 0 where
+  pub short : length code ≤ length b.live + words_beside b.log codes
+  pub is : IsBoundaryCode b codes code
 
--- the code is that of the boundary
-pub record IsCodeOf (b : Boundary) (code : List Instr) : Type 0 where
-  pub short : length code ≤ length b.live + words_beside b.log b.locks
-  pub effects_are : HasEffects b code
-  pub offset : HasOffset b.log b.locks code
-  pub keeps : KeepsRegisters b.log code
+-- whatever locks are kept, it is the code of the boundary that resumes so many bytes after its end
+abbrev pub IsCodeFor : kept.Kept → (resume : ℕ) → (code : List Instr) → Type 0
+IsCodeFor k resume code = (locks : List ℕ) → MayKeep k.log k.mask (codes_of k) locks → IsCodeOf (boundary_of k locks resume) (codes_of k) code
+
+-- no lock is kept, by the mask or by so many codes
+abbrev pub keeps_none : Log → (mask codes : ℕ) → Bool
+keeps_none V1 mask codes = mask == 0
+keeps_none V2 mask codes = codes == 0

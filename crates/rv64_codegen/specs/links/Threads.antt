@@ -3,7 +3,12 @@ use Rattle.std.specs.Prelude.{◌≡◌, ◌↔◌, ℕ, ◌+◌, ◌-◌, ◌*�
 use Rattle.std.specs.Prelude.{Bool, true, false, not, ℤ}
 use Rattle.std.specs.Prelude.{Vec}
 use Rattle.std.specs.Global.{Global}
+use Rattle.std.specs.List.{AllByRecursion}
 use Rattle.ido_base.specs.Locks.{locks_in}
+use Rattle.ido_base.specs.declared.log.Log.{Log}
+use Rattle.ido_base.specs.declared.log.Log.TheVariants.{V1, V2}
+use Rattle.lock_discipline.specs.Masks.{mask_of}
+use Rattle.rv64_isa.specs.declared.instr.Instr.{Instr}
 use Rattle.c_tree.specs.Exprs as e
 use Rattle.c_tree.specs.Flats as f
 use Rattle.c_tree.specs.Temporaries.{assign_exprs}
@@ -18,15 +23,14 @@ use Rattle.flow_graph.specs.Liveness.{NodeAt}
 use Rattle.flow_graph.specs.OmittedCleans.{IsCleanedLater}
 use Rattle.flow_graph.specs.IdempotentCuts.{IsChosen}
 use Rattle.node_code.specs.declared.kept.Kept as kept
-use Rattle.node_code.specs.Pieces.{Appends, IsBoundaryPiece}
-use Rattle.node_code.specs.links.BoundaryCode.{AreNumbered}
-use Rattle.boundary_code.specs.links.InstructionLists.{lists_of}
-use Rattle.lock_discipline.specs.Masks.{mask_of}
+use Rattle.node_code.specs.BoundaryCode.{IsQuiet}
+use Rattle.node_code.specs.Pieces.{Appends, IsBoundaryPiece, KeepsFrom, MayKeep, codes_of, kept_words}
+use Rattle.node_code.specs.links.BoundaryCode.{number_code}
 use Rattle.thread_code.specs.Plans.{Plan, Thread, IsPlan, IsThread, IsNodeOf, homes, locks_before, set_before}
 use Rattle.thread_code.specs.Programs.{action_nodes}
 use Rattle.rv64_codegen.specs.declared.thread.ThreadPlan as opened
 use Rattle.rv64_codegen.specs.Evaluations.{NeedFew}
-use Rattle.rv64_codegen.specs.ThreadPieces.{Choices, IsDoing, IsNodePiece, GoesTo, boundary_before}
+use Rattle.rv64_codegen.specs.ThreadPieces.{Choices, IsDoing, IsNodePiece, GoesTo, MayEnter, boundary_before, boundary_words}
 use Rattle.rv64_codegen.specs.Plans.{plan_of}
 use Rattle.rv64_codegen.specs.links.LiveRegisters.{AreLists}
 use Rattle.expr_code.specs.declared.home.Home.{Home}
@@ -92,17 +96,28 @@ pub record HasAction (x : opened.ThreadPlan) (node : ℕ) (action : Action) : Ty
   pub at : NodeAt (plan_in x).graph node is
   pub action_is : is.action ≡ action
 
--- the mutexes that are held before the node, as a mask
-abbrev pub mask_before : opened.ThreadPlan → (node : ℕ) → ℕ
-mask_before x node = mask_of (set_before (plan_in x) (thread_of x) node)
+-- the codes of the locks of a mask, where the log lists locks
+abbrev pub listed_codes : Log → (mask : ℕ) → List (List Instr)
+listed_codes V1 mask = []
+listed_codes V2 mask = map number_code (locks_in mask)
+
+-- the codes of the locks that are held at the node
+abbrev pub AreNumbersOf : opened.ThreadPlan → (node : ℕ) → List (List Instr) → Type 0
+AreNumbersOf x node codes = codes ≡ listed_codes (plan_in x).log (mask_of (set_before (plan_in x) (thread_of x) node))
 
 -- what a boundary keeps that lets the thread go on at the node
 pub record IsKeptFor (x : opened.ThreadPlan) (node : ℕ) (k : kept.Kept) : Type 0 where
   pub log_is : k.log ≡ (plan_in x).log
   pub thread_is : k.thread ≡ x.number
-  pub locks_are : (locals : List ℤ) → locks_in k.mask ≡ locks_before (plan_in x) (thread_of x) locals node
-  pub numbers_are : AreNumbered k.log (locks_in k.mask) (lists_of k.numbers.now)
   pub live_is : k.live.now ≡ (choices_of x).live node
+  -- the locks that are held there, whatever locals are
+  pub locks_are : (locals : List ℤ) → MayKeep k.log k.mask (codes_of k) (locks_before (plan_in x) (thread_of x) locals node)
+  -- from registers with which the thread enters the node their codes leave their numbers
+  pub leave : (locals : List ℤ) (registers : List ℕ) → MayEnter (plan_in x) (thread_of x) locals node registers →
+      KeepsFrom k (locks_before (plan_in x) (thread_of x) locals node) registers
+  pub few : kept_words k ≤ boundary_words
+  pub room : length k.numbers.now ≤ 16
+  pub quiet : AllByRecursion IsQuiet (codes_of k)
 
 -- a piece is appended whose boundary keeps what lets the thread go on at the node
 abbrev pub AppendsKept : (x : opened.ThreadPlan) → (node : ℕ) → (old new : List CodeItem) → (Is : kept.Kept → List CodeItem → Type 0) → Type 0
@@ -121,7 +136,8 @@ gives End = false
 -- the boundary before the node stands there by choice, or there is none
 pub data Guards (x : opened.ThreadPlan) (node : ℕ) (piece : List CodeItem) : Type 0 where
   stands : IsChosen (plan_in x).graph (plan_in x).boundaries node →
-      ((locals : List ℤ) → IsBoundaryPiece (boundary_before (plan_in x) (thread_of x) (choices_of x) locals node 0) piece) → Guards x node piece
+      ((locals : List ℤ) → IsBoundaryPiece (boundary_before (plan_in x) (thread_of x) (choices_of x) locals node 0)
+      (MayEnter (plan_in x) (thread_of x) locals node) boundary_words piece) → Guards x node piece
   absent : ¬ (IsChosen (plan_in x).graph (plan_in x).boundaries node) → piece ≡ [] → Guards x node piece
 
 -- the next node follows, or a jump leads to it

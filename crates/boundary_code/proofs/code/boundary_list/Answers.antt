@@ -1,4 +1,4 @@
-use Rattle.std.proofs.Common.{◌≡◌, ◌≢◌, ◌≤◌, ◌+◌, ◌*◌, length, ℕ, List, [], ◌∷◌, ◌++◌, true, false, refl, ap, subst, sym, ◌∙◌, rules, arith}
+use Rattle.std.proofs.Common.{◌≡◌, ◌≢◌, ◌≤◌, ◌+◌, length, ℕ, List, [], ◌∷◌, ◌++◌, true, false, refl, ap, subst, sym, ◌∙◌, rules, arith}
 use Rattle.std.specs.Prelude.{Vec}
 use Rattle.std.specs.Global.{Global}
 use Rattle.std.specs.Int.{cast_signed, cast_unsigned, w32}
@@ -10,8 +10,8 @@ use Rattle.ido_base.specs.Layout.{log_of}
 use Rattle.rv64_isa.specs.declared.instr.Instr.{Instr}
 use Rattle.rv64_isa.specs.Signed.{twos_complement}
 use Rattle.operator_code.specs.StraightLineCode.{IsConstant}
-use Rattle.boundary_code.specs.Boundaries.{Boundary, GiveNumbers, is_empty}
-use Rattle.boundary_code.specs.links.InstructionLists.{KeptCode, boundary_list, keep_locks, last_list, lists_of}
+use Rattle.boundary_code.specs.Boundaries.{Boundary, GiveNumbers, is_empty, keep_locks, lists_of, number_words}
+use Rattle.boundary_code.specs.links.InstructionLists.{KeptCode, boundary_list, last_list}
 use Rattle.boundary_code.proofs.BoundariesByPieces.{Parts, by_list_made, last_made, as_many}
 use Rattle.boundary_code.proofs.ListParts.{list_parts}
 use Rattle.boundary_code.proofs.Lengths.{boundary_short, last_short, locks_length}
@@ -127,16 +127,16 @@ returns-clause-others c = λ numbers gives.
     c.emit_boundary.ensures
 
 pub returns-then-is_empty-clause-short : goal.returns-then-is_empty-clause-short
-returns-then-is_empty-clause-short c = λ most short.
+returns-then-is_empty-clause-short c =
     IfOk-weaker c.emit_last_boundary.result _ _
     (λ code k.
     let few = last_short c.deref.result.now c.args.live.now
     (subst (λ (is : List Instr). length is ≤ 8) (sym c.deref.ensures.value) c.in_ok-log.ensures.short) in
-    short_as code.items (last_list c.deref.result.now) (length c.args.live.now + 39 + (most + 1) * length c.args.locks.now) k (omega (arith, few)))
+    short_as code.items (last_list c.deref.result.now) (length c.args.live.now + 39 + number_words (lists_of c.args.locks.now)) k (omega (arith, few)))
     c.emit_last_boundary.ensures
 
 pub returns-clause-short : goal.returns-clause-short
-returns-clause-short c = λ most short.
+returns-clause-short c =
     IfOk-weaker c.emit_boundary.result _ _
     (λ code k.
     let resume = twos_complement 32 (cast_signed w32 (cast_unsigned w32 c.args.resume)) in
@@ -148,11 +148,9 @@ returns-clause-short c = λ most short.
     ap (λ (is : List Instr). length is)
     (c.deref-4.ensures.value ∙ c.in_ok-emit_locks.ensures
     ∙ ap (λ (is : List Instr). is ++ keep_locks 32 (lists_of c.args.locks.now)) c.new-others.ensures.items) in
-    let locks = locks_length 32 most (lists_of c.args.locks.now) short in
-    let many : (most + 1) * length (lists_of c.args.locks.now) ≡ (most + 1) * length c.args.locks.now =
-    ap (λ (n : ℕ). (most + 1) * n) (lists_length c.args.locks.now) in
+    let locks = locks_length 32 (lists_of c.args.locks.now) in
     short_as code.items (boundary_list V2 c.deref-2.result.now kept c.args.live.now resume)
-    (length c.args.live.now + 39 + (most + 1) * length c.args.locks.now) k (omega (arith, few, others, locks, many)))
+    (length c.args.live.now + 39 + number_words (lists_of c.args.locks.now)) k (omega (arith, few, others, locks)))
     c.emit_boundary.ensures
 
 pub returns-then-is_empty-clause-parts : goal.returns-then-is_empty-clause-parts

@@ -4,8 +4,8 @@ use Rattle.std.specs.Global.{Global}
 use Rattle.rv64_isa.specs.declared.instr.Instr.{Instr}
 use Rattle.rv64_isa.specs.declared.instr.Instr.TheVariants.{Store}
 use Rattle.rv64_isa.specs.declared.instr.StoreKind.TheVariants.{Sd}
-use Rattle.boundary_code.specs.links.InstructionLists.{keep_locks, lists_of}
 use Rattle.boundary_code.proofs.code.emit_locks.Goals as goal
+use Rattle.boundary_code.specs.Boundaries.{keep_locks, lists_of}
 
 -- one lock more
 listed : (old code a new : List Instr) (rest : List (List Instr)) (slot offset : ℕ) → a ≡ old ++ code → new ≡ a ++ Store Sd 5 30 offset ∷ [] →

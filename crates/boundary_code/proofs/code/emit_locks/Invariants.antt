@@ -1,6 +1,6 @@
 use Rattle.std.proofs.Common.{◌≡◌, ◌+◌, ◌*◌, ◌++◌, drop}
-use Rattle.boundary_code.specs.links.InstructionLists.{keep_locks, lists_of}
 use Rattle.boundary_code.proofs.code.emit_locks.Given as goal
+use Rattle.boundary_code.specs.Boundaries.{keep_locks, lists_of}
 
 abbrev pub invariant-loop-lock : goal.invariant-loop-lock
 invariant-loop-lock l = record {

@@ -1,8 +1,13 @@
-use Rattle.std.proofs.Common.{◌≡◌, arith, rules, true}
+use Rattle.std.proofs.Common.{◌≡◌, arith, rules, true, List, sym, subst}
+use Rattle.std.specs.Prelude.{Vec}
+use Rattle.std.specs.Global.{Global}
 use Rattle.std.proofs.lemmas.Result.{on_ok_weaker}
 use Rattle.std.proofs.lemmas.List.{length-map}
+use Rattle.rv64_isa.specs.declared.instr.Instr.{Instr}
+use Rattle.boundary_code.specs.Boundaries.{lists_of}
 use Rattle.flow_graph.specs.Nodes.{node_of}
-use Rattle.rv64_codegen.proofs.NodePieces.{exists_at, guard_stands, kept_live, kept_room, kept_thread, numbered}
+use Rattle.rv64_codegen.specs.links.Threads.{AreNumbersOf}
+use Rattle.rv64_codegen.proofs.NodePieces.{exists_at, guard_stands, kept_thread, kept_live}
 use Rattle.rv64_codegen.proofs.guards.push_guard.Goals as goal
 
 pub is_chosen-requires-clause-node : goal.is_chosen-requires-clause-node
@@ -11,10 +16,8 @@ is_chosen-requires-clause-node c =
 
 pub kept-kept-requires-clause-numbers : goal.kept-kept-requires-clause-numbers
 kept-kept-requires-clause-numbers c =
-    numbered c.args.thread.now c.args.node c.in_ok-numbers.numbers.items c.deref.result.now c.deref.ensures.value c.in_ok-numbers.ensures
-
-pub push_boundary-requires-clause-numbers : goal.push_boundary-requires-clause-numbers
-push_boundary-requires-clause-numbers c = c.kept-kept.ensures.numbers_are
+    subst (λ (codes : List (Vec Instr Global)). AreNumbersOf c.args.thread.now c.args.node (lists_of codes)) (sym c.deref.ensures.value)
+    c.in_ok-numbers.ensures
 
 pub push_boundary-requires-clause-thread : goal.push_boundary-requires-clause-thread
 push_boundary-requires-clause-thread c = kept_thread c.args.thread.now c.requires.open_is c.args.node c.kept-kept.result c.kept-kept.ensures
@@ -24,7 +27,10 @@ push_boundary-requires-clause-live c =
     kept_live c.args.thread.now c.requires.open_is c.args.node c.kept-kept.result c.requires.own c.kept-kept.ensures
 
 pub push_boundary-requires-clause-room : goal.push_boundary-requires-clause-room
-push_boundary-requires-clause-room c = kept_room c.args.thread.now c.requires.open_is c.args.node c.kept-kept.result c.kept-kept.ensures
+push_boundary-requires-clause-room c = c.kept-kept.ensures.room
+
+pub push_boundary-requires-clause-quiet : goal.push_boundary-requires-clause-quiet
+push_boundary-requires-clause-quiet c = c.kept-kept.ensures.quiet
 
 pub returns : goal.returns
 returns c =

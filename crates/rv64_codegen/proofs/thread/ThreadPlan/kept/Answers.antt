@@ -1,28 +1,57 @@
-use Rattle.std.proofs.Common.{arith, ◌∙◌, ◌-◌, ℕ, List, [], ap, refl, subst, sym}
+use Rattle.std.proofs.Common.{◌≡◌, arith, ◌∙◌, ◌-◌, ℕ, ℤ, List, [], ap, refl, sym}
 use Rattle.std.specs.Prelude.{Vec}
 use Rattle.std.specs.Global.{Global}
 use Rattle.std.proofs.lemmas.List.{get_or-map}
 use Rattle.ido_base.specs.Locks.{locks_in}
-use Rattle.boundary_code.specs.links.InstructionLists.{lists_of}
-use Rattle.node_code.specs.links.BoundaryCode.{AreNumbered}
-use Rattle.thread_code.specs.Plans.{set_before}
+use Rattle.rv64_isa.specs.declared.instr.Instr.{Instr}
+use Rattle.boundary_code.specs.Boundaries.{lists_of}
+use Rattle.node_code.proofs.Public.{lists_long}
+use Rattle.thread_code.specs.Plans.{Plan, Thread, locks_before, set_before}
 use Rattle.thread_code.proofs.Public.{mask_has_held}
-use Rattle.rv64_codegen.specs.links.Threads.{plan_in, thread_of}
-use Rattle.rv64_codegen.proofs.PlannedNodes.{few_held, numbers_plain}
+use Rattle.rv64_codegen.specs.links.Threads.{listed_codes, plan_in, thread_of}
+use Rattle.rv64_codegen.proofs.KeptNumbers.{few_codes, few_words, leave_them, may_keep, quiet_codes}
+use Rattle.rv64_codegen.proofs.PlannedNodes.{held_there, held_sets, few_held, numbers_plain}
+use Rattle.rv64_codegen.proofs.NodePieces.{label_at}
 use Rattle.rv64_codegen.proofs.thread.ThreadPlan.kept.Goals as goal
+
+pub overflow_cast-step : goal.overflow_cast-step
+overflow_cast-step c = omega (arith, label_at c.args.self.now c.args.node c.requires.own)
+
+pub held-requires-clause-thread : goal.held-requires-clause-thread
+held-requires-clause-thread c =
+    let x = c.args.self.now in
+    let o = c.requires.own.open_is in
+    held_there (plan_in x) o.plan (thread_of x) o.thread
+
+pub held-requires-clause-step : goal.held-requires-clause-step
+held-requires-clause-step c =
+    let x = c.args.self.now in
+    let o = c.requires.own.open_is in
+    omega (arith, held_sets (plan_in x) o.plan (thread_of x) o.thread c.args.node c.requires.own.own)
 
 pub returns : goal.returns
 returns c =
     let x = c.args.self.now in
-    let o = c.requires.own.open_is in
+    let own = c.requires.own in
+    let o = own.open_is in
+    let p : Plan = plan_in x in
+    let t : Thread = thread_of x in
+    let codes : List (List Instr) = lists_of c.args.numbers.now in
+    let are : codes ≡ listed_codes p.log c.held.result = c.requires.numbers ∙ ap (λ (m : ℕ). listed_codes p.log m) (sym c.held.ensures) in
+    let in_it : (locals : List ℤ) → locks_in c.held.result ≡ locks_before p t locals c.args.node = λ locals.
+    ap locks_in c.held.ensures ∙ mask_has_held (set_before p t c.args.node) (few_held p o.plan t o.thread c.args.node own.own)
+    ∙ numbers_plain p o.plan t o.thread locals c.args.node own.own in
     record {
       log_is = refl;
       thread_is = refl;
-      locks_are = λ locals. ap locks_in c.mask.ensures
-          ∙ mask_has_held (set_before (plan_in x) (thread_of x) c.args.node) (few_held (plan_in x) o.plan (thread_of x) o.thread c.args.node c.requires.own.own)
-          ∙ numbers_plain (plan_in x) o.plan (thread_of x) o.thread locals c.args.node c.requires.own.own;
-      numbers_are =
-          subst (λ (mask : ℕ). AreNumbered (plan_in x).log (locks_in mask) (lists_of c.args.numbers.now)) (sym c.mask.ensures) c.requires.numbers;
       live_is = c.deref.ensures.value ∙ sym (get_or-map (λ (v : Vec ℕ Global). v.items) x.live.now (c.args.node - x.part.first) _ []
-          (omega (arith, o.lists.count, c.requires.own.own.from_first, c.requires.own.own.below_end)));
+          (omega (arith, o.lists.count, own.own.from_first, own.own.below_end)));
+      locks_are = λ locals. may_keep c.held.result (locks_before p t locals c.args.node) (in_it locals) codes p.log are;
+      leave = λ locals registers _. leave_them c.held.result (locks_before p t locals c.args.node) (in_it locals) codes p.log x.number registers are;
+      few = few_words c.held.result (locks_before p t [] c.args.node) (in_it []) codes p.log are (o.plan.room t [] c.args.node);
+      room =
+          let few = few_codes c.held.result (locks_before p t [] c.args.node) (in_it []) codes p.log are (o.plan.room t [] c.args.node) in
+          let long = lists_long c.args.numbers.now in
+          omega (arith, few, long);
+      quiet = quiet_codes c.held.result (locks_before p t [] c.args.node) (in_it []) codes p.log are;
     }

@@ -1,10 +1,9 @@
-use Rattle.std.proofs.Common.{arith, map, ap, ◌∙◌, ◌++◌, List, ℕ}
-use Rattle.rv64_isa.specs.declared.instr.Instr.{Instr}
+use Rattle.std.proofs.Common.{arith, map, ap, ◌∙◌, ◌++◌, List}
 use Rattle.ido_base.specs.Locks.{locks_from, locks_in}
-use Rattle.boundary_code.specs.links.InstructionLists.{lists_of}
 use Rattle.node_code.specs.links.BoundaryCode.{number_code}
-use Rattle.rv64_codegen.proofs.HeldNumbers.{begins, goes_on, ends}
-use Rattle.rv64_codegen.proofs.numbers.number_codes.Goals as goal
+use Rattle.node_code.proofs.LockNumbers.{begins, goes_on, ends}
+use Rattle.node_code.proofs.boundaries.number_codes.Goals as goal
+use Rattle.boundary_code.specs.Boundaries.{lists_of}
 
 pub loop-mutex-init : goal.loop-mutex-init
 loop-mutex-init c =
