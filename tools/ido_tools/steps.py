@@ -20,6 +20,9 @@ MORE = 20
 
 CRASH = Line("c", None, None)
 
+# Another life begins. An image tells one life, so after a start no point can be looked at.
+START = Line("r", None, None)
+
 
 class Steps:
     """The events of a script, one by one."""
@@ -44,6 +47,8 @@ class Steps:
     def count_to(self, number):
         """How many events a line of `b` or `f` makes."""
         before, line = self.lines[:number], self.lines[number]
+        if START in before:
+            return self.count_by_limit(number)
         count = self.point_stored(before, line.first) if line.letter == "b" else self.fence_finished(before, line)
         return self.count_by_limit(number) if count is None else count
 

@@ -7,17 +7,17 @@ from ido_tools.fault import BadInput
 
 Input = collections.namedtuple("Input", "source rest")
 
-# A report: the numbers of each variable by name, the ended sections by thread, and the runs of the schedule.
-Report = collections.namedtuple("Report", "variables ended schedule")
+# A report: the numbers of each variable by name, the ended sections by thread, and of each life the runs of its schedule.
+Report = collections.namedtuple("Report", "variables ended schedules")
 
 VARIABLE_LINE = re.compile(r"([A-Za-z_]\w*) =((?: -?\d+)+)\Z", re.ASCII)
 ENDED_LINE = re.compile(r"ended (\d+) (\d+)\Z", re.ASCII)
 RUN = re.compile(r"(\d+)\*(\d+)\Z", re.ASCII)
 
-SCRIPT_LINE = re.compile(rb"([sbfec])((?: \d+)*)\Z")
+SCRIPT_LINE = re.compile(rb"([sbfecr])((?: \d+)*)\Z")
 
 # How many numbers each line of a script has.
-COUNTS = {b"s": 2, b"b": 1, b"f": 1, b"e": 2, b"c": 0}
+COUNTS = {b"s": 2, b"b": 1, b"f": 1, b"e": 2, b"c": 0, b"r": 0}
 
 Line = collections.namedtuple("Line", "letter first second")
 
@@ -73,6 +73,11 @@ def schedule_text(runs):
     return " ".join(["schedule", *(f"{thread}*{steps}" for thread, steps in runs)])
 
 
+def schedules_text(schedules):
+    """The lines of the schedules of lives, one after another."""
+    return "".join(schedule_text(it) + "\n" for it in schedules)
+
+
 def parse_ended(line, ended):
     """Whether the line tells how many sections of the next thread have ended; notes it."""
     match = ENDED_LINE.match(line)
@@ -85,17 +90,20 @@ def parse_ended(line, ended):
 def parse_report(output):
     """The report that these bytes are; else a fault of the input."""
     lines = output.decode("utf-8", "replace").splitlines()
-    if not lines or lines[-1].split(" ")[0] != "schedule":
+    end = len(lines)
+    while end > 0 and lines[end - 1].split(" ")[0] == "schedule":
+        end -= 1
+    if end == len(lines):
         first = lines[0] if lines else "nothing"
         raise BadInput(f"no report: {first}")
     variables, ended = {}, []
-    for line in lines[:-1]:
+    for line in lines[:end]:
         match = VARIABLE_LINE.match(line)
         if match and not ended and match[1] not in variables:
             variables[match[1]] = [int(it) for it in match[2].split()]
         elif not parse_ended(line, ended):
             raise BadInput(f"no line of a report: {line}")
-    return Report(variables, ended, parse_schedule(lines[-1]))
+    return Report(variables, ended, [parse_schedule(it) for it in lines[end:]])
 
 
 def parse_unsettled(output):
@@ -124,8 +132,6 @@ def parse_script(script):
         line = line[:-1] if line.endswith(b"\r") else line
         if not line:
             continue
-        if line == b"r":
-            raise BadInput(f"line {number} of the script begins another life, which the tools don't take")
         parsed = parse_line(line)
         if parsed is None:
             raise BadInput(f"line {number} of the script is none: {line.decode('utf-8', 'replace')}")

@@ -1,15 +1,16 @@
 -- What is gathered of a run for its report: threads, ended sections, and the elements of each variable.
 use Rattle.std.proofs.Common.{◌≡◌, refl, ℕ, zero, suc, ◌+◌, ◌-◌, ◌^◌, ◌<◌, ◌≤◌, min, List, [], ◌∷◌, ◌++◌, length, map, take, drop, sym, ◌∙◌}
 use Rattle.std.proofs.Common.{ap, ap₂, Bool, true, false, Option, Some, None, ℤ, arith, flat_map, filter, not, ◌&&◌, append_assoc, ⊎_elim}
-use Rattle.std.specs.Prelude.{if◌then◌else◌}
+use Rattle.std.specs.Prelude.{if◌then◌else◌, sum_by}
 use Rattle.std.proofs.lemmas.Bool.{cases_lt}
 use Rattle.std.proofs.lemmas.List.{append-nil, drop_all, length-map, take_all}
+use Rattle.std.proofs.lemmas.List.Sums.{sum_by-cons}
 use Rattle.rv64_isa.specs.Machine.{numbers_from}
 use Rattle.c_tree.specs.Flats as f
 use Rattle.c_tree.specs.Programs as p
 use Rattle.c_tree.specs.Source as m
 use Rattle.c_tree.specs.Source.{source_step}
-use Rattle.source_machine.specs.Laws.{SizesStay}
+use Rattle.source_machine.specs.Lives.{LifeSizesStay, after_lives, ended_lives, ends_life, restart}
 use Rattle.run_scripts.specs.Reports as r
 use Rattle.ido_cli.specs.Runs.{counted, named, run_state, taken, unsettled_threads}
 
@@ -37,7 +38,28 @@ ended_few : (s : m.State) (ts : List ℕ) (thread : ℕ) → m.ended_from s ts t
 ended_few s [] thread = omega arith
 ended_few s (t ∷ ts) thread = few_by s ts thread (source_step s t) (λ next. ended_few next ts thread)
 
-counted_is : (ended : ℕ → ℕ) (at n : ℕ) → ((t : ℕ) → ended t ≤ 2 ^ 64 - 1) →
+-- over all lives no more than there are steps
+ended_few_lives : (x : f.Flat) (s : m.State) (lives : List (List ℕ)) (thread : ℕ) → ended_lives x s lives thread ≤ sum_by length lives
+ended_few_lives x s [] thread = omega arith
+ended_few_lives x s (life ∷ []) thread = let few = ended_few s life thread in let sum = sum_by-cons length life [] in omega (arith, few, sum)
+ended_few_lives x s (life ∷ next ∷ rest) thread =
+    by (ends_life s life) (ended_few_lives x (restart x (m.after_from s life)) (next ∷ rest) thread)
+  where
+    t : m.State
+    t = restart x (m.after_from s life)
+
+    by : (b : Bool) → ended_lives x t (next ∷ rest) thread ≤ sum_by length (next ∷ rest) →
+        m.ended_from s life thread + (if b then ended_lives x t (next ∷ rest) thread else 0) ≤ sum_by length (life ∷ next ∷ rest)
+    by true more =
+        let few = ended_few s life thread in
+        let sum = sum_by-cons length life (next ∷ rest) in
+        omega (arith, few, more, sum)
+    by false more =
+        let few = ended_few s life thread in
+        let sum = sum_by-cons length life (next ∷ rest) in
+        omega (arith, few, sum)
+
+pub counted_is : (ended : ℕ → ℕ) (at n : ℕ) → ((t : ℕ) → ended t ≤ 2 ^ 64 - 1) →
     map (λ t. min (ended t) (2 ^ 64 - 1)) (numbers_from at n) ≡ map ended (numbers_from at n)
 counted_is ended at zero few = refl
 counted_is ended at (suc n) few = let one : min (ended at) (2 ^ 64 - 1) ≡ ended at = let h = few at in omega (arith, h) in
@@ -133,40 +155,42 @@ taken_is (v ∷ vs) (ns ∷ numbers) e =
 
 -- ---- The state that is reported
 
-pub reported_is : SizesStay → (x : f.Flat) (schedule unsettled ended : List ℕ) (variables : List r.Variable) →
-    unsettled ≡ unsettled_threads (m.after_from (m.start x) schedule) →
-    variables ≡ taken x.variables (flat_map (λ ns. ns) (m.after_from (m.start x) schedule).variables) →
-    ended ≡ counted (λ t. 0 + m.ended_from (m.start x) schedule t) (length (m.after_from (m.start x) schedule).threads) →
-    length schedule ≤ 2 ^ 64 - 1 →
-    (let s : r.ReportedState = record { unsettled = unsettled; variables = variables; ended = ended; schedules = schedule ∷ [] } in s)
-    ≡ run_state x (schedule ∷ [])
-unfolding run_state
-reported_is stay x schedule unsettled ended variables u v e short =
-    let after = m.after_from (m.start x) schedule in
-    let same = stay (m.start x) schedule in
-    let threads : length after.threads ≡ length x.threads = same.0 ∙ length-map x.threads m.thread_start in
-    let starts : map length (m.start x).variables ≡ map (λ (y : p.Variable). length y.initial) x.variables = map-map x.variables in
-    let variables_are = v ∙ taken_is x.variables after.variables (same.1 ∙ starts) in
-    let counts = counted_is (λ t. m.ended_from (m.start x) schedule t) 0 (length x.threads) (λ t. let h = ended_few (m.start x) schedule t in
-    omega (arith, h, short)) in
-    let ended_are = e ∙ plain (length after.threads) ∙ ap (λ (n : ℕ). counted (λ t. m.ended_from (m.start x) schedule t) n) threads ∙ counts in
-    ap₂ (λ (us : List ℕ) (vs : List r.Variable). let s : r.ReportedState =
-    record { unsettled = us; variables = vs; ended = ended; schedules = schedule ∷ [] } in
-    s) u variables_are
-    ∙ ap (λ (es : List ℕ). let s : r.ReportedState =
-    record { unsettled = unsettled_threads after; variables = named x.variables after.variables; ended = es; schedules = schedule ∷ [] } in s) ended_are
+pub ended_is : LifeSizesStay → (x : f.Flat) (lives : List (List ℕ)) → sum_by length lives ≤ 2 ^ 64 - 1 →
+    counted (λ t. 0 + ended_lives x (m.start x) lives t) (length (after_lives x (m.start x) lives).threads)
+    ≡ map (ended_lives x (m.start x) lives) (numbers_from 0 (length x.threads))
+ended_is stay x lives short =
+    let threads = (stay x (m.start x) lives (length-map x.threads m.thread_start)).0 in
+    ap (counted (λ t. 0 + ended_lives x (m.start x) lives t)) threads ∙ plain_from 0 (length x.threads)
+    ∙ counted_is (λ t. ended_lives x (m.start x) lives t) 0 (length x.threads)
+    (λ t. let h = ended_few_lives x (m.start x) lives t in omega (arith, h, short))
   where
-    plain_from : (at n : ℕ) → map (λ t. min (0 + m.ended_from (m.start x) schedule t) (2 ^ 64 - 1)) (numbers_from at n)
-        ≡ map (λ t. min (m.ended_from (m.start x) schedule t) (2 ^ 64 - 1)) (numbers_from at n)
+    plain_from : (at n : ℕ) → map (λ t. min (0 + ended_lives x (m.start x) lives t) (2 ^ 64 - 1)) (numbers_from at n)
+        ≡ map (λ t. min (ended_lives x (m.start x) lives t) (2 ^ 64 - 1)) (numbers_from at n)
     plain_from at zero = refl
     plain_from at (suc n) =
-        let one : min (0 + m.ended_from (m.start x) schedule at) (2 ^ 64 - 1) ≡ min (m.ended_from (m.start x) schedule at) (2 ^ 64 - 1) =
-        ap (λ (k : ℕ). min k (2 ^ 64 - 1)) (let e : 0 + m.ended_from (m.start x) schedule at ≡ m.ended_from (m.start x) schedule at = omega arith in e) in
+        let one : min (0 + ended_lives x (m.start x) lives at) (2 ^ 64 - 1) ≡ min (ended_lives x (m.start x) lives at) (2 ^ 64 - 1) =
+        ap (λ (k : ℕ). min k (2 ^ 64 - 1)) (let e : 0 + ended_lives x (m.start x) lives at ≡ ended_lives x (m.start x) lives at = omega arith in e) in
         ap₂ (λ (y : ℕ) (ys : List ℕ). y ∷ ys) one (plain_from (at + 1) n)
 
-    plain : (n : ℕ) → counted (λ t. 0 + m.ended_from (m.start x) schedule t) n ≡ counted (λ t. m.ended_from (m.start x) schedule t) n
-    plain n = plain_from 0 n
-
+pub reported_is : LifeSizesStay → (x : f.Flat) (lives : List (List ℕ)) (unsettled ended : List ℕ) (variables : List r.Variable) →
+    unsettled ≡ unsettled_threads (after_lives x (m.start x) lives) →
+    variables ≡ taken x.variables (flat_map (λ ns. ns) (after_lives x (m.start x) lives).variables) →
+    ended ≡ counted (λ t. 0 + ended_lives x (m.start x) lives t) (length (after_lives x (m.start x) lives).threads) →
+    sum_by length lives ≤ 2 ^ 64 - 1 →
+    (let s : r.ReportedState = record { unsettled = unsettled; variables = variables; ended = ended; schedules = lives } in s) ≡ run_state x lives
+unfolding run_state
+reported_is stay x lives unsettled ended variables u v e short =
+    let after = after_lives x (m.start x) lives in
+    let same = stay x (m.start x) lives (length-map x.threads m.thread_start) in
+    let starts : map length (m.start x).variables ≡ map (λ (y : p.Variable). length y.initial) x.variables = map-map x.variables in
+    let variables_are = v ∙ taken_is x.variables after.variables (same.1 ∙ starts) in
+    let ended_are = e ∙ ended_is stay x lives short in
+    ap₂ (λ (us : List ℕ) (vs : List r.Variable). let s : r.ReportedState =
+    record { unsettled = us; variables = vs; ended = ended; schedules = lives } in
+    s) u variables_are
+    ∙ ap (λ (es : List ℕ). let s : r.ReportedState =
+    record { unsettled = unsettled_threads after; variables = named x.variables after.variables; ended = es; schedules = lives } in s) ended_are
+  where
     map-map : (vs : List p.Variable) → map length (map (λ (y : p.Variable). y.initial) vs) ≡ map (λ (y : p.Variable). length y.initial) vs
     map-map [] = refl
     map-map (y ∷ ys) = ap (λ (ns : List ℕ). length y.initial ∷ ns) (map-map ys)

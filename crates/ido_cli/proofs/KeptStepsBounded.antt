@@ -1,6 +1,9 @@
 -- No more steps are kept than there are events, whatever events they are.
 use Rattle.std.proofs.Common.{◌≡◌, ◌⊎◌, inl, inr, ℕ, ◌+◌, ◌<◌, ◌≤◌, List, [], ◌∷◌, length, Bool, true, false, refl, ap, ap₂, ◌∙◌}
 use Rattle.std.proofs.Common.{arith, flat_map, length-append}
+use Rattle.std.specs.Prelude.{sum_by}
+use Rattle.std.proofs.lemmas.List.Concat.{length-flat_map}
+use Rattle.std.proofs.lemmas.List.Sums.{sum_by_push}
 use Rattle.std.proofs.lemmas.Bool.{cases_lt}
 use Rattle.std.proofs.lemmas.List.{set_past}
 use Rattle.ido_base.specs.declared.event.Event.{Event}
@@ -8,9 +11,9 @@ use Rattle.ido_base.specs.declared.event.Event.TheVariants.{Step, Evict, Crash, 
 use Rattle.ido_base.specs.Words.{Word, last_position, word_at}
 use Rattle.rv64_isa.specs.declared.object.Slot.{Slot}
 use Rattle.rv64_isa.specs.Machine.{World, after_event}
-use Rattle.rv64_isa.specs.Schedule.{HartSteps, Steps, first_steps, hart_steps, only_life, passes_mark, steps_after}
+use Rattle.rv64_isa.specs.Schedule.{HartSteps, LifeSchedules, Steps, all_lives, first_steps, hart_steps, only_life, passes_mark, schedules, steps_after}
 use Rattle.rv64_isa.specs.Schedule.{steps_along, stores_point}
-use Rattle.run_tracker.specs.links.AccountRepresentation.{point_word, weight}
+use Rattle.run_tracker.specs.links.AccountRepresentation.{all_kept, point_word, weight}
 use Rattle.run_tracker.proofs.Public.{begun_if, harts-noted, noted, weight-after, weightless, weight-all_kept}
 
 -- ---- A hart that doesn't exist
@@ -75,6 +78,21 @@ module _ (marks : List (List ℕ)) (program : List (List Slot)) where
   all_events w [] s = omega arith
   all_events w (e ∷ es) s =
       omega (arith, all_events (after_event program w e) es (steps_after marks program w e s), one_event w e s)
+
+  -- over all lives, and those that were kept before
+  pub all_kept_few : (w : World) (events : List Event) (threads : ℕ) (kept : LifeSchedules) →
+      sum_by length (schedules (steps_along marks program w events (first_steps threads kept))) ≤ sum_by length (all_lives kept) + length events
+  all_kept_few w events threads kept =
+      let first = first_steps threads kept in
+      let s = steps_along marks program w events first in
+      omega (arith, all_events w events first, weightless threads, so_many s, so_many first)
+    where
+      so_many : (s : Steps) → sum_by length (schedules s) ≡ length (all_kept s)
+      so_many s =
+          let flat = length-flat_map (λ (steps : List ℕ). steps) s.earlier in
+          let one = sum_by_push length s.earlier s.kept in
+          let sum = length-append (flat_map (λ (steps : List ℕ). steps) s.earlier) s.kept in
+          omega (arith, flat, one, sum)
 
   -- of this life, where none came before the first of them
   pub kept_few : (w : World) (events : List Event) (threads : ℕ) (schedule : List ℕ) →

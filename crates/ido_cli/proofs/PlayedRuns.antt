@@ -1,6 +1,6 @@
 -- What is played of a compiled source: the machine and the kept steps of its translation, which are those of the source.
 use Rattle.std.proofs.Common.{◌≡◌, refl, Bool, ℕ, suc, ◌+◌, ◌<◌, ◌≤◌, List, [], ◌∷◌, ◌++◌, length, map, take}
-use Rattle.std.proofs.Common.{sym, ◌∙◌, ap, ap₂, subst, Option, Some, None, ◌-◌, ◌^◌, flat_map, min}
+use Rattle.std.proofs.Common.{sym, ◌∙◌, ap, ap₂, subst, Option, Some, None, ◌-◌, min}
 use Rattle.std.proofs.lemmas.List.{length-map, take_all}
 use Rattle.ido_base.specs.declared.log.Log.{Log}
 use Rattle.ido_base.specs.declared.event.Event.{Event}
@@ -25,7 +25,6 @@ use Rattle.c_tree.specs.WellFormed.{shape_of}
 use Rattle.memory_layout.specs.Variables.{HaveRoom}
 use Rattle.variable_words.proofs.Public.{well_formed_placed}
 use Rattle.variable_words.specs.Variables.{durable_variables}
-use Rattle.source_machine.specs.Laws.{SizesStay}
 use Rattle.flat_compile.specs.TranslatedForms.{IsTranslated}
 use Rattle.compiler_correctness.specs.Translations.{world, steps, translation_to}
 use Rattle.compiler_correctness.specs.Compilations.{IsCompilation}
@@ -39,9 +38,8 @@ use Rattle.ido_cli.specs.Plays.{IsRunBy, ScriptAnswer, barred_start, beginning, 
 use Rattle.ido_cli.specs.Refusals.{IsRefusedAt, play_fault_code, play_fault_place}
 use Rattle.ido_cli.specs.Reports.{machine_state, unsettled_harts}
 use Rattle.ido_cli.specs.links.CountedSections.{CountsSections}
-use Rattle.ido_cli.specs.Runs.{IsReport, counted, named, run_state, taken, unsettled_threads}
+use Rattle.ido_cli.specs.Runs.{IsReport, named}
 use Rattle.ido_cli.proofs.EndedSections.{are_ended}
-use Rattle.ido_cli.proofs.GatheredReports.{reported_is}
 use Rattle.ido_cli.proofs.ScriptEventCount.{events_fit}
 use Rattle.ido_cli.proofs.SettledReports.{run_of}
 use Rattle.source_machine.specs.Lives.{ended_lives}
@@ -176,16 +174,6 @@ module _ (flat : f.Flat) (object : Object) (marks : Marks) (cuts : Cuts) (lines 
   refused lives Says input begins fault status output free some told = faulty free fault some told
 
 -- ---- What is reported
-
-pub ended_is : SizesStay → (x : f.Flat) (schedule : List ℕ) → length schedule ≤ 2 ^ 64 - 1 →
-    counted (λ t. 0 + m.ended_from (m.start x) schedule t) (length (m.after_from (m.start x) schedule).threads)
-    ≡ map (m.ended_from (m.start x) schedule) (numbers_from 0 (length x.threads))
-unfolding run_state
-ended_is stay x schedule short =
-    let after = m.after_from (m.start x) schedule in
-    ap (λ (s : r.ReportedState). s.ended)
-    (reported_is stay x schedule (unsettled_threads after) (counted (λ t. 0 + m.ended_from (m.start x) schedule t) (length after.threads))
-    (taken x.variables (flat_map (λ ns. ns) after.variables)) refl refl refl short)
 
 pub machine_reported : (x : f.Flat) (w : World) (kept : List (List ℕ)) (unsettled ended : List ℕ) (lives : List (List ℕ)) (variables : List r.Variable) →
     unsettled ≡ unsettled_harts w → variables ≡ named x.variables (durable_variables w.words x.variables) →

@@ -1,12 +1,13 @@
 -- A run that goes on from an image's file.
 use Rattle.std.proofs.Common.{◌≡◌, ℕ, ◌+◌, ◌-◌, ◌*◌, ◌/◌, ◌≤◌, List, [], ◌∷◌, ◌++◌, length, map, take, drop, ◌<◌, min, inl, inr, ◌⊎◌}
 use Rattle.std.proofs.Common.{replicate, ap, ap₂, sym, subst, ◌∙◌, arith, length-append, length-drop, length-take, Option, None, Ok}
+use Rattle.std.specs.Prelude.{sum_by}
 use Rattle.std.proofs.lemmas.Bool.{cases_lt}
 use Rattle.std.proofs.lemmas.List.{length-map, length-replicate}
 use Rattle.ido_base.specs.Layout.{log_words}
 use Rattle.ido_base.specs.declared.log.Log.TheVariants.{V1}
 use Rattle.ido_base.specs.declared.log.Log.{Log}
-use Rattle.ido_base.specs.declared.limits.TheConstants.{VARIABLE_WORDS}
+use Rattle.ido_base.specs.declared.limits.TheConstants.{MOST_STEPS, VARIABLE_WORDS}
 use Rattle.ido_base.specs.declared.event.Event.{Event}
 use Rattle.ido_base.specs.declared.event.Event.TheVariants.{Crash}
 use Rattle.ido_base.specs.Cores.{played}
@@ -17,8 +18,8 @@ use Rattle.rv64_isa.specs.declared.object.Marks.{Marks}
 use Rattle.rv64_isa.specs.Frames.{IsWellFormedWorld}
 use Rattle.rv64_isa.specs.Machine.{World, after_events, machine_from}
 use Rattle.rv64_isa.specs.Programs.{program_of, slot_of}
-use Rattle.rv64_isa.specs.Schedule.{HaveNoStart, Steps, first_steps, only_life, steps_along, LifeSchedules, all_lives, schedules}
-use Rattle.rv64_isa.proofs.Public.{along_earlier, crashes_simulate}
+use Rattle.rv64_isa.specs.Schedule.{Steps, first_steps, only_life, steps_along, LifeSchedules, all_lives, schedules}
+use Rattle.rv64_isa.proofs.Public.{crashes_simulate}
 use Rattle.flow_graph.specs.declared.cuts.Cuts.{Cuts}
 use Rattle.flat_compile.specs.TranslatedForms.{IsTranslated}
 use Rattle.compiler_correctness.specs.Compilations.{IsCompilation}
@@ -42,7 +43,8 @@ use Rattle.ido_cli.specs.Reports.{machine_state}
 use Rattle.ido_cli.specs.Runs.{IsReport}
 use Rattle.ido_cli.specs.ThreadedRuns.{leg_after, moment_after, most_leg_events}
 use Rattle.ido_cli.specs.links.LegRuns.{leg_from}
-use Rattle.ido_cli.proofs.LegEvents.{leg_startless}
+use Rattle.ido_cli.proofs.KeptStepsBounded.{all_kept_few}
+use Rattle.ido_cli.proofs.LegEvents.{leg_bounded}
 use Rattle.ido_cli.proofs.LegRooms.{in_more_room}
 use Rattle.ido_cli.proofs.LegRuns.{IsLifeDriven, is_leg_after}
 use Rattle.ido_cli.proofs.PlayedRuns.{sound_along}
@@ -97,15 +99,17 @@ module _ (flat : f.Flat) (object : Object) (marks : Marks) (cuts : Cuts) (t : Is
   pub room_left : cap ≤ length begun.journal + (begun.cap - length begun.journal)
   room_left = omega (arith, ap (λ (x : Course). x.cap) is, ap length none_made)
 
-  -- no life begins in a leg
-  pub none_before : (turns moment : ℕ) (left : Course) (stops : List Stop) (evict : Option Evictor) →
-      IsLifeDriven begun turns moment None left stops evict → file.kept.earlier ≡ [] → (steps_in left).earlier ≡ []
-  none_before turns moment left stops evict d none =
+  -- what is kept after a leg, over all lives
+  pub kept_after : (turns moment most : ℕ) (left : Course) (stops : List Stop) (evict : Option Evictor) →
+      IsLifeDriven begun turns moment None left stops evict → sum_by length (all_lives file.kept) ≤ most →
+      sum_by length (schedules (steps_in left)) ≤ most + moment
+  kept_after turns moment most left stops evict d few =
       let journal : left.journal ≡ d.journal = d.plays.events_are ∙ ap (λ (es : List Event). es ++ d.journal) none_made in
-      let free : HaveNoStart left.journal =
-      subst HaveNoStart (sym journal) (leg_startless (leg_from turns moment begun None) d.journal d.leg.each) in
-      along_earlier left.runs.marks left.runs.program left.journal left.opening (first_steps (length left.runs.program) left.kept_before) free
-      ∙ (ap (λ (m : LifeConfig). m.kept_before.earlier) d.plays.opens ∙ (ap (λ (x : Course). x.kept_before.earlier) is ∙ none))
+      let events = leg_bounded (leg_from turns moment begun None) d.journal d.leg.each in
+      let kept = all_kept_few left.runs.marks left.runs.program left.opening left.journal (length left.runs.program) left.kept_before in
+      let before : all_lives left.kept_before ≡ all_lives file.kept =
+      ap (λ (m : LifeConfig). all_lives m.kept_before) d.plays.opens ∙ ap (λ (x : Course). all_lives x.kept_before) is in
+      omega (arith, kept, few, events, ap (sum_by length) before, ap length journal)
 
   as_many_harts : length begun.runs.program ≡ length object.code.items
   as_many_harts = ap (λ (x : Course). length x.runs.program) is ∙ length-map object.code.items (λ code. map slot_of code.items)
@@ -199,6 +203,10 @@ module _ (flat : f.Flat) (object : Object) (marks : Marks) (cuts : Cuts) (t : Is
 
 pub compiled_in : (bytes : List ℕ) (image : i.Image) → IsImageAnswer bytes (Ok image) → (source : List ℕ) × IsCompiled source image.compiled
 compiled_in bytes image (whole read is) = (is.is.source.source, is.is.source.compiled)
+
+-- it has few steps
+pub few_steps_in : (bytes : List ℕ) (image : i.Image) → IsImageAnswer bytes (Ok image) → length image.schedule.items ≤ MOST_STEPS
+few_steps_in bytes image (whole read is) = omega (arith, is.sound.schedule.formed.few, ap length is.schedule)
 
 -- what is read as an image is run on, whoever wrote it
 pub accepted_runs_on : AcceptedRunOn → (bytes : List ℕ) (image : i.Image) → IsImageAnswer bytes (Ok image) →

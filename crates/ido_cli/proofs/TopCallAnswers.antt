@@ -21,7 +21,7 @@ use Rattle.ido_cli.specs.Images.{IsImageAfter}
 use Rattle.ido_cli.specs.Inputs.{source_of}
 use Rattle.ido_cli.specs.Plays.{IsRunBy, barred, faulty, ran as ran_by}
 use Rattle.ido_cli.specs.Answers.{CompileAnswer, uncompiled, compiled, RegionsAnswer, uncut, cut, ScriptedAnswer}
-use Rattle.ido_cli.specs.Answers.{unplayed, no_script, of_script, SourceAnswer, unaccepted, no_schedule, of_schedule}
+use Rattle.ido_cli.specs.Answers.{unplayed, no_script, of_script, SourceAnswer, unaccepted, no_schedule, of_schedules}
 use Rattle.ido_cli.specs.Answers.{OrderAnswer, unlocked, unordered, ordered}
 use Rattle.ido_cli.specs.Answers.{CommandAnswer, ListAnswer, no_object, of_object, RecoverAnswer, no_image, of_image, SeededAnswer, undrawn, drawn}
 use Rattle.ido_cli.specs.Answers.{SweepAnswer, no_points, of_points, unswept}
@@ -129,14 +129,14 @@ by_unsettled : (unsettled : List ℕ) (status : ℕ) → status ≡ status_by un
 by_unsettled [] status e h = not_four_or_seven status 0 e (inl (omega arith)) h
 by_unsettled (t ∷ ts) status e h = not_four_or_seven status 3 e (inl (omega arith)) h
 
-of_run : (x : f.Flat) (schedule : List ℕ) (status : ℕ) (output : List ℕ) → RunAnswer x schedule status output → (status ≡ 4) ⊎ (status ≡ 7) → ⊥
-of_run x schedule status output (ran runs reported) h = by_unsettled (run_state x (schedule ∷ [])).unsettled status reported.status_is h
-of_run x schedule status output (stopped stop is e out) h = not_four_or_seven status 6 e (inr refl) h
+of_run : (x : f.Flat) (lives : List (List ℕ)) (status : ℕ) (output : List ℕ) → RunAnswer x lives status output → (status ≡ 4) ⊎ (status ≡ 7) → ⊥
+of_run x lives status output (ran runs reported) h = by_unsettled (run_state x lives).unsettled status reported.status_is h
+of_run x lives status output (stopped stop is e out) h = not_four_or_seven status 6 e (inr refl) h
 
 of_source : (input : List ℕ) (status : ℕ) (output : List ℕ) → SourceAnswer input status output → (status ≡ 4) ⊎ (status ≡ 7) → ⊥
 of_source input status output (unaccepted found place is refused) h = not_four_or_seven status 1 refused.0 (inl (omega arith)) h
 of_source input status output (no_schedule flat is x read refused) h = not_four_or_seven status 6 refused.0 (inr refl) h
-of_source input status output (of_schedule flat is schedule read answer) h = of_run flat schedule status output answer h
+of_source input status output (of_schedules flat is lives read answer) h = of_run flat lives status output answer h
 
 of_compile : (source : List ℕ) (status : ℕ) (output : List ℕ) → CompileAnswer source status output → (status ≡ 4) ⊎ (status ≡ 7) → ⊥
 of_compile source status output (uncompiled found place is refused) h = not_four_or_seven status 1 refused.0 (inl (omega arith)) h

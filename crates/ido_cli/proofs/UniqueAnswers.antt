@@ -7,7 +7,7 @@ use Rattle.c_tree.specs.Flats as f
 use Rattle.c_tree.specs.Source.{start}
 use Rattle.run_scripts.specs.Schedules as s
 use Rattle.run_scripts.specs.Scripts as scripts
-use Rattle.source_machine.specs.Laws.{OneStop, NotWhole}
+use Rattle.source_machine.specs.LifeRuns.{LivesNotWhole, OneLifeStop}
 use Rattle.ido_cli.specs.declared.command.Command as c
 use Rattle.ido_cli.specs.declared.command.Command.TheVariants as command
 use Rattle.c_tree.specs.declared.rule.Rule as r
@@ -32,7 +32,7 @@ use Rattle.ido_cli.specs.Answers.{SeededAnswer, undrawn, drawn, LiveAnswer, unru
 use Rattle.ido_cli.specs.Answers.{SweepAnswer, no_points, of_points, unswept}
 use Rattle.ido_cli.specs.Sweeps.{SweptScript, status_of, swept, faulty as unswept_script}
 use Rattle.run_scripts.specs.GeneratedSources.{generated_source}
-use Rattle.ido_cli.specs.Answers.{SourceAnswer, unaccepted, no_schedule, of_schedule, rest_begins, ListAnswer, no_object}
+use Rattle.ido_cli.specs.Answers.{SourceAnswer, unaccepted, no_schedule, of_schedules, rest_begins, ListAnswer, no_object}
 use Rattle.ido_cli.specs.Answers.{of_object, AnswerToInput, IsPastLimits, past_limits, within_limits, wrong_words, taken_words}
 use Rattle.ido_compile.specs.Verdicts.{OneFlat, OneFault, NotBoth}
 use Rattle.ido_cli.specs.Laws.{IsUncompiled, plain, past, breaks_rule, misspelled, OneAnswer}
@@ -53,18 +53,18 @@ data Verdict (text : List ℕ) (status : ℕ) (output : List ℕ) : Type 0 where
       Verdict text status output
   keeps : (flat : f.Flat) → IsAccepted text flat → (status ≡ 1 → ⊥) → Verdict text status output
 
-module _ (one_flat : OneFlat) (one_fault : OneFault) (not_both : NotBoth) (one_stop : OneStop) (not_whole : NotWhole) where
+module _ (one_flat : OneFlat) (one_fault : OneFault) (not_both : NotBoth) (one_stop : OneLifeStop) (not_whole : LivesNotWhole) where
   -- ---- A run
 
-  one_run : (x : f.Flat) (schedule : List ℕ) (status other : ℕ) (output written : List ℕ) → RunAnswer x schedule status output →
-      RunAnswer x schedule other written → Same status other output written
-  one_run x schedule status other output written (ran runs told) (ran also more) = (told.status_is ∙ sym more.status_is, told.output_is ∙ sym more.output_is)
-  one_run x schedule status other output written (ran runs told) (stopped stop is e told_too) =
-      let both : true ≡ false = sym runs ∙ not_whole (start x) schedule stop is in cc both
-  one_run x schedule status other output written (stopped stop is e told) (ran runs more) =
-      let both : true ≡ false = sym runs ∙ not_whole (start x) schedule stop is in cc both
-  one_run x schedule status other output written (stopped stop is e told) (stopped again also h more) =
-      (e ∙ sym h, told ∙ ap (λ y. line_at_step (stop_code y.kind) y.step) (one_stop (start x) schedule stop again is also) ∙ sym more)
+  one_run : (x : f.Flat) (lives : List (List ℕ)) (status other : ℕ) (output written : List ℕ) → RunAnswer x lives status output →
+      RunAnswer x lives other written → Same status other output written
+  one_run x lives status other output written (ran runs told) (ran also more) = (told.status_is ∙ sym more.status_is, told.output_is ∙ sym more.output_is)
+  one_run x lives status other output written (ran runs told) (stopped stop is e told_too) =
+      let both : true ≡ false = sym runs ∙ not_whole x (start x) lives stop is in cc both
+  one_run x lives status other output written (stopped stop is e told) (ran runs more) =
+      let both : true ≡ false = sym runs ∙ not_whole x (start x) lives stop is in cc both
+  one_run x lives status other output written (stopped stop is e told) (stopped again also h more) =
+      (e ∙ sym h, told ∙ ap (λ y. line_at_step (stop_code y.kind) y.step) (one_stop x (start x) lives stop again is also) ∙ sym more)
 
   -- ---- An input of `source`
 
@@ -75,26 +75,26 @@ module _ (one_flat : OneFlat) (one_fault : OneFault) (not_both : NotBoth) (one_s
       (e ∙ sym h, told ∙ ap₂ (λ rule (at : Place). line_at (code_of rule) (source_of input) at.0) both.0 both.1 ∙ sym more)
   one_source input status other output written (unaccepted found place is told) (no_schedule flat accepted x read more) =
       absurd (not_both (source_of input) flat found place accepted is)
-  one_source input status other output written (unaccepted found place is told) (of_schedule flat accepted schedule read more) =
+  one_source input status other output written (unaccepted found place is told) (of_schedules flat accepted lives read more) =
       absurd (not_both (source_of input) flat found place accepted is)
   one_source input status other output written (no_schedule flat accepted x read told) (unaccepted found place is more) =
       absurd (not_both (source_of input) flat found place accepted is)
-  one_source input status other output written (of_schedule flat accepted schedule read told) (unaccepted found place is more) =
+  one_source input status other output written (of_schedules flat accepted lives read told) (unaccepted found place is more) =
       absurd (not_both (source_of input) flat found place accepted is)
   one_source input status other output written (no_schedule flat accepted x read (e, told)) (no_schedule flat' accepted' y read' (h, more)) =
       let both : s.Refused x ≡ s.Refused y = sym read ∙ read' in
       let same : x ≡ y = cc both in
       (e ∙ sym h, told ∙ ap (λ z. line_at (fault_code z) input (rest_begins input + fault_place z)) same ∙ sym more)
-  one_source input status other output written (no_schedule flat accepted x read told) (of_schedule flat' accepted' schedule read' more) =
-      let both : s.Refused x ≡ s.Steps schedule = sym read ∙ read' in cc both
-  one_source input status other output written (of_schedule flat accepted schedule read told) (no_schedule flat' accepted' x read' more) =
-      let both : s.Steps schedule ≡ s.Refused x = sym read ∙ read' in cc both
-  one_source input status other output written (of_schedule flat accepted schedule read told) (of_schedule flat' accepted' schedule' read' more) =
-      let both : s.Steps schedule ≡ s.Steps schedule' = sym read ∙ read' in
-      let same : schedule ≡ schedule' = cc both in
+  one_source input status other output written (no_schedule flat accepted x read told) (of_schedules flat' accepted' lives read' more) =
+      let both : s.Refused x ≡ s.Lives lives = sym read ∙ read' in cc both
+  one_source input status other output written (of_schedules flat accepted lives read told) (no_schedule flat' accepted' x read' more) =
+      let both : s.Lives lives ≡ s.Refused x = sym read ∙ read' in cc both
+  one_source input status other output written (of_schedules flat accepted lives read told) (of_schedules flat' accepted' lives' read' more) =
+      let both : s.Lives lives ≡ s.Lives lives' = sym read ∙ read' in
+      let same : lives ≡ lives' = cc both in
       let forms : flat ≡ flat' = one_flat (source_of input) flat flat' accepted accepted' in
-      one_run flat' schedule' status other output written
-      (subst (λ z. RunAnswer flat' z status output) same (subst (λ z. RunAnswer z schedule status output) forms told)) more
+      one_run flat' lives' status other output written
+      (subst (λ z. RunAnswer flat' z status output) same (subst (λ z. RunAnswer z lives status output) forms told)) more
 
   -- ---- An input of `list`
 

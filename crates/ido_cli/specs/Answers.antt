@@ -78,8 +78,8 @@ pub data SourceAnswer (input : List ℕ) (status : ℕ) (output : List ℕ) : Ty
       IsRefusedAt 1 (code_of found) (source_of input) place.0 status output → SourceAnswer input status output
   no_schedule : (flat : f.Flat) → IsAccepted (source_of input) flat → (x : s.Fault) → s.read (rest_of input) ≡ s.Refused x →
       IsRefusedAt 6 (fault_code x) input (rest_begins input + fault_place x) status output → SourceAnswer input status output
-  of_schedule : (flat : f.Flat) → IsAccepted (source_of input) flat → (schedule : List ℕ) → s.read (rest_of input) ≡ s.Steps schedule →
-      RunAnswer flat schedule status output → SourceAnswer input status output
+  of_schedules : (flat : f.Flat) → IsAccepted (source_of input) flat → (lives : List (List ℕ)) → s.read (rest_of input) ≡ s.Lives lives →
+      RunAnswer flat lives status output → SourceAnswer input status output
 
 -- ---- `compile`
 

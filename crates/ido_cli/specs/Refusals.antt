@@ -77,11 +77,12 @@ play_fault_place (p.TooMany place) = place
 play_fault_place (p.BadStart place) = place
 play_fault_place (p.PastFew place) = place
 
--- the code of a step that can't be made
+-- the code of a step that can't be made, or before which no other life may begin
 abbrev pub stop_code : RefusedKind → List ℕ
 stop_code kind.UnknownThread = codes "Q1"
 stop_code kind.Waits = codes "Q2"
 stop_code kind.Ended = codes "Q3"
+stop_code kind.Inside = codes "Q4"
 
 -- the code of a fault of an object
 abbrev pub object_fault_code : fields.Fault → List ℕ

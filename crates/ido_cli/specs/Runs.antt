@@ -1,4 +1,4 @@
--- What is said of the source's own run of a schedule.
+-- What is said of the source's own run of lives, a schedule for each.
 use Rattle.std.specs.Prelude.{◌≡◌, ℕ, ◌-◌, ◌^◌, List, [], ◌∷◌, length, map, filter, min, not, take, drop, true, ℤ}
 use Rattle.rv64_isa.specs.Machine.{numbers_from}
 use Rattle.c_tree.specs.Flats as f
@@ -8,7 +8,7 @@ use Rattle.source_machine.specs.Lives.{after_lives, ended_lives, runs_lives}
 use Rattle.run_scripts.specs.Reports as r
 use Rattle.run_scripts.specs.Reports.{report}
 use Rattle.source_machine.specs.declared.answers.Refused.{Refused}
-use Rattle.source_machine.specs.Runs.{IsRefusedSchedule}
+use Rattle.source_machine.specs.LifeRuns.{IsRefusedLives}
 use Rattle.ido_cli.specs.Refusals.{line_at_step, stop_code}
 
 -- a variable with these numbers as its elements
@@ -43,11 +43,11 @@ pub record IsReport (s : r.ReportedState) (status : ℕ) (output : List ℕ) : T
   pub status_is : status ≡ status_by s.unsettled
   pub output_is : output ≡ report s
 
--- what is said of the schedule of one life: the report of its run, or the first step that can't be made
-pub data RunAnswer (x : f.Flat) (schedule : List ℕ) (status : ℕ) (output : List ℕ) : Type 0 where
-  ran : runs_lives x (start x) (schedule ∷ []) ≡ true → IsReport (run_state x (schedule ∷ [])) status output → RunAnswer x schedule status output
-  stopped : (stop : Refused) → IsRefusedSchedule stop (start x) schedule → status ≡ 6 → output ≡ line_at_step (stop_code stop.kind) stop.step →
-      RunAnswer x schedule status output
+-- what is said of lives, a schedule for each: the report of their run, or the first step that can't be made, or before which no other life may begin
+pub data RunAnswer (x : f.Flat) (lives : List (List ℕ)) (status : ℕ) (output : List ℕ) : Type 0 where
+  ran : runs_lives x (start x) lives ≡ true → IsReport (run_state x lives) status output → RunAnswer x lives status output
+  stopped : (stop : Refused) → IsRefusedLives x stop (start x) lives → status ≡ 6 → output ≡ line_at_step (stop_code stop.kind) stop.step →
+      RunAnswer x lives status output
 
 -- ---- As the code finds it
 

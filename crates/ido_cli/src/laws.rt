@@ -11,7 +11,7 @@ use ido_compile::laws::{files_begin, one_verdict};
 use image_checks::laws::runs_leave_no_fault;
 use run_scripts::laws::journals_are_played_back;
 use run_tracker::life::Life;
-use source_machine::laws::one_stop;
+use source_machine::laws::lives_stop_once;
 
 /// Words that don't ask for what stands on a compilation, and an input, have at most one answer: the status and the output of
 /// `source` and `list` are a function of the bytes that are read, and those of `make` of its words. So they are of every command where
@@ -21,7 +21,7 @@ pub fn one_answer()
     ensures { OneAnswer }
 {
     one_verdict();
-    one_stop();
+    lives_stop_once();
 }
 
 /// A life that begins with the object and the marks of a compiled text, at its start or with the words and the schedule of a file, is a run of a compilation

@@ -1,7 +1,7 @@
 //! The command `recover`: a run that goes on from what a crash has left.
 ghost use Rattle.ido_base.specs.declared.log.Log.TheVariants.{V1};
 ghost use Rattle.std.specs.Prelude.{◌≡◌, ◌+◌, ◌*◌, ◌/◌, ◌≤◌, length, min, IfOk, Some};
-ghost use Rattle.ido_base.specs.declared.limits.TheConstants.{MOST_INPUT_BYTES};
+ghost use Rattle.ido_base.specs.declared.limits.TheConstants.{MOST_INPUT_BYTES, MOST_STEPS};
 ghost use Rattle.ido_base.specs.Layout.{log_words};
 ghost use Rattle.c_tree.specs.Flats.{flat_of};
 ghost use Rattle.compiler_correctness.specs.Compilations.{IsCompilation};
@@ -81,6 +81,7 @@ fn recovered<R: Threads + Wait + Sync, G: Gate + Sync>(
     requires translated { let made = image.now.compiled.translated in
         IsTranslated (flat_of image.now.compiled.flat) made.object made.marks made.cuts }
     requires compilation { IsCompilation (translation_in image.now.compiled) }
+    requires steps { length image.now.schedule.items ≤ MOST_STEPS }
     requires words { let object = image.now.compiled.translated.object in
         length image.now.words.items ≡ length object.initial.items / 8 + log_words V1 * length object.code.items }
     ensures { IfOk result (λ said. IsRecovery (translation_in image.now.compiled) (file_in image.now) turns said.status said.output.items) }

@@ -61,7 +61,7 @@ pub fn code_of(rule: Rule) -> &'static str
     }
 }
 
-/// The code of a step that can't be made.
+/// The code of a step that can't be made, or before which no other life may begin.
 pub fn stop_code(kind: RefusedKind) -> &'static str
     ensures { result.now ≡ stop_code kind }
 {
@@ -69,6 +69,7 @@ pub fn stop_code(kind: RefusedKind) -> &'static str
         RefusedKind::UnknownThread => "Q1",
         RefusedKind::Waits => "Q2",
         RefusedKind::Ended => "Q3",
+        RefusedKind::Inside => "Q4",
     }
 }
 

@@ -1,5 +1,5 @@
 //! The report of a life.
-ghost use Rattle.std.specs.Prelude.{◌≡◌, ◌≤◌, [], length, map, IfOk};
+ghost use Rattle.std.specs.Prelude.{◌≡◌, ◌≤◌, ◌<◌, ◌^◌, length, map, sum_by, IfOk};
 ghost use Rattle.ido_base.specs.declared.limits.TheConstants.{MOST_THREADS};
 ghost use Rattle.c_tree.specs.Flats.{flat_of};
 ghost use Rattle.c_tree.specs.Source as m;
@@ -22,7 +22,7 @@ use ido_base::memory::OutOfMemory;
 use run_scripts::report::{Reported, report};
 use run_tracker::life::Life;
 use source_machine::SourceState;
-use source_machine::laws::sizes_stay;
+use source_machine::laws::lives_stop_once;
 use std::alloc::Global;
 
 /// The harts that aren't settled, ascending.
@@ -39,16 +39,16 @@ fn unsettled(alloc: Global, life: &Life) -> Result<Vec<u32>, OutOfMemory>
     Ok(harts)
 }
 
-/// How many sections of each thread the source ends by a schedule, up to its first step that can't be made.
-fn ended_by(alloc: Global, flat: &Flat, schedule: &[u32]) -> Result<Vec<u64>, OutOfMemory>
+/// How many sections of each thread the source ends by lives, a schedule for each, up to where they stop.
+fn ended_by(alloc: Global, flat: &Flat, lives: &[Vec<u32>]) -> Result<Vec<u64>, OutOfMemory>
     requires few { length flat.now.threads.items ≤ MOST_THREADS }
+    requires steps { sum_by length (map views.steps_of lives.now) < 2 ^ 63 }
     ensures { IfOk result (λ sections. sections.items ≡
-        map (m.ended_from (m.start (flat_of flat.now)) schedule.now) (numbers_from 0 (length flat.now.threads.items))) }
+        map (ended_lives (flat_of flat.now) (m.start (flat_of flat.now)) (map views.steps_of lives.now)) (numbers_from 0 (length flat.now.threads.items))) }
 {
-    sizes_stay();
-    let _steps = schedule.len();
+    lives_stop_once();
     let mut state = SourceState::start(alloc, flat)?;
-    let _whole = state.run(schedule);
+    let _whole = state.run_lives(lives);
     ended(alloc, &state)
 }
 
@@ -75,27 +75,28 @@ fn kept_schedules(alloc: Global, life: &Life) -> Result<Vec<Vec<u32>>, OutOfMemo
     Ok(kept)
 }
 
-/// What is reported of a life, of whose threads so many sections have ended.
+/// What is reported of a life with these kept schedules, of whose threads so many sections have ended.
 fn gathered(
     alloc: Global,
     flat: &Flat,
     life: &Life,
     ended: Vec<u64>,
+    kept: Vec<Vec<u32>>,
 ) -> Result<Reported, OutOfMemory>
     requires room { HaveRoom (map shape_of (flat_of flat.now).variables) }
     requires harts { length (world_of life.now).harts ≡ length life.now.runs.program }
+    requires kept { map views.steps_of kept.items ≡ schedules (steps_in life.now) }
     requires ended { let x = flat_of flat.now in
         ended.items ≡ map (ended_lives x (m.start x) (schedules (steps_in life.now))) (numbers_from 0 (length x.threads)) }
     ensures { IfOk result (λ state. views.state_of state ≡ machine_state (flat_of flat.now) (world_of life.now) (schedules (steps_in life.now))) }
 {
     let unsettled = unsettled(alloc, life)?;
     let variables = durable(alloc, life, &flat.variables)?;
-    let schedules = kept_schedules(alloc, life)?;
     Ok(Reported {
         unsettled,
         variables,
         ended,
-        schedules,
+        schedules: kept,
     })
 }
 
@@ -107,20 +108,21 @@ pub fn reported(alloc: Global, flat: &Flat, life: &Life) -> Result<Reported, Out
     ensures { IfOk result (λ state. views.state_of state ≡ machine_state (flat_of flat.now) (world_of life.now) (schedules (steps_in life.now))) }
 {
     let ended = counted(alloc, life)?;
-    gathered(alloc, flat, life, ended)
+    let kept = kept_schedules(alloc, life)?;
+    gathered(alloc, flat, life, ended, kept)
 }
 
-/// What is reported of any life before which no other came: the source is run by its kept schedule.
+/// What is reported of any life: the source is run by the kept schedules of all lives.
 fn reported_by_source(alloc: Global, flat: &Flat, life: &Life) -> Result<Reported, OutOfMemory>
-    requires alone { (steps_in life.now).earlier ≡ [] }
+    requires steps { sum_by length (schedules (steps_in life.now)) < 2 ^ 63 }
     requires few { length flat.now.threads.items ≤ MOST_THREADS }
     requires room { HaveRoom (map shape_of (flat_of flat.now).variables) }
     requires harts { length (world_of life.now).harts ≡ length life.now.runs.program }
     ensures { IfOk result (λ state. views.state_of state ≡ machine_state (flat_of flat.now) (world_of life.now) (schedules (steps_in life.now))) }
 {
-    let kept = life.kept();
-    let ended = ended_by(alloc, flat, kept)?;
-    gathered(alloc, flat, life, ended)
+    let kept = kept_schedules(alloc, life)?;
+    let ended = ended_by(alloc, flat, &kept)?;
+    gathered(alloc, flat, life, ended, kept)
 }
 
 /// What is said of a state: its report, with the status that says whether it is settled.
@@ -144,10 +146,9 @@ pub fn say(alloc: Global, flat: &Flat, life: &Life) -> Result<Said, OutOfMemory>
     say_reported(alloc, &state)
 }
 
-/// What is said of any life before which no other came, also of one that went on from an image that no run of this source left: nothing relates its kept
-/// schedule to its points.
+/// What is said of any life, also of one that went on from an image that no run of this source left: nothing relates its kept schedules to its points.
 pub fn say_by_source(alloc: Global, flat: &Flat, life: &Life) -> Result<Said, OutOfMemory>
-    requires alone { (steps_in life.now).earlier ≡ [] }
+    requires steps { sum_by length (schedules (steps_in life.now)) < 2 ^ 63 }
     requires few { length flat.now.threads.items ≤ MOST_THREADS }
     requires room { HaveRoom (map shape_of (flat_of flat.now).variables) }
     requires harts { length (world_of life.now).harts ≡ length life.now.runs.program }

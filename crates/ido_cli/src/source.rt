@@ -1,12 +1,13 @@
 //! The command `source`: the source's own run.
-ghost use Rattle.std.specs.Prelude.{◌≡◌, [], ◌∷◌, ◌+◌, ◌-◌, ◌<◌, ◌≤◌, ◌^◌, ℕ, length, map, take, drop, IfOk, IfSome, IsSome};
-ghost use Rattle.ido_base.specs.declared.limits.TheConstants.{MOST_INPUT_BYTES, MOST_SOURCE_BYTES, MOST_THREADS};
+ghost use Rattle.std.specs.Prelude.{◌≡◌, ◌+◌, ◌-◌, ◌<◌, ◌≤◌, ◌^◌, ℕ, length, map, sum_by, take, drop, IfOk, IfSome, IsSome};
+ghost use Rattle.ido_base.specs.declared.limits.TheConstants.{MOST_INPUT_BYTES, MOST_SOURCE_BYTES, MOST_STEPS, MOST_THREADS};
 ghost use Rattle.flow_graph.specs.Refusals.{IsAccepted};
 ghost use Rattle.c_tree.specs.Flats.{flat_of};
 ghost use Rattle.c_tree.specs.Programs.{variable_of};
 ghost use Rattle.c_tree.specs.Source as m;
 ghost use Rattle.run_scripts.specs.links.ReportViews as views;
 ghost use Rattle.run_scripts.specs.links.WordLengths as words;
+ghost use Rattle.source_machine.specs.Lives.{after_lives, ended_lives};
 ghost use Rattle.source_machine.specs.links.States.{RepresentsState, threads_in};
 ghost use Rattle.ido_cli.specs.Answers.{SourceAnswer};
 ghost use Rattle.ido_cli.specs.Inputs.{source_of, rest_of};
@@ -22,7 +23,7 @@ use ido_compile::front;
 use run_scripts::report::{Reported, Variable};
 use run_scripts::schedule::{ScheduleError, read_schedule};
 use source_machine::SourceState;
-use source_machine::laws::sizes_stay;
+use source_machine::laws::lives_stop_once;
 use std::alloc::Global;
 
 /// The threads that hold a mutex, ascending.
@@ -92,64 +93,57 @@ fn variables(
     Ok(found)
 }
 
-/// The schedule of the only life.
-fn only(alloc: Global, schedule: Vec<u32>) -> Result<Vec<Vec<u32>>, OutOfMemory>
-    ensures { IfOk result (λ schedules. map views.steps_of schedules.items ≡ schedule.items ∷ []) }
-{
-    let mut schedules = Vec::new(alloc);
-    schedules.push(schedule)?;
-    Ok(schedules)
-}
-
-/// What is reported of the state after a schedule.
+/// What is reported of the state after lives, a schedule for each.
 fn reported(
     alloc: Global,
     flat: &Flat,
     state: &SourceState,
-    schedule: Vec<u32>,
+    lives: Vec<Vec<u32>>,
 ) -> Result<Reported, OutOfMemory>
     requires few { length flat.now.threads.items ≤ MOST_THREADS }
-    requires stands { RepresentsState state.now (m.after_from (m.start (flat_of flat.now)) schedule.items)
-        (λ thread. 0 + m.ended_from (m.start (flat_of flat.now)) schedule.items thread) }
-    ensures { IfOk result (λ x. views.state_of x ≡ run_state (flat_of flat.now) (schedule.items ∷ [])) }
+    requires steps { sum_by length (map views.steps_of lives.items) ≤ MOST_STEPS }
+    requires stands { RepresentsState state.now (after_lives (flat_of flat.now) (m.start (flat_of flat.now)) (map views.steps_of lives.items))
+        (λ thread. 0 + ended_lives (flat_of flat.now) (m.start (flat_of flat.now)) (map views.steps_of lives.items) thread) }
+    ensures { IfOk result (λ x. views.state_of x ≡ run_state (flat_of flat.now) (map views.steps_of lives.items)) }
 {
-    sizes_stay();
+    lives_stop_once();
     let unsettled = unsettled(alloc, state)?;
     let variables = variables(alloc, &flat.variables, state.variables())?;
     let ended = ended(alloc, state)?;
-    let schedules = only(alloc, schedule)?;
     Ok(Reported {
         unsettled,
         variables,
         ended,
-        schedules,
+        schedules: lives,
     })
 }
 
-/// What is said of the state after a schedule.
+/// What is said of the state after lives, a schedule for each.
 fn say_run(
     alloc: Global,
     flat: &Flat,
     state: &SourceState,
-    schedule: Vec<u32>,
+    lives: Vec<Vec<u32>>,
 ) -> Result<Said, OutOfMemory>
     requires few { length flat.now.threads.items ≤ MOST_THREADS }
-    requires stands { RepresentsState state.now (m.after_from (m.start (flat_of flat.now)) schedule.items)
-        (λ thread. 0 + m.ended_from (m.start (flat_of flat.now)) schedule.items thread) }
-    ensures { IfOk result (λ said. IsReport (run_state (flat_of flat.now) (schedule.items ∷ [])) said.status said.output.items) }
+    requires steps { sum_by length (map views.steps_of lives.items) ≤ MOST_STEPS }
+    requires stands { RepresentsState state.now (after_lives (flat_of flat.now) (m.start (flat_of flat.now)) (map views.steps_of lives.items))
+        (λ thread. 0 + ended_lives (flat_of flat.now) (m.start (flat_of flat.now)) (map views.steps_of lives.items) thread) }
+    ensures { IfOk result (λ said. IsReport (run_state (flat_of flat.now) (map views.steps_of lives.items)) said.status said.output.items) }
 {
-    let state = reported(alloc, flat, state, schedule)?;
+    let state = reported(alloc, flat, state, lives)?;
     say_reported(alloc, &state)
 }
 
-/// What is said of the run of a schedule.
-fn run_answer(alloc: Global, flat: &Flat, schedule: Vec<u32>) -> Result<Said, OutOfMemory>
+/// What is said of the run of lives, a schedule for each.
+fn run_answer(alloc: Global, flat: &Flat, lives: Vec<Vec<u32>>) -> Result<Said, OutOfMemory>
     requires few { length flat.now.threads.items ≤ MOST_THREADS }
-    ensures { IfOk result (λ said. RunAnswer (flat_of flat.now) schedule.items said.status said.output.items) }
+    requires steps { sum_by length (map views.steps_of lives.items) ≤ MOST_STEPS }
+    ensures { IfOk result (λ said. RunAnswer (flat_of flat.now) (map views.steps_of lives.items) said.status said.output.items) }
 {
     let mut state = SourceState::start(alloc, flat)?;
-    match state.run(&schedule) {
-        Ok(()) => say_run(alloc, flat, &state, schedule),
+    match state.run_lives(&lives) {
+        Ok(()) => say_run(alloc, flat, &state, lives),
         Err(stop) => refused_at_step(alloc, stop_code(stop.kind), stop.step),
     }
 }
@@ -184,7 +178,7 @@ fn flat_answer(alloc: Global, flat: &Flat, input: &[u8], rest: &[u8]) -> Result<
     ensures { IfOk result (λ said. IsAccepted (source_of input.now) (flat_of flat.now) → SourceAnswer input.now said.status said.output.items) }
 {
     match read_schedule(alloc, rest) {
-        Ok(schedule) => run_answer(alloc, flat, schedule),
+        Ok(lives) => run_answer(alloc, flat, lives),
         Err(error) => schedule_refused(alloc, input, (input.len() - rest.len()) as u64, error),
     }
 }

@@ -13,7 +13,7 @@ use Rattle.run_scripts.specs.Reports.{variable_line, element_text, ended_line, e
 use Rattle.run_scripts.specs.Scripts as s
 use Rattle.run_scripts.specs.declared.script.Command.TheVariants.{Point, Evict, Start}
 use Rattle.run_scripts.specs.declared.script.Command.TheVariants.{Steps as StepsOf}
-use Rattle.run_scripts.specs.Schedules.{read, Steps, Refused, BadWord, BadNumber, TooMany}
+use Rattle.run_scripts.specs.Schedules.{read, Lives, Refused, BadWord, BadNumber, TooMany}
 
 -- ---- Reports
 
@@ -43,11 +43,11 @@ unsettled_by_number = refl
 
 -- ---- Schedules
 
-runs_are_read : read (codes "schedule 0*2 1*1\r\n02*003\n") ≡ Steps (0 ∷ 0 ∷ 1 ∷ 2 ∷ 2 ∷ 2 ∷ [])
+runs_are_read : read (codes "schedule 0*2 1*1\r\n02*003\n") ≡ Lives ((0 ∷ 0 ∷ 1 ∷ 2 ∷ 2 ∷ 2 ∷ []) ∷ [])
 unfolding read
 runs_are_read = refl
 
-nothing_is_read : read (codes " \r\n ") ≡ Steps []
+nothing_is_read : read (codes " \r\n ") ≡ Lives ([] ∷ [])
 unfolding read
 nothing_is_read = refl
 
@@ -55,9 +55,17 @@ no_steps : read (codes "1*1 0*0") ≡ Refused (BadWord 4)
 unfolding read
 no_steps = refl
 
-later_schedule : read (codes "0*1 schedule") ≡ Refused (BadWord 4)
+later_schedule : read (codes "0*1 schedule 1*2") ≡ Lives ((0 ∷ []) ∷ (1 ∷ 1 ∷ []) ∷ [])
 unfolding read
 later_schedule = refl
+
+empty_lives : read (codes "schedule schedule\nschedule") ≡ Lives ([] ∷ [] ∷ [] ∷ [])
+unfolding read
+empty_lives = refl
+
+schedule_without_blank : read (codes "0*1 schedule0*1") ≡ Refused (BadWord 4)
+unfolding read
+schedule_without_blank = refl
 
 tab_is_no_gap : read (codes "0*1\t1*1") ≡ Refused (BadWord 0)
 unfolding read

@@ -17,9 +17,9 @@ pub data Fault : Type 0 where
   -- the word by which there are too many steps
   TooMany : (place : ℕ) → Fault
 
--- the steps of a schedule, or its first fault
+-- the schedules of lives, one for each, or the first fault
 pub data Read : Type 0 where
-  Steps : List ℕ → Read
+  Lives : List (List ℕ) → Read
   Refused : Fault → Read
 
 -- numbers are below this
@@ -57,24 +57,25 @@ count_number bytes = digits_value 10 (count_text bytes)
 abbrev pub count_place : Piece → ℕ
 count_place w = w.place + length (thread_text w.bytes) + 1
 
-abbrev pub before_steps : (thread count : ℕ) → Read → Read
-before_steps thread count (Steps ts) = Steps (replicate count thread ++ ts)
-before_steps thread count (Refused fault) = Refused fault
+-- the word begins a schedule
+abbrev pub is_schedule : List ℕ → Bool
+is_schedule bytes = pointwise nat_eq bytes (codes "schedule")
 
--- what words spell after so many steps
-abbrev pub steps_from : (done : ℕ) → List Piece → Read
-steps_from done [] = Steps []
-steps_from done (w ∷ ws) =
-    if not (is_run w.bytes) then Refused (BadWord w.place)
+-- what words spell after so many steps in all: those of lives that have ended, and those of the life that goes on
+abbrev pub lives_from : (done : ℕ) → (ended : List (List ℕ)) → (steps : List ℕ) → List Piece → Read
+lives_from done ended steps [] = Lives (ended ++ steps ∷ [])
+lives_from done ended steps (w ∷ ws) =
+    if is_schedule w.bytes then lives_from done (ended ++ steps ∷ []) [] ws
+    else if not (is_run w.bytes) then Refused (BadWord w.place)
     else if not (nat_lt (thread_number w.bytes) number_limit) then Refused (BadNumber w.place)
     else if not (nat_lt (count_number w.bytes) number_limit) then Refused (BadNumber (count_place w))
     else if nat_lt MOST_STEPS (done + count_number w.bytes) then Refused (TooMany w.place)
-    else before_steps (thread_number w.bytes) (count_number w.bytes) (steps_from (done + count_number w.bytes) ws)
+    else lives_from (done + count_number w.bytes) ended (steps ++ replicate (count_number w.bytes) (thread_number w.bytes)) ws
 
--- the first word may be `schedule`
-abbrev pub steps_of_words : List Piece → Read
-steps_of_words [] = Steps []
-steps_of_words (w ∷ ws) = if pointwise nat_eq w.bytes (codes "schedule") then steps_from 0 ws else steps_from 0 (w ∷ ws)
+-- the first word may be `schedule`, with which no life ends
+abbrev pub lives_of_words : List Piece → Read
+lives_of_words [] = Lives ([] ∷ [])
+lives_of_words (w ∷ ws) = if is_schedule w.bytes then lives_from 0 [] [] ws else lives_from 0 [] [] (w ∷ ws)
 
 unfoldable pub read : List ℕ → Read
-read text = steps_of_words (words_at 0 text)
+read text = lives_of_words (words_at 0 text)

@@ -20,6 +20,8 @@ mod KeptNames
 mod UniqueRefusals
 mod AppendedScheduleRuns
 mod AppendedLives
+mod LifeStops
+mod LifeRuns
 mod StepSwaps
 mod ExchangedSchedules
 mod NoLockTransfer

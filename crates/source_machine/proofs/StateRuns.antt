@@ -183,7 +183,7 @@ goes_on s (x ∷ xs) ys h =
     let g = go_by s xs ys (source_step s x) (λ next e. goes_on next xs ys e) h in
     record { after = g.0; runs = g.1; ended = g.2 }
 
-stands_as : (now : SourceState) (s : m.State) (f g : ℕ → ℕ) → ((k : ℕ) → f k ≡ g k) → RepresentsState now s f → RepresentsState now s g
+pub stands_as : (now : SourceState) (s : m.State) (f g : ℕ → ℕ) → ((k : ℕ) → f k ≡ g k) → RepresentsState now s f → RepresentsState now s g
 stands_as now s f g z st = record {
   variables = st.variables;
   holders = st.holders;

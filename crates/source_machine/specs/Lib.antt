@@ -8,6 +8,7 @@ pub mod Runs
 pub mod Laws
 pub mod AppendedSchedules
 pub mod Lives
+pub mod LifeRuns
 pub mod Discipline
 pub mod StepExchanges
 pub mod StepAnswers

@@ -1,5 +1,5 @@
 -- Lives of a source, one after another: in each its threads begin anew, on the variables that the life before has left.
-use Rattle.std.specs.Prelude.{◌≡◌, ℕ, zero, suc, ◌+◌, ◌<◌, List, [], ◌∷◌, ◌++◌, length, Bool, true, ◌&&◌, if◌then◌else◌}
+use Rattle.std.specs.Prelude.{◌≡◌, ℕ, zero, suc, ◌+◌, ◌<◌, List, [], ◌∷◌, ◌++◌, length, map, Bool, true, ◌&&◌, if◌then◌else◌}
 use Rattle.c_tree.specs.Flats as f
 use Rattle.c_tree.specs.Source.{State, start, is_between, after_from, runs_from, ended_from}
 
@@ -60,6 +60,11 @@ module _ (x : f.Flat) where
 -- where every thread stands between sections, each does
 abbrev pub BetweenIsEach : Type 0
 BetweenIsEach = (s : State) (count : ℕ) → are_between s count ≡ true → (thread : ℕ) → thread < count → is_between s thread ≡ true
+
+-- lives keep the number of threads, which are the form's, of variables, and of each variable's elements
+abbrev pub LifeSizesStay : Type 0
+LifeSizesStay = (x : f.Flat) (s : State) (lives : List (List ℕ)) → length s.threads ≡ length x.threads →
+    (length (after_lives x s lives).threads ≡ length x.threads) × (map length (after_lives x s lives).variables ≡ map length s.variables)
 
 -- one life more is stepped from where it begins, if all before it end
 abbrev pub AfterLife : Type 0

@@ -4,4 +4,5 @@ pub mod Holders
 pub mod Codes
 pub mod Threads
 pub mod States
+pub mod LifeRuns
 pub mod SectionEnds

@@ -21,9 +21,11 @@ pub enum RefusedKind {
     Waits,
     /// The thread has ended, or it stands at an `if` that has no condition.
     Ended,
+    /// Another life would begin at the step, and a thread stands inside a section.
+    Inside,
 }
 
-/// The first step of a schedule that can't be made. Steps count from 1.
+/// The first step of a schedule that can't be made. Steps count from 1, of several lives over all of them.
 #[derive(Clone, Copy, PartialEq, Eq, Debug, Drop, Error)]
 #[error("step {step} can't be made: {kind:?}")]
 pub struct Refused {

@@ -2,7 +2,8 @@
 ghost use Rattle.source_machine.specs.AppendedSchedules.{AfterAppended, EndedAppended, RunsAppended};
 ghost use Rattle.source_machine.specs.Discipline.{HeldIsGiven, LeavesHeld, LeavesNames, LeavesOthers, PlainIsGiven, ReachedKeeps};
 ghost use Rattle.source_machine.specs.Discipline.{ReadsGuarded, RunKeeps, SetIsOne, StartKeeps, StepKeeps, WritesGuarded};
-ghost use Rattle.source_machine.specs.Lives.{AfterLife, BetweenIsEach, EndedLife, RunsLife};
+ghost use Rattle.source_machine.specs.LifeRuns.{LivesNotWhole, OneLifeStop};
+ghost use Rattle.source_machine.specs.Lives.{AfterLife, BetweenIsEach, EndedLife, LifeSizesStay, RunsLife};
 ghost use Rattle.source_machine.specs.StepExchanges.{Exchange, Solo, StepAdded, StepsDropped, Swap};
 ghost use Rattle.source_machine.specs.Laws.{NotWhole, OneStop, OthersStay, RestingStays, SizesStay};
 
@@ -21,6 +22,14 @@ pub fn sizes_stay()
 pub fn one_stop()
     ensures stop { OneStop }
     ensures not_whole { NotWhole }
+{}
+
+/// Lives, a schedule for each, are stepped whole, or they are stopped once for one reason; and they keep the number of threads, of variables, and of each
+/// variable's elements.
+pub fn lives_stop_once()
+    ensures stop { OneLifeStop }
+    ensures not_whole { LivesNotWhole }
+    ensures sizes { LifeSizesStay }
 {}
 
 /// One schedule after another is stepped as the two in turn.

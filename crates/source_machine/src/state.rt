@@ -24,10 +24,14 @@ pub struct SourceState<'a> {
 }
 
 impl<'a> SourceState<'a> {
-    ghost use Rattle.std.specs.Prelude.{◌≡◌, ◌↔◌, ◌+◌, ◌^◌, ◌-◌, ◌<◌, ℕ, min, flat_map, length, IfOk, IsTrue};
+    ghost use Rattle.std.specs.Prelude.{◌≡◌, ◌↔◌, ◌+◌, ◌^◌, ◌-◌, ◌<◌, ◌≤◌, ◌∷◌, ◌++◌, [], ℕ, List, min, map, flat_map, sum_by, length};
+    ghost use Rattle.std.specs.Prelude.{Err, IfErr, IfOk, IsTrue, OnOk};
+    ghost use Rattle.c_tree.specs.Flats as f;
     ghost use Rattle.c_tree.specs.Flats.{flat_of};
     ghost use Rattle.c_tree.specs.Source.{State, start, is_between};
+    ghost use Rattle.source_machine.specs.LifeRuns.{RanLives};
     ghost use Rattle.source_machine.specs.Lives.{are_between};
+    ghost use Rattle.source_machine.specs.links.LifeRuns.{HasLived, schedule_of};
     ghost use Rattle.source_machine.specs.Runs.{IsAfter, Ran};
     ghost use Rattle.source_machine.specs.links.States.{RepresentsState, threads_in, IsRunOf, KeepsRun, AreBetween, Restarts};
 
@@ -81,6 +85,7 @@ impl<'a> SourceState<'a> {
     /// Makes the steps of a schedule up to the first that can't be made.
     pub fn run(&mut self, schedule: &[u32]) -> Result<(), Refused>
         ensures ran { (s : State) (ended : ℕ → ℕ) → RepresentsState self.old s ended → Ran self.new result s ended schedule.now }
+        ensures bound { IfErr result (λ e. e.step ≤ length schedule.now) }
         ensures run { KeepsRun self.old self.new }
         ensures threads { threads_in self.new ≡ threads_in self.old }
     {
@@ -131,6 +136,72 @@ impl<'a> SourceState<'a> {
         for thread in 0..self.threads.len() {
             self.threads[thread].restart();
         }
+    }
+
+    /// Begins another life after lives of so many steps, and makes the steps of its schedule.
+    fn run_next(&mut self, schedule: &[u32], done: u64) -> Result<(), Refused>
+        requires few { done + length schedule.now < 2 ^ 63 }
+        ensures lived { OnOk result ((x : f.Flat) (s : State) (ended : ℕ → ℕ) (before : List (List ℕ)) (life : List ℕ) → IsRunOf self.old x →
+            HasLived x self.old s ended before life → HasLived x self.new s ended (before ++ life ∷ []) schedule.now) }
+        ensures stopped { IfErr result (λ e.
+            (x : f.Flat) (s : State) (ended : ℕ → ℕ) (before : List (List ℕ)) (life : List ℕ) (after : List (List ℕ)) → IsRunOf self.old x →
+            HasLived x self.old s ended before life → done ≡ sum_by length before + length life →
+            RanLives x self.new (Err e) s ended ((before ++ life ∷ []) ++ schedule.now ∷ after)) }
+        ensures run { KeepsRun self.old self.new }
+        ensures threads { threads_in self.new ≡ threads_in self.old }
+    {
+        if !self.can_restart() {
+            return Err(Refused {
+                kind: RefusedKind::Inside,
+                step: done + 1,
+            });
+        }
+        self.restart();
+        match self.run(schedule) {
+            Ok(()) => Ok(()),
+            Err(refused) => Err(Refused {
+                kind: refused.kind,
+                step: done + refused.step,
+            }),
+        }
+    }
+
+    /// Goes on with other lives, a schedule for each, after lives of so many steps.
+    fn run_others(&mut self, others: &[Vec<u32>], done: u64) -> Result<(), Refused>
+        requires few { done + sum_by length (map schedule_of others.now) < 2 ^ 63 }
+        ensures ran { (x : f.Flat) (s : State) (ended : ℕ → ℕ) (before : List (List ℕ)) (life : List ℕ) → IsRunOf self.old x →
+            HasLived x self.old s ended before life → done ≡ sum_by length before + length life →
+            RanLives x self.new result s ended (before ++ life ∷ map schedule_of others.now) }
+        ensures run { KeepsRun self.old self.new }
+        ensures threads { threads_in self.new ≡ threads_in self.old }
+    {
+        let mut steps = done;
+        for i in 0..others.len() {
+            let schedule = &others[i];
+            if let Err(refused) = self.run_next(schedule, steps) {
+                return Err(refused);
+            }
+            steps += schedule.len() as u64;
+        }
+        Ok(())
+    }
+
+    /// Makes the steps of lives, a schedule for each, up to the first step that can't be made, or to a life before others that leaves a thread inside a
+    /// section. Between two of them another life is begun.
+    pub fn run_lives(&mut self, schedules: &[Vec<u32>]) -> Result<(), Refused>
+        requires few { sum_by length (map schedule_of schedules.now) < 2 ^ 63 }
+        ensures ran { (x : f.Flat) (s : State) (ended : ℕ → ℕ) → IsRunOf self.old x → RepresentsState self.old s ended →
+            RanLives x self.new result s ended (map schedule_of schedules.now) }
+        ensures run { KeepsRun self.old self.new }
+        ensures threads { threads_in self.new ≡ threads_in self.old }
+    {
+        let [first, others @ ..] = schedules else {
+            return Ok(());
+        };
+        if let Err(refused) = self.run(first) {
+            return Err(refused);
+        }
+        self.run_others(others, first.len() as u64)
     }
 
     /// The numbers of all elements of all variables, in order of declaration.

@@ -2,4 +2,4 @@ use Rattle.ido_cli.proofs.UniqueAnswers.{one_answer}
 use Rattle.ido_cli.proofs.laws.one_answer.Goals as goal
 
 pub returns : goal.returns
-returns c = let v = c.one_verdict.ensures in one_answer v.flat v.fault v.not_both c.one_stop.ensures.stop c.one_stop.ensures.not_whole
+returns c = let v = c.one_verdict.ensures in one_answer v.flat v.fault v.not_both c.lives_stop_once.ensures.stop c.lives_stop_once.ensures.not_whole

@@ -1,6 +1,6 @@
 use Rattle.std.proofs.lemmas.Result.{IfOk-weaker}
 use Rattle.ido_cli.specs.Answers.{no_image, of_image}
-use Rattle.ido_cli.proofs.RecoveredRuns.{accepted_runs_on, compiled_in}
+use Rattle.ido_cli.proofs.RecoveredRuns.{accepted_runs_on, compiled_in, few_steps_in}
 use Rattle.ido_cli.proofs.RefusedSchedules.{both_ok}
 use Rattle.ido_cli.proofs.recover.recover_answer.Goals as goal
 
@@ -9,6 +9,9 @@ recovered-requires-clause-translated g c κs within = (compiled_in c.args.input.
 
 pub recovered-requires-clause-compilation : goal.recovered-requires-clause-compilation
 recovered-requires-clause-compilation g c κs within = (compiled_in c.args.input.now c.in-Ok.image c.in-Ok.ensures.answer).1.compilation
+
+pub recovered-requires-clause-steps : goal.recovered-requires-clause-steps
+recovered-requires-clause-steps g c κs within = few_steps_in c.args.input.now c.in-Ok.image c.in-Ok.ensures.answer
 
 pub returns-in-Ok : goal.returns-in-Ok
 returns-in-Ok g c = IfOk-weaker c.recovered.result _ _

@@ -1,14 +1,17 @@
-use Rattle.std.proofs.Common.{◌≡◌, refl, ◌+◌, ◌*◌, ◌-◌, ◌≤◌, min, ap, ap₂, List, ℕ, None, arith, length, ◌∙◌, subst}
+use Rattle.std.proofs.Common.{◌≡◌, ◌+◌, ◌*◌, ◌-◌, ◌≤◌, [], min, ap, ap₂, List, ℕ, None, arith, length, ◌∙◌, subst}
+use Rattle.std.specs.Prelude.{sum_by}
+use Rattle.std.proofs.lemmas.List.Sums.{sum_by-cons}
+use Rattle.ido_base.specs.declared.limits.TheConstants.{MOST_STEPS}
 use Rattle.std.proofs.lemmas.List.{length-map}
 use Rattle.std.proofs.lemmas.Result.{IfOk-weaker}
 use Rattle.c_tree.specs.Flats.{flat_of, thread_of}
-use Rattle.rv64_isa.specs.Schedule.{only_life}
+use Rattle.rv64_isa.specs.Schedule.{all_lives, only_life}
 use Rattle.run_tracker.specs.ObjectLives.{life_from}
 use Rattle.ido_cli.specs.Answers.{file_in}
 use Rattle.ido_cli.specs.ThreadedRuns.{most_leg_events}
 use Rattle.ido_cli.proofs.LegRuns.{IsLifeDriven}
 use Rattle.ido_cli.proofs.PlayedRuns.{as_many_threads, has_room}
-use Rattle.ido_cli.proofs.RecoveredRuns.{few_harts, harts_after, none_before, none_made, recovery, room_left}
+use Rattle.ido_cli.proofs.RecoveredRuns.{few_harts, harts_after, kept_after, none_made, recovery, room_left}
 use Rattle.ido_cli.proofs.recover.recovered.Goals as goal
 
 pub drive-requires-clause-harts : goal.drive-requires-clause-harts
@@ -61,16 +64,20 @@ say_by_source-requires-clause-harts g c =
     harts_after (flat_of x.flat) y.object y.marks y.cuts c.requires.translated (file_in c.args.image.now) c.leg_room-most.result c.in_ok-life.life begun
     c.in_ok-driven.driven.core c.in_ok-driven.ensures.plays.opens c.requires.words
 
-pub say_by_source-requires-clause-alone : goal.say_by_source-requires-clause-alone
-say_by_source-requires-clause-alone g c =
+pub say_by_source-requires-clause-steps : goal.say_by_source-requires-clause-steps
+say_by_source-requires-clause-steps g c =
     let x = c.args.image.now.compiled in
     let y = x.translated in
     let begun : c.in_ok-life.life ≡ life_from y.object y.marks c.args.image.now.words.items (only_life c.args.image.now.schedule.items) c.leg_room-most.result =
     c.in_ok-life.ensures ∙ ap₂ (λ (ws ks : List ℕ). life_from y.object y.marks ws (only_life ks) c.leg_room-most.result) c.deref.ensures.value
     c.deref-2.ensures.value in
     let left = c.in_ok-driven.driven in
-    none_before (flat_of x.flat) y.object y.marks y.cuts c.requires.translated (file_in c.args.image.now) c.leg_room-most.result c.in_ok-life.life begun _ _
-    left.core left.stops.items left.evict c.in_ok-driven.ensures refl
+    let file = file_in c.args.image.now in
+    let few : sum_by length (all_lives file.kept) ≤ MOST_STEPS =
+    omega (arith, sum_by-cons length c.args.image.now.schedule.items [], c.requires.steps) in
+    let kept = kept_after (flat_of x.flat) y.object y.marks y.cuts c.requires.translated file c.leg_room-most.result c.in_ok-life.life begun _ _ MOST_STEPS
+    left.core left.stops.items left.evict c.in_ok-driven.ensures few in
+    omega (arith, kept, c.leg_room-most.ensures)
 
 pub returns : goal.returns
 returns g c =

@@ -4,15 +4,20 @@ use Rattle.std.proofs.lemmas.Result.{IfOk-weaker}
 use Rattle.c_tree.specs.Flats.{flat_of, thread_of}
 use Rattle.c_tree.specs.Source as m
 use Rattle.rv64_isa.specs.Machine.{numbers_from}
-use Rattle.ido_cli.proofs.PlayedRuns.{ended_is}
+use Rattle.run_scripts.specs.links.ReportViews.{steps_of}
+use Rattle.source_machine.specs.Lives.{after_lives, ended_lives}
+use Rattle.ido_cli.proofs.GatheredReports.{ended_is}
 use Rattle.ido_cli.proofs.report.ended_by.Goals as goal
+
+pub run_lives-whole-requires : goal.run_lives-whole-requires
+run_lives-whole-requires c = record { few = c.requires.steps }
 
 pub ended-requires : goal.ended-requires
 ended-requires c =
     omega (
       arith,
       c.requires.few,
-      c.run-whole.ensures.threads,
+      c.run_lives-whole.ensures.threads,
       c.in_ok-state.ensures.stands.count,
       length-map (flat_of c.args.flat.now).threads m.thread_start,
       length-map c.args.flat.now.threads.items thread_of,
@@ -20,11 +25,12 @@ ended-requires c =
 
 pub returns : goal.returns
 returns c =
-    let start = m.start (flat_of c.args.flat.now) in
-    let schedule = c.args.schedule.now in
-    let was = c.run-whole.ensures.ran start (λ thread. 0) c.in_ok-state.ensures.stands in
+    let x = flat_of c.args.flat.now in
+    let start = m.start x in
+    let lives = map steps_of c.args.lives.now in
+    let was = c.run_lives-whole.ensures.ran x start (λ thread. 0) c.in_ok-state.ensures.run c.in_ok-state.ensures.stands in
     IfOk-weaker c.ended.result _ _
     (λ sections is.
-    is (m.after_from start schedule) (λ thread. 0 + m.ended_from start schedule thread) was.stands
-    ∙ ended_is c.sizes_stay.ensures (flat_of c.args.flat.now) schedule (omega arith)
-    ∙ ap (λ (n : ℕ). map (m.ended_from start schedule) (numbers_from 0 n)) (length-map c.args.flat.now.threads.items thread_of)) c.ended.ensures
+    is (after_lives x start lives) (λ thread. 0 + ended_lives x start lives thread) was.stands
+    ∙ ended_is c.lives_stop_once.ensures.sizes x lives (omega (arith, c.requires.steps))
+    ∙ ap (λ (n : ℕ). map (ended_lives x start lives) (numbers_from 0 n)) (length-map c.args.flat.now.threads.items thread_of)) c.ended.ensures

@@ -9,8 +9,8 @@ use Rattle.ido_cli.proofs.report.gathered.Goals as goal
 pub returns : goal.returns
 returns c =
     machine_reported (flat_of c.args.flat.now) (world_of c.args.life.now) (schedules (steps_in c.args.life.now)) c.in_ok-unsettled.unsettled.items
-    c.args.ended.items (map views.steps_of c.in_ok-schedules.schedules.items) (map views.variable_of c.in_ok-variables.variables.items)
+    c.args.ended.items (map views.steps_of c.args.kept.items) (map views.variable_of c.in_ok-variables.variables.items)
     c.in_ok-unsettled.ensures
     (search (rules, c.in_ok-variables.ensures))
     c.requires.ended
-    c.in_ok-schedules.ensures
+    c.requires.kept

@@ -1,9 +1,10 @@
-use Rattle.std.proofs.Common.{arith, ap, length, sym, ◌∙◌}
+use Rattle.std.proofs.Common.{arith, ap, length, map, sym, ◌∙◌}
 use Rattle.std.proofs.lemmas.Result.{IfOk-weaker}
 use Rattle.c_tree.specs.Flats.{flat_of}
 use Rattle.run_scripts.specs.Schedules.{read}
+use Rattle.run_scripts.specs.links.ReportViews.{steps_of}
 use Rattle.run_scripts.specs.links.WordLengths.{fault_of}
-use Rattle.ido_cli.specs.Answers.{of_schedule}
+use Rattle.ido_cli.specs.Answers.{of_schedules}
 use Rattle.ido_cli.proofs.RestLengths.{rest_short}
 use Rattle.ido_cli.proofs.RefusedSchedules.{both_ok, fault_answer}
 use Rattle.ido_cli.proofs.source.flat_answer.Goals as goal
@@ -17,7 +18,8 @@ overflow_sub-input c = omega (arith, ap length c.requires.rest, rest_short c.arg
 pub returns-in-Ok : goal.returns-in-Ok
 returns-in-Ok c =
     IfOk-weaker c.run_answer.result _ _
-    (λ said is accepted. of_schedule (flat_of c.args.flat.now) accepted c.in-Ok.schedule.items (sym (ap read c.requires.rest) ∙ c.in-Ok.ensures.steps) is)
+    (λ said is accepted.
+    of_schedules (flat_of c.args.flat.now) accepted (map steps_of c.in-Ok.lives.items) (sym (ap read c.requires.rest) ∙ c.in-Ok.ensures.lives) is)
     c.run_answer.ensures
 
 pub returns-in-Err : goal.returns-in-Err
