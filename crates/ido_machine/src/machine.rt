@@ -62,7 +62,7 @@ impl Machine {
     {
         let program = Program::of(alloc, object)?;
         let memory = LineMemory::new(alloc, &object.initial, object.log, program.threads())?;
-        let locks = LockTable::new(alloc, object.mutexes)?;
+        let locks = LockTable::new(alloc, object.mutexes, program.threads())?;
         let harts = harts::fresh(alloc, &program)?;
         let phases = vec![in alloc; Phase::Run; program.threads() as usize]?;
         Ok(Machine {
@@ -90,7 +90,7 @@ impl Machine {
         let threads = program.threads();
         let bytes = object.initial.len() as u32;
         let memory = LineMemory::of_words(alloc, bytes, object.log, threads, words)?;
-        let locks = LockTable::new(alloc, object.mutexes)?;
+        let locks = LockTable::new(alloc, object.mutexes, threads)?;
         let harts = harts::fresh(alloc, &program)?;
         let mut phases = vec![in alloc; Phase::Done; threads as usize]?;
         harts::set_phases(&mut phases, &memory);

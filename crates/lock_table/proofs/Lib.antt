@@ -1,1 +1,2 @@
+mod CountedHolders
 mod MissingLockSearch

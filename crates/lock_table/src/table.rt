@@ -3,16 +3,20 @@ ghost use Rattle.std.specs.Prelude.{◌≡◌, ◌<◌, ◌%◌, ◌^◌, ◌==�
 ghost use Rattle.std.specs.Prelude.{replicate, slice_get, slice_set, IfOk, IfSome, IsTrue, ◌↔◌};
 ghost use Rattle.std.specs.Bool.{OnTrue, OnFalse};
 ghost use Rattle.ido_base.specs.Locks.{is_held_by, is_missing, least_held, holds_none, least_missing, locks_in};
+ghost use Rattle.lock_table.specs.links.HeldCounts.{AreCounted};
 
 use ido_base::locks::is_held_by;
 use ido_base::memory::OutOfMemory;
 use std::alloc::Global;
 use std::marker::Model;
 
-/// Of each lock the hart that holds it, or none. Harts are any numbers.
+/// Of each lock the hart that holds it, or none. Harts are any numbers; of the first ones it counts what each holds, so that no lock has to be looked at to see
+/// that such a hart holds none.
 #[derive(Debug, Drop)]
 pub struct LockTable {
     holders: Vec<Option<u32>>,
+    held: Vec<u32>,
+    ghost counted: { AreCounted holders.items held.items },
 }
 
 impl Model for LockTable {
@@ -33,12 +37,13 @@ fn is_missing(mask: u64, holder: Option<u32>, hart: u32) -> bool
 }
 
 impl LockTable {
-    /// A table of so many locks, all free.
-    pub fn new(alloc: Global, locks: u32) -> Result<LockTable, OutOfMemory>
+    /// A table of so many locks, all free, that counts what each of the first `harts` harts holds.
+    pub fn new(alloc: Global, locks: u32, harts: u32) -> Result<LockTable, OutOfMemory>
         ensures { IfOk result (λ table. table ≡ replicate locks None) }
     {
         let holders: Vec<Option<u32>> = vec![in alloc; None; locks as usize]?;
-        Ok(LockTable { holders })
+        let held = vec![in alloc; 0; harts as usize]?;
+        Ok(LockTable { holders, held })
     }
 
     /// How many locks there are.
@@ -67,6 +72,9 @@ impl LockTable {
             return false;
         }
         self.holders[lock as usize] = Some(hart);
+        if (hart as usize) < self.held.len() {
+            self.held[hart as usize] += 1;
+        }
         true
     }
 
@@ -76,7 +84,12 @@ impl LockTable {
         requires { lock < length self.old }
         ensures { self.new ≡ slice_set self.old lock None }
     {
-        self.holders[lock as usize] = None;
+        if let Some(hart) = self.holders[lock as usize] {
+            self.holders[lock as usize] = None;
+            if (hart as usize) < self.held.len() {
+                self.held[hart as usize] -= 1;
+            }
+        }
     }
 
     /// Frees all locks.
@@ -84,6 +97,7 @@ impl LockTable {
         ensures { self.new ≡ replicate (length self.old) None }
     {
         self.holders.fill(None);
+        self.held.fill(0);
     }
 
     /// The least lock that the hart holds.
@@ -103,6 +117,9 @@ impl LockTable {
     pub fn holds_none(&self, hart: u32) -> bool
         ensures { result ≡ holds_none self.now hart }
     {
+        if (hart as usize) < self.held.len() {
+            return self.held[hart as usize] == 0;
+        }
         self.least_held(hart).is_none()
     }
 

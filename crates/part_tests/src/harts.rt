@@ -310,7 +310,7 @@ fn single_steps(rt: HostRuntime) -> Result<(), Fail> {
     for (word, x5, x6, reply, x7, pc) in ROWS {
         let program = program_of(rt.alloc(), &[word])?;
         let mut memory = LineMemory::new(rt.alloc(), &BYTES, Log::V1, 1)?;
-        let mut locks = LockTable::new(rt.alloc(), 2)?;
+        let mut locks = LockTable::new(rt.alloc(), 2, 2)?;
         let _ = (locks.try_take(0, 0), locks.try_take(1, 1));
         let mut phase = Phase::Run;
         let mut hart = Hart::new(0x10000);
@@ -344,7 +344,7 @@ fn no_code(rt: HostRuntime) -> Result<(), Fail> {
         // addi x7, x5, -1
         let program = program_of(rt.alloc(), &[0xfff2_8393])?;
         let mut memory = LineMemory::new(rt.alloc(), &BYTES, Log::V1, 1)?;
-        let mut locks = LockTable::new(rt.alloc(), 0)?;
+        let mut locks = LockTable::new(rt.alloc(), 0, 1)?;
         let mut phase = Phase::Run;
         let mut hart = Hart::new(pc);
         let found = step(0, &program, &mut phase, &mut hart, &mut memory, &mut locks);
