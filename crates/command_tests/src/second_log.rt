@@ -1,9 +1,20 @@
 //! A program whose threads log in lists, compiled, and its life through a loss of power; and with the first log, beside that.
-ghost use Rattle.std.specs.Prelude.{◌≡◌, ◌≤◌, length, IfOk};
+ghost use Rattle.std.specs.Prelude.{◌≡◌, ◌≤◌, length, None, IfOk};
 ghost use Rattle.ido_base.specs.declared.limits.TheConstants.{MOST_SOURCE_BYTES};
+ghost use Rattle.c_tree.specs.declared.language.Language.TheVariants.{Full};
+ghost use Rattle.c_tree.specs.Flats.{flat_of};
+ghost use Rattle.c_tree.specs.HoldPrices.{price_fault};
+ghost use Rattle.c_tree.specs.WellFormed.{IsWellFormed};
 ghost use Rattle.hart_core.specs.Objects.{IsWithinLimits};
 
-use c_tree::language::MOST_HELD;
+use c_inline::inline::inline;
+use c_inline::laws::flat_is_formed;
+use c_reader::read;
+use c_tree::flat::Flat;
+use c_tree::language::Language;
+use c_typer::laws::typed_is_formed;
+use c_typer::type_tree;
+use flat_analysis::analyse;
 use flat_compile::{Translated, translate};
 use ido_base::event::Event;
 use ido_base::log::Log;
@@ -30,19 +41,55 @@ const SIXTEEN: &[u8] = b"mutex a; mutex b; mutex c; mutex d; mutex e; mutex f; m
 /// Events that a life takes.
 const ROOM: u64 = 10_000;
 
-/// The text, compiled, where its threads log so.
-fn translated(alloc: Global, log: Log, text: &[u8]) -> Result<Translated, Fail>
+/// The flat form of a text without arrays of mutexes, which costs no more than it may where what is held has a price.
+fn paid_form(alloc: Global, text: &[u8]) -> Result<Flat, Fail>
+    requires { length text.now ≤ MOST_SOURCE_BYTES }
+    ensures formed { IfOk result (λ flat. IsWellFormed (flat_of flat)) }
+    ensures priced { IfOk result (λ flat. price_fault Full (flat_of flat) ≡ None) }
+{
+    typed_is_formed();
+    flat_is_formed();
+    let tree = read(alloc, Language::Plain, text)?;
+    let program = type_tree(alloc, Language::Plain, tree)?;
+    c_ranges::check(alloc, &program)?;
+    let flat = inline(alloc, Language::Full, &program)?;
+    Ok(flat)
+}
+
+/// The text, compiled, where its threads log with masks.
+fn with_masks(alloc: Global, text: &[u8]) -> Result<Translated, Fail>
     requires { length text.now ≤ MOST_SOURCE_BYTES }
     ensures limits { IfOk result (λ made. IsWithinLimits made.object) }
     ensures marks { IfOk result (λ made. length made.marks.threads.items ≡ length made.object.code.items) }
 {
     let flat = flatten(alloc, text)?;
     let analysis = checked(alloc, text, &flat)?;
-    if analysis.held.are_at_most(MOST_HELD) {
-        let made = translate(alloc, log, &analysis)?;
-        return Ok(made);
+    let made = translate(alloc, Log::V1, &analysis)?;
+    Ok(made)
+}
+
+/// The text, compiled, where its threads log with lists.
+fn with_lists(alloc: Global, text: &[u8]) -> Result<Translated, Fail>
+    requires { length text.now ≤ MOST_SOURCE_BYTES }
+    ensures limits { IfOk result (λ made. IsWithinLimits made.object) }
+    ensures marks { IfOk result (λ made. length made.marks.threads.items ≡ length made.object.code.items) }
+{
+    let flat = paid_form(alloc, text)?;
+    let analysis = analyse(alloc, Language::Full, &flat)?;
+    let made = translate(alloc, Log::V2, &analysis)?;
+    Ok(made)
+}
+
+/// The text, compiled, where its threads log so.
+fn translated(alloc: Global, log: Log, text: &[u8]) -> Result<Translated, Fail>
+    requires { length text.now ≤ MOST_SOURCE_BYTES }
+    ensures limits { IfOk result (λ made. IsWithinLimits made.object) }
+    ensures marks { IfOk result (λ made. length made.marks.threads.items ≡ length made.object.code.items) }
+{
+    match log {
+        Log::V1 => with_masks(alloc, text),
+        Log::V2 => with_lists(alloc, text),
     }
-    Err("too many are held".into())
 }
 
 /// What a life has come to.

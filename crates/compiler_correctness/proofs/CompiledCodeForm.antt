@@ -5,7 +5,7 @@ use Rattle.c_tree.specs.Exprs.{LockName}
 use Rattle.std.proofs.Common.{◌++◌, true, false, Option, Some, None, slice_get, slice_index, slice_index_or, Contains}
 use Rattle.std.specs.List.Sorted.{IsStrictlyIncreasing}
 use Rattle.std.proofs.lemmas.Option.{slice_get_within, get_or_from_slice_get}
-use Rattle.thread_code.specs.Plans.{home_of_colour, Plan, Thread, IsThread, IsNodeOf, IsKept, held_names_before, locks_held_from, names_in}
+use Rattle.thread_code.specs.Plans.{home_of_colour, Plan, Thread, IsThread, IsNodeOf, IsKept, held_names_before, language_of, locks_held_from, names_in}
 use Rattle.thread_code.proofs.Public.{named_some, names_are, numbers_some}
 use Rattle.code_runs.specs.CodeTraces.{Trace, Program, MarkedEnvironment, Meets, Mark, Observation}
 use Rattle.node_code.specs.Pieces.{boundary_observations}
@@ -13,10 +13,9 @@ use Rattle.code_runs.specs.ComputingRuns.{LocalConfig, config}
 use Rattle.boundary_code.specs.Boundaries.{Boundary, IsOnSide}
 use Rattle.ido_base.specs.declared.log.Log.{Log}
 use Rattle.ido_ints.specs.declared.kinds.Kind.{Kind}
-use Rattle.std.proofs.lemmas.List.Sums.{sum_by-cons}
 use Rattle.c_tree.specs.Flats as f
 use Rattle.c_tree.specs.LockNames.{Held, held_names, holds, lock_names}
-use Rattle.c_tree.specs.Prices.{thread_price}
+use Rattle.c_tree.specs.HoldPrices.{full_price}
 use Rattle.lock_discipline.specs.HeldSetsByStep.{AreSetsOf}
 use Rattle.flow_graph.specs.declared.graph.Part.{Part}
 use Rattle.flow_graph.specs.Actions.{Seen, Gives, effect_of}
@@ -35,7 +34,7 @@ use Rattle.thread_code.specs.NodeCodeEffects.{Entrance}
 use Rattle.thread_code.specs.RegistersAtNodes.{Enters, IsAnswered, source_of}
 use Rattle.thread_code.specs.Programs as c
 use Rattle.thread_code.specs.Programs.{IsOn, IsThreadCode, IsCallWithin, IsCalling, boundary_count, mark_of}
-use Rattle.rv64_codegen.proofs.Public.{price_of, prices, price_thread, IsStoring, threads_are, chosen_stores, end_is, node_in, node_exists, held_there}
+use Rattle.rv64_codegen.proofs.Public.{cost_of, costs, thread_costs, IsStoring, threads_are, chosen_stores, end_is, node_in, node_exists, held_there}
 use Rattle.rv64_codegen.proofs.Public.{held_sets, numbers_plain}
 use Rattle.log_states.proofs.Public.{contains_first}
 use Rattle.thread_runs.proofs.Public.{plans_are_placed as placed}
@@ -76,15 +75,17 @@ none_between a = record { words = 0; is = omega arith }
 -- ---- Prices
 
 -- nodes from the one on that are each within their price are together
-paid : (ns : List Node) (first : ℕ) (entry words : ℕ → ℕ) →
-    ((i node : ℕ) (n : Node) → node ≡ first + i → slice_get ns i ≡ Some n → (entry (node + 1) ≡ entry node + 4 * words node) × (words node ≤ price_of n)) →
-    entry (first + length ns) ≤ entry first + 4 * prices ns
-paid [] first entry words each = let e : entry (first + 0) ≡ entry first = ap entry (omega arith) in omega (arith, e)
-paid (n ∷ ns) first entry words each =
+paid : (p : Plan) (t : Thread) (ns : List Node) (first : ℕ) (entry words : ℕ → ℕ) →
+    ((i node : ℕ) (n : Node) → node ≡ first + i → slice_get ns i ≡ Some n →
+    (entry (node + 1) ≡ entry node + 4 * words node) × (words node ≤ cost_of p t p.log n node)) →
+    entry (first + length ns) ≤ entry first + 4 * costs p t p.log ns first
+paid p t [] first entry words each = let e : entry (first + 0) ≡ entry first = ap entry (omega arith) in omega (arith, e)
+paid p t (n ∷ ns) first entry words each =
     let here = each 0 first n (omega arith) refl in
-    let rest = paid ns (first + 1) entry words (λ i node m at there. each (suc i) node m (omega (arith, at)) there) in
-    let e : entry (first + length (n ∷ ns)) ≡ entry (first + 1 + length ns) = ap entry (omega arith) in
-    omega (arith, e, rest, here.0, here.1, sum_by-cons price_of n ns)
+    let rest = paid p t ns (suc first) entry words (λ i node m at there. each (suc i) node m (omega (arith, at)) there) in
+    let e : entry (first + length (n ∷ ns)) ≡ entry (suc first + length ns) = ap entry (omega arith) in
+    let next : entry (first + 1) ≡ entry (suc first) = ap entry (omega arith) in
+    omega (arith, e, rest, next, here.0, here.1)
 
 -- ---- The thread's own program
 
@@ -435,10 +436,10 @@ module _ (locked : ChosenAreLocked) (y : System) (s : IsSystem y) (t : Thread) (
           get_or_from_slice_get (marks_of (translation_of y) t.number) i (sites.mark node) 0
           (subst (λ (n : ℕ). slice_get (marks_of (translation_of y) t.number) n ≡ Some (sites.mark node)) same found)
 
-  price : length (code_of y.runs.program t.number) ≤ thread_price of.text
+  price : length (code_of y.runs.program t.number) ≤ full_price (language_of p.log) p.flat of.text
   price =
       let ns = thread_nodes (table_of p.flat of.text) of.text t.part.first in
-      let total = paid ns t.part.first code.places.entry code.places.words (λ i node n is there.
+      let total = paid p t ns t.part.first code.places.entry code.places.words (λ i node n is there.
       let count = length-thread_nodes (table_of p.flat of.text) of.text t.part.first in
       let within = slice_get_within ns i n there in
       let own : IsNodeOf t node = record { from_first = omega (arith, is); below_end = omega (arith, is, within, count, ended) } in
@@ -447,10 +448,10 @@ module _ (locked : ChosenAreLocked) (y : System) (s : IsSystem y) (t : Thread) (
       let found : Some x.0 ≡ Some n =
       sym (node_in p s.plan t of node x.0 own x.1) ∙ ap (slice_get ns) step ∙ there in
       let same : x.0 ≡ n = cc in
-      (code.follows node own, subst (λ (z : Node). code.places.words node ≤ price_of z) same (code.code node x.0 own x.1).price)) in
+      (code.follows node own, subst (λ (z : Node). code.places.words node ≤ cost_of p t p.log z node) same (code.code node x.0 own x.1).price)) in
       let from : code.places.entry (t.part.first + length ns) ≡ code.places.entry t.part.end =
       ap code.places.entry (let count = length-thread_nodes (table_of p.flat of.text) of.text t.part.first in omega (arith, count, ended)) in
-      omega (arith, total, from, code.begins, code.ends, price_thread (table_of p.flat of.text) of.text t.part.first)
+      omega (arith, total, from, code.begins, code.ends, thread_costs p t s.plan of)
 
   sets_there : (sets : List Held) × (slice_get p.held t.number ≡ Some sets)
   sets_there = found_in p.held t.number (held_there p s.plan t of)
@@ -487,7 +488,7 @@ module _ (locked : ChosenAreLocked) (y : System) (s : IsSystem y) (t : Thread) (
     held = held;
     sets = subst (λ (hs : List Held). AreSetsOf p.flat of.text hs) (sym held_is)
         (s.plan.held.sets t.number of.text sets_there.0 of.of_text sets_there.1);
-    price = price;
+    price = subst (λ (l : Log). length (code_of y.runs.program t.number) ≤ full_price (language_of l) p.flat of.text) s.log price;
     sites = sites;
     begins = code.begins;
     ends = code.ends;

@@ -9,7 +9,7 @@ use Rattle.ido_ints.specs.TypedNumbers.{typed}
 use Rattle.c_tree.specs.Flats as f
 use Rattle.c_tree.specs.LockNames.{Held, held_names, lock_names}
 use Rattle.c_tree.specs.Values.{lock_number}
-use Rattle.c_tree.specs.Prices.{thread_price}
+use Rattle.c_tree.specs.HoldPrices.{full_price}
 use Rattle.rv64_isa.specs.declared.instr.Instr.TheVariants.{Ecall}
 use Rattle.rv64_isa.specs.Programs.{code_of, code_start}
 use Rattle.rv64_link.specs.LinkedCode.{IsInstructionAt, AreInstructions}
@@ -30,7 +30,7 @@ use Rattle.flow_graph.specs.IdempotentCuts.{IsLock, IsUnlock, IsStoreNode, IsCho
 use Rattle.hart_runs.specs.Laws.{program_at}
 use Rattle.thread_code.specs.Programs.{boundary_count, IsOn}
 use Rattle.compiler_correctness.specs.Translations.{Translation, marks_of, resumes_of}
-use Rattle.thread_code.specs.Plans.{home_of_colour}
+use Rattle.thread_code.specs.Plans.{home_of_colour, language_of}
 use Rattle.expr_code.specs.declared.home.Home.{Home}
 use Rattle.expr_code.specs.declared.home.Home.TheVariants.{InRegister}
 use Rattle.expr_code.specs.EvaluationCode.{home_of, HomeCarries}
@@ -147,8 +147,8 @@ pub record HasThreadForm (c : Translation) (colours : Colouring) (thread : ℕ) 
   pub nodes : slice_get (lowered c.flat).threads thread ≡ Some part
   pub held : List Held
   pub sets : AreSetsOf c.flat text held
-  -- no more words than its price
-  pub price : length (code_of c.runs.program thread) ≤ thread_price text
+  -- no more words than its price, with what is held where the log lists locks
+  pub price : length (code_of c.runs.program thread) ≤ full_price (language_of c.runs.log) c.flat text
   -- the thread's code is that of its nodes, in their order
   pub sites : Sites
   pub begins : sites.start part.first ≡ code_start c.runs.program thread

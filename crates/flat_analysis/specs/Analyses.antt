@@ -1,5 +1,6 @@
 -- What the checks of a flat form find out about it.
 use Rattle.std.specs.Prelude.{◌≡◌}
+use Rattle.c_tree.specs.declared.language.Language.{Language}
 use Rattle.c_tree.specs.Flats.{flat_of}
 use Rattle.lock_discipline.specs.HeldSetsByStep.{AreAllSetsOf}
 use Rattle.flow_graph.specs.Nodes.{graph_of}
@@ -10,9 +11,9 @@ use Rattle.flow_graph.specs.Colours.{colouring_of}
 use Rattle.flat_analysis.specs.declared.analyses.Analysis.{Analysis}
 use Rattle.flat_analysis.specs.CompilableForms.{IsAcceptedForm}
 
--- no check refuses the form, and each part is what its own analysis answers
-pub record IsAnalysis (a : Analysis) : Type 0 where
-  pub accepted : IsAcceptedForm (flat_of a.flat.now)
+-- no check of the language refuses the form, and each part is what its own analysis answers
+pub record IsAnalysis (l : Language) (a : Analysis) : Type 0 where
+  pub accepted : IsAcceptedForm l (flat_of a.flat.now)
   -- the sets of locks that are held
   pub held : AreAllSetsOf (flat_of a.flat.now) a.held
   pub lowered : graph_of a.graph ≡ lowered (flat_of a.flat.now)

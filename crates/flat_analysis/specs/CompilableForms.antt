@@ -1,7 +1,7 @@
 -- Flat forms that can be compiled, and the one rule and place by which any other is refused.
 use Rattle.std.specs.Prelude.{◌≡◌, ℕ, Some, None}
 use Rattle.ido_base.specs.declared.place.Place.{Place}
-use Rattle.c_tree.specs.declared.language.Language.TheVariants.{Plain}
+use Rattle.c_tree.specs.declared.language.Language.{Language}
 use Rattle.c_tree.specs.declared.refusal.SourceError.{SourceError}
 use Rattle.c_tree.specs.declared.refusal.SourceError.TheVariants.{Refused, Memory}
 use Rattle.c_tree.specs.declared.rule.Rule.{Rule}
@@ -14,23 +14,23 @@ use Rattle.c_tree.specs.Temporaries.{temporaries_fault}
 use Rattle.flow_graph.specs.Lowering.{lowered}
 use Rattle.flow_graph.specs.Liveness.{HasRoom, IsFirstCrowded}
 
--- no check refuses it
-pub record IsAcceptedForm (flat : Flat) : Type 0 where
+-- no check of the language refuses it
+pub record IsAcceptedForm (l : Language) (flat : Flat) : Type 0 where
   pub formed : IsWellFormed flat
-  pub disciplined : lock_fault Plain flat ≡ None
-  pub priced : price_fault Plain flat ≡ None
+  pub disciplined : lock_fault l flat ≡ None
+  pub priced : price_fault l flat ≡ None
   pub room : HasRoom (lowered flat)
   pub shallow : temporaries_fault flat ≡ None
 
 -- the form is refused by the rule at the place: the first check that fails says which
-pub data IsRefusedForm (flat : Flat) (found : Rule) (place : Place) : Type 0 where
-  undisciplined : (x : Fault) → lock_fault Plain flat ≡ Some x → found ≡ x.rule → place ≡ x.place → IsRefusedForm flat found place
-  crowded : (wanted : ℕ) → lock_fault Plain flat ≡ None → IsFirstCrowded (lowered flat) place wanted → found ≡ rule.Locals →
-      IsRefusedForm flat found place
-  too_deep : lock_fault Plain flat ≡ None → HasRoom (lowered flat) → temporaries_fault flat ≡ Some place → found ≡ rule.Temporaries →
-      IsRefusedForm flat found place
+pub data IsRefusedForm (l : Language) (flat : Flat) (found : Rule) (place : Place) : Type 0 where
+  undisciplined : (x : Fault) → lock_fault l flat ≡ Some x → found ≡ x.rule → place ≡ x.place → IsRefusedForm l flat found place
+  crowded : (wanted : ℕ) → lock_fault l flat ≡ None → IsFirstCrowded (lowered flat) place wanted → found ≡ rule.Locals →
+      IsRefusedForm l flat found place
+  too_deep : lock_fault l flat ≡ None → HasRoom (lowered flat) → temporaries_fault flat ≡ Some place → found ≡ rule.Temporaries →
+      IsRefusedForm l flat found place
 
 -- want of memory may come at any time
-abbrev pub IsFormRefusal : Flat → SourceError → Type 0
-IsFormRefusal flat (Refused x) = IsRefusedForm flat x.rule x.place
-IsFormRefusal flat Memory = Unit {0}
+abbrev pub IsFormRefusal : Language → Flat → SourceError → Type 0
+IsFormRefusal l flat (Refused x) = IsRefusedForm l flat x.rule x.place
+IsFormRefusal l flat Memory = Unit {0}

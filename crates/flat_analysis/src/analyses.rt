@@ -2,7 +2,6 @@
 ghost use Rattle.std.specs.Prelude.{◌≡◌, None, IfErr, IfOk};
 ghost use Rattle.c_tree.specs.Flats.{flat_of};
 ghost use Rattle.c_tree.specs.LockDiscipline.{lock_fault};
-ghost use Rattle.c_tree.specs.declared.language.Language.TheVariants.{Plain};
 ghost use Rattle.c_tree.specs.HoldPrices.{price_fault};
 ghost use Rattle.c_tree.specs.Temporaries.{temporaries_fault};
 ghost use Rattle.c_tree.specs.WellFormed.{IsWellFormed};
@@ -65,14 +64,14 @@ fn of_lock(error: LockError<'_>) -> SourceError
     }
 }
 
-/// The locks that are held before each step, where the form keeps the lock discipline.
-fn held(alloc: Global, flat: &Flat) -> Result<Held, SourceError>
+/// The locks that are held before each step, where the form keeps the lock discipline of the language.
+fn held(alloc: Global, language: Language, flat: &Flat) -> Result<Held, SourceError>
     requires { IsWellFormed (flat_of flat.now) }
     ensures sets { IfOk result (AreAllSetsOf (flat_of flat.now)) }
-    ensures disciplined { IfOk result (λ _. lock_fault Plain (flat_of flat.now) ≡ None) }
-    ensures refused { IfErr result (IsFormRefusal (flat_of flat.now)) }
+    ensures disciplined { IfOk result (λ _. lock_fault language (flat_of flat.now) ≡ None) }
+    ensures refused { IfErr result (IsFormRefusal language (flat_of flat.now)) }
 {
-    match lock_discipline::check(alloc, Language::Plain, flat) {
+    match lock_discipline::check(alloc, language, flat) {
         Ok(held) => Ok(held),
         Err(error) => Err(of_lock(error)),
     }
@@ -104,16 +103,20 @@ fn check_temporaries(flat: &Flat) -> Result<(), SourceError>
     }
 }
 
-/// The analysis of a flat form that keeps all rules of locks, registers and temporaries; else the rule and the place of the first
-/// of these checks that it fails.
-pub fn analyse<'a>(alloc: Global, flat: &'a Flat) -> Result<Analysis<'a>, SourceError>
+/// The analysis of a flat form that keeps all rules of the language for locks, registers and temporaries; else the rule and the place
+/// of the first of these checks that it fails.
+pub fn analyse<'a>(
+    alloc: Global,
+    language: Language,
+    flat: &'a Flat,
+) -> Result<Analysis<'a>, SourceError>
     requires formed { IsWellFormed (flat_of flat.now) }
-    requires priced { price_fault Plain (flat_of flat.now) ≡ None }
+    requires priced { price_fault language (flat_of flat.now) ≡ None }
     ensures of_flat { IfOk result (λ a. a.flat.now ≡ flat.now) }
-    ensures analysed { IfOk result (λ a. IsAnalysis a) }
-    ensures refused { IfErr result (IsFormRefusal (flat_of flat.now)) }
+    ensures analysed { IfOk result (λ a. IsAnalysis language a) }
+    ensures refused { IfErr result (IsFormRefusal language (flat_of flat.now)) }
 {
-    let held = held(alloc, flat)?;
+    let held = held(alloc, language, flat)?;
     let graph = lower(alloc, flat)?;
     let live = live(alloc, &graph)?;
     let colours = coloured(alloc, &graph, &live)?;

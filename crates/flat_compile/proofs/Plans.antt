@@ -1,19 +1,21 @@
 -- A plan's code, linked, is what its flat form is translated to.
-use Rattle.std.proofs.Common.{◌≡◌, refl, ℕ, zero, suc, ◌+◌, ◌-◌, ◌≤◌, List, [], ◌∷◌, length, map, sym, subst, ◌∙◌, arith, true, false}
-use Rattle.std.specs.Prelude.{sum_by, All, Vec}
+use Rattle.std.proofs.Common.{◌≡◌, ◌⊎◌, inl, inr, ⊎_elim, refl, ℕ, zero, suc, ◌+◌, ◌-◌, ◌<◌, ◌≤◌, List, [], ◌∷◌, length, map, sym, subst, ◌∙◌, arith, true}
+use Rattle.std.proofs.Common.{false}
+use Rattle.std.specs.Prelude.{nat_lt, sum_by, All, Vec}
 use Rattle.std.specs.List.{AllByRecursion}
 use Rattle.std.specs.Global.{Global}
 use Rattle.std.proofs.lemmas.List.{length-map}
-use Rattle.std.proofs.lemmas.List.Elements.{All-head, All-tail}
-use Rattle.std.proofs.lemmas.Option.{none-some, same_Some}
+use Rattle.std.proofs.lemmas.List.Elements.{All-head, All-tail, recursion_from_All}
+use Rattle.std.proofs.lemmas.Option.{none-some, same_Some, slice_get_within}
 use Rattle.ido_base.specs.declared.log.Log.{Log}
 use Rattle.ido_base.specs.declared.log.Log.TheVariants.{V1, V2}
 use Rattle.ido_base.specs.declared.limits.TheConstants.{MOST_THREADS, MOST_CODE_WORDS}
+use Rattle.c_tree.specs.declared.language.Language.TheVariants.{Full}
 use Rattle.c_tree.specs.declared.language.TheConstants.{MOST_HELD}
 use Rattle.c_tree.specs.Exprs.{LockName}
 use Rattle.c_tree.specs.Flats as f
 use Rattle.c_tree.specs.Flats.{Flat, flat_of}
-use Rattle.c_tree.specs.LockDiscipline.{key_locals}
+use Rattle.c_tree.specs.LockDiscipline.{key_locals, lock_fault}
 use Rattle.c_tree.specs.LockNames.{Held, count_held, held_names, holds, lock_names}
 use Rattle.c_tree.specs.Values.{lock_number}
 use Rattle.rv64_isa.specs.declared.object.Code.{Code}
@@ -25,10 +27,12 @@ use Rattle.rv64_isa.specs.Executables.{resume_marks}
 use Rattle.rv64_link.specs.LabelledCode.{most_words_of}
 use Rattle.rv64_link.specs.LinkedCode.{AreLinked}
 use Rattle.rv64_link.specs.links.Threads.{items_in}
-use Rattle.c_tree.specs.WellFormed.{IsSingle, initial_numbers, shape_of}
+use Rattle.c_tree.specs.WellFormed.{IsWellFormed, initial_numbers, shape_of}
 use Rattle.memory_layout.specs.Variables.{AreInitial}
 use Rattle.boundary_code.specs.Boundaries.{HaveRoom}
-use Rattle.lock_discipline.specs.HeldSetsByStep.{AreAllSetsOf, AreSetsOf, HeldBefore}
+use Rattle.lock_discipline.specs.Discipline.{WalkIsDiscipline}
+use Rattle.lock_discipline.specs.HeldSetsByStep.{AreAllSetsOf, AreSetsOf, HeldBefore, HoldsFew}
+use Rattle.lock_discipline.proofs.Public.{well_formed_has_names}
 use Rattle.flow_graph.specs.declared.cuts.Cuts.{Cuts}
 use Rattle.flow_graph.specs.Liveness.{IsLive}
 use Rattle.flow_graph.specs.Lowering.{lowered}
@@ -36,14 +40,15 @@ use Rattle.flow_graph.specs.Nodes.{Graph, graph_of}
 use Rattle.flow_graph.specs.Colours.{colouring_of}
 use Rattle.flow_graph.specs.IdempotentCuts.{AreCuts, IsMinimal, boundaries_of, AreAtWrites}
 use Rattle.region_cutter.specs.FewestCuts.{AreFewestCuts}
+use Rattle.flow_graph.proofs.Public.{all_at, found_in}
 use Rattle.flat_analysis.specs.declared.analyses.Analysis.{Analysis}
 use Rattle.flat_analysis.specs.Analyses.{IsAnalysis}
 use Rattle.flat_analysis.proofs.Public.{held_keys_are_live}
-use Rattle.thread_code.specs.Plans.{Plan, IsPlan, Thread, IsThread, IsNodeOf, names_in, set_before}
+use Rattle.thread_code.specs.Plans.{Plan, IsPlan, Thread, IsThread, IsNodeOf, names_in, set_before, language_of}
 use Rattle.thread_code.proofs.Public.{names_are}
 use Rattle.rv64_codegen.specs.StoreCleans.{AllCleanAtOnce}
 use Rattle.rv64_codegen.specs.ThreadPieces.{IsCode}
-use Rattle.std.proofs.Common.{ap, Some}
+use Rattle.std.proofs.Common.{ap, None, Some}
 use Rattle.std.specs.Prelude.{Contains, slice_get, slice_index_or, ℤ}
 use Rattle.std.proofs.lemmas.Bool.{true≢false}
 use Rattle.ido_base.specs.declared.limits.TheConstants.{MOST_CODE_WORDS, MOST_THREADS}
@@ -53,7 +58,7 @@ use Rattle.recovered_threads.specs.RecordDescriptions.{Codes}
 use Rattle.crash_simulation.specs.Systems.{System, IsSystem}
 use Rattle.flat_compile.specs.declared.resumes.Resume.{Resume}
 use Rattle.flat_compile.specs.ResumePlaces.{AreMarksOf, AreMarked, IsResumeTable}
-use Rattle.flat_compile.specs.TranslatedForms.{AreFewHeld, IsTranslatedAs, IsResumableAs}
+use Rattle.flat_compile.specs.TranslatedForms.{IsTranslatedAs, IsResumableAs}
 use Rattle.flat_compile.proofs.LinkedThreads.{AllFew, marked_count}
 use Rattle.flat_compile.proofs.Limits.{count, within_limits}
 use Rattle.flat_compile.proofs.MasksOfSets.{of_mask}
@@ -71,16 +76,51 @@ count_most (x ∷ names) (false ∷ held) = count_most names held
 few_numbers : (locals : List ℤ) (names : List LockName) (held : Held) → length (map (lock_number locals) (held_names names held)) ≤ count_held held
 few_numbers locals names held = omega (arith, length-map (held_names names held) (lock_number locals), count_most names held)
 
+-- what stands there, or the other
+found_or : {X : Type 0} (xs : List X) (k : ℕ) (other : X) → (slice_get xs k ≡ Some (slice_index_or xs k other)) ⊎ (slice_index_or xs k other ≡ other)
+found_or [] k other = inr refl
+found_or (x ∷ xs) zero other = inl refl
+found_or (x ∷ xs) (suc k) other = found_or xs k other
+
+not_above : (n m : ℕ) → nat_lt n m ≡ false → m ≤ n
+not_above n m h = grind arith
+
+-- no set of a form that keeps the rules of the full language holds more than may be held
+module _ (law : WalkIsDiscipline) (x : Flat) (formed : IsWellFormed x) (faultless : lock_fault Full x ≡ None) (sets : List (List Held))
+    (all : AreAllSetsOf x sets) where
+  few_in : (thread : ℕ) (row : List Held) → slice_get sets thread ≡ Some row → (step : ℕ) (set : Held) → slice_get row step ≡ Some set →
+      count_held set ≤ MOST_HELD
+  few_in thread row at step set there =
+      let low : thread < length x.threads = (let within = slice_get_within sets thread row at in omega (arith, within, all.each_thread)) in
+      let text = found_in x.threads thread low in
+      let of : AreSetsOf x text.0 row = all.sets thread text.0 row text.1 at in
+      let few : AllByRecursion (HoldsFew Full x) x.threads =
+      recursion_from_All (HoldsFew Full x) x.threads ((law Full x).1 (well_formed_has_names x formed) faultless).1 in
+      not_above MOST_HELD (count_held set) (all_at (HoldsFew Full x) x.threads thread text.0 few text.1 step set ((of.exactly step set).0 there))
+
+  few_of : (thread step : ℕ) → count_held (slice_index_or (slice_index_or sets thread []) step []) ≤ MOST_HELD
+  few_of thread step =
+      let row : List Held = slice_index_or sets thread [] in
+      let set : Held = slice_index_or row step [] in
+      ⊎_elim
+      (λ there. ⊎_elim
+      (λ at. few_in thread row at step set there)
+      (λ none. absurd (none-some set (ap (λ (r : List Held). slice_get r step) (sym none) ∙ there)))
+      (found_or sets thread []))
+      (λ none. subst (λ (h : Held). count_held h ≤ MOST_HELD) (sym none) (omega arith))
+      (found_or row step [])
+
 -- a bank has room for each set
-room_for : (log : Log) (x : Flat) → AllByRecursion IsSingle x.mutexes → length x.mutexes ≤ 64 → (sets : List (List Held)) → AreAllSetsOf x sets →
-    AreFewHeld log sets → (locals : List ℤ) (thread step : ℕ) →
+room_for : WalkIsDiscipline → (log : Log) (x : Flat) → IsWellFormed x → lock_fault (language_of log) x ≡ None → (sets : List (List Held)) →
+    AreAllSetsOf x sets → (locals : List ℤ) (thread step : ℕ) →
     HaveRoom log (map (lock_number locals) (held_names (slice_index_or (map (λ (t : f.Thread). lock_names x t) x.threads) thread [])
     (slice_index_or (slice_index_or sets thread []) step [])))
-room_for V1 x single small sets all few locals thread step = of_mask x single small sets all locals thread step
-room_for V2 x single small sets all few locals thread step =
+room_for law V1 x formed faultless sets all locals thread step =
+    of_mask x formed.single (omega (arith, formed.shared.mutexes)) sets all locals thread step
+room_for law V2 x formed faultless sets all locals thread step =
     let set : Held = slice_index_or (slice_index_or sets thread []) step [] in
     let names : List LockName = slice_index_or (map (λ (t : f.Thread). lock_names x t) x.threads) thread [] in
-    let most : count_held set ≤ MOST_HELD = few thread step in
+    let most : count_held set ≤ MOST_HELD = few_of law x formed faultless sets all thread step in
     omega (arith, most, few_numbers locals names set)
 
 -- ---- Held keys
@@ -108,7 +148,8 @@ plan_at log a cuts = record {
 }
 
 -- where a name is held the locals of its key are live
-keys_live : (log : Log) (a : Analysis) (cuts : Cuts) → IsAnalysis a → (t : Thread) (of : IsThread (plan_at log a cuts) t) (node : ℕ) → IsNodeOf t node →
+keys_live : (log : Log) (a : Analysis) (cuts : Cuts) → IsAnalysis (language_of log) a → (t : Thread) (of : IsThread (plan_at log a cuts) t) (node : ℕ) →
+    IsNodeOf t node →
     (name local : ℕ) (x : LockName) → slice_get (names_in (plan_at log a cuts) t) name ≡ Some x →
     holds (set_before (plan_at log a cuts) t node) name ≡ true → Contains (key_locals x) local → IsLive (graph_of a.graph) local node
 keys_live log a cuts is t of node own name local x there held reads =
@@ -126,9 +167,9 @@ keys_live log a cuts is t of node own name local x there held reads =
     let at : t.part.first + step ≡ node = (let from = own.from_first in omega (arith, from)) in
     subst (λ (g : Graph). IsLive g local node) (sym is.lowered) (subst (λ (m : ℕ). IsLive (lowered flat) local m) at live)
 
-pub plan_is : (log : Log) (a : Analysis) (cuts : Cuts) → IsAnalysis a → AreFewHeld log a.held → AreCuts (graph_of a.graph) (boundaries_of cuts) →
-    AreAtWrites (graph_of a.graph) (boundaries_of cuts) → IsPlan (plan_at log a cuts)
-plan_is log a cuts is few chosen places = record {
+pub plan_is : WalkIsDiscipline → (log : Log) (a : Analysis) (cuts : Cuts) → IsAnalysis (language_of log) a →
+    AreCuts (graph_of a.graph) (boundaries_of cuts) → AreAtWrites (graph_of a.graph) (boundaries_of cuts) → IsPlan (plan_at log a cuts)
+plan_is law log a cuts is chosen places = record {
   formed = is.accepted.formed;
   lowered = is.lowered;
   cuts = chosen;
@@ -139,8 +180,8 @@ plan_is log a cuts is few chosen places = record {
   registers = is.registers;
   apart = is.apart;
   priced = is.accepted.priced;
-  room = λ t locals node. room_for log (flat_of a.flat.now) is.accepted.formed.single (omega (arith, is.accepted.formed.shared.mutexes)) a.held is.held few
-      locals t.number (node - t.part.first);
+  room = λ t locals node. room_for law log (flat_of a.flat.now) is.accepted.formed is.accepted.disciplined a.held is.held locals t.number
+      (node - t.part.first);
 }
 
 -- ---- Its code

@@ -1,10 +1,8 @@
 -- What the machine runs for a flat form.
-use Rattle.std.specs.Prelude.{◌≡◌, ◌≤◌, ℕ, List, [], length, slice_index_or}
+use Rattle.std.specs.Prelude.{◌≡◌, List, length}
 use Rattle.ido_base.specs.declared.log.Log.{Log}
-use Rattle.ido_base.specs.declared.log.Log.TheVariants.{V1, V2}
-use Rattle.c_tree.specs.declared.language.TheConstants.{MOST_HELD}
+use Rattle.ido_base.specs.declared.log.Log.TheVariants.{V1}
 use Rattle.c_tree.specs.Flats.{Flat}
-use Rattle.c_tree.specs.LockNames.{Held, count_held}
 use Rattle.rv64_isa.specs.declared.object.Object.{Object}
 use Rattle.rv64_isa.specs.declared.object.Marks.{Marks}
 use Rattle.rv64_isa.specs.declared.object.CodeItem.{CodeItem}
@@ -22,12 +20,6 @@ use Rattle.std.specs.Prelude.{Vec}
 use Rattle.std.specs.Global.{Global}
 use Rattle.flat_compile.specs.declared.resumes.Resume.{Resume}
 use Rattle.flat_compile.specs.ResumePlaces.{IsResumeTable}
-
--- Of each thread the sets that are held before its steps: a bank of the log has room for each, and the price of a node pays for the code that writes it.
--- A log with a mask has room for all; one that lists its locks for as many as may be held where there are arrays of mutexes.
-abbrev pub AreFewHeld : Log → (sets : List (List Held)) → Type 0
-AreFewHeld V1 sets = Unit {0}
-AreFewHeld V2 sets = (thread step : ℕ) → count_held (slice_index_or (slice_index_or sets thread []) step []) ≤ MOST_HELD
 
 -- What the machine runs is a system of the flat form, whose threads log as it is wanted, so all laws of compiled programs hold of it; none of the boundaries
 -- can be taken away, and in straight code they are the fewest.

@@ -2,13 +2,15 @@
 ghost use Rattle.std.specs.Prelude.{IfOk};
 ghost use Rattle.c_tree.specs.Flats.{flat_of};
 ghost use Rattle.flat_analysis.specs.Analyses.{IsAnalysis};
-ghost use Rattle.flat_compile.specs.TranslatedForms.{AreFewHeld, IsTranslatedAs, IsResumableAs};
+ghost use Rattle.thread_code.specs.Plans.{language_of};
+ghost use Rattle.flat_compile.specs.TranslatedForms.{IsTranslatedAs, IsResumableAs};
 
 use crate::resumes::{Resume, resume_table};
 use flat_analysis::Analysis;
 use flow_graph::cuts::Cuts;
 use ido_base::log::Log;
 use ido_base::memory::OutOfMemory;
+use lock_discipline::laws::walk_is_discipline;
 use region_cutter::cut;
 use rv64_codegen::{Plan, emit};
 use rv64_isa::object::{Marks, Object};
@@ -28,13 +30,14 @@ pub struct Translated {
 }
 
 /// The object of a flat form that was analysed, whose threads log so, the addresses of its marks, and where boundaries stand: a machine
-/// that runs it is resumed after each crash. Want of memory is all that may hinder it.
+/// that runs it is resumed after each crash. The analysis is by the rules of the language that the log is of. Want of memory is all that
+/// may hinder it.
 pub fn translate(alloc: Global, log: Log, analysis: &Analysis) -> Result<Translated, OutOfMemory>
-    requires analysis { IsAnalysis analysis.now }
-    requires few { AreFewHeld log analysis.now.held }
+    requires { IsAnalysis (language_of log) analysis.now }
     ensures translated { IfOk result (λ r. IsTranslatedAs log (flat_of analysis.now.flat.now) r.object r.marks r.cuts) }
     ensures resumes { IfOk result (λ r. IsResumableAs log (flat_of analysis.now.flat.now) r.object r.marks r.cuts r.resumes.items) }
 {
+    walk_is_discipline();
     let cuts = cut(alloc, &analysis.graph)?;
     let plan = Plan {
         log,

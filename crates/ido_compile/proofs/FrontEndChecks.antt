@@ -59,14 +59,14 @@ uncompiled text error.Memory h = tt
 -- ---- Of a flat form
 
 module _ (text : List ℕ) (flat : f.Flat) (is : IsFlattened Plain text flat) where
-  refused_form : (found : Rule) (place : Place) → IsRefusedForm flat found place → IsRefusedBy text found place
+  refused_form : (found : Rule) (place : Place) → IsRefusedForm Plain flat found place → IsRefusedBy text found place
   refused_form found place (undisciplined x h rule_is place_is) = faulty (c.undisciplined flat x is h rule_is place_is)
   refused_form found place (crowded wanted locks h rule_is) = r.crowded flat wanted (record { flattened = is; disciplined = locks }) h rule_is
   refused_form found place (too_deep locks room h rule_is) = r.too_deep flat (record { flattened = is; disciplined = locks }) room h rule_is
 
-  pub by_form : (e : SourceError) → IsFormRefusal flat e → IsRefusal text (of_source e)
+  pub by_form : (e : SourceError) → IsFormRefusal Plain flat e → IsRefusal text (of_source e)
   by_form (source.Refused x) h = refused_form x.rule x.place h
   by_form source.Memory h = tt
 
-  pub accepted : IsAcceptedForm flat → IsAccepted text flat
+  pub accepted : IsAcceptedForm Plain flat → IsAccepted text flat
   accepted h = record { checked = record { flattened = is; disciplined = h.disciplined }; room = h.room; shallow = h.shallow }

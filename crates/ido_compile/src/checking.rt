@@ -37,7 +37,7 @@ pub fn checked<'a>(alloc: Global, text: &[u8], flat: &'a Flat) -> Result<Analysi
     ensures answer { IsAnalysisAnswer text.now (flat_of flat.now) result }
 {
     flattened_is_formed();
-    let analysis = analyse(alloc, flat)?;
+    let analysis = analyse(alloc, Language::Plain, flat)?;
     Ok(analysis)
 }
 

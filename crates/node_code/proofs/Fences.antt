@@ -22,7 +22,8 @@ use Rattle.boundary_code.specs.Boundaries.{IsUnderWay, Opens, Closes, closing_ef
 use Rattle.operator_code.specs.StraightLineCode.{effects, registers_after, seen, left_by}
 use Rattle.operator_code.specs.declared.branches.Test.{Test}
 use Rattle.node_code.specs.Sites.{Linking, IsPart, Site, begin_of, end_of}
-use Rattle.node_code.specs.links.ItemLists.{plain, asking, boundary_items, lock_items, unlock_items, computing_items, choice_items}
+use Rattle.node_code.specs.links.ItemLists.{plain, asking_items, boundary_items, lock_items, unlock_items, computing_items, choice_items}
+use Rattle.rv64_isa.specs.declared.instr.ImmediateOperation.TheVariants.{Addi}
 use Rattle.node_code.proofs.ItemAddresses.{item_at}
 use Rattle.boundary_code.specs.Boundaries.{is_empty}
 use Rattle.boundary_code.proofs.Public.{fresh_on_side}
@@ -205,22 +206,35 @@ boundary_items_fences b codes code h =
 
 -- ---- Calls
 
-pub lock_items_fences : (b : Boundary) (mutex : ℕ) (codes : List (List Instr)) (code : List Instr) → IsBoundaryCode b codes code →
-    fences_in (lock_items mutex code) ≡ 2
-lock_items_fences b mutex codes code h =
-    fences_append (plain (asking mutex 1)) ((MarkNext ∷ Instruction Ecall ∷ []) ++ boundary_items code) ∙
-    ap (λ (n : ℕ). 0 + n) (fences_append (MarkNext ∷ Instruction Ecall ∷ []) (boundary_items code)) ∙
-    ap (λ (n : ℕ). 0 + (0 + n)) (boundary_items_fences b codes code h)
+asking_fences : (numbering : List Instr) (call : ℕ) → IsQuiet numbering → fences_in (asking_items numbering call) ≡ 0
+asking_fences numbering call quiet =
+    let i : Instr = OpImmediate Addi 17 0 call in
+    let sum : fences_in (asking_items numbering call) ≡ fences_in (plain numbering) + 0 = fences_append (plain numbering) (Instruction i ∷ []) in
+    let first = quiet.fences in
+    omega (arith, sum, first)
 
-pub unlock_items_fences : (b : Boundary) (mutex : ℕ) (ends : Bool) (codes : List (List Instr)) (code : List Instr) → IsBoundaryCode b codes code →
-    fences_in (unlock_items mutex ends code) ≡ 2
-unlock_items_fences b mutex ends codes code h =
-    let sum = fences_append (MarkNext ∷ plain code) (plain (asking mutex 2) ++ (Instruction Ecall ∷ (if ends then [] else ResumeNext ∷ []))) in
+pub lock_items_fences : (b : Boundary) (codes : List (List Instr)) (numbering code : List Instr) → IsQuiet numbering → IsBoundaryCode b codes code →
+    fences_in (lock_items numbering code) ≡ 2
+lock_items_fences b codes numbering code quiet h =
+    let rest : List CodeItem = MarkNext ∷ Instruction Ecall ∷ boundary_items code in
+    let sum = fences_append (asking_items numbering 1) rest in
+    let called : fences_in rest ≡ 0 + fences_in (boundary_items code) = fences_append (MarkNext ∷ Instruction Ecall ∷ []) (boundary_items code) in
+    let first = asking_fences numbering 1 quiet in
+    let last = boundary_items_fences b codes code h in
+    omega (arith, sum, called, first, last)
+
+pub unlock_items_fences : (b : Boundary) (ends : Bool) (codes : List (List Instr)) (numbering code : List Instr) → IsQuiet numbering →
+    IsBoundaryCode b codes code → fences_in (unlock_items numbering ends code) ≡ 2
+unlock_items_fences b ends codes numbering code quiet h =
+    let last : List CodeItem = Instruction Ecall ∷ (if ends then [] else ResumeNext ∷ []) in
+    let sum = fences_append (MarkNext ∷ plain code) (asking_items numbering 2 ++ last) in
     let marked : fences_in (MarkNext ∷ plain code) ≡ 2 = fences_cons MarkNext (plain code) ∙ ap (λ (n : ℕ). 0 + n) (boundary_fences b codes code h) in
-    let rest : fences_in (plain (asking mutex 2) ++ (Instruction Ecall ∷ (if ends then [] else ResumeNext ∷ []))) ≡ 0 = by ends in
-    omega (arith, sum, marked, rest)
+    let asked = fences_append (asking_items numbering 2) last in
+    let first = asking_fences numbering 2 quiet in
+    let none : fences_in last ≡ 0 = by ends in
+    omega (arith, sum, marked, asked, first, none)
   where
-    by : (z : Bool) → fences_in (plain (asking mutex 2) ++ (Instruction Ecall ∷ (if z then [] else ResumeNext ∷ []))) ≡ 0
+    by : (z : Bool) → fences_in (Instruction Ecall ∷ (if z then [] else ResumeNext ∷ [])) ≡ 0
     by true = refl
     by false = refl
 

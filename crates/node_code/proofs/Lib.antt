@@ -10,7 +10,7 @@ mod BoundaryPieces
 mod ListBoundaries
 mod BoundaryLegs
 mod CallPieces
-mod LockNumbers
+mod CodeLists
 mod MadeBoundaries
 mod JumpPieces
 mod ComputingPieces

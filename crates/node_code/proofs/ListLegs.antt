@@ -47,27 +47,27 @@ module _ (all : List CodeItem) (n : Linking all) where
 
   -- ---- A number
 
-  -- code that leaves one is run, and nothing is seen of it
-  number_leg : (k : ℕ) (code : List Instr) (p : IsPart all k (plain code)) → mark_waits false p.before ≡ false → (log : Log) (thread bank : ℕ)
-      (x y : List ℕ) (number : ℕ) (left : NumberLeft n.environment.around code log thread bank x y (at k) number) →
-      GoesThrough n.environment (fragment y (at k) (at (k + length (plain code))) (length code)) [] (λ z. z ≡ left.registers)
-  number_leg k code p closed log thread bank x y number left =
-      moved n.environment y (at k) (at k) (at (k + length code)) (at (k + length (plain code))) (length code) [] (λ z. z ≡ left.registers) refl
-      (end_is all n k code) (by left.run.steps left.short left.run.leads)
+  -- code that is run to its end, and nothing is seen of it
+  pub run_leg : (k : ℕ) (code : List Instr) (p : IsPart all k (plain code)) → mark_waits false p.before ≡ false → (y z : List ℕ)
+      (run : r.RunsTo n.environment.around (r.config y (at k)) (r.config z (at k + 4 * length code))) → run.steps ≤ length code →
+      GoesThrough n.environment (fragment y (at k) (at (k + length (plain code))) (length code)) [] (λ v. v ≡ z)
+  run_leg k code p closed y z run short =
+      moved n.environment y (at k) (at k) (at (k + length code)) (at (k + length (plain code))) (length code) [] (λ v. v ≡ z) refl
+      (end_is all n k code) (by run.steps short run.leads)
     where
-      by : (steps : ℕ) → steps ≤ length code → r.LeadsIn n.environment.around steps (r.config y (at k)) (r.config left.registers (at k + 4 * length code)) →
-          GoesThrough n.environment (fragment y (at k) (at (k + length code)) (length code)) [] (λ z. z ≡ left.registers)
+      by : (steps : ℕ) → steps ≤ length code → r.LeadsIn n.environment.around steps (r.config y (at k)) (r.config z (at k + 4 * length code)) →
+          GoesThrough n.environment (fragment y (at k) (at (k + length code)) (length code)) [] (λ v. v ≡ z)
       by zero short leads = record {
-        registers = left.registers;
+        registers = z;
         steps = 0;
-        walks = (leads ∙ ap (λ (a : ℕ). r.config left.registers a) (sym (code_end all n k code p)), refl);
+        walks = (leads ∙ ap (λ (a : ℕ). r.config z a) (sym (code_end all n k code p)), refl);
         short = short;
         are = refl;
       }
       by (suc steps) short leads = record {
-        registers = left.registers;
+        registers = z;
         steps = suc steps;
-        walks = computing_part all n k code p y left.registers steps false closed leads;
+        walks = computing_part all n k code p y z steps false closed leads;
         short = short;
         are = refl;
       }
@@ -119,7 +119,7 @@ module _ (all : List CodeItem) (n : Linking all) where
         let second = part_right all k (plain code) (Instruction (kept slot) ∷ rest) p in
         let second_closed = waits_right all k (plain code) (Instruction (kept slot) ∷ rest) p
         ∙ (ap (λ (w : Bool). mark_waits w (plain code)) closed ∙ waits_plain_on code) in
-        let one = number_leg k code own own_closed log thread bank x y number left in
+        let one = run_leg k code own own_closed y z left.run left.short in
         let two = stored_leg k2 slot (part_left all k2 (plain (kept slot ∷ [])) rest second)
         (waits_left all k2 (plain (kept slot ∷ [])) rest second ∙ second_closed) z number (omega (arith, few)) left.under_way left.number_is in
         let three = locks_leg (slot + 1) numbers codes (omega (arith, few)) leave.1 (k2 + 1) (part_right all k2 (plain (kept slot ∷ [])) rest second)

@@ -59,20 +59,22 @@ none_kept V2 mask count codes locks small many as_many = empty_by locks count (a
 
 -- ---- Fewer registers, and more words
 
-module _ (b : Boundary) (P Q : List ℕ → Type 0) (least most : ℕ) (piece : List CodeItem) (fewer : (x : List ℕ) → Q x → P x) (le : least ≤ most) where
-  pub boundary_from : IsBoundaryPiece b P least piece → IsBoundaryPiece b Q most piece
-  boundary_from is = record {
-    closed = is.closed;
-    few = let few = is.few in omega (arith, few, le);
-    fences = is.fences;
-    cleans = is.cleans;
-    at = λ at.
-        let own = is.at at in
-        record { keeps = λ x side from on. own.keeps x side (fewer x from) on; marks = own.marks; resumes = own.resumes };
-  }
+pub boundary_from : (b : Boundary) (P Q : List ℕ → Type 0) (least most : ℕ) (piece : List CodeItem) → ((x : List ℕ) → Q x → P x) → least ≤ most →
+    IsBoundaryPiece b P least piece → IsBoundaryPiece b Q most piece
+boundary_from b P Q least most piece fewer le is = record {
+  closed = is.closed;
+  few = let few = is.few in omega (arith, few, le);
+  fences = is.fences;
+  cleans = is.cleans;
+  at = λ at.
+      let own = is.at at in
+      record { keeps = λ x side from on. own.keeps x side (fewer x from) on; marks = own.marks; resumes = own.resumes };
+}
 
-  pub lock_from : (mutex : ℕ) → IsLockPiece b P least mutex piece → IsLockPiece b Q most mutex piece
-  lock_from mutex is = record {
+-- A and B ask for the call, P and Q are with the boundary
+module _ (b : Boundary) (A B P Q : List ℕ → Type 0) (least most lock : ℕ) (piece : List CodeItem) (le : least ≤ most) where
+  pub lock_from : ((x : List ℕ) → B x → A x) → ((x : List ℕ) → Q x → P x) → IsLockPiece b A P least lock piece → IsLockPiece b B Q most lock piece
+  lock_from asking keeping is = record {
     closed = is.closed;
     few = let few = is.few in omega (arith, few, le);
     fences = is.fences;
@@ -82,16 +84,16 @@ module _ (b : Boundary) (P Q : List ℕ → Type 0) (least most : ℕ) (piece : 
         record {
           call = own.call;
           calling = own.calling;
-          asks = own.asks;
+          asks = λ x from are. own.asks x (asking x from) are;
           stands = own.stands;
-          keeps = λ x side from on. own.keeps x side (fewer x from) on;
+          keeps = λ x side from on. own.keeps x side (keeping x from) on;
           marks = own.marks;
           resumes = own.resumes;
         };
   }
 
-  pub unlock_from : (mutex : ℕ) → IsUnlockPiece b P least mutex piece → IsUnlockPiece b Q most mutex piece
-  unlock_from mutex is = record {
+  pub unlock_from : ((x : List ℕ) → B x → A x) → ((x : List ℕ) → Q x → P x) → IsUnlockPiece b A P least lock piece → IsUnlockPiece b B Q most lock piece
+  unlock_from asking keeping is = record {
     closed = is.closed;
     few = let few = is.few in omega (arith, few, le);
     fences = is.fences;
@@ -101,7 +103,7 @@ module _ (b : Boundary) (P Q : List ℕ → Type 0) (least most : ℕ) (piece : 
         record {
           call = own.call;
           calling = own.calling;
-          asks = λ x side from on. own.asks x side (fewer x from) on;
+          asks = λ x side from kept on. own.asks x side (asking x from) (keeping x kept) on;
           stands = own.stands;
           after = own.after;
           plain = own.plain;

@@ -30,6 +30,14 @@ number_row y number pc zero_is small =
     ap (λ (m : ℕ). Continues (slice_set y 5 (result_of Add m (sign_extended 12 64 number))) (next pc)) zero_is
     ∙ ap (λ (m : ℕ). Continues (slice_set y 5 m) (next pc)) (number_is number small)
 
+-- of a call's lock
+pub lock_row : (y : List ℕ) (number pc : ℕ) → read y 0 ≡ 0 → number < 2048 →
+    row (OpImmediate Addi 10 0 number) y pc ≡ Continues (slice_set y 10 number) (next pc)
+unfolding row
+lock_row y number pc zero_is small =
+    ap (λ (m : ℕ). Continues (slice_set y 10 (result_of Add m (sign_extended 12 64 number))) (next pc)) zero_is
+    ∙ ap (λ (m : ℕ). Continues (slice_set y 10 m) (next pc)) (number_is number small)
+
 -- a boundary needs x5 for nothing else
 number_under : (log : Log) (thread bank : ℕ) (x y : List ℕ) (number : ℕ) → IsUnderWay log thread bank x y → IsUnderWay log thread bank x (slice_set y 5 number)
 number_under log thread bank x y number under = record {

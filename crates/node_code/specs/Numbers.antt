@@ -1,9 +1,11 @@
 -- Code that leaves the number of a lock, wherever it stands in a boundary.
-use Rattle.std.specs.Prelude.{◌≡◌, ℕ, ◌+◌, ◌*◌, ◌^◌, ◌<◌, ◌≤◌, List, [], ◌∷◌, length}
+use Rattle.std.specs.Prelude.{◌≡◌, ◌≢◌, ℕ, ◌+◌, ◌*◌, ◌^◌, ◌<◌, ◌≤◌, List, [], ◌∷◌, length, false}
 use Rattle.ido_base.specs.declared.log.Log.{Log}
 use Rattle.ido_base.specs.declared.log.Log.TheVariants.{V1, V2}
 use Rattle.rv64_isa.specs.declared.instr.Instr.{Instr}
 use Rattle.rv64_isa.specs.Rows.{read}
+use Rattle.memory_layout.specs.Roles.{bank_offset, is_temporary, lock}
+use Rattle.operator_code.specs.ComputingCode.{AreRegisters}
 use Rattle.boundary_code.specs.Boundaries.{IsUnderWay}
 use Rattle.code_runs.specs.ComputingRuns.{Environment, config, RunsTo, HasCodeAt}
 
@@ -27,6 +29,29 @@ LeaveNumbers log thread x [] [] = Unit {0}
 LeaveNumbers log thread x [] (code ∷ codes) = ⊥
 LeaveNumbers log thread x (number ∷ numbers) [] = ⊥
 LeaveNumbers log thread x (number ∷ numbers) (code ∷ codes) = LeavesNumber log thread x number code × LeaveNumbers log thread x numbers codes
+
+-- ---- For a call
+
+-- from registers y the code leads from the address to its end, by at most one step a word, where x10 has the number; but for x10 and temporaries they are as
+-- they were
+pub record NumberAsked (around : Environment) (code : List Instr) (y : List ℕ) (address number : ℕ) : Type 0 where
+  pub registers : List ℕ
+  pub run : RunsTo around (config y address) (config registers (address + 4 * length code))
+  pub short : run.steps ≤ length code
+  pub are : AreRegisters registers
+  pub number_is : read registers lock ≡ number
+  pub others : (r : ℕ) → is_temporary r ≡ false → r ≢ lock → read registers r ≡ read y r
+
+-- registers y are x, but for x3 and temporaries
+abbrev pub IsSame : (x y : List ℕ) → Type 0
+IsSame x y = (r : ℕ) → is_temporary r ≡ false → r ≢ bank_offset → read y r ≡ read x r
+
+-- it does, from whatever registers that are x but for these, wherever it stands and whatever stands around it
+pub record AsksNumber (x : List ℕ) (number : ℕ) (code : List Instr) : Type 0 where
+  pub asks : (around : Environment) (y : List ℕ) (address : ℕ) → AreRegisters y → IsSame x y → HasCodeAt around address code →
+      address + 4 * length code < 2 ^ 64 → NumberAsked around code y address number
+
+-- ---- Where the log lists locks
 
 -- registers from which codes leave the numbers of the locks, where the log lists them
 abbrev pub LeaveLocks : Log → (thread : ℕ) → (locks : List ℕ) → (codes : List (List Instr)) → (x : List ℕ) → Type 0

@@ -24,7 +24,7 @@ use Rattle.code_runs.specs.CodeTraces.{Observation, Mark, Does, GoesThrough, see
 use Rattle.node_code.specs.declared.kept.Kept as kept
 use Rattle.node_code.specs.Cleans.{cleans_in, IsStoreThenClean}
 use Rattle.node_code.specs.BoundaryCode.{CleansInBoundary}
-use Rattle.node_code.specs.Numbers.{LeaveLocks}
+use Rattle.node_code.specs.Numbers.{AsksNumber, LeaveLocks}
 use Rattle.node_code.specs.Sites.{Site, mark_waits, begin_of, end_of, label_of}
 
 -- the items are what was there, and a piece after that
@@ -142,61 +142,69 @@ gives = 2
 abbrev pub ends : ℕ
 ends = 3
 
--- registers y, in which two of x are changed, ask for the call
-pub record Asks (number mutex : ℕ) (x y : List ℕ) : Type 0 where
+-- registers y, in which two of x and temporaries are changed, ask for the call of the lock
+pub record Asks (number lock : ℕ) (x y : List ℕ) : Type 0 where
   pub are : AreRegisters y
   pub call : read y roles.call ≡ number
-  pub lock : read y roles.lock ≡ mutex
-  pub others : (r : ℕ) → r ≢ roles.lock → r ≢ roles.call → read y r ≡ read x r
+  pub lock_is : read y roles.lock ≡ lock
+  pub others : (r : ℕ) → is_temporary r ≡ false → r ≢ roles.lock → r ≢ roles.call → read y r ≡ read x r
 
--- the call is the mark; after it stands a boundary, from registers that have the property
-pub record Locks (b : Boundary) (from : List ℕ → Type 0) (mutex : ℕ) (piece : List CodeItem) (at : Site piece) : Type 0 where
+-- the call is the mark; after it stands a boundary. Registers with which the call is asked for have the one property, those after it the other
+pub record Locks (b : Boundary) (asking from : List ℕ → Type 0) (lock : ℕ) (piece : List CodeItem) (at : Site piece) : Type 0 where
   pub call : ℕ
   -- it takes three words, with those that set its registers
   pub calling : 3 ≤ words_in piece at
-  pub asks : (x : List ℕ) → AreRegisters x → PieceLeads at x (begin_of piece at) call [] (Asks takes mutex x)
+  pub asks : (x : List ℕ) → asking x → AreRegisters x → PieceLeads at x (begin_of piece at) call [] (Asks takes lock x)
   pub stands : IsInstructionAt at.linking.program.start at.linking.program.code call Ecall
   pub keeps : (x : List ℕ) (side : ℕ) → from x → IsOnSide b.log side x →
       PieceLeads at x (call + 4) (end_of piece at) (boundary_observations b side (end_of piece at) x) (LeavesRegisters b side x)
   pub marks : marks_in piece at ≡ call ∷ []
   pub resumes : resumes_in piece at ≡ end_of piece at ∷ []
 
-pub record IsLockPiece (b : Boundary) (from : List ℕ → Type 0) (words mutex : ℕ) (piece : List CodeItem) : Type 0 where
+pub record IsLockPiece (b : Boundary) (asking from : List ℕ → Type 0) (words lock : ℕ) (piece : List CodeItem) : Type 0 where
   pub closed : IsClosed piece
-  pub few : sum_by most_words_of piece ≤ length b.live + words + 3
+  pub few : sum_by most_words_of piece ≤ length b.live + words + 2
   pub fences : fences_in piece ≡ 2
   pub cleans : CleansInBoundary b piece
-  pub at : (at : Site piece) → Locks b from mutex piece at
+  pub at : (at : Site piece) → Locks b asking from lock piece at
 
-abbrev pub IsLockOf : kept.Kept → (mutex : ℕ) → (piece : List CodeItem) → Type 0
-IsLockOf k mutex piece =
-    (locks : List ℕ) → MayKeep k.log k.mask (codes_of k) locks → IsLockPiece (boundary_of k locks 0) (KeepsFrom k locks) (kept_words k) mutex piece
+-- whatever locks are kept and whatever lock the code asks for
+abbrev pub IsLockOf : kept.Kept → (numbering : List Instr) → (piece : List CodeItem) → Type 0
+IsLockOf k numbering piece =
+    (locks : List ℕ) (lock : ℕ) → MayKeep k.log k.mask (codes_of k) locks →
+    IsLockPiece (boundary_of k locks 0) (λ x. AsksNumber x lock numbering) (KeepsFrom k locks) (kept_words k + length numbering) lock piece
 
 -- first the mark and a boundary, then the call, which is no mark; the point gets the address after the call, where the thread may be resumed if it still
--- holds a mutex
-pub record Unlocks (b : Boundary) (from : List ℕ → Type 0) (mutex : ℕ) (piece : List CodeItem) (at : Site piece) : Type 0 where
+-- holds a lock
+pub record Unlocks (b : Boundary) (asking from : List ℕ → Type 0) (lock : ℕ) (piece : List CodeItem) (at : Site piece) : Type 0 where
   pub call : ℕ
   -- it takes three words, with those that set its registers
   pub calling : 3 ≤ words_in piece at
-  pub asks : (x : List ℕ) (side : ℕ) → from x → IsOnSide b.log side x →
+  pub asks : (x : List ℕ) (side : ℕ) → asking x → from x → IsOnSide b.log side x →
       PieceLeads at x (begin_of piece at) call (Mark ∷ boundary_observations b side (end_of piece at) x)
-      (λ y. (z : List ℕ) × LeavesRegisters b side x z × Asks gives mutex z y)
+      (λ y. (z : List ℕ) × LeavesRegisters b side x z × Asks gives lock z y)
   pub stands : IsInstructionAt at.linking.program.start at.linking.program.code call Ecall
   pub after : end_of piece at ≡ call + 4
   pub plain : marked at.linking.program.nodes call ≡ []
   pub marks : marks_in piece at ≡ begin_of piece at ∷ []
   pub resumes : resumes_in piece at ≡ (if is_empty b.locks then [] else end_of piece at ∷ [])
 
-pub record IsUnlockPiece (b : Boundary) (from : List ℕ → Type 0) (words mutex : ℕ) (piece : List CodeItem) : Type 0 where
+pub record IsUnlockPiece (b : Boundary) (asking from : List ℕ → Type 0) (words lock : ℕ) (piece : List CodeItem) : Type 0 where
   pub closed : IsClosed piece
-  pub few : sum_by most_words_of piece ≤ length b.live + words + 3
+  pub few : sum_by most_words_of piece ≤ length b.live + words + 2
   pub fences : fences_in piece ≡ 2
   pub cleans : CleansInBoundary b piece
-  pub at : (at : Site piece) → Unlocks b from mutex piece at
+  pub at : (at : Site piece) → Unlocks b asking from lock piece at
 
-abbrev pub IsUnlockOf : kept.Kept → (mutex : ℕ) → (piece : List CodeItem) → Type 0
-IsUnlockOf k mutex piece =
-    (locks : List ℕ) → MayKeep k.log k.mask (codes_of k) locks → IsUnlockPiece (boundary_of k locks 12) (KeepsFrom k locks) (kept_words k) mutex piece
+-- how many bytes lie between the boundary of an unlock and the end of its call, where this code leaves the lock's number
+abbrev pub giving_bytes : (numbering : List Instr) → ℕ
+giving_bytes numbering = 4 * length numbering + 8
+
+abbrev pub IsUnlockOf : kept.Kept → (numbering : List Instr) → (piece : List CodeItem) → Type 0
+IsUnlockOf k numbering piece =
+    (locks : List ℕ) (lock : ℕ) → MayKeep k.log k.mask (codes_of k) locks →
+    IsUnlockPiece (boundary_of k locks (giving_bytes numbering)) (λ x. AsksNumber x lock numbering) (KeepsFrom k locks) (kept_words k + length numbering) lock
+    piece
 
 pub record IsEndPiece (piece : List CodeItem) (at : Site piece) : Type 0 where
   pub call : ℕ

@@ -1,78 +1,51 @@
 //! Boundaries.
-ghost use Rattle.std.specs.Prelude.{◌≡◌, ◌<◌, ◌≤◌, ◌++◌, ◌∷◌, [], IsTrue, IfOk, OnOk, pos, ◌≤ℤ◌, negsuc, map, length, if◌then◌else◌};
+ghost use Rattle.std.specs.Prelude.{◌≡◌, ◌<◌, ◌≤◌, ◌++◌, IsTrue, IfOk, OnOk, pos, length};
 ghost use Rattle.std.specs.List.{list_all, AllByRecursion};
-ghost use Rattle.ido_base.specs.Locks.{locks_in};
 ghost use Rattle.ido_base.specs.declared.limits.TheConstants.{MOST_THREADS};
 ghost use Rattle.ido_base.specs.declared.log.Log.TheVariants.{V1, V2};
 ghost use Rattle.memory_layout.specs.Roles.{is_kept};
-ghost use Rattle.boundary_code.specs.Boundaries.{lists_of};
 ghost use Rattle.node_code.specs.BoundaryCode.{IsQuiet};
 ghost use Rattle.node_code.specs.Pieces.{Appends, IsBoundaryOf, codes_of};
 ghost use Rattle.node_code.specs.links.ItemLists.{boundary_items};
-ghost use Rattle.node_code.specs.links.BoundaryCode.{IsCodeFor, number_code};
+ghost use Rattle.node_code.specs.links.BoundaryCode.{IsCodeFor};
 
-use crate::items::{load_small, push_plain};
+use crate::items::push_plain;
 use crate::kept::Kept;
 use boundary_code::{boundary, boundary_list};
 use ido_base::log::Log;
 use ido_base::memory::OutOfMemory;
-use rv64_isa::field::Register;
 use rv64_isa::instr::Instr;
 use rv64_isa::object::CodeItem;
 use std::alloc::Global;
 
-/// The register in which a lock's number is left for a list.
-const NUMBER: Register = Register::X5;
-
-/// Appends code that leaves the mutex's number, where it is held.
-fn push_number(
-    alloc: Global,
-    codes: &mut Vec<Vec<Instr>>,
-    mutex: u16,
-    is_held: bool,
-) -> Result<(), OutOfMemory>
-    requires { mutex < 2048 }
-    ensures { OnOk result
-        (lists_of codes.new.items ≡ lists_of codes.old.items ++ (if is_held then number_code mutex ∷ [] else [])) }
+/// So many bytes, as a distance.
+fn distance(bytes: u32) -> i32
+    requires { bytes ≤ 262144 }
+    ensures { result ≡ pos bytes }
 {
-    if is_held {
-        let code: Vec<Instr> = vec![in alloc; load_small(NUMBER, mutex)]?;
-        codes.push(code)?;
-    }
-    Ok(())
-}
-
-/// Of each mutex of the mask code that leaves its number.
-pub fn number_codes(alloc: Global, mask: u64) -> Result<Vec<Vec<Instr>>, OutOfMemory>
-    ensures { IfOk result (λ codes. lists_of codes.items ≡ map number_code (locks_in mask)) }
-{
-    let mut codes: Vec<Vec<Instr>> = Vec::new(alloc);
-    let mut rest = mask;
-    for mutex in 0..64 {
-        push_number(alloc, &mut codes, mutex, rest % 2 == 1)?;
-        rest /= 2;
-    }
-    Ok(codes)
+    bytes as i32
 }
 
 /// The code of a boundary of a log that keeps a mask.
-fn mask_code(alloc: Global, kept: &Kept, resume: u16) -> Result<Vec<Instr>, OutOfMemory>
+fn mask_code(alloc: Global, kept: &Kept, resume: u32) -> Result<Vec<Instr>, OutOfMemory>
     requires log { kept.now.log ≡ V1 }
     requires thread { kept.now.thread < MOST_THREADS }
     requires live { IsTrue (list_all is_kept kept.now.live.now) }
+    requires near { resume ≤ 262144 }
     ensures { IfOk result (λ code. IsCodeFor kept.now resume code.items) }
 {
-    let code = boundary(alloc, kept.thread, kept.mask, kept.live, i32::from(resume))?;
+    let code = boundary(alloc, kept.thread, kept.mask, kept.live, distance(resume))?;
     Ok(code)
 }
 
 /// The code of a boundary of a log that lists its locks.
-fn list_code(alloc: Global, kept: &Kept, resume: u16) -> Result<Vec<Instr>, OutOfMemory>
+fn list_code(alloc: Global, kept: &Kept, resume: u32) -> Result<Vec<Instr>, OutOfMemory>
     requires log { kept.now.log ≡ V2 }
     requires thread { kept.now.thread < MOST_THREADS }
     requires live { IsTrue (list_all is_kept kept.now.live.now) }
     requires room { length kept.now.numbers.now ≤ 16 }
     requires quiet { AllByRecursion IsQuiet (codes_of kept.now) }
+    requires near { resume ≤ 262144 }
     ensures { IfOk result (λ code. IsCodeFor kept.now resume code.items) }
 {
     let code = boundary_list(
@@ -80,7 +53,7 @@ fn list_code(alloc: Global, kept: &Kept, resume: u16) -> Result<Vec<Instr>, OutO
         kept.thread,
         kept.numbers,
         kept.live,
-        i32::from(resume),
+        distance(resume),
     )?;
     Ok(code)
 }
@@ -89,12 +62,13 @@ fn list_code(alloc: Global, kept: &Kept, resume: u16) -> Result<Vec<Instr>, OutO
 pub(crate) fn boundary_code(
     alloc: Global,
     kept: &Kept,
-    resume: u16,
+    resume: u32,
 ) -> Result<Vec<Instr>, OutOfMemory>
     requires thread { kept.now.thread < MOST_THREADS }
     requires live { IsTrue (list_all is_kept kept.now.live.now) }
     requires room { length kept.now.numbers.now ≤ 16 }
     requires quiet { AllByRecursion IsQuiet (codes_of kept.now) }
+    requires near { resume ≤ 262144 }
     ensures { IfOk result (λ code. IsCodeFor kept.now resume code.items) }
 {
     match kept.log {

@@ -1,12 +1,12 @@
-//! Calls: a mutex is taken or given back, a thread ends.
-ghost use Rattle.std.specs.Prelude.{◌≡◌, ◌<◌, ◌≤◌, ◌++◌, ◌∷◌, [], IsTrue, OnOk, length};
+//! Calls: a lock is taken or given back, a thread ends.
+ghost use Rattle.std.specs.Prelude.{◌≡◌, ◌<◌, ◌≤◌, ◌++◌, IsTrue, OnOk, length};
 ghost use Rattle.std.specs.List.{list_all, AllByRecursion};
 ghost use Rattle.ido_base.specs.declared.limits.TheConstants.{MOST_THREADS};
 ghost use Rattle.memory_layout.specs.Roles.{is_kept};
 ghost use Rattle.node_code.specs.BoundaryCode.{IsQuiet};
-ghost use Rattle.node_code.specs.Pieces.{Appends, IsLockOf, IsUnlockOf, IsEnd, codes_of};
+ghost use Rattle.node_code.specs.Pieces.{Appends, IsLockOf, IsUnlockOf, IsEnd, codes_of, giving_bytes};
 ghost use Rattle.node_code.specs.links.BoundaryCode.{keeps_none};
-ghost use Rattle.node_code.specs.links.ItemLists.{plain, asking, lock_items, unlock_items, end_items};
+ghost use Rattle.node_code.specs.links.ItemLists.{asking_items, lock_items, unlock_items, end_items};
 
 use crate::boundaries::{append_boundary, boundary_code};
 use crate::items::{load_small, push_plain};
@@ -18,41 +18,41 @@ use rv64_isa::instr::Instr;
 use rv64_isa::object::CodeItem;
 use std::alloc::Global;
 
-/// The register of the mutex that a call names.
-const LOCK: Register = Register::X10;
-
 /// The register of a call's number.
 const CALL: Register = Register::X17;
 
-/// The number of the call that takes a mutex.
+/// The number of the call that takes a lock.
 const TAKES: u16 = 1;
 
-/// The number of the call that gives a mutex back.
+/// The number of the call that gives a lock back.
 const GIVES: u16 = 2;
 
 /// The number of the call that ends the thread.
 const ENDS: u16 = 3;
 
-/// Bytes from the end of an unlock's boundary to the instruction after its call.
-const GIVING_BYTES: u16 = 12;
-
-/// The registers of a call of one mutex are set.
-fn append_asking(items: &mut Vec<CodeItem>, mutex: u16, number: u16) -> Result<(), OutOfMemory>
-    requires mutex { mutex < 2048 }
-    requires number { number < 2048 }
-    ensures { OnOk result (items.new.items ≡ items.old.items ++ plain (asking mutex number)) }
+/// The registers of a call of one lock are set, by code that leaves the lock's number in the first.
+fn append_asking(
+    items: &mut Vec<CodeItem>,
+    numbering: &[Instr],
+    call: u16,
+) -> Result<(), OutOfMemory>
+    requires { call < 2048 }
+    ensures { OnOk result (items.new.items ≡ items.old.items ++ asking_items numbering.now call) }
 {
-    items.push(CodeItem::Instruction(load_small(LOCK, mutex)))?;
-    items.push(CodeItem::Instruction(load_small(CALL, number)))?;
+    push_plain(items, numbering)?;
+    items.push(CodeItem::Instruction(load_small(CALL, call)))?;
     Ok(())
 }
 
-/// A mutex is taken; then comes the boundary.
-fn append_lock(items: &mut Vec<CodeItem>, mutex: u16, boundary: &[Instr]) -> Result<(), OutOfMemory>
-    requires { mutex < 2048 }
-    ensures { OnOk result (items.new.items ≡ items.old.items ++ lock_items mutex boundary.now) }
+/// A lock is taken; then comes the boundary.
+fn append_lock(
+    items: &mut Vec<CodeItem>,
+    numbering: &[Instr],
+    boundary: &[Instr],
+) -> Result<(), OutOfMemory>
+    ensures { OnOk result (items.new.items ≡ items.old.items ++ lock_items numbering.now boundary.now) }
 {
-    append_asking(items, mutex, TAKES)?;
+    append_asking(items, numbering, TAKES)?;
     items.push(CodeItem::MarkNext)?;
     items.push(CodeItem::Instruction(Instr::Ecall))?;
     append_boundary(items, boundary)
@@ -68,19 +68,18 @@ fn keeps_none(log: Log, mask: u64, codes: usize) -> bool
     }
 }
 
-/// The boundary, after which a mutex is given back; it may end a section.
+/// The boundary, after which a lock is given back; it may end a section.
 fn append_unlock(
     items: &mut Vec<CodeItem>,
-    mutex: u16,
+    numbering: &[Instr],
     ends: bool,
     boundary: &[Instr],
 ) -> Result<(), OutOfMemory>
-    requires { mutex < 2048 }
-    ensures { OnOk result (items.new.items ≡ items.old.items ++ unlock_items mutex ends boundary.now) }
+    ensures { OnOk result (items.new.items ≡ items.old.items ++ unlock_items numbering.now ends boundary.now) }
 {
     items.push(CodeItem::MarkNext)?;
     push_plain(items, boundary)?;
-    append_asking(items, mutex, GIVES)?;
+    append_asking(items, numbering, GIVES)?;
     items.push(CodeItem::Instruction(Instr::Ecall))?;
     if !ends {
         items.push(CodeItem::ResumeNext)?;
@@ -98,44 +97,58 @@ fn append_end(items: &mut Vec<CodeItem>) -> Result<(), OutOfMemory>
     Ok(())
 }
 
-/// Appends the code that takes a mutex. After the call, which is the mark, stands a boundary that keeps these.
+/// Appends the code that takes the lock whose number the given code leaves in x10. After the call, which is the mark, stands a
+/// boundary that keeps these.
 pub fn push_lock(
     alloc: Global,
     items: &mut Vec<CodeItem>,
     kept: &Kept,
-    mutex: u16,
+    numbering: &[Instr],
 ) -> Result<(), OutOfMemory>
     requires thread { kept.now.thread < MOST_THREADS }
     requires live { IsTrue (list_all is_kept kept.now.live.now) }
     requires room { length kept.now.numbers.now ≤ 16 }
     requires quiet { AllByRecursion IsQuiet (codes_of kept.now) }
-    requires mutex { mutex < 2048 }
-    ensures { OnOk result (Appends items.old.items items.new.items (IsLockOf kept.now mutex)) }
+    requires some { 1 ≤ length numbering.now }
+    requires quiet_number { IsQuiet numbering.now }
+    ensures { OnOk result (Appends items.old.items items.new.items (IsLockOf kept.now numbering.now)) }
 {
     let boundary = boundary_code(alloc, kept, 0)?;
-    append_lock(items, mutex, &boundary)
+    append_lock(items, numbering, &boundary)
 }
 
-/// Appends the code that gives a mutex back. Before the call stands a boundary that keeps these, and resumes after the
-/// call; its first instruction is the mark. A boundary that leaves the thread with no mutex is resumed nowhere.
+/// Bytes from the end of an unlock's boundary to the instruction after its call.
+fn giving_bytes(numbering: &[Instr]) -> u32
+    requires { giving_bytes numbering.now ≤ 262144 }
+    ensures { result ≡ giving_bytes numbering.now }
+{
+    4 * numbering.len() as u32 + 8
+}
+
+/// Appends the code that gives back the lock whose number the given code leaves in x10. Before the call stands a boundary that keeps
+/// these, and resumes after the call; its first instruction is the mark. A boundary that leaves the thread with no lock is resumed
+/// nowhere.
 pub fn push_unlock(
     alloc: Global,
     items: &mut Vec<CodeItem>,
     kept: &Kept,
-    mutex: u16,
+    numbering: &[Instr],
 ) -> Result<(), OutOfMemory>
     requires thread { kept.now.thread < MOST_THREADS }
     requires live { IsTrue (list_all is_kept kept.now.live.now) }
     requires room { length kept.now.numbers.now ≤ 16 }
     requires quiet { AllByRecursion IsQuiet (codes_of kept.now) }
-    requires mutex { mutex < 2048 }
-    ensures { OnOk result (Appends items.old.items items.new.items (IsUnlockOf kept.now mutex)) }
+    requires some { 1 ≤ length numbering.now }
+    requires short { giving_bytes numbering.now ≤ 262144 }
+    requires quiet_number { IsQuiet numbering.now }
+    ensures { OnOk result (Appends items.old.items items.new.items (IsUnlockOf kept.now numbering.now)) }
 {
-    let boundary = boundary_code(alloc, kept, GIVING_BYTES)?;
+    let bytes = giving_bytes(numbering);
+    let boundary = boundary_code(alloc, kept, bytes)?;
     let count = kept.numbers.len();
     append_unlock(
         items,
-        mutex,
+        numbering,
         keeps_none(kept.log, kept.mask, count),
         &boundary,
     )

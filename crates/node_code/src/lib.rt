@@ -13,7 +13,7 @@ mod kept;
 pub mod laws;
 mod stores;
 
-pub use boundaries::{number_codes, push_boundary};
+pub use boundaries::push_boundary;
 pub use calls::{push_end, push_lock, push_unlock};
 pub use evaluation::{push_choice, push_computing};
 pub use jumps::{push_branch, push_jump};

@@ -107,7 +107,7 @@ module _ (p : Plan) (t : Thread) (c : Choices) (plan : IsPlan p) (choices : AreC
   cleans_by piece x (Unlock lock next) e d =
       subst (λ (xs : List CodeItem). CleansInBoundaries p t xs) (sym x.split)
       (alone x.before x.does x.goes (x.guarded.plain (unchosen (Unlock lock next) e (λ h. h)))
-      (in_one _ refl (more _ x.does x.goes (d.0 []).cleans (goes_none next x.goes d.1))))
+      (in_one _ refl (more _ x.does x.goes (d.0.1 []).cleans (goes_none next x.goes d.1))))
   cleans_by piece x End e d =
       subst (λ (xs : List CodeItem). CleansInBoundaries p t xs) (sym x.split)
       (alone x.before x.does x.goes (x.guarded.plain (unchosen End e (λ h. h)))

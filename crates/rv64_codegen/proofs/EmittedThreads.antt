@@ -23,10 +23,10 @@ use Rattle.flow_graph.specs.Liveness.{NodeAt}
 use Rattle.flow_graph.specs.Lowering.{table_of, lowered, parts, part, thread_count, thread_nodes, threads_nodes}
 use Rattle.flow_graph.proofs.Public.{length-thread_nodes}
 use Rattle.node_code.specs.JoinedPieces.{joined, AreClosed}
-use Rattle.thread_code.specs.Plans.{Plan, IsPlan, Thread, IsThread, IsNodeOf, held_names_before, locks_before}
+use Rattle.thread_code.specs.Plans.{Plan, IsPlan, Thread, IsThread, IsNodeOf, held_names_before, locks_before, hold_words}
 use Rattle.thread_code.proofs.Public.{named_some, numbers_some}
 use Rattle.thread_code.specs.NodeCodeEffects.{Places}
-use Rattle.thread_code.specs.Programs.{action_nodes, mark_of, IsOn, IsNodeCode, IsResumeAddress, at_chosen, past_lock, past_unlock, IsThreadCode}
+use Rattle.thread_code.specs.Programs.{action_nodes, mark_of, IsOn, IsNodeCode, IsResumeAddress, at_chosen, past_lock, past_unlock, IsThreadCode, names_kept}
 use Rattle.rv64_codegen.specs.ThreadPieces.{Choices, AreChoices, IsNodePiece, ArePieces, IsCodeOfThread, EmittedIsCode}
 use Rattle.rv64_codegen.proofs.JoinedAddresses.{AreOnes, joined_ones, IsIn, in_one, in_joined, Ascends, joined_ascend, ascending}
 use Rattle.rv64_codegen.proofs.Addresses.{contains_one, lies_on}
@@ -250,7 +250,8 @@ module _ (p : Plan) (t : Thread) (linked : LinkedPieces p t) where
   code_at i below m =
       node_code places (placed_node m.a)
       (record { plan = plan; of = thread; choices = choices; own = own_node i below; agrees = m.agrees })
-      (subst (λ (xs : List CodeItem). sum_by most_words_of xs ≤ node_price (action_nodes m.a.is.action)) m.a.of.split m.a.of.price)
+      (subst (λ (xs : List CodeItem). sum_by most_words_of xs
+      ≤ node_price (action_nodes m.a.is.action) + hold_words p.log (names_kept p t m.a.is.action (t.part.first + i))) m.a.of.split m.a.of.price)
       (own.is_within places (placed_node m.a) m.agrees)
 
   same_node : (i : ℕ) (m : Node_at i) (is : Node) → NodeAt p.graph (t.part.first + i) is → m.a.is ≡ is

@@ -122,7 +122,7 @@ module _ {p : Plan} {t : Thread} {c : Choices} {entry : ℕ → ℕ} (plan : IsP
       let none : fences_in before ≡ 0 = ap fences_in (guarded.plain (λ chosen. chosen.free (unlocks is lock next at e))) in
       let on : one_if has_before ≡ 1 = ap one_if (flag_on p.boundaries.before node (plan.cuts.before_unlocks node (unlocks is lock next at e))) in
       let off = after_none (ap is_lock e) in
-      total 0 2 (2 * boundary_count p.boundaries node) none (d.0 []).fences (goes_none next d.1) (omega (arith, on, off))
+      total 0 2 (2 * boundary_count p.boundaries node) none (d.0.1 []).fences (goes_none next d.1) (omega (arith, on, off))
   fences_by End e d = plain_fences (ap is_lock e) (ap is_unlock e) d.0.fences (ap fences_in d.1)
 
   pub piece_fences : fences_in (before ++ (does ++ goes)) ≡ 2 * boundary_count p.boundaries node

@@ -23,8 +23,8 @@ use Rattle.rv64_codegen.specs.ThreadPieces.{IsNodePiece, IsEmitted}
 use Rattle.rv64_codegen.specs.links.Threads.{IsOpen, DoesAction, DoesAt, IsPiece, plan_in, thread_of, choices_of}
 use Rattle.rv64_codegen.specs.links.Emission.{IsEmittedThread, IsEmittedOf, AreEmittedTo, AreEmitted}
 use Rattle.rv64_codegen.proofs.Homes.{one_thread}
-use Rattle.rv64_codegen.proofs.PlannedNodes.{node_in, end_is, cheap, node_exists}
-use Rattle.rv64_codegen.proofs.LoweredNodes.{price_of, prices}
+use Rattle.rv64_codegen.proofs.HoldSums.{cost_of, costs, thread_costs}
+use Rattle.rv64_codegen.proofs.PlannedNodes.{cheap_whole, end_is, node_exists, node_in}
 use Rattle.rv64_codegen.proofs.NodePieces.{are_choices}
 
 -- ---- Answers
@@ -68,19 +68,19 @@ joined_more n (q ∷ pieces) piece label e =
     ∙ sym (append_assoc first (joined (n + 1) pieces ++ Here label ∷ []) piece)
     ∙ ap (λ (xs : List CodeItem). xs ++ piece) (sym (append_assoc first (joined (n + 1) pieces) (Here label ∷ [])))
 
-words_joined : (n : ℕ) (pieces : List (List CodeItem)) (ns : List Node) → length pieces ≡ length ns →
-    ((i : ℕ) (piece : List CodeItem) (is : Node) → slice_get pieces i ≡ Some piece → slice_get ns i ≡ Some is →
-    sum_by most_words_of piece ≤ price_of is) → sum_by most_words_of (joined n pieces) ≤ prices ns
-words_joined n [] ns e h = omega arith
-words_joined n (q ∷ pieces) [] e h = absurd (omega (arith, e))
-words_joined n (q ∷ pieces) (m ∷ ns) e h =
+-- the pieces of nodes from the one on
+words_joined : (p : Plan) (t : Thread) (n : ℕ) (pieces : List (List CodeItem)) (ns : List Node) (first : ℕ) → length pieces ≡ length ns →
+    ((i node : ℕ) (piece : List CodeItem) (is : Node) → node ≡ first + i → slice_get pieces i ≡ Some piece → slice_get ns i ≡ Some is →
+    sum_by most_words_of piece ≤ cost_of p t p.log is node) → sum_by most_words_of (joined n pieces) ≤ costs p t p.log ns first
+words_joined p t n [] ns first e h = omega arith
+words_joined p t n (q ∷ pieces) [] first e h = absurd (omega (arith, e))
+words_joined p t n (q ∷ pieces) (m ∷ ns) first e h =
     omega (
       arith,
       sum_by-append most_words_of (Here (record { 0 = n }) ∷ q) (joined (n + 1) pieces),
       sum_by-cons most_words_of (Here (record { 0 = n })) q,
-      sum_by-cons price_of m ns,
-      h 0 q m refl refl,
-      words_joined (n + 1) pieces ns (omega (arith, e)) (λ i piece is g k. h (suc i) piece is g k),
+      h 0 first q m (omega arith) refl refl,
+      words_joined p t (n + 1) pieces ns (suc first) (omega (arith, e)) (λ i node piece is at g k. h (suc i) node piece is (omega (arith, at)) g k),
     )
 
 -- ---- A thread
@@ -123,9 +123,9 @@ thread_emitted x items o b =
       words = omega (
         arith,
         ap (λ (xs : List CodeItem). sum_by most_words_of xs) b.joined_are,
-        words_joined 0 b.pieces ns
+        words_joined p t 0 b.pieces ns t.part.first
             (omega (arith, b.long, end_is p o.plan t o.thread, length-thread_nodes (table_of p.flat o.thread.text) o.thread.text t.part.first))
-            (λ i piece is g k.
+            (λ i node piece is at g k.
             let below : i < length b.pieces = slice_get_within b.pieces i piece g in
             let own : IsNodeOf t (t.part.first + i) = record { from_first = omega arith; below_end = omega (arith, below, b.long) } in
             let there = node_exists p o.plan t o.thread (t.part.first + i) own in
@@ -133,8 +133,10 @@ thread_emitted x items o b =
             let other : slice_get ns i ≡ Some there.0 = ap (slice_get ns) (sym e) ∙ node_in p o.plan t o.thread (t.part.first + i) there.0 own there.1 in
             let same : there.0 ≡ is = (let both : Some there.0 ≡ Some is = sym other ∙ k in cc) in
             let piece_of : IsNodePiece p t (choices_of x) (t.part.first + i) there.0 piece = b.each i piece g there.0 there.1 in
-            omega (arith, piece_of.price, ap (λ (z : Node). price_of z) same)),
-        cheap p o.plan t o.thread,
+            subst (λ (m : ℕ). sum_by most_words_of piece ≤ cost_of p t p.log is m) (sym at)
+            (subst (λ (z : Node). sum_by most_words_of piece ≤ cost_of p t p.log z (t.part.first + i)) same piece_of.price)),
+        thread_costs p t o.plan o.thread,
+        cheap_whole p o.plan t o.thread,
       );
     }
 

@@ -23,11 +23,8 @@ use Rattle.code_runs.specs.ComputingRuns.{Environment, LocalConfig, config}
 use Rattle.expr_code.specs.EvaluationCode.{AreLoaded, EvaluationEnds, HasCodeThere, HoldsLocals, Homes, IsValueCode, Source, Suits}
 use Rattle.expr_code.proofs.Public.{at_left, computed, index_of, locals_kept, room_right, stands_right, then_ends, wider}
 use Rattle.node_code.specs.Numbers.{LeavesNumber, NumberLeft}
+use Rattle.rv64_codegen.specs.links.Numbers.{key_code}
 use Rattle.rv64_codegen.proofs.NodeCorrectness.{local_other, local_plain}
-
--- the key's value, the number of the array's first lock added to it; then the log's address and the base of the bank are made anew
-abbrev pub key_code : (code : List Instr) → (first : ℕ) → (address : List Instr) → List Instr
-key_code code first address = ((code ++ OpImmediate Addi 5 5 first ∷ []) ++ address) ++ Op Add 30 31 3 ∷ []
 
 -- ---- Single instructions
 
@@ -66,7 +63,7 @@ base_computes y log offset a b small =
 -- ---- What may be written
 
 -- all of them write temporaries alone
-within : (rd : ℕ) → is_temporary rd ≡ true → (n : ℕ) → is_temporary n ≡ false → (n == rd || is_temporary n) ≡ false
+pub within : (rd : ℕ) → is_temporary rd ≡ true → (n : ℕ) → is_temporary n ≡ false → (n == rd || is_temporary n) ≡ false
 within rd temporary n h = by (n == rd) refl
   where
     by : (b : Bool) → (n == rd) ≡ b → (b || is_temporary n) ≡ false

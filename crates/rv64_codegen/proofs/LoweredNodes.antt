@@ -13,19 +13,18 @@ use Rattle.ido_ints.specs.declared.kinds.Kind.{Kind}
 use Rattle.c_tree.specs.Exprs as e
 use Rattle.c_tree.specs.Flats as f
 use Rattle.c_tree.specs.Programs as p
-use Rattle.c_tree.specs.Prices.{node_price, assign_price, statement_price, statements_price, arms_price, thread_price, nodes_of}
+use Rattle.c_tree.specs.Prices.{node_price, assign_price, statement_price, statements_price, arms_price, thread_price, nodes_of, key_nodes}
 use Rattle.c_tree.specs.Ranges as ranges
 use Rattle.c_tree.specs.Ranges.{Interval, range_of}
 use Rattle.c_tree.specs.WellFormed.{elements_in, shape_of, IsDeclared, IsVariable, IndexFits, IsFlatTarget, IsFlatPlaced, IsFlatStatement, AreFlatStatements}
-use Rattle.c_tree.specs.WellFormed.{AreFlatArms}
-use Rattle.c_tree.proofs.Public.{name_there}
+use Rattle.c_tree.specs.WellFormed.{AreFlatArms, IsFlatLockName}
 use Rattle.c_ranges.proofs.Public.{elements_is}
 use Rattle.memory_layout.specs.Variables.{elements_of}
 use Rattle.flow_graph.specs.declared.graph.Part.{Part}
 use Rattle.flow_graph.specs.Nodes.{Action, Eval, Store, Test, Lock, Unlock, End, Node}
 use Rattle.flow_graph.specs.Lowering.{table_of, Table, scalar, elements, element_number, test_node, plain_node}
 use Rattle.flow_graph.specs.Lowering.{assign_nodes, assign_count, count, statements_count, arms_count}
-use Rattle.flow_graph.specs.Lowering.{thread_count, entry, statement_nodes, statements_nodes, arms_nodes, thread_nodes, threads_nodes, part, parts}
+use Rattle.flow_graph.specs.Lowering.{thread_count, entry, statement_nodes, statements_nodes, arms_nodes, thread_nodes, threads_nodes, part, parts, lock_node}
 use Rattle.flow_graph.proofs.Public.{length-thread_nodes}
 use Rattle.region_cutter.specs.Places.{WritesAnElement}
 use Rattle.thread_code.specs.Programs.{action_nodes}
@@ -76,9 +75,11 @@ mutual
         prices_one (test_node table place condition first next),
       )
   price_statement table (f.Lock place name) first next =
-      let one : prices (statement_nodes table (f.Lock place name) first next) ≡ node_price 0 = refl in omega (arith, one)
+      let one : prices (statement_nodes table (f.Lock place name) first next) ≡ node_price (key_nodes name) =
+      prices_one (lock_node place (Lock name next) name) in omega (arith, one)
   price_statement table (f.Unlock place name) first next =
-      let one : prices (statement_nodes table (f.Unlock place name) first next) ≡ node_price 0 = refl in omega (arith, one)
+      let one : prices (statement_nodes table (f.Unlock place name) first next) ≡ node_price (key_nodes name) =
+      prices_one (lock_node place (Unlock name next) name) in omega (arith, one)
 
   price_statements : (table : Table) (ys : f.Statements) (first next : ℕ) → prices (statements_nodes table ys first next) ≤ statements_price ys
   price_statements table f.no_statement first next = omega arith
@@ -159,8 +160,8 @@ module _ (x : f.Flat) (ks : List Kind) (lo hi : ℕ) (variables : AllByRecursion
   IsFormed (Eval target value next) = IsFlatTarget x ks target × (IsFlatPlaced x ks value × Within next)
   IsFormed (Store variable kind next) = Within next
   IsFormed (Test condition holds fails) = IsFlatPlaced x ks condition × (Within holds × Within fails)
-  IsFormed (Lock lock next) = (lock.mutex < length x.mutexes) × Within next
-  IsFormed (Unlock lock next) = (lock.mutex < length x.mutexes) × Within next
+  IsFormed (Lock lock next) = IsFlatLockName x.mutexes ks lock × Within next
+  IsFormed (Unlock lock next) = IsFlatLockName x.mutexes ks lock × Within next
   IsFormed End = Unit {0}
 
   pub record IsLoweredNode (n : Node) : Type 0 where
@@ -254,8 +255,8 @@ module _ (x : f.Flat) (ks : List Kind) (lo hi : ℕ) (variables : AllByRecursion
         let there : Within test = (omega (arith, a), omega (arith, b)) in
         let here : Within first = (a, omega (arith, b)) in
         joined _ _ (sound_all table body first test g.0 a (omega (arith, b)) there) (sound_test table place condition first next g.1 here w, tt)
-    sound table (f.Lock place name) first next g a b w = (record { formed = (name_there x.mutexes ks name g, w); writes = none_written _ _ refl }, tt)
-    sound table (f.Unlock place name) first next g a b w = (record { formed = (name_there x.mutexes ks name g, w); writes = none_written _ _ refl }, tt)
+    sound table (f.Lock place name) first next g a b w = (record { formed = (g, w); writes = none_written _ _ refl }, tt)
+    sound table (f.Unlock place name) first next g a b w = (record { formed = (g, w); writes = none_written _ _ refl }, tt)
 
     sound_all : (table : Table) (ys : f.Statements) (first next : ℕ) → AreFlatStatements x ks ys → lo ≤ first → first + statements_count ys ≤ hi → Within next →
         AllSound (statements_nodes table ys first next)

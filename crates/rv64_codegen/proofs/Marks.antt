@@ -173,11 +173,11 @@ module _ {p : Plan} {t : Thread} {c : Choices} (places : Places) (it : PlacedNod
       last = tt;
     }
     says (Unlock lock next) d call = record {
-      marks = at_core ((d.0 []).at middle_site).marks;
+      marks = at_core ((d.0.1 []).at middle_site).marks;
       no_marks = goes_marks next d.1;
-      resumes = ((d.0 []).at middle_site).resumes ∙ ap (λ (y : ℕ). if is_empty (locks_before p t [] next) then [] else y ∷ []) (sym g.after);
+      resumes = ((d.0.1 []).at middle_site).resumes ∙ ap (λ (y : ℕ). if is_empty (locks_before p t [] next) then [] else y ∷ []) (sym g.after);
       no_resumes = goes_resumes next d.1;
-      last = ((d.0 []).at middle_site).after ∙ ap (λ (y : ℕ). y + 4) (sym call);
+      last = ((d.0.1 []).at middle_site).after ∙ ap (λ (y : ℕ). y + 4) (sym call);
     }
     says End d call = record {
       marks = at_core (d.0.at middle_site).marks;

@@ -5,7 +5,6 @@ use Rattle.std.specs.Prelude.{pos, slice_get, ℤ}
 use Rattle.std.specs.List.{AllByRecursion, AllZip}
 use Rattle.std.proofs.lemmas.Option.{none-some, slice_get_within}
 use Rattle.ido_base.specs.Layout.{bank_bytes, log_of}
-use Rattle.ido_base.specs.declared.log.Log.{Log}
 use Rattle.ido_ints.specs.declared.kinds.Kind.{Kind}
 use Rattle.ido_ints.specs.Operators.{binary_of, is_zero, unary_of}
 use Rattle.ido_ints.specs.TypedNumbers.{Typed, converted}
@@ -15,20 +14,20 @@ use Rattle.c_tree.specs.LockNames.{Held, held_names, holds}
 use Rattle.c_tree.specs.Ranges.{mutexes_of}
 use Rattle.c_tree.proofs.Public.{array_within}
 use Rattle.c_tree.specs.Values.{element_at, lock_number, value}
-use Rattle.c_tree.specs.WellFormed.{IsExpr, IsFlatLockName}
+use Rattle.c_tree.specs.WellFormed.{Fits, IsExpr, IsFlatLockName}
 use Rattle.c_ranges.proofs.Public.{fits_element, key_expr, key_fits}
 use Rattle.rv64_isa.specs.declared.instr.Instr.{Instr}
 use Rattle.operator_code.specs.StraightLineCode.{IsConstant}
-use Rattle.expr_code.specs.EvaluationCode.{AreLoaded, HoldsLocals, Homes, IsValueCode, Source}
+use Rattle.expr_code.specs.EvaluationCode.{AreLoaded, HoldsLocals, Homes, Source}
 use Rattle.expr_code.proofs.Public.{absolute, all_held}
 use Rattle.node_code.specs.Numbers.{LeavesNumber, LeaveNumbers}
-use Rattle.node_code.specs.links.BoundaryCode.{number_code}
 use Rattle.node_code.proofs.Public.{constant_leaves}
 use Rattle.flow_graph.specs.Actions.{Seen}
 use Rattle.thread_code.specs.Plans.{Plan, IsPlan, Thread, IsThread, IsNodeOf, held_names_before, homes, locks_before, names_in, set_before}
 use Rattle.thread_code.specs.RegistersAtNodes.{Enters, source_of}
 use Rattle.rv64_codegen.specs.Locals.{HoldsEach}
-use Rattle.rv64_codegen.proofs.KeyNumbers.{key_code, key_leaves}
+use Rattle.rv64_codegen.specs.links.Numbers.{IsNumberBy, IsNumberCode}
+use Rattle.rv64_codegen.proofs.KeyNumbers.{key_leaves}
 use Rattle.rv64_codegen.proofs.LegalEvaluations.{suits}
 use Rattle.rv64_codegen.proofs.ReadLocals.{reads_are_held}
 
@@ -66,79 +65,86 @@ key_value ls vs ks (e.Conditional kind x y z) h =
 
 -- ---- Codes
 
--- the code of a key's number
-pub record IsKeyCode (h : Homes) (log : Log) (thread first : ℕ) (key : e.Expr) (code : List Instr) : Type 0 where
-  pub of_value : List Instr
-  pub is_value : IsValueCode h key 5 of_value
-  pub address : List Instr
-  pub is_log : IsConstant 31 (log_of log thread) address
-  pub is : code ≡ key_code of_value first address
-
--- the code of a name's number: one instruction where it has no key
-abbrev pub IsNumberCode : Homes → Log → (thread : ℕ) → e.LockName → List Instr → Type 0
-IsNumberCode h log thread x code = elim x.key [
-  | None ↦ code ≡ number_code x.mutex
-  | Some key ↦ IsKeyCode h log thread x.mutex key.expr code
-]
-
-module _ (p : Plan) (t : Thread) (plan : IsPlan p) (of : IsThread p t) (seen : Seen) (x : List ℕ) (few : length p.flat.mutexes ≤ 1024)
-    (reach : (bank : ℕ) → bank < 2 → log_of p.log t.number + bank_bytes p.log * bank < 2 ^ 32) where
+module _ (p : Plan) (t : Thread) (plan : IsPlan p) (of : IsThread p t) (seen : Seen) (x : List ℕ) (few : length p.flat.mutexes ≤ 1024) where
   abbrev h : Homes
   h = homes p t
 
   abbrev s : Source
   s = source_of p t seen
 
-  name_by : (mutex : ℕ) (key : Option e.Placed) (code : List Instr) → IsFlatLockName p.flat.mutexes t.kinds (record { mutex = mutex; key = key }) →
-      HoldsEach h s x (key_locals (record { mutex = mutex; key = key })) → IsNumberCode h p.log t.number (record { mutex = mutex; key = key }) code →
-      LeavesNumber p.log t.number x (lock_number seen.locals (record { mutex = mutex; key = key })) code
-  name_by mutex None code formed held is =
-      let low : mutex < length p.flat.mutexes = slice_get_within p.flat.mutexes mutex formed.it formed.found in
-      subst (λ (c : List Instr). LeavesNumber p.log t.number x mutex c) (sym is) (constant_leaves p.log t.number x mutex (omega (arith, low, few)))
-  name_by mutex (Some key) code formed held is =
+  -- what is known of the key of a name that is formed, where its locals are in their homes
+  pub record KeyKnown (mutex : ℕ) (key : e.Placed) : Type 0 where
+    pub expr : IsExpr s.variables s.kinds key.expr
+    pub fits : Fits s.variables key.expr
+    pub locals : HoldsLocals h s x key.expr
+    pub unloaded : (loads : ℕ → ℕ → Option ℕ) → AreLoaded s loads key.expr
+    pub element : ℕ
+    pub number : (value s.locals s.numbers key.expr).number ≡ pos element
+    pub small : element + mutex < 2048
+    pub same : element + mutex ≡ lock_number seen.locals (record { mutex = mutex; key = Some key })
+
+  pub key_known : (mutex : ℕ) (key : e.Placed) → IsFlatLockName p.flat.mutexes t.kinds (record { mutex = mutex; key = Some key }) →
+      HoldsEach h s x (key_locals (record { mutex = mutex; key = Some key })) → KeyKnown mutex key
+  key_known mutex key formed held =
       let expr = key_expr p.flat.variables t.kinds key.expr formed.reads in
-      let fits = key_fits p.flat.variables t.kinds key.expr formed.reads in
       let locals : HoldsLocals h s x key.expr = reads_are_held h s x key.expr expr held in
       let unloaded : (loads : ℕ → ℕ → Option ℕ) → AreLoaded s loads key.expr = λ loads. key_unloaded s loads t.kinds key.expr formed.reads in
       let no_loads : ℕ → ℕ → Option ℕ = λ address bytes. None in
       let values = all_held h s no_loads x key.expr locals expr (unloaded no_loads) in
       let named = fits_element (mutexes_of p.flat.mutexes mutex) key.expr formed.fits s.locals s.numbers values in
       let element : ℕ = element_at (value s.locals s.numbers key.expr) in
-      let number : (value s.locals s.numbers key.expr).number ≡ pos element = absolute (value s.locals s.numbers key.expr).number named.from_zero in
-      let small : element + mutex < 2048 = omega (arith, named.below, array_within p.flat.mutexes mutex formed.array, few) in
-      let same : element + mutex ≡ lock_number seen.locals (record { mutex = mutex; key = Some key }) =
-      omega (arith, ap element_at (key_value s.locals s.numbers t.kinds key.expr formed.reads)) in
-      subst (λ (n : ℕ). LeavesNumber p.log t.number x n code) same
-      (subst (λ (c : List Instr). LeavesNumber p.log t.number x (element + mutex) c) (sym is.is)
-      (key_leaves h s key.expr is.of_value is.address p.log t.number mutex element is.is_value is.is_log (suits p t plan of seen) expr fits unloaded number
-      small reach x locals))
+      record {
+        expr = expr;
+        fits = key_fits p.flat.variables t.kinds key.expr formed.reads;
+        locals = locals;
+        unloaded = unloaded;
+        element = element;
+        number = absolute (value s.locals s.numbers key.expr).number named.from_zero;
+        small = omega (arith, named.below, array_within p.flat.mutexes mutex formed.array, few);
+        same = omega (arith, ap element_at (key_value s.locals s.numbers t.kinds key.expr formed.reads));
+      }
 
-  -- of each of the names, where its key's locals are in their homes
-  names_leave : (names : List e.LockName) (codes : List (List Instr)) → AllByRecursion (IsFlatLockName p.flat.mutexes t.kinds) names →
-      AllByRecursion (λ (y : e.LockName). HoldsEach h s x (key_locals y)) names → AllZip (IsNumberCode h p.log t.number) names codes →
-      LeaveNumbers p.log t.number x (map (lock_number seen.locals) names) codes
-  names_leave [] [] formed held are = tt
-  names_leave [] (code ∷ codes) formed held are = absurd are
-  names_leave (y ∷ names) [] formed held are = absurd are
-  names_leave (y ∷ names) (code ∷ codes) formed held are =
-      (name_by y.mutex y.key code formed.0 held.0 are.0, names_leave names codes formed.1 held.1 are.1)
+  module _ (reach : (bank : ℕ) → bank < 2 → log_of p.log t.number + bank_bytes p.log * bank < 2 ^ 32) (address : List Instr)
+      (is_log : IsConstant 31 (log_of p.log t.number) address) where
+    name_by : (mutex : ℕ) (key : Option e.Placed) (code : List Instr) → IsFlatLockName p.flat.mutexes t.kinds (record { mutex = mutex; key = key }) →
+        HoldsEach h s x (key_locals (record { mutex = mutex; key = key })) → IsNumberBy h address mutex key code →
+        LeavesNumber p.log t.number x (lock_number seen.locals (record { mutex = mutex; key = key })) code
+    name_by mutex None code formed held is =
+        let low : mutex < length p.flat.mutexes = slice_get_within p.flat.mutexes mutex formed.it formed.found in
+        subst (λ (c : List Instr). LeavesNumber p.log t.number x mutex c) (sym is) (constant_leaves p.log t.number x mutex (omega (arith, low, few)))
+    name_by mutex (Some key) code formed held is =
+        let known = key_known mutex key formed held in
+        subst (λ (n : ℕ). LeavesNumber p.log t.number x n code) known.same
+        (subst (λ (c : List Instr). LeavesNumber p.log t.number x (known.element + mutex) c) (sym is.is)
+        (key_leaves h s key.expr is.of_value address p.log t.number mutex known.element is.value.is_value is_log (suits p t plan of seen) known.expr known.fits
+        known.unloaded known.number known.small reach x known.locals))
 
-  all_of_held : (P : e.LockName → Type 0) (names : List e.LockName) (set : Held) →
-      ((k : ℕ) (y : e.LockName) → slice_get names k ≡ Some y → holds set k ≡ true → P y) → AllByRecursion P (held_names names set)
-  all_of_held P [] set each = tt
-  all_of_held P (y ∷ names) [] each = tt
-  all_of_held P (y ∷ names) (true ∷ set) each = (each 0 y refl refl, all_of_held P names set (λ k z. each (suc k) z))
-  all_of_held P (y ∷ names) (false ∷ set) each = all_of_held P names set (λ k z. each (suc k) z)
+    -- of each of the names, where its key's locals are in their homes
+    names_leave : (names : List e.LockName) (codes : List (List Instr)) → AllByRecursion (IsFlatLockName p.flat.mutexes t.kinds) names →
+        AllByRecursion (λ (y : e.LockName). HoldsEach h s x (key_locals y)) names → AllZip (IsNumberCode h address) names codes →
+        LeaveNumbers p.log t.number x (map (lock_number seen.locals) names) codes
+    names_leave [] [] formed held are = tt
+    names_leave [] (code ∷ codes) formed held are = absurd are
+    names_leave (y ∷ names) [] formed held are = absurd are
+    names_leave (y ∷ names) (code ∷ codes) formed held are =
+        (name_by y.mutex y.key code formed.0 held.0 are.0, names_leave names codes formed.1 held.1 are.1)
 
-  -- registers with which the thread enters a node have the numbers of all that it holds there
-  pub held_leave : (node side : ℕ) (codes : List (List Instr)) → IsNodeOf t node → Enters p t node seen side x →
-      ((k : ℕ) (y : e.LockName) → slice_get (names_in p t) k ≡ Some y → holds (set_before p t node) k ≡ true →
-      IsFlatLockName p.flat.mutexes t.kinds y) →
-      AllZip (IsNumberCode h p.log t.number) (held_names_before p t node) codes →
-      LeaveNumbers p.log t.number x (locks_before p t seen.locals node) codes
-  held_leave node side codes own enters formed are =
-      names_leave (held_names_before p t node) codes
-      (all_of_held (IsFlatLockName p.flat.mutexes t.kinds) (names_in p t) (set_before p t node) formed)
-      (all_of_held (λ (y : e.LockName). HoldsEach h s x (key_locals y)) (names_in p t) (set_before p t node)
-      (λ k y there held local kind reads is. enters.locals local kind is (plan.keys_live t of node own k local y there held reads)))
-      are
+    all_of_held : (P : e.LockName → Type 0) (names : List e.LockName) (set : Held) →
+        ((k : ℕ) (y : e.LockName) → slice_get names k ≡ Some y → holds set k ≡ true → P y) → AllByRecursion P (held_names names set)
+    all_of_held P [] set each = tt
+    all_of_held P (y ∷ names) [] each = tt
+    all_of_held P (y ∷ names) (true ∷ set) each = (each 0 y refl refl, all_of_held P names set (λ k z. each (suc k) z))
+    all_of_held P (y ∷ names) (false ∷ set) each = all_of_held P names set (λ k z. each (suc k) z)
+
+    -- registers with which the thread enters a node have the numbers of all that it holds there
+    pub held_leave : (node side : ℕ) (codes : List (List Instr)) → IsNodeOf t node → Enters p t node seen side x →
+        ((k : ℕ) (y : e.LockName) → slice_get (names_in p t) k ≡ Some y → holds (set_before p t node) k ≡ true →
+        IsFlatLockName p.flat.mutexes t.kinds y) →
+        AllZip (IsNumberCode h address) (held_names_before p t node) codes →
+        LeaveNumbers p.log t.number x (locks_before p t seen.locals node) codes
+    held_leave node side codes own enters formed are =
+        names_leave (held_names_before p t node) codes
+        (all_of_held (IsFlatLockName p.flat.mutexes t.kinds) (names_in p t) (set_before p t node) formed)
+        (all_of_held (λ (y : e.LockName). HoldsEach h s x (key_locals y)) (names_in p t) (set_before p t node)
+        (λ k y there held local kind reads is. enters.locals local kind is (plan.keys_live t of node own k local y there held reads)))
+        are

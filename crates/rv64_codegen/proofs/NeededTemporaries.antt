@@ -28,7 +28,7 @@ not_less : (a b : ℕ) → nat_lt a b ≡ false → b ≤ a
 not_less a b h = grind arith
 
 -- none of the expressions needs too many temporaries
-abbrev Quiet : List e.Placed → Type 0
+abbrev pub Quiet : List e.Placed → Type 0
 Quiet xs = find is_needy xs ≡ None
 
 none_either : {X : Type 0} (b : Bool) (x : X) (o : Option X) → cond b (Some x) o ≡ None → (b ≡ false) × (o ≡ None)
@@ -42,14 +42,14 @@ none_mapped g (Some x) h = cc
 quiet_more : (x : e.Placed) (xs : List e.Placed) → is_needy x ≡ false → Quiet xs → Quiet (x ∷ xs)
 quiet_more x xs one rest = ap (λ (b : Bool). cond b (Some x) (find is_needy xs)) one ∙ rest
 
-quiet_both : (xs ys : List e.Placed) → Quiet (xs ++ ys) → Quiet xs × Quiet ys
+pub quiet_both : (xs ys : List e.Placed) → Quiet (xs ++ ys) → Quiet xs × Quiet ys
 quiet_both [] ys h = (refl, h)
 quiet_both (x ∷ xs) ys h =
     let one = none_either (is_needy x) x (find is_needy (xs ++ ys)) h in
     let rest = quiet_both xs ys one.1 in
     (quiet_more x xs one.0 rest.0, rest.1)
 
-quiet_head : (x : e.Placed) (xs : List e.Placed) → Quiet (x ∷ xs) → Quiet (x ∷ []) × Quiet xs
+pub quiet_head : (x : e.Placed) (xs : List e.Placed) → Quiet (x ∷ xs) → Quiet (x ∷ []) × Quiet xs
 quiet_head x xs h =
     let one = none_either (is_needy x) x (find is_needy xs) h in
     (quiet_more x [] one.0 refl, one.1)
@@ -87,8 +87,8 @@ mutual
       let both = quiet_both (statements_exprs body) (condition ∷ []) h in
       joined (statements_nodes table body first (first + statements_count body)) (test_node table place condition first next ∷ [])
       (quiet_statements table body first (first + statements_count body) both.0) (both.1, tt)
-  quiet_statement table (f.Lock place name) first next h = (refl, tt)
-  quiet_statement table (f.Unlock place name) first next h = (refl, tt)
+  quiet_statement table (f.Lock place name) first next h = (h, tt)
+  quiet_statement table (f.Unlock place name) first next h = (h, tt)
 
   quiet_statements : (table : Table) (xs : f.Statements) (first next : ℕ) → Quiet (statements_exprs xs) → AllQuiet (statements_nodes table xs first next)
   quiet_statements table f.no_statement first next h = tt
@@ -110,7 +110,7 @@ mutual
             (quiet_arms table rest place last after next both.1),
       )
 
-abbrev body_exprs : f.Thread → List e.Placed
+abbrev pub body_exprs : f.Thread → List e.Placed
 body_exprs t = statements_exprs t.body
 
 quiet_threads : (x : f.Flat) (ts : List f.Thread) (first : ℕ) → Quiet (flat_map body_exprs ts) → AllQuiet (threads_nodes x ts first)
@@ -123,11 +123,11 @@ quiet_threads x (t ∷ ts) first h =
     (quiet_statements (table_of x t) t.body first end both.0) (refl, tt))
     (quiet_threads x ts (first + thread_count t) both.1)
 
-all_quiet : (x : f.Flat) → temporaries_fault x ≡ None → Quiet (flat_map body_exprs x.threads)
+pub all_quiet : (x : f.Flat) → temporaries_fault x ≡ None → Quiet (flat_map body_exprs x.threads)
 unfolding temporaries_fault
 all_quiet x h = none_mapped (λ (y : e.Placed). y.place) (find is_needy (flat_map body_exprs x.threads)) h
 
-few_of : (xs : List e.Placed) → Quiet xs → NeedFew xs
+pub few_of : (xs : List e.Placed) → Quiet xs → NeedFew xs
 few_of [] h = tt
 few_of (x ∷ xs) h =
     let one = none_either (is_needy x) x (find is_needy xs) h in

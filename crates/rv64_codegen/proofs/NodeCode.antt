@@ -1,6 +1,5 @@
 -- The code of one node is its piece's.
 use Rattle.std.proofs.Common.{◌≡◌, ◌↔◌, ℕ, ◌+◌, ◌-◌, ◌*◌, ◌≤◌, List, [], ◌∷◌, ◌++◌, length, map, refl, ap, arith, sym, ◌∙◌, subst, Bool, false}
-use Rattle.c_tree.proofs.Public.{plain_lock, plain_name}
 use Rattle.std.proofs.Common.{Option, Some, None, if◌then◌else◌}
 use Rattle.std.specs.Prelude.{slice_index_or, pos, sum_by, ℤ}
 use Rattle.std.proofs.lemmas.List.Sums.{sum_by-append}
@@ -28,10 +27,10 @@ use Rattle.flow_graph.specs.IdempotentCuts.{IsChosen}
 use Rattle.node_code.specs.Sites.{Site}
 use Rattle.node_code.specs.Pieces.{IsBoundaryPiece, LeavesRegisters, boundary_observations, Locks, words_in}
 use Rattle.node_code.proofs.Public.{fragment, weaker, moved, words_are_few, part_instructions}
-use Rattle.thread_code.specs.Plans.{Plan, Thread, IsNodeOf, homes}
+use Rattle.thread_code.specs.Plans.{Plan, Thread, IsNodeOf, homes, held_names_before, hold_words}
 use Rattle.thread_code.specs.RegistersAtNodes.{Enters, source_of, IsAnswered}
 use Rattle.thread_code.specs.NodeCodeEffects.{Places, Entrance, EntersAt, keeping, BoundaryCode, Performs, GoesOnAfter}
-use Rattle.thread_code.specs.Programs.{IsAtOwnNode, IsPlainCall, IsCalling, IsCleaning, IsNodeCode, IsWithin, action_nodes, boundary_count}
+use Rattle.thread_code.specs.Programs.{IsAtOwnNode, IsPlainCall, IsCalling, IsCleaning, IsNodeCode, IsWithin, action_nodes, boundary_count, names_kept}
 use Rattle.rv64_codegen.specs.ThreadPieces.{Choices, GoesTo, IsDoing, MayEnter, boundary_before, boundary_words}
 use Rattle.rv64_codegen.proofs.ReadLocals.{left_held}
 use Rattle.rv64_codegen.proofs.Nodes.{Known}
@@ -43,12 +42,14 @@ use Rattle.rv64_codegen.proofs.PieceParts as parts
 use Rattle.rv64_codegen.proofs.PieceParts.{PlacedNode, HasPlaces, call_of, does_in}
 use Rattle.rv64_codegen.proofs.NodeCorrectness as performs
 use Rattle.rv64_codegen.proofs.NodeCorrectness.{Evaluates, known_of, enters_kept}
+use Rattle.c_tree.specs.Values.{lock_number}
 
 first_same : (x y : ℕ) → x ∷ [] ≡ y ∷ [] → x ≡ y
 first_same x y same = ap (λ (xs : List ℕ). slice_index_or xs 0 0) same
 
 module _ {p : Plan} {t : Thread} {c : Choices} (places : Places) (it : PlacedNode p t c places.entry) (has : HasPlaces places it)
-    (price : sum_by most_words_of (it.before ++ (it.does ++ it.goes)) ≤ node_price (action_nodes it.is.action)) where
+    (price : sum_by most_words_of (it.before ++ (it.does ++ it.goes))
+    ≤ node_price (action_nodes it.is.action) + hold_words p.log (names_kept p t it.is.action it.node)) where
   open it use {program, items, n, node, is, at, before, does, goes, guarded, doing, sited}
   open has use {plan, of, choices, own, agrees}
 
@@ -83,7 +84,8 @@ module _ {p : Plan} {t : Thread} {c : Choices} (places : Places) (it : PlacedNod
 
   -- ---- The boundary before it
 
-  chosen_by : ((locals : List ℤ) → IsBoundaryPiece (boundary_before p t c locals node 0) (MayEnter p t locals node) boundary_words before) →
+  chosen_by : ((locals : List ℤ) →
+      IsBoundaryPiece (boundary_before p t c locals node 0) (MayEnter p t locals node) (boundary_words p.log (held_names_before p t node)) before) →
       (s : MarkedEnvironment) (seen : Seen) (side : ℕ) (x : List ℕ) → Meets places.program s →
       Enters p t node seen side x →
       BoundaryCode p t places (record { environment = s; node = node; seen = seen; side = side; registers = x }) node (places.entry node) (places.core node)
@@ -126,10 +128,10 @@ module _ {p : Plan} {t : Thread} {c : Choices} (places : Places) (it : PlacedNod
   lock_call lock next d s meets locals = first_same _ _ (sym ((d.0 locals).at (site_of s meets)).marks ∙ ((d.0 []).at bare_site).marks)
 
   unlock_call : (lock : e.LockName) (next : ℕ) (d : IsDoing p t c node (Unlock lock next) does goes) (s : MarkedEnvironment) (meets : Meets program s)
-      (locals : List ℤ) → ((d.0 locals).at (site_of s meets)).call ≡ ((d.0 []).at bare_site).call
+      (locals : List ℤ) → ((d.0.1 locals).at (site_of s meets)).call ≡ ((d.0.1 []).at bare_site).call
   unlock_call lock next d s meets locals =
-      let here : addr on_at ≡ ((d.0 locals).at (site_of s meets)).call + 4 = ((d.0 locals).at (site_of s meets)).after in
-      let there : addr on_at ≡ ((d.0 []).at bare_site).call + 4 = ((d.0 []).at bare_site).after in
+      let here : addr on_at ≡ ((d.0.1 locals).at (site_of s meets)).call + 4 = ((d.0.1 locals).at (site_of s meets)).after in
+      let there : addr on_at ≡ ((d.0.1 []).at bare_site).call + 4 = ((d.0.1 []).at bare_site).after in
       omega (arith, here, there)
 
   end_call : (d : IsDoing p t c node End does goes) (s : MarkedEnvironment) (meets : Meets program s) →
@@ -198,14 +200,12 @@ module _ {p : Plan} {t : Thread} {c : Choices} (places : Places) (it : PlacedNod
         subst By (same_Some (a.Goes (if is_zero (number_in seen condition.expr) then fails else holds)) effect eq)
         (performs.tests_it places it has s meets seen side x enters condition holds fails same known answered d)
     does_it (Lock lock next) same known d call answered effect eq =
-        let keyless = plain_name p.flat.mutexes t.kinds lock plan.formed.single known.name in
-        subst By (same_Some (a.Takes lock.mutex next) effect (ap (λ (k : ℕ). Some (a.Takes k next)) (sym (plain_lock seen.locals lock keyless)) ∙ eq))
+        subst By (same_Some (a.Takes (lock_number seen.locals lock) next) effect eq)
         (performs.takes_it places it has s meets seen side x enters lock next same known ((d.0 seen.locals).at (site_of s meets))
         (call ∙ sym (lock_call lock next d s meets seen.locals)))
     does_it (Unlock lock next) same known d call answered effect eq =
-        let keyless = plain_name p.flat.mutexes t.kinds lock plan.formed.single known.name in
-        subst By (same_Some (a.Gives lock.mutex next) effect (ap (λ (k : ℕ). Some (a.Gives k next)) (sym (plain_lock seen.locals lock keyless)) ∙ eq))
-        (performs.gives_it places it has s meets seen side x enters lock next same known ((d.0 seen.locals).at (site_of s meets))
+        subst By (same_Some (a.Gives (lock_number seen.locals lock) next) effect eq)
+        (performs.gives_it places it has s meets seen side x enters lock next same known d.0.0 ((d.0.1 seen.locals).at (site_of s meets))
         (call ∙ sym (unlock_call lock next d s meets seen.locals)) agrees.after)
     does_it End same known d call answered effect eq =
         subst By (same_Some a.Ends effect eq)
@@ -243,7 +243,8 @@ module _ {p : Plan} {t : Thread} {c : Choices} (places : Places) (it : PlacedNod
       let x : List ℕ = m.registers in
       let b : Boundary = boundary_before p t c m.seen.locals next 0 in
       let P : List ℕ → Type 0 = Enters p t next m.seen (side_after b m.side) in
-      let locks : Locks b (MayEnter p t m.seen.locals next) lock.mutex does (site_of s (met s meets)) = (d.0 m.seen.locals).at (site_of s (met s meets)) in
+      let locks : Locks b (MayEnter p t m.seen.locals node) (MayEnter p t m.seen.locals next) (lock_number m.seen.locals lock) does (site_of s (met s meets)) =
+      (d.0 m.seen.locals).at (site_of s (met s meets)) in
       let from : MayEnter p t m.seen.locals next x = record { seen = m.seen; side = m.side; enters = enters; locals_are = refl } in
       let at_call : locks.call + 4 ≡ places.call node + 4 = ap (λ (z : ℕ). z + 4) (lock_call lock next d s (met s meets) m.seen.locals ∙ sym call) in
       let lockstep : boundary_observations b m.side (addr on_at) x
@@ -285,10 +286,10 @@ module _ {p : Plan} {t : Thread} {c : Choices} (places : Places) (it : PlacedNod
       )
   calls_by (Unlock lock next) same known d call =
       let of_next : IsNodeOf t next = record { from_first = known.inside.0; below_end = known.inside.1 } in (
-        stands_there ((d.0 []).at bare_site).call call ((d.0 []).at bare_site).stands,
-        goes_on_after ((d.0 []).at bare_site).calling next of_next d.1,
-        agrees.after ∙ ((d.0 []).at bare_site).after ∙ ap (λ (z : ℕ). z + 4) (sym call),
-        plain_there ((d.0 []).at bare_site).call call ((d.0 []).at bare_site).plain,
+        stands_there ((d.0.1 []).at bare_site).call call ((d.0.1 []).at bare_site).stands,
+        goes_on_after ((d.0.1 []).at bare_site).calling next of_next d.1,
+        agrees.after ∙ ((d.0.1 []).at bare_site).after ∙ ap (λ (z : ℕ). z + 4) (sym call),
+        plain_there ((d.0.1 []).at bare_site).call call ((d.0.1 []).at bare_site).plain,
       )
   calls_by End same known d call =
       (stands_there (d.0.at bare_site).call call (d.0.at bare_site).stands, plain_there (d.0.at bare_site).call call (d.0.at bare_site).plain)
@@ -305,7 +306,7 @@ module _ {p : Plan} {t : Thread} {c : Choices} (places : Places) (it : PlacedNod
 
   -- ---- Its price
 
-  priced : places.words node ≤ node_price (action_nodes is.action)
+  priced : places.words node ≤ node_price (action_nodes is.action) + hold_words p.log (names_kept p t is.action node)
   priced =
       let bare_of : (part : List CodeItem) → Spot items part → Site part = λ part spot. spot_site n part spot (bare program) (bare_meets program) in
       let first = parts.before_spot it in

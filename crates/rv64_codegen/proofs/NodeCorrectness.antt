@@ -17,7 +17,7 @@ use Rattle.c_tree.specs.Exprs as e
 use Rattle.c_tree.specs.LockDiscipline.{expr_locals}
 use Rattle.c_tree.specs.Programs as v
 use Rattle.c_tree.specs.Source.{Pending}
-use Rattle.c_tree.specs.Values.{value}
+use Rattle.c_tree.specs.Values.{value, lock_number}
 use Rattle.c_tree.specs.WellFormed.{shape_of}
 use Rattle.rv64_isa.specs.Rows.{Stores, row, read}
 use Rattle.rv64_link.specs.LinkedCode.{IsInstructionAt}
@@ -371,6 +371,10 @@ module _ {p : Plan} {t : Thread} {c : Choices} (places : Places) (it : PlacedNod
 
       -- ---- Locks and unlocks
 
+      -- registers may enter this node
+      enters_here : MayEnter p t seen.locals node x
+      enters_here = record { seen = seen; side = side; enters = enters; locals_are = refl }
+
       module _ (next : ℕ) (none : is.assigns ≡ None) (free : owes is.action ≡ false) (follows_it : Contains (successors is.action) next) where
         -- a call's registers are no local's
         asks_enter : (number mutex other : ℕ) (z y : List ℕ) → IsOnSide p.log other z → ((r : ℕ) → is_local r ≡ true → read z r ≡ read x r) →
@@ -378,14 +382,14 @@ module _ {p : Plan} {t : Thread} {c : Choices} (places : Places) (it : PlacedNod
             Asking p t places number mutex next seen other y
         asks_enter number mutex other z y on_side kept asks = record {
           call = asks.call;
-          lock = asks.lock;
+          lock = asks.lock_is;
           enters = enters_on p t plan of node next is at follows_it seen side x enters seen other y none free refl
               (at_side_on p.log other z y on_side asks.are
-              (asks.others 3 (λ e1. let w : ⊥ = omega (arith, e1) in w) (λ e1. let w : ⊥ = omega (arith, e1) in w)))
-              (λ r is_one. asks.others r (local_other r 10 refl is_one) (local_other r 17 refl is_one) ∙ kept r is_one);
+              (asks.others 3 refl (λ e1. let w : ⊥ = omega (arith, e1) in w) (λ e1. let w : ⊥ = omega (arith, e1) in w)))
+              (λ r is_one. asks.others r (local_plain r is_one) (local_other r 10 refl is_one) (local_other r 17 refl is_one) ∙ kept r is_one);
         }
 
-        -- they may enter the next node already
+        -- and the next one already
         enters_next : MayEnter p t seen.locals next x
         enters_next = record {
           seen = seen;
@@ -395,25 +399,28 @@ module _ {p : Plan} {t : Thread} {c : Choices} (places : Places) (it : PlacedNod
         }
 
       pub takes_it : (lock : LockName) (next : ℕ) → is.action ≡ Lock lock next → CallKnown p.flat t.kinds t.part.first t.part.end p.graph.nodes lock next is →
-          (locks : Locks (boundary_before p t c seen.locals next 0) (MayEnter p t seen.locals next) lock.mutex does does_site) → places.call node ≡ locks.call →
-          Performs p t places m (a.Takes lock.mutex next)
+          (locks : Locks (boundary_before p t c seen.locals next 0) (MayEnter p t seen.locals node) (MayEnter p t seen.locals next)
+          (lock_number seen.locals lock) does does_site) → places.call node ≡ locks.call → Performs p t places m (a.Takes (lock_number seen.locals lock) next)
       takes_it lock next same known locks call =
-          within x (places.call node) [] (Asking p t places takes lock.mutex next seen side)
-          (moved s x (to does_at) (to does_at) locks.call (places.call node) does_words [] (Asking p t places takes lock.mutex next seen side) refl (sym call)
-          (weaker s (fragment x (to does_at) locks.call does_words) [] (Asks takes lock.mutex x) (Asking p t places takes lock.mutex next seen side)
+          let number : ℕ = lock_number seen.locals lock in
+          within x (places.call node) [] (Asking p t places takes number next seen side)
+          (moved s x (to does_at) (to does_at) locks.call (places.call node) does_words [] (Asking p t places takes number next seen side) refl (sym call)
+          (weaker s (fragment x (to does_at) locks.call does_words) [] (Asks takes number x) (Asking p t places takes number next seen side)
           (λ y asks. asks_enter next known.assigns (ap owes same) (subst (λ (b : Action). Contains (successors b) next) (sym same)
-          (0, omega arith, refl)) takes lock.mutex
+          (0, omega arith, refl)) takes number
           side x y enters.at_side (λ r is_one. refl) asks)
-          (locks.asks x are)))
+          (locks.asks x enters_here are)))
 
       pub gives_it : (lock : LockName) (next : ℕ) → is.action ≡ Unlock lock next → CallKnown p.flat t.kinds t.part.first t.part.end p.graph.nodes lock next is →
-          (unlocks : Unlocks (boundary_before p t c seen.locals next 12) (MayEnter p t seen.locals next) lock.mutex does does_site) →
+          (resume : ℕ) (unlocks : Unlocks (boundary_before p t c seen.locals next resume) (MayEnter p t seen.locals node) (MayEnter p t seen.locals next)
+          (lock_number seen.locals lock) does does_site) →
           places.call node ≡ unlocks.call →
           places.after node ≡ to goes_at →
-          Performs p t places m (a.Gives lock.mutex next)
-      gives_it lock next same known unlocks call after =
-          let b : Boundary = boundary_before p t c seen.locals next 12 in
-          let P : List ℕ → Type 0 = Asking p t places gives lock.mutex next seen (side_after b side) in
+          Performs p t places m (a.Gives (lock_number seen.locals lock) next)
+      gives_it lock next same known resume unlocks call after =
+          let number : ℕ = lock_number seen.locals lock in
+          let b : Boundary = boundary_before p t c seen.locals next resume in
+          let P : List ℕ → Type 0 = Asking p t places gives number next seen (side_after b side) in
           let observations : List Observation = Mark ∷ boundary_observations (keeping p t places seen.locals next) side (places.after node) x in
           let lockstep : Mark ∷ boundary_observations b side (to goes_at) x ≡ observations =
           ap (λ (z : ℕ). Mark ∷ boundary_observations b side z x) (sym after) ∙
@@ -424,11 +431,11 @@ module _ {p : Plan} {t : Thread} {c : Choices} (places : Places) (it : PlacedNod
           (moved s x (to does_at) (to does_at) unlocks.call (places.call node) does_words observations P refl (sym call)
           (subst (λ (ss : List Observation). GoesThrough s (fragment x (to does_at) unlocks.call does_words) ss P) lockstep
           (weaker s (fragment x (to does_at) unlocks.call does_words) (Mark ∷ boundary_observations b side (to goes_at) x)
-          (λ y. (z : List ℕ) × LeavesRegisters b side x z × Asks gives lock.mutex z y) P
+          (λ y. (z : List ℕ) × LeavesRegisters b side x z × Asks gives number z y) P
           (λ y got. asks_enter next known.assigns (ap owes same) (subst (λ (d : Action). Contains (successors d) next) (sym same)
-          (0, omega arith, refl)) gives lock.mutex
+          (0, omega arith, refl)) gives number
           (side_after b side) got.0 y got.1.at_side (λ r is_one. got.1.others r (local_plain r is_one) (local_other r 3 refl is_one)) got.2)
-          (unlocks.asks x side
+          (unlocks.asks x side enters_here
           (enters_next next known.assigns (ap owes same) (subst (λ (d : Action). Contains (successors d) next) (sym same) (0, omega arith, refl)))
           enters.at_side))))
 

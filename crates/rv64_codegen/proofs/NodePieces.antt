@@ -8,8 +8,10 @@ use Rattle.std.proofs.lemmas.List.Sums.{sum_by-append}
 use Rattle.ido_base.specs.declared.log.Log.{Log}
 use Rattle.ido_base.specs.declared.limits.TheConstants.{MOST_PRICE, MOST_THREADS}
 use Rattle.c_tree.specs.Exprs as e
-use Rattle.c_tree.specs.Prices.{node_price}
-use Rattle.c_tree.specs.WellFormed.{IsExpr, IsTarget}
+use Rattle.ido_ints.specs.declared.kinds.Kind.{Kind}
+use Rattle.c_tree.specs.Prices.{key_nodes, node_price}
+use Rattle.c_tree.specs.Temporaries.{key_exprs}
+use Rattle.c_tree.specs.WellFormed.{IsExpr, IsFlatLockName, IsTarget}
 use Rattle.rv64_isa.specs.declared.object.CodeItem.{CodeItem}
 use Rattle.rv64_link.specs.LabelledCode.{most_words_of}
 use Rattle.memory_layout.specs.Roles.{is_kept}
@@ -22,12 +24,14 @@ use Rattle.flow_graph.proofs.Public.{found_in}
 use Rattle.node_code.specs.declared.kept.Kept as kept
 use Rattle.node_code.specs.Pieces.{Appends, IsBoundaryPiece, IsBoundaryOf, KeepsFrom, boundary_of, kept_words}
 use Rattle.node_code.proofs.Public.{boundary_from}
-use Rattle.thread_code.specs.Plans.{Plan, Thread, IsNodeOf, homes, locks_before}
-use Rattle.thread_code.specs.Programs.{action_nodes}
+use Rattle.thread_code.specs.Plans.{Plan, Thread, IsNodeOf, homes, locks_before, held_names_before, hold_words}
+use Rattle.thread_code.specs.Programs.{action_nodes, names_kept}
 use Rattle.rv64_codegen.specs.declared.thread.ThreadPlan as opened
 use Rattle.rv64_codegen.specs.Evaluations.{IsAtHome, NeedFew}
 use Rattle.rv64_codegen.specs.ThreadPieces.{Choices, AreChoices, IsGuarded, IsDoing, IsNodePiece, MayEnter, boundary_before, boundary_words}
 use Rattle.rv64_codegen.specs.links.LiveRegisters.{AreLiveRegisters}
+use Rattle.rv64_codegen.specs.links.Numbers.{IsReady}
+use Rattle.rv64_codegen.proofs.TextNames.{name_ready}
 use Rattle.rv64_codegen.specs.links.Threads.{IsOpen, IsOwn, HasAction, IsKeptFor, Guards, stands, absent}
 use Rattle.rv64_codegen.specs.links.Threads.{GoesToNode, DoesAction, DoesAt, IsPiece, action_exprs, most_doing, list_at}
 use Rattle.rv64_codegen.specs.links.Threads.{plan_in, thread_of, choices_of}
@@ -107,8 +111,9 @@ module _ (x : opened.ThreadPlan) (o : IsOpen x) where
   guard_stands node k piece is chosen own =
       stands chosen (λ locals.
       let locks : List ℕ = locks_before p t locals node in
-      subst (λ (b : Boundary). IsBoundaryPiece b (MayEnter p t locals node) boundary_words piece) (boundary_is locals node k 0 is)
-      (boundary_from (boundary_of k locks 0) (KeepsFrom k locks) (MayEnter p t locals node) (kept_words k) boundary_words piece (is.leave locals) is.few
+      let most : ℕ = boundary_words p.log (held_names_before p t node) in
+      subst (λ (b : Boundary). IsBoundaryPiece b (MayEnter p t locals node) most piece) (boundary_is locals node k 0 is)
+      (boundary_from (boundary_of k locks 0) (KeepsFrom k locks) (MayEnter p t locals node) (kept_words k) most piece (is.leave locals) is.few
       (own locks (is.locks_are locals))))
 
   guard_is : (node : ℕ) (before : List CodeItem) → Guards x node before → IsGuarded p t c node before
@@ -117,15 +122,24 @@ module _ (x : opened.ThreadPlan) (o : IsOpen x) where
     | absent none is ↦ record { chosen = λ chosen. absurd (none chosen); plain = λ _. is }
   ]
 
-  within : (a : Action) → most_doing a ≤ node_price (action_nodes a)
-  within (Eval target value next) = omega arith
-  within (Store variable kind next) = omega arith
-  within (Test condition holds fails) = omega arith
-  within (Lock lock next) = omega arith
-  within (Unlock lock next) = omega arith
-  within End = omega arith
+  within : (a : Action) (node : ℕ) → most_doing p t a ≤ node_price (action_nodes a) + hold_words p.log (names_kept p t a node)
+  within (Eval target value next) node = omega arith
+  within (Store variable kind next) node = omega arith
+  within (Test condition holds fails) node = omega arith
+  within (Lock lock next) node = omega arith
+  within (Unlock lock next) node = omega arith
+  within End node = omega arith
 
-  within_store : (a : Action) → IsStoring p o.plan a → most_doing a ≤ 3
+  -- a store keeps what is held before it
+  kept_store : (a : Action) (node : ℕ) → IsStoring p o.plan a → names_kept p t a node ≡ held_names_before p t node
+  kept_store (Eval target value next) node h = absurd h
+  kept_store (Store variable kind next) node h = refl
+  kept_store (Test condition holds fails) node h = absurd h
+  kept_store (Lock lock next) node h = absurd h
+  kept_store (Unlock lock next) node h = absurd h
+  kept_store End node h = absurd h
+
+  within_store : (a : Action) → IsStoring p o.plan a → most_doing p t a ≤ 3
   within_store (Eval target value next) h = absurd h
   within_store (Store variable kind next) h = omega arith
   within_store (Test condition holds fails) h = absurd h
@@ -134,11 +148,14 @@ module _ (x : opened.ThreadPlan) (o : IsOpen x) where
   within_store End h = absurd h
 
   guard_price : (node : ℕ) (is : Node) (before : List CodeItem) → IsNodeOf t node → NodeAt p.graph node is → Guards x node before →
-      sum_by most_words_of before + most_doing is.action ≤ node_price (action_nodes is.action)
+      sum_by most_words_of before + most_doing p t is.action ≤ node_price (action_nodes is.action) + hold_words p.log (names_kept p t is.action node)
   guard_price node is before own at g = elim g [
     | stands chosen b ↦
-        omega (arith, (b []).few, few_live node own, within_store is.action (chosen_stores p o.plan node is at chosen))
-    | absent none e ↦ omega (arith, ap (λ (xs : List CodeItem). sum_by most_words_of xs) e, within is.action)
+        let storing = chosen_stores p o.plan node is at chosen in
+        let kept : hold_words p.log (names_kept p t is.action node) ≡ hold_words p.log (held_names_before p t node) =
+        ap (λ (names : List e.LockName). hold_words p.log names) (kept_store is.action node storing) in
+        omega (arith, (b []).few, few_live node own, within_store is.action storing, kept)
+    | absent none e ↦ omega (arith, ap (λ (xs : List CodeItem). sum_by most_words_of xs) e, within is.action node)
   ]
 
   pub piece_is : (node : ℕ) (is : Node) (before rest : List CodeItem) → IsNodeOf t node → NodeAt p.graph node is → Guards x node before →
@@ -175,7 +192,7 @@ module _ (x : opened.ThreadPlan) (o : IsOpen x) where
 
   pub two_appended : (node next : ℕ) (old mid new : List CodeItem) (Is : List CodeItem → Type 0) (a : Action) (most : ℕ) → Appends old mid Is →
       Appends mid new (GoesToNode x node next) → ((does goes : List CodeItem) → Is does → GoesToNode x node next goes → IsDoing p t c node a does goes) →
-      ((does : List CodeItem) → Is does → sum_by most_words_of does ≤ most) → most + 1 ≤ most_doing a → Appends old new (DoesAction x node a)
+      ((does : List CodeItem) → Is does → sum_by most_words_of does ≤ most) → most + 1 ≤ most_doing p t a → Appends old new (DoesAction x node a)
   two_appended node next old mid new Is a most d g doing few price = record {
     piece = d.piece ++ g.piece;
     appended = g.appended ∙ ap (λ (xs : List CodeItem). xs ++ g.piece) d.appended ∙ append_assoc old d.piece g.piece;
@@ -196,7 +213,7 @@ module _ (x : opened.ThreadPlan) (o : IsOpen x) where
   }
 
   pub one_appended : (node : ℕ) (old new : List CodeItem) (Is : List CodeItem → Type 0) (a : Action) → Appends old new Is →
-      ((does : List CodeItem) → Is does → IsDoing p t c node a does []) → ((does : List CodeItem) → Is does → sum_by most_words_of does ≤ most_doing a) →
+      ((does : List CodeItem) → Is does → IsDoing p t c node a does []) → ((does : List CodeItem) → Is does → sum_by most_words_of does ≤ most_doing p t a) →
       Appends old new (DoesAction x node a)
   one_appended node old new Is a d doing few = record {
     piece = d.piece;
@@ -234,32 +251,6 @@ module _ (x : opened.ThreadPlan) (node : ℕ) where
   own_at : (a : Action) (at : HasAction x node a) (next : ℕ) → (u.part.first ≤ next) × (next < u.part.end) → IsOwn x next
   own_at a at next w = record { open_is = at.own.open_is; own = record { from_first = w.0; below_end = w.1 } }
 
-  -- what the node's action names is there
-  abbrev pub Formed : (a : Action) → HasAction x node a → Type 0
-  Formed (Eval target value next) at =
-      IsAtHome (homes_of x.frame) target × (AreAtHome (homes_of x.frame) value.expr × IsOwn x next)
-  Formed (Store variable kind next) at = IsOwn x next
-  Formed (Test condition holds fails) at = AreAtHome (homes_of x.frame) condition.expr × (IsOwn x holds × IsOwn x fails)
-  Formed (Lock lock next) at = (lock.mutex < 2048) × IsOwn x next
-  Formed (Unlock lock next) at = (lock.mutex < 2048) × IsOwn x next
-  Formed End at = Unit {0}
-
-  formed_by : (a : Action) (at : HasAction x node a) → sound.IsFormed q.flat at.own.open_is.thread.text.locals u.part.first u.part.end
-      at.own.open_is.plan.formed.shared.variables a → Formed a at
-  formed_by (Eval target value next) at f = (target_home _ target at f.0.0, (home_of _ value.expr at f.1.0.0, own_at _ at next f.1.1))
-  formed_by (Store variable kind next) at f = own_at _ at next f
-  formed_by (Test condition holds fails) at f = (home_of _ condition.expr at f.0.0, (own_at _ at holds f.1.0, own_at _ at fails f.1.1))
-  formed_by (Lock lock next) at f = (omega (arith, f.0, at.own.open_is.plan.formed.shared.mutexes), own_at _ at next f.1)
-  formed_by (Unlock lock next) at f = (omega (arith, f.0, at.own.open_is.plan.formed.shared.mutexes), own_at _ at next f.1)
-  formed_by End at f = tt
-
-  pub formed_at : (a : Action) (at : HasAction x node a) → Formed a at
-  formed_at a at =
-      let o = at.own.open_is in
-      let s = sound_node q o.plan u o.thread node at.is at.own.own at.at in
-      formed_by a at (subst (λ (b : Action). sound.IsFormed q.flat o.thread.text.locals u.part.first u.part.end o.plan.formed.shared.variables b)
-      at.action_is s.formed)
-
   pub cheap_at : (a : Action) (at : HasAction x node a) → node_price (action_nodes a) ≤ MOST_PRICE
   cheap_at a at =
       let o = at.own.open_is in
@@ -268,6 +259,40 @@ module _ (x : opened.ThreadPlan) (node : ℕ) where
   -- its expressions need few enough temporaries
   pub few_at : (a : Action) (at : HasAction x node a) → NeedFew (action_exprs a)
   few_at a at = subst (λ (b : Action). NeedFew (action_exprs b)) at.action_is (at.own.open_is.few node at.is at.at)
+
+  -- what the node's action names is there
+  abbrev pub Formed : (a : Action) → HasAction x node a → Type 0
+  Formed (Eval target value next) at =
+      IsAtHome (homes_of x.frame) target × (AreAtHome (homes_of x.frame) value.expr × IsOwn x next)
+  Formed (Store variable kind next) at = IsOwn x next
+  Formed (Test condition holds fails) at = AreAtHome (homes_of x.frame) condition.expr × (IsOwn x holds × IsOwn x fails)
+  Formed (Lock lock next) at = IsReady (homes_of x.frame) lock × IsOwn x next
+  Formed (Unlock lock next) at = IsReady (homes_of x.frame) lock × IsOwn x next
+  Formed End at = Unit {0}
+
+  -- the code of a lock's number may be made
+  ready_at : (a : Action) (lock : e.LockName) (at : HasAction x node a) → IsFlatLockName q.flat.mutexes at.own.open_is.thread.text.locals lock →
+      NeedFew (key_exprs lock) → node_price (key_nodes lock) ≤ MOST_PRICE → IsReady (homes_of x.frame) lock
+  ready_at a lock at formed few cheap =
+      let o = at.own.open_is in
+      subst (λ (h : Homes). IsReady h lock) (sym o.homes)
+      (name_ready q o.plan u o.thread lock (subst (λ (ks : List Kind). IsFlatLockName q.flat.mutexes ks lock) (sym o.thread.kinds) formed) few cheap)
+
+  formed_by : (a : Action) (at : HasAction x node a) → sound.IsFormed q.flat at.own.open_is.thread.text.locals u.part.first u.part.end
+      at.own.open_is.plan.formed.shared.variables a → Formed a at
+  formed_by (Eval target value next) at f = (target_home _ target at f.0.0, (home_of _ value.expr at f.1.0.0, own_at _ at next f.1.1))
+  formed_by (Store variable kind next) at f = own_at _ at next f
+  formed_by (Test condition holds fails) at f = (home_of _ condition.expr at f.0.0, (own_at _ at holds f.1.0, own_at _ at fails f.1.1))
+  formed_by (Lock lock next) at f = (ready_at _ lock at f.0 (few_at _ at) (cheap_at _ at), own_at _ at next f.1)
+  formed_by (Unlock lock next) at f = (ready_at _ lock at f.0 (few_at _ at) (cheap_at _ at), own_at _ at next f.1)
+  formed_by End at f = tt
+
+  pub formed_at : (a : Action) (at : HasAction x node a) → Formed a at
+  formed_at a at =
+      let o = at.own.open_is in
+      let s = sound_node q o.plan u o.thread node at.is at.own.own at.at in
+      formed_by a at (subst (λ (b : Action). sound.IsFormed q.flat o.thread.text.locals u.part.first u.part.end o.plan.formed.shared.variables b)
+      at.action_is s.formed)
 
   pub exists_at : (at : IsOwn x node) → node < length q.graph.nodes
   exists_at at =

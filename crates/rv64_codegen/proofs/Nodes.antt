@@ -6,7 +6,7 @@ use Rattle.std.proofs.lemmas.Option.{none-some, same_Some}
 use Rattle.ido_base.specs.declared.place.Place.{Place}
 use Rattle.ido_ints.specs.declared.kinds.Kind.{Kind}
 use Rattle.c_tree.specs.Exprs as e
-use Rattle.c_tree.specs.LockDiscipline.{expr_locals}
+use Rattle.c_tree.specs.LockDiscipline.{expr_locals, key_locals}
 use Rattle.c_tree.specs.Flats as f
 use Rattle.c_tree.specs.WellFormed.{IsFlatPlaced, IsFlatTarget, IsFlatLockName, IsFlatStatement, AreFlatStatements, AreFlatArms, IsDeclared, IsWellFormed}
 use Rattle.flow_graph.specs.declared.graph.Part.{Part}
@@ -99,6 +99,7 @@ module _ (x : f.Flat) (ks : List Kind) (lo hi : ℕ) (all : List Node) where
 
   pub record CallKnown (lock : e.LockName) (next : ℕ) (n : Node) : Type 0 where
     pub name : IsFlatLockName x.mutexes ks lock
+    pub uses : n.uses ≡ key_locals lock
     pub assigns : n.assigns ≡ None
     pub inside : IsInside next
 
@@ -190,8 +191,8 @@ module _ (x : f.Flat) (ks : List Kind) (lo hi : ℕ) (all : List Node) where
         (has_prefix all first prefix (test_node table place condition first next ∷ []) h) a
         (omega (arith, whole)) (omega arith) (omega (arith, whole)))
         (record { condition_is = w.1; uses = refl; assigns = refl; holds_inside = (a, omega (arith, whole)); fails_inside = (c, d) }, tt)
-    statement_known table (f.Lock place name) first next w h a b c d = (record { name = w; assigns = refl; inside = (c, d) }, tt)
-    statement_known table (f.Unlock place name) first next w h a b c d = (record { name = w; assigns = refl; inside = (c, d) }, tt)
+    statement_known table (f.Lock place name) first next w h a b c d = (record { name = w; uses = refl; assigns = refl; inside = (c, d) }, tt)
+    statement_known table (f.Unlock place name) first next w h a b c d = (record { name = w; uses = refl; assigns = refl; inside = (c, d) }, tt)
 
     statements_known : (table : Table) (ys : f.Statements) (first next : ℕ) → AreFlatStatements x ks ys →
         Has all first (statements_nodes table ys first next) → lo ≤ first →

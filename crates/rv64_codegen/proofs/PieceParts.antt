@@ -90,7 +90,7 @@ module _ (p : Plan) (t : Thread) (c : Choices) where
       by (turned same test none) = test.closed
       by (straight test goes_to) = test.closed
   does_closed node (Lock lock next) does goes d = (d.0 []).closed
-  does_closed node (Unlock lock next) does goes d = (d.0 []).closed
+  does_closed node (Unlock lock next) does goes d = (d.0.1 []).closed
   does_closed node End does goes d = d.0.closed
 
 module _ {p : Plan} {t : Thread} {c : Choices} {entry : ℕ → ℕ} (it : PlacedNode p t c entry) where
@@ -152,7 +152,7 @@ module _ {p : Plan} {t : Thread} {c : Choices} {entry : ℕ → ℕ} (it : Place
   call_of (Store variable kind next) d = 0
   call_of (Test condition holds fails) d = 0
   call_of (Lock lock next) d = ((d.0 []).at does_bare).call
-  call_of (Unlock lock next) d = ((d.0 []).at does_bare).call
+  call_of (Unlock lock next) d = ((d.0.1 []).at does_bare).call
   call_of End d = (d.0.at does_bare).call
 
   abbrev pub spots_in : Spots

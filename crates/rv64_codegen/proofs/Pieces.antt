@@ -42,7 +42,7 @@ fences_below (CboClean rs1) = omega arith
 fences_below Fence = omega arith
 fences_below Ecall = omega arith
 
-no_fences : (code : List Instr) → impure_among code ≡ 0 → fences_in (map Instruction code) ≡ 0
+pub no_fences : (code : List Instr) → impure_among code ≡ 0 → fences_in (map Instruction code) ≡ 0
 no_fences [] h = refl
 no_fences (i ∷ is) h =
     let all = sum_by-cons impure_of i is in
@@ -68,7 +68,7 @@ cleans_below (CboClean rs1) = omega arith
 cleans_below Fence = omega arith
 cleans_below Ecall = omega arith
 
-no_cleans : (code : List Instr) → impure_among code ≡ 0 → cleans_in (map Instruction code) ≡ 0
+pub no_cleans : (code : List Instr) → impure_among code ≡ 0 → cleans_in (map Instruction code) ≡ 0
 no_cleans [] h = refl
 no_cleans (i ∷ is) h =
     let all = sum_by-cons impure_of i is in

@@ -11,8 +11,9 @@ use Rattle.c_tree.specs.Exprs as e
 use Rattle.c_tree.specs.Flats as f
 use Rattle.c_tree.specs.LockNames.{Held}
 use Rattle.c_tree.specs.Prices.{node_price, thread_price}
-use Rattle.c_tree.specs.declared.language.Language.TheVariants.{Plain}
-use Rattle.c_tree.specs.HoldPrices.{price_fault}
+use Rattle.c_tree.specs.declared.language.Language.{Language}
+use Rattle.c_tree.specs.declared.language.Language.TheVariants.{Plain, Full}
+use Rattle.c_tree.specs.HoldPrices.{full_price, price_fault}
 use Rattle.c_tree.specs.WellFormed.{AreFlatStatements}
 use Rattle.lock_discipline.specs.HeldSetsByStep.{assign_steps, steps, steps_of_all, steps_of_arms, thread_steps}
 use Rattle.lock_discipline.proofs.Public.{held_length}
@@ -24,7 +25,7 @@ use Rattle.flow_graph.specs.IdempotentCuts.{IsChosen, Writes}
 use Rattle.flow_graph.specs.Liveness.{NodeAt}
 use Rattle.flow_graph.specs.Lowering.{table_of, assign_count, count, statements_count, arms_count, thread_count, thread_nodes, threads_nodes, part, parts}
 use Rattle.flow_graph.proofs.Public.{length-thread_nodes, all_at, found_in, lowered_nodes, lowered_threads, ShapedAs, node_shaped}
-use Rattle.thread_code.specs.Plans.{Plan, Thread, IsPlan, IsThread, IsNodeOf, locks_before, locks_held, set_before}
+use Rattle.thread_code.specs.Plans.{Plan, Thread, IsPlan, IsThread, IsNodeOf, language_of, locks_before, locks_held, set_before}
 use Rattle.thread_code.proofs.Public.{plain_before}
 use Rattle.thread_code.specs.Programs.{action_nodes}
 use Rattle.rv64_codegen.proofs.LoweredNodes.{price_of, prices, price_thread, IsLoweredNode, sound_thread, sound_at, part_is, node_of_thread}
@@ -83,10 +84,15 @@ none_found test (y ∷ xs) zero x h g =
     subst (λ z. test z ≡ false) same (none_chosen (test y) y (find test xs) h).0
 none_found test (y ∷ xs) (suc k) x h g = none_found test xs k x (none_chosen (test y) y (find test xs) h).1 g
 
-thread_cheap : (x : f.Flat) (k : ℕ) (t : f.Thread) → price_fault Plain x ≡ None → slice_get x.threads k ≡ Some t → nat_lt MOST_PRICE (thread_price t) ≡ false
+thread_cheap : (l : Language) (x : f.Flat) (k : ℕ) (t : f.Thread) → price_fault l x ≡ None → slice_get x.threads k ≡ Some t →
+    nat_lt MOST_PRICE (full_price l x t) ≡ false
 unfolding price_fault
-thread_cheap x k t h g = none_found (λ (u : f.Thread). nat_lt MOST_PRICE (thread_price u)) x.threads k t
-    (none_mapped (λ (u : f.Thread). u.name.place) (find (λ (u : f.Thread). nat_lt MOST_PRICE (thread_price u)) x.threads) h) g
+thread_cheap l x k t h g = none_found (λ (u : f.Thread). nat_lt MOST_PRICE (full_price l x u)) x.threads k t
+    (none_mapped (λ (u : f.Thread). u.name.place) (find (λ (u : f.Thread). nat_lt MOST_PRICE (full_price l x u)) x.threads) h) g
+
+no_less : (l : Language) (x : f.Flat) (t : f.Thread) → thread_price t ≤ full_price l x t
+no_less Plain x t = omega arith
+no_less Full x t = omega arith
 
 not_above : (n m : ℕ) → nat_lt n m ≡ false → m ≤ n
 not_above n m h = grind arith
@@ -191,12 +197,17 @@ module _ (p : Plan) (plan : IsPlan p) where
 
     -- ---- Prices
 
-    pub cheap : prices (thread_nodes (table_of p.flat th.text) th.text t.part.first) ≤ MOST_PRICE
-    cheap = omega (
-      arith,
-      price_thread (table_of p.flat th.text) th.text t.part.first,
-      not_above MOST_PRICE (thread_price th.text) (thread_cheap p.flat t.number th.text plan.priced th.of_text),
-    )
+    -- with what is held, where the log lists locks
+    pub cheap_whole : full_price (language_of p.log) p.flat th.text ≤ MOST_PRICE
+    cheap_whole =
+        not_above MOST_PRICE (full_price (language_of p.log) p.flat th.text)
+        (thread_cheap (language_of p.log) p.flat t.number th.text plan.priced th.of_text)
+
+    pub cheap_text : thread_price th.text ≤ MOST_PRICE
+    cheap_text = omega (arith, cheap_whole, no_less (language_of p.log) p.flat th.text)
+
+    cheap : prices (thread_nodes (table_of p.flat th.text) th.text t.part.first) ≤ MOST_PRICE
+    cheap = omega (arith, price_thread (table_of p.flat th.text) th.text t.part.first, cheap_text)
 
     pub cheap_node : (node : ℕ) (is : Node) → IsNodeOf t node → NodeAt p.graph node is → node_price (action_nodes is.action) ≤ MOST_PRICE
     cheap_node node is own at =

@@ -1,5 +1,5 @@
 -- What a plan says of all its threads and variables.
-use Rattle.std.proofs.Common.{◌≡◌, refl, ℕ, suc, ◌+◌, ◌<◌, ◌≤◌, List, [], ◌∷◌, length, ◌∙◌, ap, sym, subst, arith, Some, get_or}
+use Rattle.std.proofs.Common.{◌≡◌, refl, ℕ, suc, ◌+◌, ◌<◌, ◌≤◌, List, [], ◌∷◌, length, ◌∙◌, ap, sym, subst, arith, Some, None, get_or}
 use Rattle.std.specs.Prelude.{slice_get, map, Vec}
 use Rattle.std.specs.Global.{Global}
 use Rattle.std.specs.List.{AllByRecursion}
@@ -9,17 +9,22 @@ use Rattle.ido_base.specs.declared.limits.TheConstants.{MOST_THREADS}
 use Rattle.c_tree.specs.Flats as f
 use Rattle.c_tree.specs.Programs as p
 use Rattle.c_tree.specs.WellFormed.{shape_of, IsVariable, initial_numbers}
-use Rattle.expr_code.specs.EvaluationCode.{Homes}
+use Rattle.c_tree.specs.Temporaries.{temporaries_fault}
+use Rattle.c_tree.specs.links.KnownNames.{names_of}
+use Rattle.expr_code.specs.EvaluationCode.{Homes, homes_of}
 use Rattle.flow_graph.specs.declared.graph.Part.{Part}
 use Rattle.flow_graph.specs.Nodes.{Node}
 use Rattle.flow_graph.specs.Lowering.{thread_count, threads_nodes, parts}
 use Rattle.flow_graph.proofs.Public.{found_in}
 use Rattle.region_cutter.specs.Places.{WriteElements}
 use Rattle.memory_layout.specs.Variables.{AreAddresses, AreCounted, HaveRoom}
-use Rattle.thread_code.specs.Plans.{Plan, Thread, IsPlan, IsThread, home_of_colour}
+use Rattle.thread_code.specs.Plans.{Plan, Thread, IsPlan, IsThread, home_of_colour, homes, names_in}
 use Rattle.rv64_codegen.specs.declared.thread.ThreadPlan as opened
-use Rattle.rv64_codegen.specs.links.Emission.{AreHomesOf, AreListsOf}
-use Rattle.rv64_codegen.specs.links.Threads.{AllNeedFew, AreCleaned, IsOpen, plan_in, kinds_in}
+use Rattle.rv64_codegen.specs.links.Emission.{AreHomesOf, AreListsOf, AreNamesOf}
+use Rattle.rv64_codegen.specs.links.Numbers.{IsReady}
+use Rattle.rv64_codegen.specs.links.Threads.{AreCleaned, IsOpen, plan_in, kinds_in, thread_of}
+use Rattle.rv64_codegen.proofs.NeededTemporaries.{few_needed}
+use Rattle.rv64_codegen.proofs.TextNames.{names_formed, names_ready}
 use Rattle.rv64_codegen.proofs.ChosenBoundaries.{read_get}
 use Rattle.rv64_codegen.proofs.Homes.{addresses_are, kinds_there}
 use Rattle.rv64_codegen.proofs.PlannedNodes.{nodes_are, threads_are, sound_node, first_below, end_within}
@@ -114,19 +119,27 @@ module _ (q : Plan) (plan : IsPlan q) where
 abbrev homes_made : List ℕ → List Home → Homes
 homes_made addresses locals = record { addresses = addresses; locals = locals }
 
-pub is_open : (x : opened.ThreadPlan) → IsPlan (plan_in x) → AllNeedFew (plan_in x).graph →
+pub is_open : (x : opened.ThreadPlan) → IsPlan (plan_in x) → temporaries_fault (plan_in x).flat ≡ None →
     AreAddresses (map shape_of (plan_in x).flat.variables) x.frame.addresses.now →
     AreCleaned (plan_in x) x.later.now →
     slice_get (plan_in x).graph.threads x.number ≡ Some x.part → AreHomesOf (plan_in x) x.number x.frame.locals.now →
-    AreListsOf (plan_in x) x.number x.frame.locals.now x.live.now → IsOpen x
-is_open x plan few addresses later at locals lists = record {
-  plan = plan;
-  few = few;
-  thread = is_thread (plan_in x) plan x.number x.part x.frame.locals.now at locals;
-  homes = ap (λ (places : List ℕ). homes_made places x.frame.locals.now) (addresses_are (plan_in x).flat.variables x.frame.addresses.now addresses);
-  lists = lists x.part at;
-  later = later;
-}
+    AreListsOf (plan_in x) x.number x.frame.locals.now x.live.now → AreNamesOf (plan_in x) x.number (names_of x.names.now) → IsOpen x
+is_open x plan shallow addresses later at locals lists names =
+    let thread = is_thread (plan_in x) plan x.number x.part x.frame.locals.now at locals in
+    let same : homes_of x.frame ≡ homes (plan_in x) (thread_of x) =
+    ap (λ (places : List ℕ). homes_made places x.frame.locals.now) (addresses_are (plan_in x).flat.variables x.frame.addresses.now addresses) in
+    record {
+      plan = plan;
+      few = few_needed (plan_in x) plan shallow;
+      thread = thread;
+      homes = same;
+      names = names;
+      formed = names_formed (plan_in x) plan (thread_of x) thread shallow;
+      ready = subst (λ (h : Homes). AllByRecursion (IsReady h) (names_in (plan_in x) (thread_of x))) (sym same)
+          (names_ready (plan_in x) plan (thread_of x) thread shallow);
+      lists = lists x.part at;
+      later = later;
+    }
 
 -- ---- Registers
 

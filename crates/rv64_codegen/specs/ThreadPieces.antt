@@ -1,8 +1,11 @@
 -- What the code of a whole thread is made of: a piece for each of its nodes, one after another.
 use Rattle.std.specs.Prelude.{◌≡◌, ◌≢◌, ◌↔◌, ℕ, ℤ, ◌+◌, ◌-◌, ◌*◌, ◌^◌, ◌<◌, ◌≤◌, List, [], ◌++◌, length, map, slice_get, sum_by, Some, Bool, true, false, pos}
+use Rattle.ido_base.specs.declared.log.Log.{Log}
 use Rattle.ido_ints.specs.declared.kinds.Kind.{Kind}
 use Rattle.c_tree.specs.Exprs as e
-use Rattle.c_tree.specs.Prices.{node_price}
+use Rattle.c_tree.specs.Exprs.{LockName}
+use Rattle.c_tree.specs.Prices.{key_nodes, node_price}
+use Rattle.c_tree.specs.Values.{lock_number}
 use Rattle.c_tree.specs.WellFormed.{shape_of}
 use Rattle.rv64_isa.specs.declared.object.CodeItem.{CodeItem}
 use Rattle.rv64_link.specs.LabelledCode.{most_words_of}
@@ -16,8 +19,8 @@ use Rattle.flow_graph.specs.IdempotentCuts.{IsChosen}
 use Rattle.flow_graph.specs.Liveness.{NodeAt}
 use Rattle.node_code.specs.Pieces.{IsStorePiece, IsBoundaryPiece, IsLockPiece, IsUnlockPiece, IsEnd, IsJump}
 use Rattle.node_code.specs.JoinedPieces.{joined}
-use Rattle.thread_code.specs.Plans.{Plan, IsPlan, Thread, IsThread, IsNodeOf, AreKept, homes, locks_before}
-use Rattle.thread_code.specs.Programs.{IsThreadCode, action_nodes}
+use Rattle.thread_code.specs.Plans.{Plan, IsPlan, Thread, IsThread, IsNodeOf, AreKept, held_names_before, hold_words, homes, locks_before}
+use Rattle.thread_code.specs.Programs.{IsThreadCode, action_nodes, names_kept}
 use Rattle.thread_code.specs.RegistersAtNodes.{Enters}
 use Rattle.rv64_codegen.specs.Evaluations.{IsEvaluation, IsTest}
 
@@ -39,9 +42,13 @@ pub record MayEnter (p : Plan) (t : Thread) (locals : List ℤ) (node : ℕ) (re
   pub enters : Enters p t node seen side registers
   pub locals_are : seen.locals ≡ locals
 
--- how many words a boundary has at most, beside one for each live register
-abbrev pub boundary_words : ℕ
-boundary_words = 72
+-- how many words a boundary that keeps these locks has at most, beside one for each live register
+abbrev pub boundary_words : Log → List LockName → ℕ
+boundary_words log names = 72 + hold_words log names
+
+-- and with the number of a lock that is taken or given back
+abbrev pub call_words : Log → List LockName → LockName → ℕ
+call_words log names lock = boundary_words log names + (16 * key_nodes lock + 1)
 
 module _ (p : Plan) (t : Thread) (c : Choices) where
   -- the label at which a node's code begins
@@ -58,7 +65,7 @@ module _ (p : Plan) (t : Thread) (c : Choices) where
   -- before what it does stands a boundary, or nothing
   pub record IsGuarded (node : ℕ) (piece : List CodeItem) : Type 0 where
     pub chosen : IsChosen p.graph p.boundaries node → (locals : List ℤ) →
-        IsBoundaryPiece (boundary_before locals node 0) (MayEnter p t locals node) boundary_words piece
+        IsBoundaryPiece (boundary_before locals node 0) (MayEnter p t locals node) (boundary_words p.log (held_names_before p t node)) piece
     pub plain : ¬ (IsChosen p.graph p.boundaries node) → piece ≡ []
 
   -- the next node follows, or a jump leads to it
@@ -73,18 +80,28 @@ module _ (p : Plan) (t : Thread) (c : Choices) where
     straight : IsTest (homes p t) condition.expr false (label_of_node holds) does → GoesTo node fails goes →
         IsChoosing node condition holds fails does goes
 
-  -- what it does, and how it goes on; a name without key has its mutex for its lock
+  -- takes the lock whose number the name has by the locals at the node, and keeps what it then holds
+  abbrev pub IsTaking : (node : ℕ) → LockName → (next : ℕ) → List CodeItem → Type 0
+  IsTaking node lock next does = (locals : List ℤ) →
+      IsLockPiece (boundary_before locals next 0) (MayEnter p t locals node) (MayEnter p t locals next)
+      (call_words p.log (held_names_before p t next) lock) (lock_number locals lock) does
+
+  -- gives it back; its boundary resumes after the call, so many bytes on
+  abbrev pub IsGiving : (node : ℕ) → LockName → (next : ℕ) → List CodeItem → Type 0
+  IsGiving node lock next does = (resume : ℕ) × ((locals : List ℤ) →
+      IsUnlockPiece (boundary_before locals next resume) (MayEnter p t locals node) (MayEnter p t locals next)
+      (call_words p.log (held_names_before p t next) lock) (lock_number locals lock) does)
+
+  -- what it does, and how it goes on
   abbrev pub IsDoing : (node : ℕ) → Action → (does goes : List CodeItem) → Type 0
   IsDoing node (Eval target value next) does goes = IsEvaluation (homes p t) target value.expr does × GoesTo node next goes
   IsDoing node (Store variable kind next) does goes = IsStorePiece kind (c.cleans node) does × GoesTo node next goes
   IsDoing node (Test condition holds fails) does goes = IsChoosing node condition holds fails does goes
-  IsDoing node (Lock lock next) does goes =
-      ((locals : List ℤ) → IsLockPiece (boundary_before locals next 0) (MayEnter p t locals next) boundary_words lock.mutex does) × GoesTo node next goes
-  IsDoing node (Unlock lock next) does goes =
-      ((locals : List ℤ) → IsUnlockPiece (boundary_before locals next 12) (MayEnter p t locals next) boundary_words lock.mutex does) × GoesTo node next goes
+  IsDoing node (Lock lock next) does goes = IsTaking node lock next does × GoesTo node next goes
+  IsDoing node (Unlock lock next) does goes = IsGiving node lock next does × GoesTo node next goes
   IsDoing node End does goes = IsEnd does × (goes ≡ [])
 
-  -- the piece of a node, within its price
+  -- the piece of a node, within its price and what is paid for the locks that it keeps
   pub record IsNodePiece (node : ℕ) (is : Node) (piece : List CodeItem) : Type 0 where
     pub before : List CodeItem
     pub does : List CodeItem
@@ -92,7 +109,7 @@ module _ (p : Plan) (t : Thread) (c : Choices) where
     pub split : piece ≡ before ++ (does ++ goes)
     pub guarded : IsGuarded node before
     pub doing : IsDoing node is.action does goes
-    pub price : sum_by most_words_of piece ≤ node_price (action_nodes is.action)
+    pub price : sum_by most_words_of piece ≤ node_price (action_nodes is.action) + hold_words p.log (names_kept p t is.action node)
 
   -- ---- A thread
 

@@ -1,11 +1,13 @@
 //! What nodes do, and how they go on.
-ghost use Rattle.std.specs.Prelude.{◌≡◌, ◌==◌, ◌+◌, ◌<◌, OnOk};
+ghost use Rattle.std.specs.Prelude.{◌≡◌, ◌==◌, ◌+◌, ◌≤◌, OnOk, length};
 ghost use Rattle.c_tree.specs.Exprs.{placed_of, lvalue_of, lock_name_of};
 ghost use Rattle.flow_graph.specs.Nodes.{Eval, Store, Test, Lock, Unlock, End, action_of};
-ghost use Rattle.node_code.specs.Pieces.{Appends, IsLockOf, IsUnlockOf};
+ghost use Rattle.node_code.specs.BoundaryCode.{IsQuiet};
+ghost use Rattle.node_code.specs.Pieces.{Appends, IsLockOf, IsUnlockOf, giving_bytes};
 ghost use Rattle.rv64_codegen.specs.links.Threads.{AppendsKept, DoesAction, DoesAt, GoesToNode, HasAction, IsOwn};
 
 use crate::evaluations::push_evaluation;
+use crate::numbers::call_code_of;
 use crate::tests_of_conditions::push_test;
 use crate::thread::ThreadPlan;
 use c_tree::expr::{LockName, Lvalue, Placed};
@@ -13,6 +15,7 @@ use flow_graph::graph::Action;
 use ido_base::memory::OutOfMemory;
 use ido_ints::Kind;
 use node_code::{push_end, push_jump, push_lock, push_store, push_unlock};
+use rv64_isa::instr::Instr;
 use rv64_isa::object::CodeItem;
 use std::alloc::Global;
 
@@ -130,21 +133,23 @@ fn push_making(
     push_fragment(items, thread, node, next)
 }
 
-/// Appends the code that takes a mutex, and then the boundary that keeps what lets the thread go on at the next node.
+/// Appends the code that takes the lock whose number the given code leaves in x10, and then the boundary that keeps what lets the thread
+/// go on at the next node.
 fn push_held_lock(
     alloc: Global,
     items: &mut Vec<CodeItem>,
     thread: &ThreadPlan,
     next: usize,
-    mutex: u16,
+    numbering: &[Instr],
 ) -> Result<(), OutOfMemory>
     requires own { IsOwn thread.now next }
-    requires mutex { mutex < 2048 }
-    ensures { OnOk result (AppendsKept thread.now next items.old.items items.new.items (λ k. IsLockOf k mutex)) }
+    requires some { 1 ≤ length numbering.now }
+    requires quiet_number { IsQuiet numbering.now }
+    ensures { OnOk result (AppendsKept thread.now next items.old.items items.new.items (λ k. IsLockOf k numbering.now)) }
 {
     let numbers = thread.numbers(alloc, next)?;
     let kept = thread.kept(next, &numbers);
-    push_lock(alloc, items, &kept, mutex)
+    push_lock(alloc, items, &kept, numbering)
 }
 
 /// A lock is taken.
@@ -159,26 +164,29 @@ fn push_taking(
     requires { HasAction thread.now node (Lock (lock_name_of lock.now) next) }
     ensures { OnOk result (Appends items.old.items items.new.items (DoesAction thread.now node (Lock (lock_name_of lock.now) next))) }
 {
-    let mutex = lock.mutex;
-    push_held_lock(alloc, items, thread, next, mutex as u16)?;
+    let number = call_code_of(alloc, &thread.frame, lock.as_ref())?;
+    push_held_lock(alloc, items, thread, next, &number)?;
     push_fragment(items, thread, node, next)
 }
 
-/// Appends the boundary that keeps what lets the thread go on at the next node, and then the code that gives a mutex back.
+/// Appends the boundary that keeps what lets the thread go on at the next node, and then the code that gives back the lock whose number
+/// the given code leaves in x10.
 fn push_held_unlock(
     alloc: Global,
     items: &mut Vec<CodeItem>,
     thread: &ThreadPlan,
     next: usize,
-    mutex: u16,
+    numbering: &[Instr],
 ) -> Result<(), OutOfMemory>
     requires own { IsOwn thread.now next }
-    requires mutex { mutex < 2048 }
-    ensures { OnOk result (AppendsKept thread.now next items.old.items items.new.items (λ k. IsUnlockOf k mutex)) }
+    requires some { 1 ≤ length numbering.now }
+    requires short { giving_bytes numbering.now ≤ 262144 }
+    requires quiet_number { IsQuiet numbering.now }
+    ensures { OnOk result (AppendsKept thread.now next items.old.items items.new.items (λ k. IsUnlockOf k numbering.now)) }
 {
     let numbers = thread.numbers(alloc, next)?;
     let kept = thread.kept(next, &numbers);
-    push_unlock(alloc, items, &kept, mutex)
+    push_unlock(alloc, items, &kept, numbering)
 }
 
 /// A lock is given back.
@@ -193,8 +201,8 @@ fn push_giving(
     requires { HasAction thread.now node (Unlock (lock_name_of lock.now) next) }
     ensures { OnOk result (Appends items.old.items items.new.items (DoesAction thread.now node (Unlock (lock_name_of lock.now) next))) }
 {
-    let mutex = lock.mutex;
-    push_held_unlock(alloc, items, thread, next, mutex as u16)?;
+    let number = call_code_of(alloc, &thread.frame, lock.as_ref())?;
+    push_held_unlock(alloc, items, thread, next, &number)?;
     push_fragment(items, thread, node, next)
 }
 

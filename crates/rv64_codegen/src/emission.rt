@@ -1,5 +1,5 @@
 //! The code of all threads.
-ghost use Rattle.std.specs.Prelude.{◌≡◌, ◌<◌, ◌≤◌, ◌++◌, ◌∷◌, [], ℕ, length, map, sum_by, All, None, IfOk, OnOk};
+ghost use Rattle.std.specs.Prelude.{◌≡◌, ◌<◌, ◌≤◌, ◌++◌, ◌∷◌, [], length, map, sum_by, All, None, IfOk, OnOk};
 ghost use Rattle.ido_base.specs.declared.limits.TheConstants.{MOST_THREADS, MOST_CODE_WORDS};
 ghost use Rattle.rv64_isa.specs.declared.object.CodeItem.TheVariants.{Here};
 ghost use Rattle.rv64_link.specs.LabelledCode.{most_words_of};
@@ -12,8 +12,9 @@ ghost use Rattle.thread_code.specs.Plans.{IsPlan};
 ghost use Rattle.rv64_codegen.specs.Plans.{plan_of};
 ghost use Rattle.rv64_codegen.specs.StoreCleans.{AllCleanAtOnce};
 ghost use Rattle.rv64_codegen.specs.ThreadPieces.{IsCode};
-ghost use Rattle.rv64_codegen.specs.links.Threads.{IsOpen, IsOwn, AreCleaned, AllNeedFew, IsPiece};
-ghost use Rattle.rv64_codegen.specs.links.Emission.{IsEmittedThread, IsEmittedOf, AreHomesOf, AreListsOf, AreEmittedTo};
+ghost use Rattle.c_tree.specs.links.KnownNames.{names_of};
+ghost use Rattle.rv64_codegen.specs.links.Threads.{IsOpen, IsOwn, AreCleaned, IsPiece};
+ghost use Rattle.rv64_codegen.specs.links.Emission.{IsEmittedThread, IsEmittedOf, AreHomesOf, AreListsOf, AreNamesOf, AreEmittedTo};
 
 use crate::actions::push_action;
 use crate::guards::push_guard;
@@ -21,6 +22,8 @@ use crate::initial::initial_bytes;
 use crate::plan::Plan;
 use crate::registers::{homes, live_lists};
 use crate::thread::ThreadPlan;
+use c_tree::expr::LockRef;
+use c_tree::lock_names::lock_names;
 use c_tree::shapes::shapes;
 use expr_code::{Frame, Home};
 use ido_base::memory::OutOfMemory;
@@ -77,15 +80,17 @@ fn emit_from<'a>(
     later: &'a [bool],
     homes: &'a [Home],
     live: &'a [Vec<Register>],
+    names: &'a [LockRef<'a>],
     number: usize,
 ) -> Result<Vec<CodeItem>, OutOfMemory>
     requires plan { IsPlan (plan_of plan.now) }
-    requires few { AllNeedFew (plan_of plan.now).graph }
+    requires shallow { temporaries_fault (plan_of plan.now).flat ≡ None }
     requires addresses { AreAddresses (map shape_of (plan_of plan.now).flat.variables) addresses.now }
     requires later { AreCleaned (plan_of plan.now) later.now }
     requires number { number < length plan.now.graph.now.threads.items }
     requires homes { AreHomesOf (plan_of plan.now) number homes.now }
     requires live { AreListsOf (plan_of plan.now) number homes.now live.now }
+    requires names { AreNamesOf (plan_of plan.now) number (names_of names.now) }
     ensures { IfOk result (λ r. IsEmittedOf (plan_of plan.now) number r.items) }
 {
     let thread = ThreadPlan {
@@ -96,6 +101,7 @@ fn emit_from<'a>(
             addresses,
             locals: homes,
         },
+        names,
         live,
         later,
     };
@@ -112,7 +118,7 @@ fn emit_thread(
     number: usize,
 ) -> Result<Vec<CodeItem>, OutOfMemory>
     requires plan { IsPlan (plan_of plan.now) }
-    requires few { AllNeedFew (plan_of plan.now).graph }
+    requires shallow { temporaries_fault (plan_of plan.now).flat ≡ None }
     requires addresses { AreAddresses (map shape_of (plan_of plan.now).flat.variables) addresses.now }
     requires later { AreCleaned (plan_of plan.now) later.now }
     requires number { number < length plan.now.graph.now.threads.items }
@@ -121,7 +127,18 @@ fn emit_thread(
     let homes = homes(alloc, &plan.colours.threads[number])?;
     let part = plan.graph.threads[number];
     let live = live_lists(alloc, plan, &homes, part)?;
-    emit_from(alloc, &*plan, &*addresses, &*later, &homes, &live, number)
+    let text = &plan.flat.threads[number];
+    let names = lock_names(alloc, &plan.flat.mutexes, &text.body)?;
+    emit_from(
+        alloc,
+        &*plan,
+        &*addresses,
+        &*later,
+        &homes,
+        &live,
+        &names,
+        number,
+    )
 }
 
 /// The code of all threads.
@@ -132,7 +149,7 @@ fn emit_threads(
     later: &[bool],
 ) -> Result<Vec<Vec<CodeItem>>, OutOfMemory>
     requires plan { IsPlan (plan_of plan.now) }
-    requires few { AllNeedFew (plan_of plan.now).graph }
+    requires shallow { temporaries_fault (plan_of plan.now).flat ≡ None }
     requires addresses { AreAddresses (map shape_of (plan_of plan.now).flat.variables) addresses.now }
     requires later { AreCleaned (plan_of plan.now) later.now }
     ensures { IfOk result (λ r. AreEmittedTo (plan_of plan.now) (length plan.now.graph.now.threads.items) r.items) }

@@ -7,6 +7,7 @@ mod evaluations;
 mod guards;
 mod initial;
 pub mod laws;
+mod numbers;
 mod plan;
 mod registers;
 mod targets;

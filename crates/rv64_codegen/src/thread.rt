@@ -1,14 +1,19 @@
 //! A thread whose code is made.
-ghost use Rattle.std.specs.Prelude.{◌≡◌, ◌<◌, ◌≤◌, ◌-◌, ◌+◌, ◌^◌, IfOk};
+ghost use Rattle.std.specs.Prelude.{◌≡◌, ◌<◌, ◌-◌, IfOk};
 ghost use Rattle.boundary_code.specs.Boundaries.{lists_of};
-ghost use Rattle.rv64_codegen.specs.links.Threads.{IsOwn, IsKeptFor, AreNumbersOf, listed_codes};
+ghost use Rattle.ido_base.specs.declared.log.Log.TheVariants.{V2};
+ghost use Rattle.rv64_codegen.specs.links.Threads.{IsOwn, IsKeptFor, AreNumbersOf, plan_in};
 
+use crate::numbers::held_numbers;
 use crate::plan::Plan;
+use c_tree::expr::LockRef;
 use expr_code::Frame;
 use flow_graph::graph::Part;
 use ido_base::log::Log;
 use ido_base::memory::OutOfMemory;
-use node_code::{Kept, number_codes};
+use memory_layout::log::log_of;
+use node_code::Kept;
+use operator_code::constant::constant;
 use rv64_isa::field::Register;
 use rv64_isa::instr::Instr;
 use rv64_isa::object::Label;
@@ -23,20 +28,12 @@ pub(crate) struct ThreadPlan<'a, 'p> {
     /// The thread's nodes.
     pub part: Part,
     pub frame: Frame<'a>,
+    /// The names of its locks.
+    pub names: &'a [LockRef<'a>],
     /// Of each of its nodes the registers that are live at its entry.
     pub live: &'a [Vec<Register>],
     /// Of each node of the graph whether a later store cleans the line that it stores into.
     pub later: &'a [bool],
-}
-
-/// Of each lock of a mask code that leaves its number, where the log lists locks.
-fn listed_codes(alloc: Global, log: Log, mask: u64) -> Result<Vec<Vec<Instr>>, OutOfMemory>
-    ensures { IfOk result (λ codes. lists_of codes.items ≡ listed_codes log mask) }
-{
-    match log {
-        Log::V1 => Ok(Vec::new(alloc)),
-        Log::V2 => number_codes(alloc, mask),
-    }
 }
 
 impl ThreadPlan<'_, '_> {
@@ -48,14 +45,28 @@ impl ThreadPlan<'_, '_> {
         Label((node - self.part.first) as u32)
     }
 
+    /// Of each lock that is held at a node code that leaves its number, for a log that lists locks.
+    fn listed(&self, alloc: Global, node: usize) -> Result<Vec<Vec<Instr>>, OutOfMemory>
+        requires own { IsOwn self.now node }
+        requires log { (plan_in self.now).log ≡ V2 }
+        ensures { IfOk result (λ codes. AreNumbersOf self.now node (lists_of codes.items)) }
+    {
+        let step = node - self.part.first;
+        let held = self.plan.held.held(self.number, step as u32);
+        let log = constant(alloc, Register::X31, log_of(Log::V2, self.number))?;
+        let codes = held_numbers(alloc, &self.frame, &log, self.names, held)?;
+        Ok(codes)
+    }
+
     /// Of each lock that is held at a node code that leaves its number, where the log lists locks.
     pub(crate) fn numbers(&self, alloc: Global, node: usize) -> Result<Vec<Vec<Instr>>, OutOfMemory>
         requires { IsOwn self.now node }
         ensures { IfOk result (λ codes. AreNumbersOf self.now node (lists_of codes.items)) }
     {
-        let step = node - self.part.first;
-        let mask = self.plan.held.held(self.number, step as u32);
-        listed_codes(alloc, self.plan.log, mask)
+        match self.plan.log {
+            Log::V1 => Ok(Vec::new(alloc)),
+            Log::V2 => self.listed(alloc, node),
+        }
     }
 
     /// What a boundary keeps that lets the thread go on at a node, where these are the codes of the locks held there.

@@ -18,11 +18,11 @@ use Rattle.thread_code.specs.Plans.{Plan, Thread, IsThread, locks_before, locks_
 
 -- ---- The mask
 
-lowest : (b : Bool) (m : ℕ) → ((cond b 1 0 + 2 * m) % 2 == 1) ≡ b
+pub lowest : (b : Bool) (m : ℕ) → ((cond b 1 0 + 2 * m) % 2 == 1) ≡ b
 lowest true m = let e : (1 + 2 * m) % 2 ≡ 1 = omega arith in ap (λ (n : ℕ). n == 1) e
 lowest false m = let e : (0 + 2 * m) % 2 ≡ 0 = omega arith in ap (λ (n : ℕ). n == 1) e
 
-half : (b : Bool) (m : ℕ) → (cond b 1 0 + 2 * m) / 2 ≡ m
+pub half : (b : Bool) (m : ℕ) → (cond b 1 0 + 2 * m) / 2 ≡ m
 half true m = omega arith
 half false m = omega arith
 

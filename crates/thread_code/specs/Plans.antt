@@ -2,12 +2,14 @@
 use Rattle.std.specs.Prelude.{◌≡◌, ◌↔◌, ℕ, ◌+◌, ◌-◌, ◌<◌, ◌≤◌, List, [], ◌∷◌, map, length, slice_get}
 use Rattle.std.specs.Prelude.{slice_index, slice_index_or, Contains, Some, None, Bool, true, ℤ, if◌then◌else◌}
 use Rattle.ido_base.specs.declared.log.Log.{Log}
+use Rattle.ido_base.specs.declared.log.Log.TheVariants.{V1, V2}
 use Rattle.ido_base.specs.Layout.{variable_at}
 use Rattle.ido_ints.specs.declared.kinds.Kind.{Kind}
 use Rattle.c_tree.specs.Flats as f
 use Rattle.c_tree.specs.WellFormed.{shape_of, IsWellFormed}
-use Rattle.c_tree.specs.declared.language.Language.TheVariants.{Plain}
-use Rattle.c_tree.specs.HoldPrices.{price_fault}
+use Rattle.c_tree.specs.declared.language.Language.{Language}
+use Rattle.c_tree.specs.declared.language.Language.TheVariants.{Plain, Full}
+use Rattle.c_tree.specs.HoldPrices.{hold_prices, price_fault}
 use Rattle.c_tree.specs.Exprs.{LockName}
 use Rattle.c_tree.specs.LockNames.{Held, held_names, holds, lock_names}
 use Rattle.c_tree.specs.Values.{lock_number}
@@ -98,6 +100,18 @@ held_names_before p t node = held_names (names_in p t) (set_before p t node)
 abbrev pub locks_before : Plan → Thread → (locals : List ℤ) → (node : ℕ) → List ℕ
 locks_before p t locals node = map (lock_number locals) (held_names_before p t node)
 
+-- ---- What it costs to keep them
+
+-- a log that lists its locks is one of programs with arrays of mutexes, where what is held has a price
+abbrev pub language_of : Log → Language
+language_of V1 = Plain
+language_of V2 = Full
+
+-- how many words the code of these locks may have in a boundary: where the log has a mask, none
+abbrev pub hold_words : Log → List LockName → ℕ
+hold_words V1 names = 0
+hold_words V2 names = hold_prices names
+
 -- ---- Registers to keep
 
 -- a register that is live at the node's entry: the home of a live local, or before a store those of what it stores
@@ -128,6 +142,6 @@ pub record IsPlan (p : Plan) : Type 0 where
   pub registers : AreRegisters p.graph p.colours
   pub apart : HasNoClash p.graph p.colours
   -- no thread's price is too high
-  pub priced : price_fault Plain p.flat ≡ None
+  pub priced : price_fault (language_of p.log) p.flat ≡ None
   -- a bank of the threads' logs has room for the locks that are held before each node
   pub room : (t : Thread) (locals : List ℤ) (node : ℕ) → HaveRoom p.log (locks_before p t locals node)

@@ -1,10 +1,10 @@
 -- That a program is the code of a thread: all that is said of it above, where no instruction is looked at again.
-use Rattle.std.specs.Prelude.{◌≡◌, ◌≢◌, ◌↔◌, ℕ, ◌+◌, ◌-◌, ◌*◌, ◌≤◌, [], length}
+use Rattle.std.specs.Prelude.{◌≡◌, ◌≢◌, ◌↔◌, ℕ, ◌+◌, ◌-◌, ◌*◌, ◌≤◌, List, [], length}
 use Rattle.c_tree.specs.Exprs.{LockName}
 use Rattle.std.specs.Prelude.{map, slice_get, slice_index_or, Contains, Some, false}
 use Rattle.std.specs.List.Sorted.{IsStrictlyIncreasing}
 use Rattle.c_tree.specs.Exprs as e
-use Rattle.c_tree.specs.Prices.{node_price, nodes_of}
+use Rattle.c_tree.specs.Prices.{key_nodes, node_price, nodes_of}
 use Rattle.c_tree.specs.WellFormed.{shape_of}
 use Rattle.rv64_isa.specs.declared.instr.Instr.TheVariants.{Ecall}
 use Rattle.flow_graph.specs.Nodes.{Action, Eval, Store, Test, Lock, Unlock, End, Node}
@@ -15,11 +15,11 @@ use Rattle.flow_graph.specs.Liveness.{NodeAt}
 use Rattle.rv64_link.specs.LabelledCode.{one_if}
 use Rattle.rv64_link.specs.LinkedCode.{IsInstructionAt, AreInstructions}
 use Rattle.code_runs.specs.CodeTraces.{Program, Meets, marked}
-use Rattle.thread_code.specs.Plans.{Plan, Thread, IsNodeOf, AreKept, held_names_before}
+use Rattle.thread_code.specs.Plans.{Plan, Thread, IsNodeOf, AreKept, held_names_before, hold_words}
 use Rattle.thread_code.specs.RegistersAtNodes.{IsAnswered, source_of}
 use Rattle.thread_code.specs.NodeCodeEffects.{Places, Entrance, EntersAt, Performs, BoundaryCode, GoesOnAfter}
 
--- expression nodes of a node, a target's index included
+-- expression nodes of a node, a target's index and a lock's key included
 abbrev pub target_nodes : e.Lvalue → ℕ
 target_nodes (e.ToLocal place local kind) = 0
 target_nodes (e.ToVariable place variable kind) = 0
@@ -29,9 +29,18 @@ abbrev pub action_nodes : Action → ℕ
 action_nodes (Eval target value next) = target_nodes target + nodes_of value.expr
 action_nodes (Store variable kind next) = 0
 action_nodes (Test condition holds fails) = nodes_of condition.expr
-action_nodes (Lock lock next) = 0
-action_nodes (Unlock lock next) = 0
+action_nodes (Lock lock next) = key_nodes lock
+action_nodes (Unlock lock next) = key_nodes lock
 action_nodes End = 0
+
+-- the names whose locks a boundary of the node keeps: the one before a store, that of a lock or of an unlock
+abbrev pub names_kept : Plan → Thread → Action → (node : ℕ) → List LockName
+names_kept p t (Eval target value next) node = []
+names_kept p t (Store variable kind next) node = held_names_before p t node
+names_kept p t (Test condition holds fails) node = []
+names_kept p t (Lock lock next) node = held_names_before p t next
+names_kept p t (Unlock lock next) node = held_names_before p t next
+names_kept p t End node = []
 
 -- how many boundaries a node has: one before it, one after it
 abbrev pub boundary_count : Boundaries → (node : ℕ) → ℕ
@@ -106,8 +115,8 @@ module _ (p : Plan) (t : Thread) (c : Places) where
         effect_of is.action m.seen ≡ Some effect → Performs p t c m effect
     pub calls : IsCalling is.action node
     pub cleans : IsCleaning is.action node
-    -- within its price
-    pub price : c.words node ≤ node_price (action_nodes is.action)
+    -- within its price, and what is paid for the locks that it keeps
+    pub price : c.words node ≤ node_price (action_nodes is.action) + hold_words p.log (names_kept p t is.action node)
     pub within : IsWithin c is.action node
     -- all its words are instructions; each boundary has two FENCEs, and no other FENCE is there
     pub words : AreInstructions c.program.start c.program.code (c.entry node) (c.entry (node + 1)) (2 * boundary_count p.boundaries node)

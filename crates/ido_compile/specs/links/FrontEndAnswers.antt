@@ -38,7 +38,7 @@ IsFlatAnswer text (Err x) = IsRefusal text x
 
 -- by the checks of the flat form
 abbrev pub IsAnalysisAnswer : (text : List ℕ) → f.Flat → Result Analysis CompileError → Type 0
-IsAnalysisAnswer text flat (Ok a) = IsAccepted text flat × IsAnalysis a
+IsAnalysisAnswer text flat (Ok a) = IsAccepted text flat × IsAnalysis Plain a
 IsAnalysisAnswer text flat (Err x) = IsRefusal text x
 
 -- what a machine runs for the flat form

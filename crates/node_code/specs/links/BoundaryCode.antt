@@ -14,6 +14,10 @@ use Rattle.node_code.specs.Pieces.{MayKeep, boundary_of, codes_of}
 abbrev pub number_code : (mutex : ℕ) → List Instr
 number_code mutex = OpImmediate Addi 5 0 mutex ∷ []
 
+-- leaves it in x10, for a call
+abbrev pub call_code : (mutex : ℕ) → List Instr
+call_code mutex = OpImmediate Addi 10 0 mutex ∷ []
+
 -- the code is that of the boundary, and not long
 pub record IsCodeOf (b : Boundary) (codes : List (List Instr)) (code : List Instr) : Type 0 where
   pub short : length code ≤ length b.live + words_beside b.log codes

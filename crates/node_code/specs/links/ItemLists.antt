@@ -35,9 +35,9 @@ computing_items code = MarkNext ∷ plain (some_code code)
 abbrev pub choice_items : List Instr → Test → Label → List CodeItem
 choice_items code test to = (MarkNext ∷ plain code) ++ (BranchTo test.condition test.rs1 test.rs2 to ∷ [])
 
--- the registers of a call of one mutex
-abbrev pub asking : (mutex number : ℕ) → List Instr
-asking mutex number = OpImmediate Addi 10 0 mutex ∷ OpImmediate Addi 17 0 number ∷ []
+-- the registers of a call of one lock, whose number the code leaves in x10
+abbrev pub asking_items : (numbering : List Instr) → (call : ℕ) → List CodeItem
+asking_items numbering call = plain numbering ++ Instruction (OpImmediate Addi 17 0 call) ∷ []
 
 abbrev pub end_items : List CodeItem
 end_items = MarkNext ∷ plain (OpImmediate Addi 17 0 3 ∷ []) ++ Instruction Ecall ∷ []
@@ -45,9 +45,10 @@ end_items = MarkNext ∷ plain (OpImmediate Addi 17 0 3 ∷ []) ++ Instruction E
 abbrev pub boundary_items : (boundary : List Instr) → List CodeItem
 boundary_items boundary = plain boundary ++ ResumeNext ∷ []
 
-abbrev pub lock_items : (mutex : ℕ) → (boundary : List Instr) → List CodeItem
-lock_items mutex boundary = plain (asking mutex 1) ++ (MarkNext ∷ Instruction Ecall ∷ []) ++ boundary_items boundary
+abbrev pub lock_items : (numbering boundary : List Instr) → List CodeItem
+lock_items numbering boundary = asking_items numbering 1 ++ (MarkNext ∷ Instruction Ecall ∷ boundary_items boundary)
 
 -- it is resumed nowhere where the boundary ends a section
-abbrev pub unlock_items : (mutex : ℕ) → (ends : Bool) → (boundary : List Instr) → List CodeItem
-unlock_items mutex ends boundary = (MarkNext ∷ plain boundary) ++ (plain (asking mutex 2) ++ (Instruction Ecall ∷ (if ends then [] else ResumeNext ∷ [])))
+abbrev pub unlock_items : (numbering : List Instr) → (ends : Bool) → (boundary : List Instr) → List CodeItem
+unlock_items numbering ends boundary =
+    (MarkNext ∷ plain boundary) ++ (asking_items numbering 2 ++ (Instruction Ecall ∷ (if ends then [] else ResumeNext ∷ [])))

@@ -1,7 +1,10 @@
 -- The code of some threads.
-use Rattle.std.specs.Prelude.{◌≡◌, ℕ, ◌≤◌, List, length, map, slice_get, sum_by, Some, Vec}
+use Rattle.std.specs.Prelude.{◌≡◌, ℕ, ◌≤◌, List, [], length, map, slice_get, slice_index_or, sum_by, Some, Vec}
 use Rattle.std.specs.Global.{Global}
 use Rattle.ido_base.specs.declared.limits.TheConstants.{MOST_CODE_WORDS}
+use Rattle.c_tree.specs.Exprs.{LockName}
+use Rattle.c_tree.specs.Flats as f
+use Rattle.c_tree.specs.LockNames.{lock_names}
 use Rattle.rv64_isa.specs.declared.object.CodeItem.{CodeItem}
 use Rattle.rv64_link.specs.LabelledCode.{most_words_of}
 use Rattle.flow_graph.specs.declared.graph.Part.{Part}
@@ -30,6 +33,10 @@ AreHomesOf p number homes = (colours : List ℕ) → slice_get p.colours number 
 abbrev pub AreListsOf : Plan → (number : ℕ) → List Home → List (Vec ℕ Global) → Type 0
 AreListsOf p number homes lists = (part : Part) → slice_get p.graph.threads number ≡ Some part →
     AreLists p.graph homes p.live part.first part.end lists
+
+-- these are the names of the thread's locks
+abbrev pub AreNamesOf : Plan → (number : ℕ) → List LockName → Type 0
+AreNamesOf p number names = names ≡ slice_index_or (map (λ (text : f.Thread). lock_names p.flat text) p.flat.threads) number []
 
 -- the first `count` threads are emitted
 pub record AreEmittedTo (p : Plan) (count : ℕ) (threads : List (Vec CodeItem Global)) : Type 0 where

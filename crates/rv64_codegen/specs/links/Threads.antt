@@ -4,15 +4,11 @@ use Rattle.std.specs.Prelude.{Bool, true, false, not, ℤ}
 use Rattle.std.specs.Prelude.{Vec}
 use Rattle.std.specs.Global.{Global}
 use Rattle.std.specs.List.{AllByRecursion}
-use Rattle.ido_base.specs.Locks.{locks_in}
-use Rattle.ido_base.specs.declared.log.Log.{Log}
-use Rattle.ido_base.specs.declared.log.Log.TheVariants.{V1, V2}
-use Rattle.lock_discipline.specs.Masks.{mask_of}
 use Rattle.rv64_isa.specs.declared.instr.Instr.{Instr}
 use Rattle.c_tree.specs.Exprs as e
 use Rattle.c_tree.specs.Flats as f
-use Rattle.c_tree.specs.Temporaries.{assign_exprs}
-use Rattle.c_tree.specs.WellFormed.{shape_of}
+use Rattle.c_tree.specs.Temporaries.{assign_exprs, key_exprs}
+use Rattle.c_tree.specs.WellFormed.{IsFlatLockName, shape_of}
 use Rattle.ido_ints.specs.declared.kinds.Kind.{Kind}
 use Rattle.rv64_isa.specs.declared.object.CodeItem.{CodeItem}
 use Rattle.rv64_link.specs.LabelledCode.{most_words_of}
@@ -25,14 +21,16 @@ use Rattle.flow_graph.specs.IdempotentCuts.{IsChosen}
 use Rattle.node_code.specs.declared.kept.Kept as kept
 use Rattle.node_code.specs.BoundaryCode.{IsQuiet}
 use Rattle.node_code.specs.Pieces.{Appends, IsBoundaryPiece, KeepsFrom, MayKeep, codes_of, kept_words}
-use Rattle.node_code.specs.links.BoundaryCode.{number_code}
-use Rattle.thread_code.specs.Plans.{Plan, Thread, IsPlan, IsThread, IsNodeOf, homes, locks_before, set_before}
+use Rattle.thread_code.specs.Plans.{Plan, Thread, IsPlan, IsThread, IsNodeOf, held_names_before, hold_words, homes, locks_before, names_in}
 use Rattle.thread_code.specs.Programs.{action_nodes}
 use Rattle.rv64_codegen.specs.declared.thread.ThreadPlan as opened
 use Rattle.rv64_codegen.specs.Evaluations.{NeedFew}
 use Rattle.rv64_codegen.specs.ThreadPieces.{Choices, IsDoing, IsNodePiece, GoesTo, MayEnter, boundary_before, boundary_words}
 use Rattle.rv64_codegen.specs.Plans.{plan_of}
 use Rattle.rv64_codegen.specs.links.LiveRegisters.{AreLists}
+use Rattle.rv64_codegen.specs.links.Numbers.{AreNumberCodes, IsReady}
+use Rattle.c_tree.specs.Prices.{key_nodes}
+use Rattle.c_tree.specs.links.KnownNames.{names_of}
 use Rattle.expr_code.specs.declared.home.Home.{Home}
 
 -- ---- A thread
@@ -67,8 +65,8 @@ abbrev pub action_exprs : Action → List e.Placed
 action_exprs (Eval target value next) = assign_exprs target value
 action_exprs (Store variable kind next) = []
 action_exprs (Test condition holds fails) = condition ∷ []
-action_exprs (Lock lock next) = []
-action_exprs (Unlock lock next) = []
+action_exprs (Lock lock next) = key_exprs lock
+action_exprs (Unlock lock next) = key_exprs lock
 action_exprs End = []
 
 -- the expressions of all nodes need few enough temporaries
@@ -81,6 +79,9 @@ pub record IsOpen (x : opened.ThreadPlan) : Type 0 where
   pub few : AllNeedFew (plan_in x).graph
   pub thread : IsThread (plan_in x) (thread_of x)
   pub homes : homes_of x.frame ≡ homes (plan_in x) (thread_of x)
+  pub names : names_of x.names.now ≡ names_in (plan_in x) (thread_of x)
+  pub formed : AllByRecursion (IsFlatLockName (plan_in x).flat.mutexes (thread_of x).kinds) (names_in (plan_in x) (thread_of x))
+  pub ready : AllByRecursion (IsReady (homes_of x.frame)) (names_in (plan_in x) (thread_of x))
   pub lists : AreLists (plan_in x).graph x.frame.locals.now (plan_in x).live x.part.first x.part.end x.live.now
   pub later : AreCleaned (plan_in x) x.later.now
 
@@ -96,14 +97,9 @@ pub record HasAction (x : opened.ThreadPlan) (node : ℕ) (action : Action) : Ty
   pub at : NodeAt (plan_in x).graph node is
   pub action_is : is.action ≡ action
 
--- the codes of the locks of a mask, where the log lists locks
-abbrev pub listed_codes : Log → (mask : ℕ) → List (List Instr)
-listed_codes V1 mask = []
-listed_codes V2 mask = map number_code (locks_in mask)
-
--- the codes of the locks that are held at the node
+-- the codes of the numbers of the locks that are held at the node
 abbrev pub AreNumbersOf : opened.ThreadPlan → (node : ℕ) → List (List Instr) → Type 0
-AreNumbersOf x node codes = codes ≡ listed_codes (plan_in x).log (mask_of (set_before (plan_in x) (thread_of x) node))
+AreNumbersOf x node codes = AreNumberCodes (plan_in x).log (homes_of x.frame) x.number (held_names_before (plan_in x) (thread_of x) node) codes
 
 -- what a boundary keeps that lets the thread go on at the node
 pub record IsKeptFor (x : opened.ThreadPlan) (node : ℕ) (k : kept.Kept) : Type 0 where
@@ -115,7 +111,7 @@ pub record IsKeptFor (x : opened.ThreadPlan) (node : ℕ) (k : kept.Kept) : Type
   -- from registers with which the thread enters the node their codes leave their numbers
   pub leave : (locals : List ℤ) (registers : List ℕ) → MayEnter (plan_in x) (thread_of x) locals node registers →
       KeepsFrom k (locks_before (plan_in x) (thread_of x) locals node) registers
-  pub few : kept_words k ≤ boundary_words
+  pub few : kept_words k ≤ boundary_words (plan_in x).log (held_names_before (plan_in x) (thread_of x) node)
   pub room : length k.numbers.now ≤ 16
   pub quiet : AllByRecursion IsQuiet (codes_of k)
 
@@ -137,7 +133,8 @@ gives End = false
 pub data Guards (x : opened.ThreadPlan) (node : ℕ) (piece : List CodeItem) : Type 0 where
   stands : IsChosen (plan_in x).graph (plan_in x).boundaries node →
       ((locals : List ℤ) → IsBoundaryPiece (boundary_before (plan_in x) (thread_of x) (choices_of x) locals node 0)
-      (MayEnter (plan_in x) (thread_of x) locals node) boundary_words piece) → Guards x node piece
+      (MayEnter (plan_in x) (thread_of x) locals node)
+      (boundary_words (plan_in x).log (held_names_before (plan_in x) (thread_of x) node)) piece) → Guards x node piece
   absent : ¬ (IsChosen (plan_in x).graph (plan_in x).boundaries node) → piece ≡ [] → Guards x node piece
 
 -- the next node follows, or a jump leads to it
@@ -145,13 +142,13 @@ abbrev pub GoesToNode : opened.ThreadPlan → (node next : ℕ) → List CodeIte
 GoesToNode x node next piece = GoesTo (plan_in x) (thread_of x) (choices_of x) node next piece
 
 -- words that what a node does may take
-abbrev pub most_doing : Action → ℕ
-most_doing (Eval target value next) = 16 * action_nodes (Eval target value next) + 18
-most_doing (Store variable kind next) = 3
-most_doing (Test condition holds fails) = 16 * action_nodes (Test condition holds fails) + 11
-most_doing (Lock lock next) = 96
-most_doing (Unlock lock next) = 96
-most_doing End = 2
+abbrev pub most_doing : Plan → Thread → Action → ℕ
+most_doing p t (Eval target value next) = 16 * action_nodes (Eval target value next) + 18
+most_doing p t (Store variable kind next) = 3
+most_doing p t (Test condition holds fails) = 16 * action_nodes (Test condition holds fails) + 11
+most_doing p t (Lock lock next) = 16 * key_nodes lock + 96 + hold_words p.log (held_names_before p t next)
+most_doing p t (Unlock lock next) = 16 * key_nodes lock + 96 + hold_words p.log (held_names_before p t next)
+most_doing p t End = 2
 
 -- what the node does, and how it goes on
 pub record DoesAction (x : opened.ThreadPlan) (node : ℕ) (action : Action) (piece : List CodeItem) : Type 0 where
@@ -159,7 +156,7 @@ pub record DoesAction (x : opened.ThreadPlan) (node : ℕ) (action : Action) (pi
   pub goes : List CodeItem
   pub split : piece ≡ does ++ goes
   pub doing : IsDoing (plan_in x) (thread_of x) (choices_of x) node action does goes
-  pub few : sum_by most_words_of piece ≤ most_doing action
+  pub few : sum_by most_words_of piece ≤ most_doing (plan_in x) (thread_of x) action
 
 -- ---- At a node
 

@@ -11,16 +11,17 @@ pub returns-in_err-colours-clause-refused : goal.returns-in_err-colours-clause-r
 returns-in_err-colours-clause-refused c =
     let flat = flat_of c.args.flat.now in
     let error = c.in_err-colours.field-0.0 in
-    same_error (IsFormRefusal flat) error c.from_residual-in_err-colours.result c.from_residual-in_err-colours.ensures.1
-    (by_locals flat c.in_ok-held.ensures.disciplined (graph_of c.in_ok-graph.graph) error c.in_ok-graph.ensures c.in_err-colours.ensures.refused)
+    same_error (IsFormRefusal c.args.language flat) error c.from_residual-in_err-colours.result c.from_residual-in_err-colours.ensures.1
+    (by_locals c.args.language flat c.in_ok-held.ensures.disciplined (graph_of c.in_ok-graph.graph) error c.in_ok-graph.ensures
+    c.in_err-colours.ensures.refused)
 
 pub returns-in_err-check_temporaries-clause-refused : goal.returns-in_err-check_temporaries-clause-refused
 returns-in_err-check_temporaries-clause-refused c =
     let flat = flat_of c.args.flat.now in
     let error = c.in_err-check_temporaries.field-0.0 in
     let room = subst HasRoom c.in_ok-graph.ensures c.in_ok-colours.ensures.room in
-    same_error (IsFormRefusal flat) error c.from_residual-in_err-check_temporaries.result c.from_residual-in_err-check_temporaries.ensures.1
-    (by_temporaries flat c.in_ok-held.ensures.disciplined error room c.in_err-check_temporaries.ensures.refused)
+    same_error (IsFormRefusal c.args.language flat) error c.from_residual-in_err-check_temporaries.result c.from_residual-in_err-check_temporaries.ensures.1
+    (by_temporaries c.args.language flat c.in_ok-held.ensures.disciplined error room c.in_err-check_temporaries.ensures.refused)
 
 pub returns-clause-analysed : goal.returns-clause-analysed
 returns-clause-analysed c =

@@ -12,4 +12,5 @@ check-requires c = well_formed_has_names (flat_of c.args.flat.now) c.requires
 pub returns-in-Err-clause-refused : goal.returns-in-Err-clause-refused
 returns-in-Err-clause-refused c =
     let flat = flat_of c.args.flat.now in
-    subst (λ (e : SourceError). IsFormRefusal flat e) (sym c.of_lock.ensures) (by_locks flat c.in-Err.error c.in-Err.ensures.refuses)
+    subst (λ (e : SourceError). IsFormRefusal c.args.language flat e) (sym c.of_lock.ensures)
+    (by_locks c.args.language flat c.in-Err.error c.in-Err.ensures.refuses)

@@ -6,15 +6,15 @@ use Rattle.flat_compile.proofs.compile.translate.Goals.{After-marks-1}
 
 pub emit-requires-clause-plan : goal.emit-requires-clause-plan
 emit-requires-clause-plan c =
-    plan_is c.args.log c.args.analysis.now c.in_ok-cuts.cuts c.requires.analysis c.requires.few c.in_ok-cuts.ensures.cuts c.in_ok-cuts.ensures.places
+    plan_is c.walk_is_discipline.ensures c.args.log c.args.analysis.now c.in_ok-cuts.cuts c.requires c.in_ok-cuts.ensures.cuts c.in_ok-cuts.ensures.places
 
 pub emit-requires-clause-shallow : goal.emit-requires-clause-shallow
-emit-requires-clause-shallow c = c.requires.analysis.accepted.shallow
+emit-requires-clause-shallow c = c.requires.accepted.shallow
 
 linked : (c : After-marks-1) →
     LinkedPlan (plan_at c.args.log c.args.analysis.now c.in_ok-cuts.cuts) c.in_ok-object.object c.in_ok-object.marks c.in_ok-cuts.cuts
 linked c = record {
-  plan = plan_is c.args.log c.args.analysis.now c.in_ok-cuts.cuts c.requires.analysis c.requires.few c.in_ok-cuts.ensures.cuts c.in_ok-cuts.ensures.places;
+  plan = plan_is c.walk_is_discipline.ensures c.args.log c.args.analysis.now c.in_ok-cuts.cuts c.requires c.in_ok-cuts.ensures.cuts c.in_ok-cuts.ensures.places;
   at = refl;
   minimal = c.in_ok-cuts.ensures.minimal;
   fewest = c.in_ok-cuts.ensures.fewest;
@@ -39,7 +39,7 @@ returns-clause-translated c = is_translated (linked (goal.at.returns-clause-tran
 
 pub resume_table-requires-clause-plan : goal.resume_table-requires-clause-plan
 resume_table-requires-clause-plan c =
-    plan_is c.args.log c.args.analysis.now c.in_ok-cuts.cuts c.requires.analysis c.requires.few c.in_ok-cuts.ensures.cuts c.in_ok-cuts.ensures.places
+    plan_is c.walk_is_discipline.ensures c.args.log c.args.analysis.now c.in_ok-cuts.cuts c.requires c.in_ok-cuts.ensures.cuts c.in_ok-cuts.ensures.places
 
 pub resume_table-requires-clause-marked : goal.resume_table-requires-clause-marked
 resume_table-requires-clause-marked c = marked (linked c)

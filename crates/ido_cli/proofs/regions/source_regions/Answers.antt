@@ -37,11 +37,8 @@ pub returns-in_err-output : goal.returns-in_err-output
 returns-in_err-output c =
     by_error (IsRegionsAnswer c.args.least c.args.source.now) error.Memory c.from_residual-in_err-output.result c.from_residual-in_err-output.ensures.1 tt
 
-pub translate-requires-clause-analysis : goal.translate-requires-clause-analysis
-translate-requires-clause-analysis c = c.in_ok-analysis.ensures.answer.1
-
-pub translate-requires-clause-few : goal.translate-requires-clause-few
-translate-requires-clause-few c = tt
+pub translate-requires : goal.translate-requires
+translate-requires c = c.in_ok-analysis.ensures.answer.1
 
 pub returns-in_err-stretches : goal.returns-in_err-stretches
 returns-in_err-stretches c =

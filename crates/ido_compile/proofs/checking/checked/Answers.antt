@@ -24,5 +24,5 @@ analyse-requires-clause-priced c = ap (price_fault Plain) c.requires.flattened �
 pub returns-clause-answer : goal.returns-clause-answer
 returns-clause-answer c =
     let is = c.in_ok-analysis.ensures in
-    let form = subst (λ (x : Flat). IsAcceptedForm (flat_of x)) is.of_flat is.analysed.accepted in
+    let form = subst (λ (x : Flat). IsAcceptedForm Plain (flat_of x)) is.of_flat is.analysed.accepted in
     (accepted c.args.text.now (flat_of c.args.flat.now) c.requires form, is.analysed)

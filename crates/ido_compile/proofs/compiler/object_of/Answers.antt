@@ -18,11 +18,8 @@ returns-in_err-translated c =
     by_error (IsTranslationAnswer c.args.text.now (flat_of c.args.flat.now)) error.Memory
     c.from_residual-in_err-translated.result c.from_residual-in_err-translated.ensures.1 tt
 
-pub translate-requires-clause-analysis : goal.translate-requires-clause-analysis
-translate-requires-clause-analysis c = c.in_ok-analysis.ensures.answer.1
-
-pub translate-requires-clause-few : goal.translate-requires-clause-few
-translate-requires-clause-few c = tt
+pub translate-requires : goal.translate-requires
+translate-requires c = c.in_ok-analysis.ensures.answer.1
 
 pub returns : goal.returns
 returns c =

@@ -1,4 +1,4 @@
-use Rattle.std.proofs.Common.{rules, ◌≡◌, List, length, arith, subst, sym, ◌∙◌}
+use Rattle.std.proofs.Common.{◌≡◌, List, length, arith, subst, sym, ◌∙◌}
 use Rattle.std.specs.Prelude.{ℤ, pos}
 use Rattle.ido_base.specs.declared.log.Log.{Log}
 use Rattle.ido_base.specs.declared.log.Log.TheVariants.{V2}
@@ -6,7 +6,7 @@ use Rattle.rv64_isa.specs.declared.instr.Instr.{Instr}
 use Rattle.boundary_code.specs.Boundaries.{lists_of}
 use Rattle.node_code.specs.Pieces.{MayKeep}
 use Rattle.node_code.specs.links.BoundaryCode.{IsCodeOf}
-use Rattle.node_code.proofs.LockNumbers.{lists_long, same_number}
+use Rattle.node_code.proofs.CodeLists.{lists_long, same_number}
 use Rattle.node_code.proofs.MadeBoundaries.{listed_code}
 use Rattle.node_code.proofs.boundaries.list_code.Goals as goal
 
@@ -29,7 +29,7 @@ returns c = λ locks may.
       locks = locks;
       live = k.live.now;
       resume = z;
-    }) codes c.in_ok-code.code.items) (same_number _ c.args.resume c.from.ensures (search rules))
+    }) codes c.in_ok-code.code.items) (same_number _ c.args.resume c.distance.ensures c.requires.near)
     (listed_code k.thread k.live.now _ c.requires.thread codes c.in_ok-code.code.items (omega (arith, long, c.requires.room)) c.requires.quiet
     c.in_ok-code.ensures.short c.in_ok-code.ensures.effects c.in_ok-code.ensures.offset c.in_ok-code.ensures.others
     (λ some. c.in_ok-code.ensures.parts (λ none. some (long ∙ none))) locks many))

@@ -1,4 +1,4 @@
-use Rattle.std.proofs.Common.{rules, ◌≡◌, List, ℕ, subst, sym}
+use Rattle.std.proofs.Common.{◌≡◌, List, ℕ, subst, sym}
 use Rattle.std.specs.Prelude.{ℤ, pos}
 use Rattle.ido_base.specs.Locks.{locks_in}
 use Rattle.ido_base.specs.declared.log.Log.{Log}
@@ -8,7 +8,7 @@ use Rattle.boundary_code.specs.Boundaries.{HasEffects, lists_of}
 use Rattle.node_code.specs.BoundaryCode.{undivided}
 use Rattle.node_code.specs.Pieces.{MayKeep}
 use Rattle.node_code.specs.links.BoundaryCode.{IsCodeOf}
-use Rattle.node_code.proofs.LockNumbers.{same_number}
+use Rattle.node_code.proofs.CodeLists.{same_number}
 use Rattle.node_code.proofs.boundaries.mask_code.Goals as goal
 
 pub returns : goal.returns
@@ -39,7 +39,7 @@ returns c = λ locks may.
           locks = locks_in k.mask;
           live = k.live.now;
           resume = z;
-        }) c.in_ok-code.code.items) (same_number _ c.args.resume c.from.ensures (search rules)) c.in_ok-code.ensures.effects;
+        }) c.in_ok-code.code.items) (same_number _ c.args.resume c.distance.ensures c.requires.near) c.in_ok-code.ensures.effects;
         offset = c.in_ok-code.ensures.offset;
         keeps = c.in_ok-code.ensures.others;
       });

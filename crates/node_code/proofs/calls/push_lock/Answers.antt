@@ -13,5 +13,6 @@ returns c =
     on_ok_weaker c.append_lock.result (λ e. record {
       piece = _;
       appended = e;
-      is = λ locks may. is_lock (boundary_of k locks 0) c.args.mutex (codes_of k) c.deref.result.now c.requires.mutex refl (is locks may);
+      is = λ locks lock may.
+          is_lock (boundary_of k locks 0) (codes_of k) c.args.numbering.now c.deref.result.now lock c.requires.some c.requires.quiet_number refl (is locks may);
     }) c.append_lock.ensures

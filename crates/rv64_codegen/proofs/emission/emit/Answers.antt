@@ -5,7 +5,6 @@ use Rattle.c_tree.specs.WellFormed.{shape_of, initial_numbers}
 use Rattle.memory_layout.specs.Variables.{AreCounted}
 use Rattle.rv64_codegen.specs.Plans.{plan_of}
 use Rattle.rv64_codegen.proofs.CleanedStores.{all_clean}
-use Rattle.rv64_codegen.proofs.NeededTemporaries.{few_needed}
 use Rattle.rv64_codegen.proofs.JoinedPieces.{are_emitted, few_words}
 use Rattle.rv64_codegen.proofs.ProgramCode.{are_code}
 use Rattle.rv64_codegen.proofs.PlannedThreads.{all_counted, few_threads}
@@ -31,6 +30,3 @@ returns-clause-threads c = omega (arith, few_threads (plan_of c.args.plan.now) c
 
 pub returns-clause-few : goal.returns-clause-few
 returns-clause-few c = λ k d below. few_words (plan_of c.args.plan.now) c.requires.plan c.in_ok-threads.threads.items _ k d c.in_ok-threads.ensures below
-
-pub emit_threads-requires-clause-few : goal.emit_threads-requires-clause-few
-emit_threads-requires-clause-few c = few_needed (plan_of c.args.plan.now) c.requires.plan c.requires.shallow

@@ -17,15 +17,16 @@ thread c = record {
   number = c.args.number;
   part = c.index.result.now;
   frame = record { addresses = c.args.addresses; locals = c.args.homes };
+  names = c.args.names;
   live = c.args.live;
   later = c.args.later;
 }
 
 opens : (c : After-index) → IsOpen (thread c)
 opens c =
-    is_open (thread c) c.requires.plan c.requires.few c.requires.addresses c.requires.later
+    is_open (thread c) c.requires.plan c.requires.shallow c.requires.addresses c.requires.later
     (read_get c.args.plan.now.graph.now.threads.items c.args.number c.index.result.now c.requires.number c.index.ensures) c.requires.homes
-    c.requires.live
+    c.requires.live c.requires.names
 
 pub thread_items-requires : goal.thread_items-requires
 thread_items-requires c = opens (goal.at.thread_items-requires c).After-index

@@ -1,4 +1,4 @@
-use Rattle.std.proofs.Common.{◌≡◌, arith, ◌∙◌, ◌-◌, ℕ, ℤ, List, [], ap, refl, sym}
+use Rattle.std.proofs.Common.{◌≡◌, arith, ◌∙◌, ◌-◌, ℕ, ℤ, List, [], ap, refl, subst, sym}
 use Rattle.std.specs.Prelude.{Vec}
 use Rattle.std.specs.Global.{Global}
 use Rattle.std.proofs.lemmas.List.{get_or-map}
@@ -6,10 +6,12 @@ use Rattle.ido_base.specs.Locks.{locks_in}
 use Rattle.rv64_isa.specs.declared.instr.Instr.{Instr}
 use Rattle.boundary_code.specs.Boundaries.{lists_of}
 use Rattle.node_code.proofs.Public.{lists_long}
-use Rattle.thread_code.specs.Plans.{Plan, Thread, locks_before, set_before}
+use Rattle.expr_code.specs.EvaluationCode.{Homes}
+use Rattle.thread_code.specs.Plans.{Plan, Thread, held_names_before, homes, locks_before, set_before}
 use Rattle.thread_code.proofs.Public.{mask_has_held}
-use Rattle.rv64_codegen.specs.links.Threads.{listed_codes, plan_in, thread_of}
-use Rattle.rv64_codegen.proofs.KeptNumbers.{few_codes, few_words, leave_them, may_keep, quiet_codes}
+use Rattle.rv64_codegen.specs.links.Numbers.{AreNumberCodes}
+use Rattle.rv64_codegen.specs.links.Threads.{plan_in, thread_of}
+use Rattle.rv64_codegen.proofs.HeldCodes.{few_codes, few_words, leave_them, may_keep, quiet_codes}
 use Rattle.rv64_codegen.proofs.PlannedNodes.{held_there, held_sets, few_held, numbers_plain}
 use Rattle.rv64_codegen.proofs.NodePieces.{label_at}
 use Rattle.rv64_codegen.proofs.thread.ThreadPlan.kept.Goals as goal
@@ -36,22 +38,24 @@ returns c =
     let o = own.open_is in
     let p : Plan = plan_in x in
     let t : Thread = thread_of x in
+    let node : ℕ = c.args.node in
     let codes : List (List Instr) = lists_of c.args.numbers.now in
-    let are : codes ≡ listed_codes p.log c.held.result = c.requires.numbers ∙ ap (λ (m : ℕ). listed_codes p.log m) (sym c.held.ensures) in
-    let in_it : (locals : List ℤ) → locks_in c.held.result ≡ locks_before p t locals c.args.node = λ locals.
-    ap locks_in c.held.ensures ∙ mask_has_held (set_before p t c.args.node) (few_held p o.plan t o.thread c.args.node own.own)
-    ∙ numbers_plain p o.plan t o.thread locals c.args.node own.own in
+    let are : AreNumberCodes p.log (homes p t) x.number (held_names_before p t node) codes =
+    subst (λ (h : Homes). AreNumberCodes p.log h x.number (held_names_before p t node) codes) o.homes c.requires.numbers in
+    let in_it : (locals : List ℤ) → locks_in c.held.result ≡ locks_before p t locals node = λ locals.
+    ap locks_in c.held.ensures ∙ mask_has_held (set_before p t node) (few_held p o.plan t o.thread node own.own)
+    ∙ numbers_plain p o.plan t o.thread locals node own.own in
     record {
       log_is = refl;
       thread_is = refl;
-      live_is = c.deref.ensures.value ∙ sym (get_or-map (λ (v : Vec ℕ Global). v.items) x.live.now (c.args.node - x.part.first) _ []
+      live_is = c.deref.ensures.value ∙ sym (get_or-map (λ (v : Vec ℕ Global). v.items) x.live.now (node - x.part.first) _ []
           (omega (arith, o.lists.count, own.own.from_first, own.own.below_end)));
-      locks_are = λ locals. may_keep c.held.result (locks_before p t locals c.args.node) (in_it locals) codes p.log are;
-      leave = λ locals registers _. leave_them c.held.result (locks_before p t locals c.args.node) (in_it locals) codes p.log x.number registers are;
-      few = few_words c.held.result (locks_before p t [] c.args.node) (in_it []) codes p.log are (o.plan.room t [] c.args.node);
+      locks_are = may_keep p t o.plan o.thread o.formed node own.own codes p.log c.held.result in_it are;
+      leave = leave_them p t o.plan o.thread o.formed node own.own codes p.log refl are;
+      few = few_words p t o.plan o.thread o.formed node own.own codes p.log are;
       room =
-          let few = few_codes c.held.result (locks_before p t [] c.args.node) (in_it []) codes p.log are (o.plan.room t [] c.args.node) in
+          let few = few_codes p t o.plan o.thread o.formed node own.own codes p.log are (o.plan.room t [] node) in
           let long = lists_long c.args.numbers.now in
           omega (arith, few, long);
-      quiet = quiet_codes c.held.result (locks_before p t [] c.args.node) (in_it []) codes p.log are;
+      quiet = quiet_codes p t o.plan o.thread o.formed node own.own codes p.log are;
     }

@@ -1,27 +1,18 @@
-use Rattle.std.proofs.Common.{arith, ◌∙◌, ℕ, ap}
-use Rattle.std.proofs.lemmas.Result.{IfOk-weaker}
-use Rattle.rv64_codegen.specs.links.Threads.{listed_codes, plan_in, thread_of}
-use Rattle.rv64_codegen.proofs.PlannedNodes.{held_there, held_sets}
-use Rattle.rv64_codegen.proofs.NodePieces.{label_at}
+use Rattle.std.proofs.Common.{List, ap, subst, sym}
+use Rattle.std.specs.Prelude.{Vec}
+use Rattle.std.specs.Global.{Global}
+use Rattle.ido_base.specs.declared.log.Log.{Log}
+use Rattle.rv64_isa.specs.declared.instr.Instr.{Instr}
+use Rattle.expr_code.specs.EvaluationCode.{homes_of}
+use Rattle.boundary_code.specs.Boundaries.{lists_of}
+use Rattle.thread_code.specs.Plans.{held_names_before}
+use Rattle.rv64_codegen.specs.links.Numbers.{AreNumberCodes}
+use Rattle.rv64_codegen.specs.links.Threads.{plan_in, thread_of}
 use Rattle.rv64_codegen.proofs.thread.ThreadPlan.numbers.Goals as goal
 
-pub overflow_cast-step : goal.overflow_cast-step
-overflow_cast-step c = omega (arith, label_at c.args.self.now c.args.node c.requires)
-
-pub held-mask-requires-clause-thread : goal.held-mask-requires-clause-thread
-held-mask-requires-clause-thread c =
+pub returns-in-V1 : goal.returns-in-V1
+returns-in-V1 c =
     let x = c.args.self.now in
-    let o = c.requires.open_is in
-    held_there (plan_in x) o.plan (thread_of x) o.thread
-
-pub held-mask-requires-clause-step : goal.held-mask-requires-clause-step
-held-mask-requires-clause-step c =
-    let x = c.args.self.now in
-    let o = c.requires.open_is in
-    omega (arith, held_sets (plan_in x) o.plan (thread_of x) o.thread c.args.node c.requires.own)
-
-pub returns : goal.returns
-returns c =
-    IfOk-weaker c.listed_codes.result _ _
-    (λ codes are. are ∙ ap (λ (mask : ℕ). listed_codes (plan_in c.args.self.now).log mask) c.held-mask.ensures)
-    c.listed_codes.ensures
+    let none = ap (λ (codes : List (Vec Instr Global)). lists_of codes) c.new.ensures.items in
+    let held = held_names_before (plan_in x) (thread_of x) c.args.node in
+    subst (λ (log : Log). AreNumberCodes log (homes_of x.frame) x.number held (lists_of c.new.result.items)) (sym c.in-V1.is) none

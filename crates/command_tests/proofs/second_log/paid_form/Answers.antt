@@ -1,0 +1,20 @@
+-- What is typed is well formed, and so is what is made of it.
+use Rattle.std.proofs.Common.{◌∙◌, ap, sym, subst}
+use Rattle.c_tree.specs.AcceptedTexts.{IsTyped}
+use Rattle.c_tree.specs.HoldPrices.{price_fault}
+use Rattle.c_tree.specs.Programs.{Program, program_of}
+use Rattle.c_tree.specs.Views.{items_of}
+use Rattle.c_tree.specs.WellFormed.{IsWellFormed}
+use Rattle.c_tree.specs.declared.language.Language.TheVariants.{Full, Plain}
+use Rattle.command_tests.proofs.second_log.paid_form.Goals as goal
+
+pub returns-clause-formed : goal.returns-clause-formed
+returns-clause-formed c =
+    let program : Program = program_of c.in_ok-program.program in
+    let typed : IsTyped Plain c.args.text.now program =
+    record { items = items_of c.in_ok-tree.tree; read = c.in_ok-tree.ensures.read; faultless = c.in_ok-program.ensures.0; typed = c.in_ok-program.ensures.1 } in
+    subst IsWellFormed (sym c.in_ok-flat.ensures.2)
+    (c.flat_is_formed.ensures program (c.typed_is_formed.ensures c.args.text.now program typed) c.in_ok-check.ensures.0 c.in_ok-flat.ensures.0)
+
+pub returns-clause-priced : goal.returns-clause-priced
+returns-clause-priced c = ap (price_fault Full) c.in_ok-flat.ensures.2 ∙ c.in_ok-flat.ensures.1

@@ -1,0 +1,200 @@
+-- The codes of the numbers of what a thread holds at a node: how they are made by a mask, and what they are good for.
+use Rattle.std.proofs.Common.{◌≡◌, ℕ, zero, suc, ◌+◌, ◌*◌, ◌^◌, ◌<◌, ◌≤◌, List, [], ◌∷◌, ◌++◌, append_assoc, length, refl, ap, ap₂}
+use Rattle.std.proofs.Common.{sym, ◌∙◌, arith, subst, Bool, true, false, Option, Some, None, if◌then◌else◌}
+use Rattle.std.specs.Prelude.{Vec, slice_get, ℤ}
+use Rattle.std.specs.Global.{Global}
+use Rattle.std.specs.List.{AllByRecursion, AllZip}
+use Rattle.std.proofs.lemmas.List.{length-append, length-map}
+use Rattle.std.proofs.lemmas.Option.{none-some, same_Some}
+use Rattle.ido_base.specs.Layout.{bank_bytes, log_of}
+use Rattle.ido_base.specs.Locks.{locks_in}
+use Rattle.ido_base.specs.declared.log.Log.{Log}
+use Rattle.ido_base.specs.declared.log.Log.TheVariants.{V1, V2}
+use Rattle.c_tree.specs.Exprs as e
+use Rattle.c_tree.specs.HoldPrices.{hold_price, hold_prices}
+use Rattle.c_tree.specs.LockNames.{Held, held_names}
+use Rattle.c_tree.specs.Prices.{key_nodes, nodes_of}
+use Rattle.c_tree.specs.Values.{lock_number}
+use Rattle.c_tree.specs.WellFormed.{IsFlatLockName}
+use Rattle.rv64_isa.specs.declared.instr.Instr.{Instr}
+use Rattle.rv64_isa.specs.declared.instr.Instr.TheVariants.{Op, OpImmediate}
+use Rattle.rv64_isa.specs.declared.instr.ImmediateOperation.TheVariants.{Addi}
+use Rattle.rv64_isa.specs.declared.instr.Operation.TheVariants.{Add}
+use Rattle.operator_code.specs.StraightLineCode.{IsConstant}
+use Rattle.boundary_code.specs.Boundaries.{HaveRoom, lists_of, number_words, words_beside}
+use Rattle.expr_code.specs.EvaluationCode.{Homes, impure_among}
+use Rattle.expr_code.proofs.Public.{among_append, constant_none}
+use Rattle.lock_discipline.specs.Masks.{mask_of}
+use Rattle.node_code.specs.BoundaryCode.{IsQuiet}
+use Rattle.node_code.specs.Numbers.{LeaveLocks, LeaveNumbers}
+use Rattle.node_code.specs.Pieces.{MayKeep}
+use Rattle.thread_code.specs.Plans.{Plan, IsPlan, Thread, IsThread, IsNodeOf, held_names_before, homes, locks_before, names_in}
+use Rattle.thread_code.proofs.Public.{half, lowest}
+use Rattle.rv64_codegen.specs.ThreadPieces.{MayEnter, boundary_words}
+use Rattle.rv64_codegen.specs.links.NumberedNames.{IsNumberedMore, names_by}
+use Rattle.rv64_codegen.specs.links.Numbers.{AreNumberCodes, IsCallBy, IsNumberBy, IsNumberCode}
+use Rattle.rv64_codegen.proofs.NameNumbers.{held_leave}
+use Rattle.rv64_codegen.proofs.Pieces.{no_cleans, no_fences}
+use Rattle.rv64_codegen.proofs.PlannedNodes.{thread_below}
+
+-- ---- By a mask
+
+nothing_by : (names : List e.LockName) → names_by names 0 ≡ []
+nothing_by [] = refl
+nothing_by (x ∷ names) = nothing_by names
+
+-- the names of a set are those of its mask
+pub masked : (names : List e.LockName) (set : Held) → names_by names (mask_of set) ≡ held_names names set
+masked [] set = refl
+masked (x ∷ names) [] = nothing_by names
+masked (x ∷ names) (b ∷ set) =
+    ap₂ (λ (odd : Bool) (more : ℕ). if odd then x ∷ names_by names more else names_by names more) (lowest b (mask_of set)) (half b (mask_of set))
+    ∙ ap (λ (ns : List e.LockName). if b then x ∷ ns else ns) (masked names set)
+
+-- one name more
+pub numbered_more : (h : Homes) (address : List Instr) (x : e.LockName) (b : Bool) (old new : List (List Instr)) (rest whole : List e.LockName) →
+    ((later : List (List Instr)) → AllZip (IsNumberCode h address) (if b then x ∷ rest else rest) later →
+    AllZip (IsNumberCode h address) whole (old ++ later)) →
+    IsNumberedMore h address x b old new → (later : List (List Instr)) → AllZip (IsNumberCode h address) rest later →
+    AllZip (IsNumberCode h address) whole (new ++ later)
+numbered_more h address x true old new rest whole all made later are =
+    subst (λ (cs : List (List Instr)). AllZip (IsNumberCode h address) whole (cs ++ later)) (sym made.2)
+    (subst (λ (cs : List (List Instr)). AllZip (IsNumberCode h address) whole cs) (sym (append_assoc old (made.0 ∷ []) later))
+    (all (made.0 ∷ later) (made.1, are)))
+numbered_more h address x false old new rest whole all made later are =
+    subst (λ (cs : List (List Instr)). AllZip (IsNumberCode h address) whole (cs ++ later)) (sym made) (all later are)
+
+-- the last of a list of codes
+pub lists_more : (codes : List (Vec Instr Global)) (code : Vec Instr Global) → lists_of (codes ++ code ∷ []) ≡ lists_of codes ++ code.items ∷ []
+lists_more [] code = refl
+lists_more (first ∷ codes) code = ap (λ (cs : List (List Instr)). first.items ∷ cs) (lists_more codes code)
+
+-- ---- Codes of names
+
+module _ (h : Homes) (address : List Instr) where
+  as_many : (names : List e.LockName) (codes : List (List Instr)) → AllZip (IsNumberCode h address) names codes → length codes ≡ length names
+  as_many [] [] are = refl
+  as_many [] (code ∷ codes) are = absurd are
+  as_many (x ∷ names) [] are = absurd are
+  as_many (x ∷ names) (code ∷ codes) are = let more = as_many names codes are.1 in omega (arith, more)
+
+  module _ (log : ℕ) (is_log : IsConstant 31 log address) where
+    quiet_by : (mutex : ℕ) (key : Option e.Placed) (code : List Instr) → IsNumberBy h address mutex key code → IsQuiet code
+    quiet_by mutex None code is = subst IsQuiet (sym is) (record { fences = refl; cleans = refl })
+    quiet_by mutex (Some key) code is =
+        let v : List Instr = is.of_value in
+        let first : List Instr = OpImmediate Addi 5 5 mutex ∷ [] in
+        let base : List Instr = Op Add 30 31 3 ∷ [] in
+        let a : impure_among code ≡ impure_among (((v ++ first) ++ address) ++ base) = ap impure_among is.is in
+        let b : impure_among (((v ++ first) ++ address) ++ base) ≡ impure_among ((v ++ first) ++ address) + 0 =
+        among_append ((v ++ first) ++ address) base in
+        let c = among_append (v ++ first) address in
+        let d : impure_among (v ++ first) ≡ impure_among v + 0 = among_append v first in
+        let pure = is.value.pure in
+        let constant = constant_none 31 log address is_log in
+        let none : impure_among code ≡ 0 = omega (arith, a, b, c, d, pure, constant) in
+        record { fences = no_fences code none; cleans = no_cleans code none }
+
+    quiet_all : (names : List e.LockName) (codes : List (List Instr)) → AllZip (IsNumberCode h address) names codes → AllByRecursion IsQuiet codes
+    quiet_all [] [] are = tt
+    quiet_all [] (code ∷ codes) are = absurd are
+    quiet_all (x ∷ names) [] are = absurd are
+    quiet_all (x ∷ names) (code ∷ codes) are = (quiet_by x.mutex x.key code are.0, quiet_all names codes are.1)
+
+  -- a code with its store is within what the name costs
+  module _ (short : length address ≤ 2) where
+    within_price : (mutex : ℕ) (key : Option e.Placed) (code : List Instr) → IsNumberBy h address mutex key code →
+        length code + 1 ≤ hold_price (record { mutex = mutex; key = key })
+    within_price mutex None code is = let one : length code ≡ 1 = ap (λ (is : List Instr). length is) is in omega (arith, one)
+    within_price mutex (Some key) code is =
+        let v : List Instr = is.of_value in
+        let first : List Instr = OpImmediate Addi 5 5 mutex ∷ [] in
+        let base : List Instr = Op Add 30 31 3 ∷ [] in
+        let a : length code ≡ length (((v ++ first) ++ address) ++ base) = ap (λ (is : List Instr). length is) is.is in
+        let b : length (((v ++ first) ++ address) ++ base) ≡ length ((v ++ first) ++ address) + 1 = length-append ((v ++ first) ++ address) base in
+        let c : length ((v ++ first) ++ address) ≡ length (v ++ first) + length address = length-append (v ++ first) address in
+        let d : length (v ++ first) ≡ length v + 1 = length-append v first in
+        let few : length v ≤ 16 * nodes_of key.expr = is.value.short in
+        omega (arith, a, b, c, d, few, short)
+
+    within_prices : (names : List e.LockName) (codes : List (List Instr)) → AllZip (IsNumberCode h address) names codes →
+        number_words codes ≤ hold_prices names
+    within_prices [] [] are = omega arith
+    within_prices [] (code ∷ codes) are = absurd are
+    within_prices (x ∷ names) [] are = absurd are
+    within_prices (x ∷ names) (code ∷ codes) are =
+        let more = within_prices names codes are.1 in
+        let one : length code + 1 ≤ hold_price x = within_price x.mutex x.key code are.0 in
+        omega (arith, more, one)
+
+-- code of a number for a call
+pub call_quiet_by : (h : Homes) (mutex : ℕ) (key : Option e.Placed) (code : List Instr) → IsCallBy h mutex key code → IsQuiet code
+call_quiet_by h mutex None code is = subst IsQuiet (sym is) (record { fences = refl; cleans = refl })
+call_quiet_by h mutex (Some key) code is =
+    let v : List Instr = is.of_value in
+    let last : List Instr = OpImmediate Addi 10 5 mutex ∷ [] in
+    let a : impure_among code ≡ impure_among (v ++ last) = ap impure_among is.is in
+    let b : impure_among (v ++ last) ≡ impure_among v + 0 = among_append v last in
+    let pure = is.value.pure in
+    let none : impure_among code ≡ 0 = omega (arith, a, b, pure) in
+    record { fences = no_fences code none; cleans = no_cleans code none }
+
+pub call_words_by : (h : Homes) (mutex : ℕ) (key : Option e.Placed) (code : List Instr) → IsCallBy h mutex key code →
+    (1 ≤ length code) × (length code ≤ 16 * key_nodes (record { mutex = mutex; key = key }) + 1)
+call_words_by h mutex None code is = let one : length code ≡ 1 = ap (λ (is : List Instr). length is) is in (omega (arith, one), omega (arith, one))
+call_words_by h mutex (Some key) code is =
+    let last : List Instr = OpImmediate Addi 10 5 mutex ∷ [] in
+    let same : length code ≡ length (is.of_value ++ last) = ap (λ (is : List Instr). length is) is.is in
+    let sum : length (is.of_value ++ last) ≡ length is.of_value + 1 = length-append is.of_value last in
+    let short = is.value.short in
+    (omega (arith, same, sum), omega (arith, same, sum, short))
+
+all_get : (P : e.LockName → Type 0) (names : List e.LockName) → AllByRecursion P names → (k : ℕ) (y : e.LockName) → slice_get names k ≡ Some y → P y
+all_get P [] h k y g = absurd (none-some y g)
+all_get P (x ∷ names) h zero y g = subst P (same_Some x y g) h.0
+all_get P (x ∷ names) h (suc k) y g = all_get P names h.1 k y g
+
+-- ---- At a node
+
+module _ (p : Plan) (t : Thread) (plan : IsPlan p) (th : IsThread p t) (formed : AllByRecursion (IsFlatLockName p.flat.mutexes t.kinds) (names_in p t))
+    (node : ℕ) (own : IsNodeOf t node) (codes : List (List Instr)) where
+  abbrev h : Homes
+  h = homes p t
+
+  abbrev held : List e.LockName
+  held = held_names_before p t node
+
+  numbers_many : (locals : List ℤ) → length (locks_before p t locals node) ≡ length held
+  numbers_many locals = length-map held (lock_number locals)
+
+  pub may_keep : (log : Log) (mask : ℕ) → ((locals : List ℤ) → locks_in mask ≡ locks_before p t locals node) → AreNumberCodes log h t.number held codes →
+      (locals : List ℤ) → MayKeep log mask codes (locks_before p t locals node)
+  may_keep V1 mask in_it are locals = sym (in_it locals)
+  may_keep V2 mask in_it are locals = numbers_many locals ∙ sym (as_many h are.0 held codes are.3)
+
+  pub leave_them : (log : Log) → p.log ≡ log → AreNumberCodes log h t.number held codes → (locals : List ℤ) (x : List ℕ) → MayEnter p t locals node x →
+      LeaveLocks log t.number (locks_before p t locals node) codes x
+  leave_them V1 is are locals x may = tt
+  leave_them V2 is are locals x may =
+      let low = thread_below p plan t th in
+      let reach : (bank : ℕ) → bank < 2 → log_of p.log t.number + bank_bytes p.log * bank < 2 ^ 32 = λ bank below.
+      subst (λ (l : Log). log_of l t.number + bank_bytes l * bank < 2 ^ 32) (sym is) (omega (arith, low, below)) in
+      let is_log : IsConstant 31 (log_of p.log t.number) are.0 = subst (λ (l : Log). IsConstant 31 (log_of l t.number) are.0) (sym is) are.1 in
+      let few : length p.flat.mutexes ≤ 1024 = (let m = plan.formed.shared.mutexes in omega (arith, m)) in
+      let left : LeaveNumbers p.log t.number x (locks_before p t may.seen.locals node) codes =
+      held_leave p t plan th may.seen x few reach are.0 is_log node may.side codes own may.enters
+      (λ k y there holds_it. all_get (IsFlatLockName p.flat.mutexes t.kinds) (names_in p t) formed k y there) are.3 in
+      subst (λ (l : Log). LeaveNumbers l t.number x (locks_before p t locals node) codes) is
+      (subst (λ (ls : List ℤ). LeaveNumbers p.log t.number x (locks_before p t ls node) codes) may.locals_are left)
+
+  pub few_codes : (log : Log) → AreNumberCodes log h t.number held codes → HaveRoom log (locks_before p t [] node) → length codes ≤ 16
+  few_codes V1 are room = let none : length codes ≡ 0 = ap (λ (cs : List (List Instr)). length cs) are in omega (arith, none)
+  few_codes V2 are room = let many = as_many h are.0 held codes are.3 in let same = numbers_many [] in omega (arith, many, same, room)
+
+  pub few_words : (log : Log) → AreNumberCodes log h t.number held codes → words_beside log codes ≤ boundary_words log held
+  few_words V1 are = omega arith
+  few_words V2 are = let words = within_prices h are.0 are.2 held codes are.3 in omega (arith, words)
+
+  pub quiet_codes : (log : Log) → AreNumberCodes log h t.number held codes → AllByRecursion IsQuiet codes
+  quiet_codes V1 are = subst (λ (cs : List (List Instr)). AllByRecursion IsQuiet cs) (sym are) tt
+  quiet_codes V2 are = quiet_all h are.0 (log_of V2 t.number) are.1 held codes are.3
