@@ -3,68 +3,112 @@ use Rattle.std.proofs.Common.{◌≡◌, ℕ, ◌-◌, ◌*◌, ◌/◌, ◌%◌
 use Rattle.std.proofs.Common.{◌++◌, length, Result, Ok, Err, refl, sym, ap, subst, ◌∙◌, append_assoc, arith}
 use Rattle.std.specs.Result.{IsOkAnd}
 use Rattle.std.specs.Prelude.{IfOk, ◌==◌}
-use Rattle.std.specs.List.{flat_map}
+use Rattle.std.specs.List.{AllByRecursion, flat_map}
 use Rattle.std.proofs.lemmas.Bool.{eqb-true}
 use Rattle.std.proofs.lemmas.List.{append-nil, nil_from_length}
 use Rattle.ido_base.specs.declared.limits.TheConstants.{MOST_SOURCE_BYTES}
 use Rattle.file_fields.specs.declared.error.ReadError.{ReadError}
 use Rattle.file_fields.specs.declared.error.ReadError.TheVariants as e
 use Rattle.file_fields.specs.Fields.{Rest, Reads, ◌>>=◌, bytes_at, number_at, word_at, number_within, repeated, magic_at, version_at, ended}
-use Rattle.file_fields.specs.Numbers.{number, word, IsWord}
+use Rattle.file_fields.specs.Numbers.{number, word, IsNumber, IsWord}
 use Rattle.file_fields.specs.links.ReaderResults.{ViewsFault, Gives}
 use Rattle.file_fields.proofs.Public.{IsBytes, bind_ok, test_ok, ok_is, Takes, then, bytes_take, bytes_again, number_takes, number_again}
 use Rattle.file_fields.proofs.Public.{word_takes, word_again, within_takes, within_again, magic_takes, magic_again, version_takes, version_again}
 use Rattle.file_fields.proofs.Public.{repeated_take, repeated_again}
 use Rattle.run_scripts.specs.Runs.{Run}
-use Rattle.crash_images.specs.Contents.{Contents, State, IsState, IsRun, word_bytes, log_words}
-use Rattle.crash_images.specs.ImageEncoder.{magic, version, run_text, source_text, state_text, spelling}
-use Rattle.crash_images.specs.ImageDecoder.{run_at, source_at, size_at, state_at, image_at}
+use Rattle.crash_images.specs.Contents.{Contents, State, IsState, IsLife, IsRun, Tells, number_of, word_bytes, words_of}
+use Rattle.crash_images.specs.ImageEncoder.{magic, count_text, lives_text, run_text, runs_text, source_text, state_text, spelling}
+use Rattle.crash_images.specs.ImageDecoder.{count_at, known, life_at, lives_at, run_at, source_at, size_at, state_at, image_at, version_in}
+use Rattle.crash_images.specs.declared.version.TheConstants.{MOST_LIVES}
+use Rattle.crash_images.specs.declared.version.ImageVersion.{ImageVersion}
+use Rattle.crash_images.specs.declared.version.ImageVersion.TheVariants.{First, Second, Third}
 use Rattle.crash_images.specs.declared.state.State as code
 use Rattle.crash_images.specs.links.Views.{state_of}
 
+-- ---- The version
+
+is_number : (version : ImageVersion) → IsNumber (number_of version)
+is_number First = omega arith
+is_number Second = omega arith
+is_number Third = omega arith
+
+known_again : (newest version : ImageVersion) → number_of version ≤ number_of newest → known newest (number_of version) ≡ Ok version
+known_again newest First le = refl
+known_again First Second le = absurd (omega (arith, le))
+known_again Second Second le = refl
+known_again Third Second le = refl
+known_again First Third le = absurd (omega (arith, le))
+known_again Second Third le = absurd (omega (arith, le))
+known_again Third Third le = refl
+
+pub version_is_again : (newest version : ImageVersion) (rest : List ℕ) → number_of version ≤ number_of newest →
+    version_in newest (magic ++ number (number_of version) ++ rest) ≡ Ok version
+unfolding version_in
+version_is_again newest version rest le =
+    let total = length (magic ++ number (number_of version) ++ rest) in
+    rw (magic_again total magic (number (number_of version) ++ rest), number_again total (number_of version) rest (is_number version))
+    (known_again newest version le)
+
+pub version_read : (x : Result ImageVersion ReadError) (version : ImageVersion) →
+    ViewsFault {Y = ImageVersion} (λ y. y) x (Ok version) → IsOkAnd x (λ y. y ≡ version)
+version_read (Ok y) version told = sym (ok_is version y told)
+version_read (Err e.Magic) version told = absurd cc
+version_read (Err e.Version) version told = absurd cc
+version_read (Err (e.Cut place)) version told = absurd cc
+version_read (Err (e.Field place)) version told = absurd cc
+version_read (Err (e.Rest place)) version told = absurd cc
+version_read (Err e.Memory) version told = absurd told
+
 -- ---- Up to the end of the source
 
-source_takes : (bytes : List ℕ) (x : List ℕ × List ℕ) → IsBytes bytes → source_at bytes ≡ Ok x →
-    (length x.0 ≤ MOST_SOURCE_BYTES) × (bytes ≡ source_text x.0 ++ x.1)
+source_takes : (version : ImageVersion) (bytes : List ℕ) (x : List ℕ × List ℕ) → IsBytes bytes → source_at version bytes ≡ Ok x →
+    (length x.0 ≤ MOST_SOURCE_BYTES) × (bytes ≡ source_text version x.0 ++ x.1)
 unfolding source_at
-source_takes bytes x fits e =
+source_takes version bytes x fits e =
     let total = length bytes in
     let a = bind_ok (magic_at total magic bytes)
-    (λ m. version_at total version m >>= λ v. number_within total 0 MOST_SOURCE_BYTES v >>= λ n. bytes_at total n.0 n.1) x e in
-    let b = bind_ok (version_at total version a.0) (λ v. number_within total 0 MOST_SOURCE_BYTES v >>= λ n. bytes_at total n.0 n.1) x a.2 in
+    (λ m. version_at total (number_of version) m >>= λ v. number_within total 0 MOST_SOURCE_BYTES v >>= λ n. bytes_at total n.0 n.1) x e in
+    let b = bind_ok (version_at total (number_of version) a.0) (λ v. number_within total 0 MOST_SOURCE_BYTES v >>= λ n. bytes_at total n.0 n.1) x a.2 in
     let c = bind_ok (number_within total 0 MOST_SOURCE_BYTES b.0) (λ n. bytes_at total n.0 n.1) x b.2 in
     let t0 = magic_takes total magic bytes a.0 fits a.1 in
-    let t1 = version_takes total version a.0 b.0 t0.rest_fits b.1 in
+    let t1 = version_takes total (number_of version) a.0 b.0 t0.rest_fits b.1 in
     let t2 = within_takes total 0 MOST_SOURCE_BYTES b.0 c.0 t1.rest_fits c.1 in
     let t3 = bytes_take total c.0.0 c.0.1 x t2.0.rest_fits c.2 in
     let e23 = then b.0 (number c.0.0) c.0.1 x.0 x.1 t2.0 t3.0 in
-    let e13 = then a.0 (number version) b.0 (number c.0.0 ++ x.0) x.1 t1 e23 in
-    let e03 = then bytes magic a.0 (number version ++ (number c.0.0 ++ x.0)) x.1 t0 e13 in
-    (rw t3.1 t2.2, e03.parts ∙ ap (λ n. (magic ++ (number version ++ (number n ++ x.0))) ++ x.1) (sym t3.1) ∙ regrouped x.0 x.1)
+    let e13 = then a.0 (number (number_of version)) b.0 (number c.0.0 ++ x.0) x.1 t1 e23 in
+    let e03 = then bytes magic a.0 (number (number_of version) ++ (number c.0.0 ++ x.0)) x.1 t0 e13 in (
+      rw t3.1 t2.2,
+      e03.parts ∙ ap (λ n. (magic ++ (number (number_of version) ++ (number n ++ x.0))) ++ x.1) (sym t3.1) ∙ regrouped x.0 x.1,
+    )
   where
-    regrouped : (source rest : List ℕ) → (magic ++ (number version ++ (number (length source) ++ source))) ++ rest ≡ source_text source ++ rest
+    regrouped : (source rest : List ℕ) →
+        (magic ++ (number (number_of version) ++ (number (length source) ++ source))) ++ rest ≡ source_text version source ++ rest
     regrouped source rest = simp append_assoc
 
-pub source_again : (source rest : List ℕ) → length source ≤ MOST_SOURCE_BYTES → source_at (source_text source ++ rest) ≡ Ok (source, rest)
+pub source_again : (version : ImageVersion) (source rest : List ℕ) → length source ≤ MOST_SOURCE_BYTES →
+    source_at version (source_text version source ++ rest) ≡ Ok (source, rest)
 unfolding source_at
-source_again source rest few =
-    let total = length (source_text source ++ rest) in
-    let regrouped : source_text source ++ rest ≡ magic ++ (number version ++ (number (length source) ++ (source ++ rest))) = simp append_assoc in
+source_again version source rest few =
+    let total = length (source_text version source ++ rest) in
+    let regrouped : source_text version source ++ rest ≡ magic ++ (number (number_of version) ++ (number (length source) ++ (source ++ rest))) =
+    simp append_assoc in
     ap (λ bytes. source_in total bytes) regrouped
     ∙ rw (
-      magic_again total magic (number version ++ (number (length source) ++ (source ++ rest))),
-      version_again total version (number (length source) ++ (source ++ rest)) (omega arith),
+      magic_again total magic (number (number_of version) ++ (number (length source) ++ (source ++ rest))),
+      version_again total (number_of version) (number (length source) ++ (source ++ rest)) (is_number version),
       within_again total 0 MOST_SOURCE_BYTES (length source) (source ++ rest) (omega arith) few (omega (arith, few)),
     ) (bytes_again total (length source) source rest refl)
   where
     source_in : ℕ → List ℕ → Reads (List ℕ)
     source_in total bytes =
-        magic_at total magic bytes >>= λ m. version_at total version m >>= λ v. number_within total 0 MOST_SOURCE_BYTES v >>= λ n. bytes_at total n.0 n.1
+        magic_at total magic bytes >>= λ m. version_at total (number_of version) m >>= λ v. number_within total 0 MOST_SOURCE_BYTES v >>= λ n.
+        bytes_at total n.0 n.1
 
-pub source_is_found : {X : Type 0} (view : X → List ℕ × List ℕ) (bytes : List ℕ) (x : Result X ReadError) → IsBytes bytes → ViewsFault view x (source_at bytes)
-    → IfOk x (λ y. (length (view y).0 ≤ MOST_SOURCE_BYTES) × (bytes ≡ source_text (view y).0 ++ (view y).1))
-source_is_found view bytes (Ok y) fits told = source_takes bytes (view y) fits told
-source_is_found view bytes (Err e) fits told = tt
+pub source_is_found : {X : Type 0} (view : X → List ℕ × List ℕ) (version : ImageVersion) (bytes : List ℕ) (x : Result X ReadError) → IsBytes bytes
+    → ViewsFault view x (source_at version bytes)
+    → IfOk x (λ y. (length (view y).0 ≤ MOST_SOURCE_BYTES) × (bytes ≡ source_text version (view y).0 ++ (view y).1))
+source_is_found view version bytes (Ok y) fits told = source_takes version bytes (view y) fits told
+source_is_found view version bytes (Err e) fits told = tt
 
 pub read_as : {X : Type 0} (prefix suffix : X → List ℕ) (x : Result X ReadError) (source rest : List ℕ) →
     ViewsFault {Y = List ℕ × List ℕ} (λ y. (prefix y, suffix y)) x (Ok (source, rest))
@@ -112,86 +156,150 @@ run_again total r rest good =
     ap (run_at total) (append_assoc (number r.thread) (number r.steps) rest)
     ∙ rw (number_again total r.thread (number r.steps ++ rest) good.0, number_again total r.steps rest good.1) refl
 
--- ---- All that stands after the source
+-- ---- Lives
 
-state_grouped : (v : State) → number (word_bytes * length v.variables)
-    ++ (flat_map word v.variables ++ (flat_map word v.logs ++ (number (length v.runs) ++ flat_map run_text v.runs))) ≡ state_text v
-state_grouped v = simp append_assoc
+life_takes : (total : ℕ) (bytes : List ℕ) (x : List Run × List ℕ) → IsBytes bytes → life_at total bytes ≡ Ok x →
+    Takes bytes (runs_text x.0) x.1 × IsLife x.0
+unfolding life_at
+life_takes total bytes x fits e =
+    let a = bind_ok (number_at total bytes) (λ n. repeated (run_at total) n.0 n.1) x e in
+    let t = number_takes total bytes a.0 fits a.1 in
+    let u = repeated_take run_text IsRun (run_at total) (run_takes total) a.0.0 a.0.1 x t.0.rest_fits a.2 in
+    let both = then bytes (number a.0.0) a.0.1 (flat_map run_text x.0) x.1 t.0 u.0 in
+    (subst (λ n. Takes bytes (number n ++ flat_map run_text x.0) x.1) (sym u.1) both, (subst IsNumber (sym u.1) t.1, u.2))
 
--- nothing comes after, and both numbers are what they count
-counted : (bytes rest : List ℕ) (s : State) (size count : ℕ) →
-    bytes ≡ (number size ++ (flat_map word s.variables ++ (flat_map word s.logs ++ (number count ++ flat_map run_text s.runs)))) ++ rest
-    → rest ≡ [] → word_bytes * length s.variables ≡ size → length s.runs ≡ count → bytes ≡ state_text s
-counted bytes rest s size count parts nothing sized e =
-    let text : ℕ → ℕ → List ℕ = λ n m. number n ++ (flat_map word s.variables ++ (flat_map word s.logs ++ (number m ++ flat_map run_text s.runs))) in
-    parts ∙ ap (λ after. text size count ++ after) nothing ∙ append-nil (text size count) ∙ ap (λ n. text n count) (sym sized)
-    ∙ ap (text (word_bytes * length s.variables)) (sym e) ∙ state_grouped s
+life_again : (total : ℕ) (runs : List Run) (rest : List ℕ) → IsLife runs → life_at total (runs_text runs ++ rest) ≡ Ok (runs, rest)
+unfolding life_at
+life_again total runs rest good =
+    ap (life_at total) (append_assoc (number (length runs)) (flat_map run_text runs) rest)
+    ∙ rw (number_again total (length runs) (flat_map run_text runs ++ rest) good.0)
+    (repeated_again run_text IsRun (run_at total) (run_again total) runs rest good.1)
 
-state_takes : (total size threads : ℕ) (bytes : List ℕ) (s : State) → IsBytes bytes → size % word_bytes ≡ 0 → state_at total size threads bytes ≡ Ok s →
-    IsState size threads s × (bytes ≡ state_text s)
-unfolding state_at
-state_takes total size threads bytes s fits whole e =
-    let a = bind_ok (size_at total size bytes)
-    (λ b. repeated (word_at total) (size / word_bytes) b >>= λ v. repeated (word_at total) (log_words * threads) v.1 >>= λ l. number_at total l.1 >>= λ n.
-    repeated (run_at total) n.0 n.1 >>= λ rs. ended total rs.1 (record { variables = v.0; logs = l.0; runs = rs.0 })) s e in
-    let b = bind_ok (repeated (word_at total) (size / word_bytes) a.0)
-    (λ v. repeated (word_at total) (log_words * threads) v.1 >>= λ l. number_at total l.1 >>= λ n. repeated (run_at total) n.0 n.1 >>= λ rs.
-    ended total rs.1 (record { variables = v.0; logs = l.0; runs = rs.0 })) s a.2 in
-    let c = bind_ok (repeated (word_at total) (log_words * threads) b.0.1)
-    (λ l. number_at total l.1 >>= λ n. repeated (run_at total) n.0 n.1 >>= λ rs.
-    ended total rs.1 (record { variables = b.0.0; logs = l.0; runs = rs.0 })) s b.2 in
-    let d = bind_ok (number_at total c.0.1)
-    (λ n. repeated (run_at total) n.0 n.1 >>= λ rs. ended total rs.1 (record { variables = b.0.0; logs = c.0.0; runs = rs.0 })) s c.2 in
-    let f = bind_ok (repeated (run_at total) d.0.0 d.0.1) (λ rs. ended total rs.1 (record { variables = b.0.0; logs = c.0.0; runs = rs.0 })) s d.2 in
-    let made : State = record { variables = b.0.0; logs = c.0.0; runs = f.0.0 } in
-    let g = test_ok (length f.0.1 == 0) (Rest (total - length f.0.1)) made s f.2 in
-    let t0 = size_takes total size bytes a.0 fits a.1 in
-    let t1 = repeated_take word IsWord (word_at total) (word_takes total) (size / word_bytes) a.0 b.0 t0.rest_fits b.1 in
-    let t2 = repeated_take word IsWord (word_at total) (word_takes total) (log_words * threads) b.0.1 c.0 t1.0.rest_fits c.1 in
-    let t3 = number_takes total c.0.1 d.0 t2.0.rest_fits d.1 in
-    let t4 = repeated_take run_text IsRun (run_at total) (run_takes total) d.0.0 d.0.1 f.0 t3.0.rest_fits f.1 in
-    let e34 = then c.0.1 (number d.0.0) d.0.1 (flat_map run_text f.0.0) f.0.1 t3.0 t4.0 in
-    let e24 = then b.0.1 (flat_map word c.0.0) c.0.1 (number d.0.0 ++ flat_map run_text f.0.0) f.0.1 t2.0 e34 in
-    let e14 = then a.0 (flat_map word b.0.0) b.0.1 (flat_map word c.0.0 ++ (number d.0.0 ++ flat_map run_text f.0.0)) f.0.1 t1.0 e24 in
-    let e04 = then bytes (number size) a.0 (flat_map word b.0.0 ++ (flat_map word c.0.0 ++ (number d.0.0 ++ flat_map run_text f.0.0))) f.0.1 t0 e14 in
-    let nothing : f.0.1 ≡ [] = nil_from_length f.0.1 (eqb-true (length f.0.1) 0 g.0) in
-    let sized : word_bytes * length b.0.0 ≡ size = omega (arith, t1.1, whole) in
-    subst (λ v. IsState size threads v × (bytes ≡ state_text v)) {x = made} g.1 (
-      record { variables = sized; logs = t2.1; runs = rw t4.1 t3.1; variable_words = t1.2; log_words = t2.2; fields = t4.2 },
-      counted bytes f.0.1 made size d.0.0 e04.parts nothing sized t4.1,
+count_takes : (version : ImageVersion) (total : ℕ) (bytes : List ℕ) (x : ℕ × List ℕ) → IsBytes bytes → count_at version total bytes ≡ Ok x →
+    Takes bytes (count_text version x.0) x.1 × Tells version x.0
+count_takes First total bytes x fits e =
+    subst (λ (y : ℕ × List ℕ). Takes bytes (count_text First y.0) y.1 × Tells First y.0) (ok_is (1, bytes) x e)
+    (record { parts = refl; rest_fits = fits }, refl)
+count_takes Second total bytes x fits e =
+    subst (λ (y : ℕ × List ℕ). Takes bytes (count_text Second y.0) y.1 × Tells Second y.0) (ok_is (1, bytes) x e)
+    (record { parts = refl; rest_fits = fits }, refl)
+count_takes Third total bytes x fits e =
+    let t = within_takes total 1 MOST_LIVES bytes x fits e in
+    (t.0, (t.1, omega (arith, t.2)))
+
+count_again : (version : ImageVersion) (total n : ℕ) (rest : List ℕ) → Tells version n → count_at version total (count_text version n ++ rest) ≡ Ok (n, rest)
+count_again First total n rest told = ap (λ m. Ok (m, rest)) (sym told)
+count_again Second total n rest told = ap (λ m. Ok (m, rest)) (sym told)
+count_again Third total n rest told = within_again total 1 MOST_LIVES n rest told.0 (omega (arith, told.1)) told.1
+
+record AreLives (version : ImageVersion) (bytes : List ℕ) (lives : List (List Run)) : Type 0 where
+  parts : bytes ≡ lives_text version lives
+  told : Tells version (length lives)
+  fields : AllByRecursion IsLife lives
+
+lives_take : (version : ImageVersion) (total : ℕ) (bytes : List ℕ) (lives : List (List Run)) → IsBytes bytes → lives_at version total bytes ≡ Ok lives →
+    AreLives version bytes lives
+unfolding lives_at
+lives_take version total bytes lives fits e =
+    let a = bind_ok (count_at version total bytes) (λ n. repeated (life_at total) n.0 n.1 >>= λ ls. ended total ls.1 ls.0) lives e in
+    let b = bind_ok (repeated (life_at total) a.0.0 a.0.1) (λ ls. ended total ls.1 ls.0) lives a.2 in
+    let g = test_ok (length b.0.1 == 0) (Rest (total - length b.0.1)) b.0.0 lives b.2 in
+    let t = count_takes version total bytes a.0 fits a.1 in
+    let u = repeated_take runs_text IsLife (life_at total) (life_takes total) a.0.0 a.0.1 b.0 t.0.rest_fits b.1 in
+    let both = then bytes (count_text version a.0.0) a.0.1 (flat_map runs_text b.0.0) b.0.1 t.0 u.0 in
+    let nothing : b.0.1 ≡ [] = nil_from_length b.0.1 (eqb-true (length b.0.1) 0 g.0) in
+    let text : ℕ → List ℕ = λ n. count_text version n ++ flat_map runs_text b.0.0 in
+    subst (AreLives version bytes) {x = b.0.0} g.1 (
+    record {
+      parts = both.parts ∙ ap (λ after. text a.0.0 ++ after) nothing ∙ append-nil (text a.0.0) ∙ ap text (sym u.1);
+      told = subst (Tells version) (sym u.1) t.1;
+      fields = u.2;
+    }
     )
 
-pub state_again : (total size threads : ℕ) (s : State) → size < 2 ^ 32 → IsState size threads s → state_at total size threads (state_text s) ≡ Ok s
+lives_again : (version : ImageVersion) (total : ℕ) (lives : List (List Run)) → Tells version (length lives) → AllByRecursion IsLife lives →
+    lives_at version total (lives_text version lives) ≡ Ok lives
+unfolding lives_at
+lives_again version total lives told good =
+    let text = flat_map runs_text lives in
+    let count : count_at version total (lives_text version lives) ≡ Ok (length lives, text) = count_again version total (length lives) text told in
+    let all : repeated (life_at total) (length lives) text ≡ Ok (lives, []) =
+    ap (repeated (life_at total) (length lives)) (sym (append-nil text))
+    ∙ repeated_again runs_text IsLife (life_at total) (life_again total) lives [] good in
+    rw (count, all) refl
+
+-- ---- All that stands after the source
+
+state_grouped : (version : ImageVersion) (v : State) →
+    state_text version v ≡ number (word_bytes * length v.variables) ++ (flat_map word v.variables ++ (flat_map word v.logs ++ lives_text version v.lives))
+state_grouped version v = simp append_assoc
+
+-- the lives come after, and the number is what it counts
+counted : (version : ImageVersion) (bytes rest : List ℕ) (s : State) (size : ℕ) →
+    bytes ≡ (number size ++ (flat_map word s.variables ++ flat_map word s.logs)) ++ rest → rest ≡ lives_text version s.lives →
+    word_bytes * length s.variables ≡ size → bytes ≡ state_text version s
+counted version bytes rest s size parts lives sized =
+    let text : ℕ → List ℕ = λ n. number n ++ (flat_map word s.variables ++ flat_map word s.logs) in
+    parts ∙ ap (λ after. text size ++ after) lives ∙ ap (λ n. text n ++ lives_text version s.lives) (sym sized)
+
+state_takes : (version : ImageVersion) (total size threads : ℕ) (bytes : List ℕ) (s : State) → IsBytes bytes → size % word_bytes ≡ 0 →
+    state_at version total size threads bytes ≡ Ok s → IsState version size threads s × (bytes ≡ state_text version s)
 unfolding state_at
-state_again total size threads s lt good =
-    let tail = number (length s.runs) ++ flat_map run_text s.runs in
-    let regrouped : state_text s ≡ number size ++ (flat_map word s.variables ++ (flat_map word s.logs ++ tail)) =
-    sym (state_grouped s) ∙ ap (λ n. number n ++ (flat_map word s.variables ++ (flat_map word s.logs ++ tail))) good.variables in
+state_takes version total size threads bytes s fits whole e =
+    let a = bind_ok (size_at total size bytes)
+    (λ b. repeated (word_at total) (size / word_bytes) b >>= λ v. repeated (word_at total) (words_of version * threads) v.1 >>= λ l.
+    lives_at version total l.1 >>= λ ls. Ok (record { variables = v.0; logs = l.0; lives = ls })) s e in
+    let b = bind_ok (repeated (word_at total) (size / word_bytes) a.0)
+    (λ v. repeated (word_at total) (words_of version * threads) v.1 >>= λ l. lives_at version total l.1 >>= λ ls.
+    Ok (record { variables = v.0; logs = l.0; lives = ls })) s a.2 in
+    let c = bind_ok (repeated (word_at total) (words_of version * threads) b.0.1)
+    (λ l. lives_at version total l.1 >>= λ ls. Ok (record { variables = b.0.0; logs = l.0; lives = ls })) s b.2 in
+    let d = bind_ok (lives_at version total c.0.1) (λ ls. Ok (record { variables = b.0.0; logs = c.0.0; lives = ls })) s c.2 in
+    let made : State = record { variables = b.0.0; logs = c.0.0; lives = d.0 } in
+    let t0 = size_takes total size bytes a.0 fits a.1 in
+    let t1 = repeated_take word IsWord (word_at total) (word_takes total) (size / word_bytes) a.0 b.0 t0.rest_fits b.1 in
+    let t2 = repeated_take word IsWord (word_at total) (word_takes total) (words_of version * threads) b.0.1 c.0 t1.0.rest_fits c.1 in
+    let t3 = lives_take version total c.0.1 d.0 t2.0.rest_fits d.1 in
+    let e12 = then a.0 (flat_map word b.0.0) b.0.1 (flat_map word c.0.0) c.0.1 t1.0 t2.0 in
+    let e02 = then bytes (number size) a.0 (flat_map word b.0.0 ++ flat_map word c.0.0) c.0.1 t0 e12 in
+    let sized : word_bytes * length b.0.0 ≡ size = omega (arith, t1.1, whole) in
+    subst (λ v. IsState version size threads v × (bytes ≡ state_text version v)) {x = made} (ok_is made s d.2) (
+      record { variables = sized; logs = t2.1; lives = t3.told; variable_words = t1.2; log_words = t2.2; fields = t3.fields },
+      counted version bytes c.0.1 made size e02.parts t3.parts sized,
+    )
+
+pub state_again : (version : ImageVersion) (total size threads : ℕ) (s : State) → size < 2 ^ 32 → IsState version size threads s →
+    state_at version total size threads (state_text version s) ≡ Ok s
+unfolding state_at
+state_again version total size threads s lt good =
+    let tail = lives_text version s.lives in
+    let regrouped : state_text version s ≡ number size ++ (flat_map word s.variables ++ (flat_map word s.logs ++ tail)) =
+    state_grouped version s ∙ ap (λ n. number n ++ (flat_map word s.variables ++ (flat_map word s.logs ++ tail))) good.variables in
     let words : size / word_bytes ≡ length s.variables = omega (arith, good.variables) in
-    let begins : size_at total size (state_text s) ≡ Ok (flat_map word s.variables ++ (flat_map word s.logs ++ tail)) =
+    let begins : size_at total size (state_text version s) ≡ Ok (flat_map word s.variables ++ (flat_map word s.logs ++ tail)) =
     ap (size_at total size) regrouped ∙ size_again total size (flat_map word s.variables ++ (flat_map word s.logs ++ tail)) lt in
     let variables : repeated (word_at total) (size / word_bytes) (flat_map word s.variables ++ (flat_map word s.logs ++ tail))
     ≡ Ok (s.variables, flat_map word s.logs ++ tail) =
     rw words (repeated_again word IsWord (word_at total) (word_again total) s.variables (flat_map word s.logs ++ tail) good.variable_words) in
-    let logs : repeated (word_at total) (log_words * threads) (flat_map word s.logs ++ tail) ≡ Ok (s.logs, tail) =
+    let logs : repeated (word_at total) (words_of version * threads) (flat_map word s.logs ++ tail) ≡ Ok (s.logs, tail) =
     ap (λ n. repeated (word_at total) n (flat_map word s.logs ++ tail)) (sym good.logs)
     ∙ repeated_again word IsWord (word_at total) (word_again total) s.logs tail good.log_words in
-    let count : number_at total tail ≡ Ok (length s.runs, flat_map run_text s.runs) = number_again total (length s.runs) (flat_map run_text s.runs) good.runs in
-    let runs : repeated (run_at total) (length s.runs) (flat_map run_text s.runs) ≡ Ok (s.runs, []) =
-    ap (repeated (run_at total) (length s.runs)) (sym (append-nil (flat_map run_text s.runs)))
-    ∙ repeated_again run_text IsRun (run_at total) (run_again total) s.runs [] good.fields in
-    rw (begins, variables, logs, count, runs) refl
+    let lives : lives_at version total tail ≡ Ok s.lives = lives_again version total s.lives good.lives good.fields in
+    rw (begins, variables, logs, lives) refl
 
-pub state_is_found : (total size threads : ℕ) (bytes : List ℕ) (x : Result code.State ReadError) → IsBytes bytes → size % word_bytes ≡ 0 →
-    Gives state_of x (state_at total size threads bytes)
-    → IfOk x (λ state. IsState size threads (state_of state) × (bytes ≡ state_text (state_of state)))
-state_is_found total size threads bytes (Ok state) fits whole given = state_takes total size threads bytes (state_of state) fits whole given
-state_is_found total size threads bytes (Err e) fits whole given = tt
+pub state_is_found : (version : ImageVersion) (total size threads : ℕ) (bytes : List ℕ) (x : Result code.State ReadError) → IsBytes bytes →
+    size % word_bytes ≡ 0 → Gives state_of x (state_at version total size threads bytes)
+    → IfOk x (λ state. IsState version size threads (state_of state) × (bytes ≡ state_text version (state_of state)))
+state_is_found version total size threads bytes (Ok state) fits whole given = state_takes version total size threads bytes (state_of state) fits whole given
+state_is_found version total size threads bytes (Err e) fits whole given = tt
 
 -- ---- Whole images
 
-pub image_again : (size threads : ℕ) (o : Contents) → length o.source ≤ MOST_SOURCE_BYTES → size < 2 ^ 32 → IsState size threads o.state →
-    image_at size threads (spelling o) ≡ Ok o
+pub image_again : (version : ImageVersion) (size threads : ℕ) (o : Contents) → length o.source ≤ MOST_SOURCE_BYTES → size < 2 ^ 32 →
+    IsState version size threads o.state → image_at version size threads (spelling version o) ≡ Ok o
 unfolding image_at
-image_again size threads o few lt good =
-    rw (source_again o.source (state_text o.state) few, state_again (length (spelling o)) size threads o.state lt good) refl
+image_again version size threads o few lt good =
+    rw (
+      source_again version o.source (state_text version o.state) few,
+      state_again version (length (spelling version o)) size threads o.state lt good,
+    ) refl

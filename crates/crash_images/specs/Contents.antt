@@ -1,11 +1,14 @@
 -- What an image holds, without where it lies in memory, and its limits.
-use Rattle.std.specs.Prelude.{◌≡◌, ℕ, ◌*◌, List, length}
+use Rattle.std.specs.Prelude.{◌≡◌, ℕ, ◌*◌, ◌≤◌, List, length, map}
 use Rattle.std.specs.List.{AllByRecursion}
 use Rattle.ido_base.specs.declared.limits.TheConstants.{MOST_THREADS, WORD_BYTES}
-use Rattle.ido_base.specs.declared.log.Log.TheVariants.{V1}
+use Rattle.ido_base.specs.declared.log.Log.{Log}
+use Rattle.ido_base.specs.declared.log.Log.TheVariants.{V1, V2}
 use Rattle.ido_base.specs.Layout as layout
 use Rattle.file_fields.specs.Numbers.{IsNumber, IsWord}
 use Rattle.run_scripts.specs.Runs.{Run, runs_of}
+use Rattle.crash_images.specs.declared.version.ImageVersion.{ImageVersion}
+use Rattle.crash_images.specs.declared.version.ImageVersion.TheVariants.{First, Second, Third}
 
 -- what a crash leaves of a run of a source
 pub record State : Type 0 where
@@ -13,40 +16,73 @@ pub record State : Type 0 where
   pub variables : List ℕ
   -- the durable words of the logs, of thread 0 first
   pub logs : List ℕ
-  -- the schedule so far
-  pub runs : List Run
+  -- the schedule of each life so far, of the first life first
+  pub lives : List (List Run)
 
 pub record Contents : Type 0 where
   -- the bytes of the source
   pub source : List ℕ
   pub state : State
 
--- after these steps, of the thread whose number each is
-abbrev pub contents : (source variables logs schedule : List ℕ) → Contents
-contents source variables logs schedule = record { source = source; state = record { variables = variables; logs = logs; runs = runs_of schedule } }
+-- after lives of these steps, of the thread whose number each is
+abbrev pub contents : (source variables logs : List ℕ) → (schedules : List (List ℕ)) → Contents
+contents source variables logs schedules =
+    record { source = source; state = record { variables = variables; logs = logs; lives = map runs_of schedules } }
+
+-- ---- Versions
+
+-- the number that stands in the file
+abbrev pub number_of : ImageVersion → ℕ
+number_of First = 1
+number_of Second = 2
+number_of Third = 3
+
+abbrev pub log_of : ImageVersion → Log
+log_of First = V1
+log_of Second = V2
+log_of Third = V2
+
+-- the version in which images of a log are written
+abbrev pub written_as : Log → ImageVersion
+written_as V1 = First
+written_as V2 = Third
+
+-- so many lives are told
+abbrev pub Tells : ImageVersion → (lives : ℕ) → Type 0
+Tells First lives = lives ≡ 1
+Tells Second lives = lives ≡ 1
+Tells Third lives = (1 ≤ lives) × IsNumber lives
 
 -- ---- Limits
 
 -- words of logs
-abbrev pub most_logs : ℕ
-most_logs = layout.log_words V1 * MOST_THREADS
+abbrev pub most_logs : Log → ℕ
+most_logs log = layout.log_words log * MOST_THREADS
 
 abbrev pub word_bytes : ℕ
 word_bytes = WORD_BYTES
 
--- words of the log of a thread: images are of the first log
+-- words of the first log of a thread
 abbrev pub log_words : ℕ
 log_words = layout.log_words V1
+
+-- words of the log of a thread
+abbrev pub words_of : ImageVersion → ℕ
+words_of version = layout.log_words (log_of version)
 
 -- four bytes tell the thread, and how many steps it took
 abbrev pub IsRun : Run → Type 0
 IsRun r = IsNumber r.thread × IsNumber r.steps
 
+-- four bytes tell how many runs a life has
+abbrev pub IsLife : List Run → Type 0
+IsLife runs = IsNumber (length runs) × AllByRecursion IsRun runs
+
 -- of a source whose variables take so many bytes, and which has so many threads
-pub record IsState (size threads : ℕ) (s : State) : Type 0 where
+pub record IsState (version : ImageVersion) (size threads : ℕ) (s : State) : Type 0 where
   pub variables : word_bytes * length s.variables ≡ size
-  pub logs : length s.logs ≡ log_words * threads
-  pub runs : IsNumber (length s.runs)
+  pub logs : length s.logs ≡ words_of version * threads
+  pub lives : Tells version (length s.lives)
   pub variable_words : AllByRecursion IsWord s.variables
   pub log_words : AllByRecursion IsWord s.logs
-  pub fields : AllByRecursion IsRun s.runs
+  pub fields : AllByRecursion IsLife s.lives

@@ -3,4 +3,5 @@
 
 pub mod reading;
 pub mod state;
+pub mod version;
 pub mod writing;

@@ -6,8 +6,8 @@ use run_scripts::runs::Run;
 pub struct State {
     /// The durable words of the variables.
     pub variables: Vec<u64>,
-    /// The durable words of the logs, 128 for each thread, thread 0 first.
+    /// The durable words of the logs, as many for each thread as the log has, thread 0 first.
     pub logs: Vec<u64>,
-    /// The schedule so far.
-    pub runs: Vec<Run>,
+    /// The schedule of each life so far, the first life first.
+    pub lives: Vec<Vec<Run>>,
 }

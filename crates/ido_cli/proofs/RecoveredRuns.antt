@@ -4,6 +4,7 @@ use Rattle.std.proofs.Common.{replicate, ap, ap₂, sym, subst, ◌∙◌, arith
 use Rattle.std.specs.Prelude.{sum_by}
 use Rattle.std.proofs.lemmas.Bool.{cases_lt}
 use Rattle.std.proofs.lemmas.List.{length-map, length-replicate}
+use Rattle.std.proofs.lemmas.List.Sums.{sum_by-cons}
 use Rattle.ido_base.specs.Layout.{log_words}
 use Rattle.ido_base.specs.declared.log.Log.TheVariants.{V1}
 use Rattle.ido_base.specs.declared.log.Log.{Log}
@@ -13,12 +14,13 @@ use Rattle.ido_base.specs.declared.event.Event.TheVariants.{Crash}
 use Rattle.ido_base.specs.Cores.{played}
 use Rattle.ido_base.specs.Layout.{spread_words, word_count}
 use Rattle.c_tree.specs.Flats as f
+use Rattle.c_tree.specs.Source.{start}
 use Rattle.rv64_isa.specs.declared.object.Object.{Object}
 use Rattle.rv64_isa.specs.declared.object.Marks.{Marks}
 use Rattle.rv64_isa.specs.Frames.{IsWellFormedWorld}
 use Rattle.rv64_isa.specs.Machine.{World, after_events, machine_from}
 use Rattle.rv64_isa.specs.Programs.{program_of, slot_of}
-use Rattle.rv64_isa.specs.Schedule.{Steps, first_steps, only_life, steps_along, LifeSchedules, all_lives, schedules}
+use Rattle.rv64_isa.specs.Schedule.{Steps, first_steps, steps_along, LifeSchedules, all_lives, schedules}
 use Rattle.rv64_isa.proofs.Public.{crashes_simulate}
 use Rattle.flow_graph.specs.declared.cuts.Cuts.{Cuts}
 use Rattle.flat_compile.specs.TranslatedForms.{IsTranslated}
@@ -33,6 +35,7 @@ use Rattle.ido_cli.specs.CompiledImages.{IsImageAnswer, whole}
 use Rattle.hart_driver.specs.declared.stop.Stop.{Stop}
 use Rattle.hart_driver.specs.Legs.{IsLeg}
 use Rattle.ido_compile.specs.CompileAnswers.{IsCompiled, translation_in}
+use Rattle.image_checks.proofs.Public.{lives_few}
 use Rattle.image_runs.specs.Laws.{AcceptedRunOn}
 use Rattle.ido_compile.specs.Files.{FilesBegin}
 use Rattle.run_scripts.specs.declared.evictor.Evictor.{Evictor}
@@ -206,7 +209,10 @@ compiled_in bytes image (whole read is) = (is.is.source.source, is.is.source.com
 
 -- it has few steps
 pub few_steps_in : (bytes : List ℕ) (image : i.Image) → IsImageAnswer bytes (Ok image) → length image.schedule.items ≤ MOST_STEPS
-few_steps_in bytes image (whole read is) = omega (arith, is.sound.schedule.formed.few, ap length is.schedule)
+few_steps_in bytes image (whole read is) =
+    let flat = f.flat_of image.compiled.flat in
+    let few = lives_few flat (start flat) 0 is.state.lives (omega arith) is.sound.schedules in
+    omega (arith, few, ap (sum_by length) is.schedule, sum_by-cons length image.schedule.items [])
 
 -- what is read as an image is run on, whoever wrote it
 pub accepted_runs_on : AcceptedRunOn → (bytes : List ℕ) (image : i.Image) → IsImageAnswer bytes (Ok image) →
@@ -215,8 +221,8 @@ accepted_runs_on run bytes image (whole read is) =
     let c = image.compiled in
     let t = c.translated in
     let state = is.state in
-    let on = run (f.flat_of c.flat) t.object t.marks t.cuts t.resumes.items state is.is.source.compiled.resumable is.is.fits is.sound in
+    let kept = (file_in image).kept in
+    let on = run (f.flat_of c.flat) t.object t.marks t.cuts t.resumes.items state kept is.is.source.compiled.resumable is.is.fits is.sound in
     let count : length state.variables ≡ length t.object.initial.items / 8 = omega (arith, is.is.fits.variables) in
     let spread = ap₂ (λ (n : ℕ) (ws : List ℕ). spread_words n ws) count (sym is.words) in
-    let same = ap₂ (λ (ws kept : List ℕ). let x : Image = record { words = ws; kept = only_life kept } in x) spread (sym is.schedule) in
-    subst (λ (x : Image). RunsOn (translation_in c) x) same on
+    subst (λ (ws : List ℕ). RunsOn (translation_in c) (record { words = ws; kept = kept })) spread on

@@ -1,23 +1,26 @@
 -- What bytes are answered that spell the file of a run.
-use Rattle.std.proofs.Common.{◌≡◌, ℕ, ◌≤◌, List, [], ◌++◌, length, map, ap, sym, subst, ◌∙◌, Result, Ok, Err}
+use Rattle.std.proofs.Common.{◌≡◌, ℕ, ◌≤◌, List, [], ◌∷◌, ◌++◌, length, get_or, map, take, drop, ap, sym, subst, ◌∙◌, arith, Result, Ok, Err}
+use Rattle.std.specs.Prelude.{sum_by}
+use Rattle.std.proofs.lemmas.List.Sums.{sum_by-cons}
 use Rattle.std.proofs.lemmas.List.{length-map, take-append-drop}
 use Rattle.ido_base.specs.declared.event.Event.{Event}
 use Rattle.ido_base.specs.declared.limits.TheConstants.{MOST_STEPS}
 use Rattle.ido_base.specs.Layout.{aligned_up, end_from}
 use Rattle.c_tree.specs.Flats.{Flat, flat_of}
+use Rattle.c_tree.specs.Source.{start}
 use Rattle.c_tree.specs.WellFormed.{shape_of}
 use Rattle.rv64_isa.specs.declared.object.Object.{Object}
 use Rattle.rv64_isa.specs.declared.object.Marks.{Marks}
 use Rattle.rv64_isa.specs.Executables.{Executable}
 use Rattle.rv64_isa.specs.Programs.{slot_of}
+use Rattle.rv64_isa.specs.Schedule.{LifeSchedules, all_lives}
 use Rattle.flow_graph.specs.declared.cuts.Cuts.{Cuts}
 use Rattle.flow_graph.specs.Lowering.{lowered}
 use Rattle.flow_graph.specs.Nodes.{Graph}
 use Rattle.flow_graph.specs.Refusals.{IsAccepted, IsRefusedBy}
 use Rattle.file_fields.specs.Fields.{Fault, ◌>>=◌}
 use Rattle.file_fields.proofs.Public.{bind_ok, ok_is}
-use Rattle.run_scripts.specs.Runs.{schedule_of}
-use Rattle.run_scripts.proofs.Public.{each_step}
+use Rattle.run_scripts.specs.Runs.{runs_of}
 use Rattle.crash_simulation.specs.AccountRelation.{MachinesResume}
 use Rattle.compiler_correctness.specs.Images as left
 use Rattle.compiler_correctness.specs.Laws.{MachinesRecord}
@@ -29,20 +32,26 @@ use Rattle.ido_compile.specs.CompileAnswers.{IsCompiled, translation_in}
 use Rattle.ido_compile.specs.Verdicts.{NotBoth, OneFlat}
 use Rattle.crash_images.specs.Contents.{Contents, State}
 use Rattle.crash_images.specs.ImageDecoder.{IsReadAs, image_at, source_at, state_at}
+use Rattle.crash_images.specs.declared.version.ImageVersion.TheVariants.{First}
 use Rattle.image_checks.specs.declared.error.ImageError.{ImageError}
 use Rattle.ido_cli.specs.declared.compiled_image.Image.{Image}
-use Rattle.image_checks.specs.Checks.{IsStateFault, IsUnshared, of_thread, of_mutexes, of_schedule}
+use Rattle.image_checks.specs.Checks.{IsStateFault, IsUnshared, of_thread, of_mutexes, of_schedules}
 use Rattle.ido_cli.specs.CompiledImages.{size_of, threads_of, BeginsCompiled, HasState, IsImage, IsImageAnswer, whole, no_source, refused, no_state, unsound}
 use Rattle.ido_cli.specs.CompiledImages as answers
 use Rattle.image_checks.specs.Laws.{RunsLeaveNoFault}
-use Rattle.image_checks.specs.Schedules.{IsAtFault}
+use Rattle.image_checks.specs.Schedules.{IsLivesFault, schedules_of}
 use Rattle.image_checks.specs.RunImages.{left_by, file_contents, file_state}
 use Rattle.ido_cli.specs.ImagesReadAgain.{IsReadAgain, again, elsewhere, RunImagesAreRead}
 use Rattle.ido_cli.specs.ImagesReadAgain as reads
-use Rattle.image_checks.proofs.Public.{IsWhole, left_is_whole, none_if_sound, unshared, schedule_faultless}
+use Rattle.image_checks.proofs.Public.{IsWhole, left_is_whole, none_if_sound, none_in_lives, told_again, unshared}
 
 not_both_ways : {A : Type 0} (found : Result A Fault) (x : A) (fault : Fault) → found ≡ Ok x → found ≡ Err fault → ⊥
 not_both_ways {A = A} found x fault ok err = let both : ◌≡◌ {A = Result A Fault} (Ok x) (Err fault) = sym ok ∙ err in cc
+
+few_lives : (kept : LifeSchedules) → kept.earlier ≡ [] → length kept.schedule ≤ MOST_STEPS → sum_by length (all_lives kept) ≤ MOST_STEPS
+few_lives kept none few =
+    subst (λ (earlier : List (List ℕ)). sum_by length (earlier ++ kept.schedule ∷ []) ≤ MOST_STEPS) (sym none)
+    (omega (arith, few, sum_by-cons length kept.schedule []))
 
 -- ---- What all translations of a flat form have in common
 
@@ -68,7 +77,7 @@ pub record RunImage (source bytes : List ℕ) : Type 0 where
   pub translated : IsTranslated flat object marks cuts
   pub alone : (left_by (translation_to flat object marks cuts) events).kept.earlier ≡ []
   pub most : length (left_by (translation_to flat object marks cuts) events).kept.schedule ≤ MOST_STEPS
-  pub spelled : IsReadAs (file_contents source (translation_to flat object marks cuts) (left_by (translation_to flat object marks cuts) events)) bytes
+  pub spelled : IsReadAs First (file_contents source (translation_to flat object marks cuts) (left_by (translation_to flat object marks cuts) events)) bytes
 
 module _ (one_flat : OneFlat) (not_both : NotBoth) (machines : MachinesResume) (records : MachinesRecord) (no_fault : RunsLeaveNoFault)
     (source bytes : List ℕ) (run : RunImage source bytes) where
@@ -93,29 +102,39 @@ module _ (one_flat : OneFlat) (not_both : NotBoth) (machines : MachinesResume) (
   Read answer = IsReadAgain source c file answer
 
   is_whole : IsWhole flat threads size state
-  is_whole = left_is_whole flat object marks cuts t events machines records alone most
+  is_whole = left_is_whole flat object marks cuts t events machines records (few_lives file.kept alone most)
+
+  -- its one life is all
+  same_state : (file_contents source c file).state ≡ state
+  same_state =
+      ap (λ (earlier : List (List ℕ)).
+      let z : State = record {
+        variables = take (variable_words c) file.words;
+        logs = drop (variable_words c) file.words;
+        lives = map runs_of (earlier ++ file.kept.schedule ∷ []);
+      } in z) (sym alone)
 
   -- ---- The bytes
 
   record Begins : Type 0 where
     rest : List ℕ
-    begins : source_at bytes ≡ Ok (source, rest)
-    after : state_at (length bytes) size threads rest ≡ Ok state
+    begins : source_at First bytes ≡ Ok (source, rest)
+    after : state_at First (length bytes) size threads rest ≡ Ok state
 
   begun : Begins
   unfolding image_at
   begun =
       let o : Contents = file_contents source c file in
-      let all : image_at size threads bytes ≡ Ok o =
-      subst (λ (k : ℕ). image_at k threads bytes ≡ Ok o) is_whole.variables (spelled threads is_whole.logs) in
-      let a = bind_ok (source_at bytes) (λ x. state_at (length bytes) size threads x.1 >>= λ s. Ok (record { source = x.0; state = s })) o all in
-      let b = bind_ok (state_at (length bytes) size threads a.0.1) (λ s. Ok (record { source = a.0.0; state = s })) o a.2 in
+      let all : image_at First size threads bytes ≡ Ok o =
+      subst (λ (k : ℕ). image_at First k threads bytes ≡ Ok o) is_whole.variables (spelled threads is_whole.logs) in
+      let a = bind_ok (source_at First bytes) (λ x. state_at First (length bytes) size threads x.1 >>= λ s. Ok (record { source = x.0; state = s })) o all in
+      let b = bind_ok (state_at First (length bytes) size threads a.0.1) (λ s. Ok (record { source = a.0.0; state = s })) o a.2 in
       let made : Contents = record { source = a.0.0; state = b.0 } in
       let same : made ≡ o = ok_is made o b.2 in
       record {
         rest = a.0.1;
         begins = a.1 ∙ ap (λ (x : Contents). Ok (x.source, a.0.1)) same;
-        after = b.1 ∙ ap (λ (x : Contents). Ok x.state) same;
+        after = b.1 ∙ ap (λ (x : Contents). Ok x.state) same ∙ ap (λ (x : State). Ok x) same_state;
       }
 
   -- ---- The source, compiled
@@ -145,10 +164,11 @@ module _ (one_flat : OneFlat) (not_both : NotBoth) (machines : MachinesResume) (
         thread_number (flat_of d.flat) x.object x.marks x.cuts compiled.translated ∙ ap (λ (y : Flat). length (lowered y).threads) same_flat
         ∙ sym (thread_number flat object marks cuts t)
 
-    found : state_at (length bytes) (size_of d) (threads_of d) b.rest ≡ Ok state
+    found : state_at First (length bytes) (size_of d) (threads_of d) b.rest ≡ Ok state
     found =
-        ap (λ (k : ℕ). state_at (length bytes) k (threads_of d) b.rest) same_size ∙ ap (λ (k : ℕ). state_at (length bytes) size k b.rest) same_threads
-        ∙ ap (state_at (length bytes) size threads) same_rest ∙ begun.after
+        ap (λ (k : ℕ). state_at First (length bytes) k (threads_of d) b.rest) same_size
+        ∙ ap (λ (k : ℕ). state_at First (length bytes) size k b.rest) same_threads
+        ∙ ap (state_at First (length bytes) size threads) same_rest ∙ begun.after
 
   -- ---- Answers
 
@@ -160,26 +180,25 @@ module _ (one_flat : OneFlat) (not_both : NotBoth) (machines : MachinesResume) (
       let same : is.state ≡ state = state_is image.compiled is.state is.is in
       again image (compiled image.compiled is.is.source)
       (is.words ∙ ap (λ (x : State). x.variables ++ x.logs) same ∙ take-append-drop (variable_words c) file.words)
-      (is.schedule ∙ ap (λ (x : State). schedule_of x.runs) same ∙ each_step file.kept.schedule)
+      (ap (λ (schedules : List (List ℕ)). get_or schedules 0 []) (sym is.schedule ∙ ap (λ (x : State). schedules_of x.lives) same
+      ∙ told_again (all_lives file.kept) ∙ ap (λ (earlier : List (List ℕ)). earlier ++ file.kept.schedule ∷ []) alone))
 
-  not_here : (fault : Fault) (answer : Result Image ImageError) → source_at bytes ≡ Err fault → Read answer
-  not_here fault answer e = absurd (not_both_ways (source_at bytes) (source, begun.rest) fault begun.begins e)
+  not_here : (fault : Fault) (answer : Result Image ImageError) → source_at First bytes ≡ Err fault → Read answer
+  not_here fault answer e = absurd (not_both_ways (source_at First bytes) (source, begun.rest) fault begun.begins e)
 
   not_after : (d : Compiled) (b : BeginsCompiled bytes d) (fault : Fault) (answer : Result Image ImageError) →
-      state_at (length bytes) (size_of d) (threads_of d) b.rest ≡ Err fault → Read answer
+      state_at First (length bytes) (size_of d) (threads_of d) b.rest ≡ Err fault → Read answer
   not_after d b fault answer e =
-      absurd (not_both_ways (state_at (length bytes) (size_of d) (threads_of d) b.rest) state fault (found d b) e)
+      absurd (not_both_ways (state_at First (length bytes) (size_of d) (threads_of d) b.rest) state fault (found d b) e)
 
   module _ (d : Compiled) (is : IsCompiled source d) (flat_is : flat_of d.flat ≡ flat) (threads_are : threads_of d ≡ threads) where
     -- by the same translation nothing is at fault
     none : translation_in d ≡ c → (error : ImageError) → ¬ (IsStateFault (flat_of d.flat) d.translated.resumes.items state error)
     none same error fault =
         let x = d.translated in
-        let few : length (left_by (translation_in d) events).kept.schedule ≤ MOST_STEPS =
-        subst (λ (z : Translation). length (left_by z events).kept.schedule ≤ MOST_STEPS) (sym same) most in
-        let first : (left_by (translation_in d) events).kept.earlier ≡ [] =
-        subst (λ (z : Translation). (left_by z events).kept.earlier ≡ []) (sym same) alone in
-        let sound = no_fault (flat_of d.flat) x.object x.marks x.cuts x.resumes.items events is.resumable first few in
+        let few : sum_by length (all_lives (left_by (translation_in d) events).kept) ≤ MOST_STEPS =
+        subst (λ (z : Translation). sum_by length (all_lives (left_by z events).kept) ≤ MOST_STEPS) (sym same) (few_lives file.kept alone most) in
+        let sound = no_fault (flat_of d.flat) x.object x.marks x.cuts x.resumes.items events is.resumable few in
         none_if_sound (flat_of d.flat) x.resumes.items (file_state (translation_in d) (left_by (translation_in d) events)) error sound
         (subst (λ (z : Translation). IsStateFault (flat_of d.flat) x.resumes.items (file_state z (left_by z events)) error) (sym same) fault)
 
@@ -192,9 +211,9 @@ module _ (one_flat : OneFlat) (not_both : NotBoth) (machines : MachinesResume) (
     fault_read error (of_mutexes x sound f) =
         absurd (unshared state.logs (length d.translated.resumes.items) x
         (λ lock. subst (λ (k : ℕ). IsUnshared state.logs k lock) (sym table_is) (is_whole.unshared lock)) f)
-    fault_read error (of_schedule step sound apart f) =
-        absurd (schedule_faultless flat state.runs (schedule_of state.runs) is_whole.schedule step
-        (subst (λ (x : Flat). IsAtFault x state.runs step) flat_is f.is))
+    fault_read error (of_schedules x sound apart f) =
+        absurd (none_in_lives flat 1 (start flat) 0 state.lives x is_whole.schedules
+        (subst (λ (y : Flat). IsLivesFault y 1 (start y) 0 state.lives x) flat_is f))
 
   read : (answer : Result Image ImageError) → IsImageAnswer bytes answer → Read answer
   read answer (whole image is) = image_read image is

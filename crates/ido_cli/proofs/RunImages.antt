@@ -1,5 +1,5 @@
 -- What a crash would leave of a life that a script was played on.
-use Rattle.std.proofs.Common.{◌≡◌, ℕ, ◌+◌, ◌*◌, ◌/◌, ◌≤◌, List, [], length, map, take, drop, ap, subst, ◌∙◌, arith}
+use Rattle.std.proofs.Common.{◌≡◌, ℕ, ◌+◌, ◌*◌, ◌/◌, ◌≤◌, List, [], ◌∷◌, length, map, take, drop, ap, subst, ◌∙◌, arith}
 use Rattle.std.proofs.lemmas.List.{length-map}
 use Rattle.ido_base.specs.Layout.{log_words}
 use Rattle.ido_base.specs.declared.log.Log.TheVariants.{V1}
@@ -21,6 +21,7 @@ use Rattle.compiler_correctness.specs.Translations.{Translation, translation_to}
 use Rattle.crash_images.specs.Contents.{Contents, contents}
 use Rattle.crash_images.specs.ImageDecoder.{IsReadAs}
 use Rattle.crash_images.specs.ImageEncoder.{spelling}
+use Rattle.crash_images.specs.declared.version.ImageVersion.TheVariants.{First}
 use Rattle.run_tracker.specs.ObjectLives.{Course, LifeConfig, left_words, steps_in, variable_words_in, world_of}
 use Rattle.image_checks.specs.RunImages.{left_by, file_contents}
 use Rattle.ido_cli.specs.Images.{IsImageAfter}
@@ -70,20 +71,20 @@ module _ (flat : f.Flat) (object : Object) (marks : Marks) (cuts : Cuts) (life :
     pub logs_few : length left ≤ variable_words_in life + 1024
     logs_few = omega (arith, size, t.limits.threads)
 
-  same_contents : (source : List ℕ) → contents source (take (variable_words_in life) left) (drop (variable_words_in life) left) (steps_in life).kept ≡
+  same_contents : (source : List ℕ) → contents source (take (variable_words_in life) left) (drop (variable_words_in life) left) ((steps_in life).kept ∷ []) ≡
       file_contents source made (left_by made events)
   same_contents source =
-      ap (λ (n : ℕ). contents source (take n left) (drop n left) (steps_in life).kept) same_variables
-      ∙ ap (λ (ws : List ℕ). contents source (take (variable_words made) ws) (drop (variable_words made) ws) (steps_in life).kept) same_left
-      ∙ ap (λ (ks : List ℕ). let ws = (left_by made events).words in contents source (take (variable_words made) ws) (drop (variable_words made) ws) ks)
+      ap (λ (n : ℕ). contents source (take n left) (drop n left) ((steps_in life).kept ∷ [])) same_variables
+      ∙ ap (λ (ws : List ℕ). contents source (take (variable_words made) ws) (drop (variable_words made) ws) ((steps_in life).kept ∷ [])) same_left
+      ∙ ap (λ (ks : List ℕ). let ws = (left_by made events).words in contents source (take (variable_words made) ws) (drop (variable_words made) ws) (ks ∷ []))
       same_kept
 
   pub image_after : (source : List ℕ) (status : ℕ) (output : List ℕ) → status ≡ 0 →
-      output ≡ spelling (contents source (take (variable_words_in life) left) (drop (variable_words_in life) left) (steps_in life).kept) →
-      IsReadAs (contents source (take (variable_words_in life) left) (drop (variable_words_in life) left) (steps_in life).kept) output →
+      output ≡ spelling First (contents source (take (variable_words_in life) left) (drop (variable_words_in life) left) ((steps_in life).kept ∷ [])) →
+      IsReadAs First (contents source (take (variable_words_in life) left) (drop (variable_words_in life) left) ((steps_in life).kept ∷ [])) output →
       IsImageAfter source made events status output
   image_after source status output done told read = record {
     status_is = done;
-    output_is = told ∙ ap spelling (same_contents source);
-    read_as = subst (λ (x : Contents). IsReadAs x output) (same_contents source) read;
+    output_is = told ∙ ap (spelling First) (same_contents source);
+    read_as = subst (λ (x : Contents). IsReadAs First x output) (same_contents source) read;
   }

@@ -13,6 +13,7 @@ use Rattle.flat_compile.specs.TranslatedForms.{IsTranslated}
 use Rattle.ido_compile.specs.declared.compiler.Compiled.{Compiled}
 use Rattle.ido_compile.specs.CompileAnswers.{IsCompiled, translation_in}
 use Rattle.crash_images.specs.ImageDecoder.{IsReadAs}
+use Rattle.crash_images.specs.declared.version.ImageVersion.TheVariants.{First}
 use Rattle.image_checks.specs.declared.error.ImageError.{ImageError}
 use Rattle.image_checks.specs.declared.error.ImageError.TheVariants as e
 use Rattle.image_checks.specs.Checks.{IsThreadFault}
@@ -36,5 +37,5 @@ abbrev pub RunImagesAreRead : Type 0
 RunImagesAreRead = (source bytes : List ℕ) (flat : Flat) (object : Object) (marks : Marks) (cuts : Cuts) (events : List Event)
     (answer : Result Image ImageError) → IsAccepted source flat → IsTranslated flat object marks cuts → let c = translation_to flat object marks cuts in
     (left_by c events).kept.earlier ≡ [] → length (left_by c events).kept.schedule ≤ MOST_STEPS →
-    IsReadAs (file_contents source c (left_by c events)) bytes → IsImageAnswer bytes answer →
+    IsReadAs First (file_contents source c (left_by c events)) bytes → IsImageAnswer bytes answer →
     IsReadAgain source c (left_by c events) answer

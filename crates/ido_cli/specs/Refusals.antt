@@ -114,6 +114,10 @@ unfoldable pub line_after : (code text : List ℕ) → (place earlier : ℕ) →
 line_after code text place earlier =
     line (codes "refused " ++ code ++ codes " at " ++ place_text text place ++ codes " after " ++ place_text text earlier)
 
+-- `refused I11 life 1`
+unfoldable pub line_at_life : (code : List ℕ) → (life : ℕ) → List ℕ
+line_at_life code life = line (codes "refused " ++ code ++ codes " life " ++ decimal life)
+
 -- `refused Q3 at step 6`
 unfoldable pub line_at_step : (code : List ℕ) → (step : ℕ) → List ℕ
 line_at_step code step = line (codes "refused " ++ code ++ codes " at step " ++ decimal step)
@@ -146,6 +150,7 @@ image_line (image.Mask thread) = Some (line_at_thread (codes "I6") thread)
 image_line (image.Shared lock first second) = Some (line_of_threads (codes "I7") lock first second)
 image_line (image.Rest place) = Some (line_at_byte (codes "I8") place.0)
 image_line (image.Schedule step) = Some (line_at_step (codes "I9") step)
+image_line (image.Lives life) = Some (line_at_life (codes "I11") life)
 image_line (image.Slot thread register) = Some (line_at_register (codes "I10") thread register)
 image_line image.Memory = None
 

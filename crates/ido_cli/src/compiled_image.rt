@@ -1,6 +1,7 @@
 //! Bytes read as an image, from which a machine can begin.
-ghost use Rattle.std.specs.Prelude.{◌≡◌, ◌+◌, ◌*◌, ◌/◌, ◌≤◌, ◌++◌, length, Err, IfOk, OnOk, MatchResult};
+ghost use Rattle.std.specs.Prelude.{◌≡◌, ◌+◌, ◌*◌, ◌/◌, ◌≤◌, ◌∷◌, ◌++◌, [], length, map, Err, IfOk, OnOk, MatchResult};
 ghost use Rattle.ido_base.specs.declared.limits.TheConstants.{MOST_INPUT_BYTES, MOST_SOURCE_BYTES, MOST_STEPS};
+ghost use Rattle.run_scripts.specs.links.ReportViews.{steps_of};
 ghost use Rattle.crash_images.specs.Contents.{log_words, word_bytes};
 ghost use Rattle.ido_compile.specs.CompileAnswers.{IsCompiled, IsCompileAnswer};
 ghost use Rattle.ido_compile.specs.declared.error.CompileError.{CompileError};
@@ -9,6 +10,7 @@ ghost use Rattle.ido_cli.specs.links.CompileRefusals.{image_fault};
 
 use crash_images::reading::{read_source, read_state};
 use crash_images::state::State;
+use crash_images::version::ImageVersion;
 use ido_base::memory::OutOfMemory;
 use ido_compile::{CompileError, Compiled, compile};
 use image_checks::error::ImageError;
@@ -55,7 +57,18 @@ fn extend(words: &mut Vec<u64>, others: &[u64]) -> Result<(), OutOfMemory>
     Ok(())
 }
 
-/// The image that all bytes spell, of a source that the compiler accepts, where each thread can be resumed by its log, no two
+/// The schedule of the one life.
+fn only(mut lives: Vec<Vec<u32>>) -> Vec<u32>
+    requires { length lives.items ≡ 1 }
+    ensures { map steps_of lives.items ≡ result.items ∷ [] }
+{
+    let Some(schedule) = lives.pop() else {
+        unreachable!()
+    };
+    schedule
+}
+
+/// The image of version 1 that all bytes spell, of a source that the compiler accepts, where each thread can be resumed by its log, no two
 /// threads hold one mutex, and the source makes the steps of the schedule; or the first fault.
 ///
 /// Numbers are of four bytes and words of eight, little-endian: 8 bytes `IDO-IMG` and LF, the version 1, the number of bytes of
@@ -72,12 +85,13 @@ pub fn read_image(alloc: Global, bytes: &[u8]) -> Result<Image, ImageError>
         length image.compiled.translated.object.initial.items / word_bytes + log_words * length image.compiled.translated.object.code.items) }
     ensures steps { IfOk result (λ image. length image.schedule.items ≤ MOST_STEPS) }
 {
-    let (source, rest) = read_source(bytes)?;
+    let (source, rest) = read_source(bytes, ImageVersion::First)?;
     let compiled = compiled_source(alloc, source)?;
     let size = compiled.translated.object.initial.len() as u32;
     let threads = compiled.translated.object.code.len() as u32;
-    let state = read_state(alloc, bytes.len() as u32, rest, size, threads)?;
-    let schedule = check_state(alloc, &compiled.flat, &compiled.translated.resumes, &state)?;
+    let total = bytes.len() as u32;
+    let state = read_state(alloc, total, rest, ImageVersion::First, size, threads)?;
+    let lives = check_state(alloc, &compiled.flat, &compiled.translated.resumes, &state)?;
     let State {
         variables: mut words,
         logs,
@@ -87,6 +101,6 @@ pub fn read_image(alloc: Global, bytes: &[u8]) -> Result<Image, ImageError>
     Ok(Image {
         compiled,
         words,
-        schedule,
+        schedule: only(lives),
     })
 }

@@ -1,19 +1,33 @@
 //! What a crash would leave of a life, as the bytes of an image.
-ghost use Rattle.std.specs.Prelude.{◌≡◌, ◌+◌, ◌/◌, ◌≤◌, drop, length, take, IfOk};
+ghost use Rattle.std.specs.Prelude.{◌≡◌, ◌+◌, ◌/◌, ◌≤◌, ◌∷◌, [], drop, length, map, take, IfOk};
 ghost use Rattle.ido_base.specs.declared.limits.TheConstants.{MOST_SOURCE_BYTES, VARIABLE_WORDS, MOST_STEPS};
 ghost use Rattle.crash_images.specs.Contents.{contents, most_logs};
 ghost use Rattle.crash_images.specs.ImageDecoder.{IsReadAs};
 ghost use Rattle.crash_images.specs.ImageEncoder.{spelling};
+ghost use Rattle.crash_images.specs.declared.version.ImageVersion.TheVariants.{First};
+ghost use Rattle.ido_base.specs.declared.log.Log.TheVariants.{V1};
+ghost use Rattle.run_scripts.specs.links.ReportViews.{steps_of};
 ghost use Rattle.run_tracker.specs.ObjectLives.{left_words, steps_in, variable_words_in, world_of};
 
 use crate::said::Said;
 use crash_images::writing::write_image;
+use ido_base::log::Log;
 use ido_base::memory::OutOfMemory;
 use run_tracker::life::Life;
 use rv64_isa::object::Object;
 use std::alloc::Global;
 
-/// The image that a crash would leave now of the life of a source's object.
+/// The schedule of the one life of an image.
+fn only(alloc: Global, schedule: &[u32]) -> Result<Vec<Vec<u32>>, OutOfMemory>
+    ensures { IfOk result (λ schedules. map steps_of schedules.items ≡ schedule.now ∷ []) }
+{
+    let mut schedules = Vec::new(alloc);
+    let steps = schedule.to_vec(alloc)?;
+    schedules.push(steps)?;
+    Ok(schedules)
+}
+
+/// The image, of version 1, that a crash would leave now of the life of a source's object.
 #[tactic(auto, using(crate::proofs::SameContents::read_as_same))]
 pub fn image(
     alloc: Global,
@@ -25,21 +39,22 @@ pub fn image(
     requires variables { variable_words_in life.now ≤ VARIABLE_WORDS }
     requires object { variable_words_in life.now ≡ length object.now.initial.items / 8 }
     requires within { variable_words_in life.now ≤ length (left_words (variable_words_in life.now) (world_of life.now).words) }
-    requires logs { length (left_words (variable_words_in life.now) (world_of life.now).words) ≤ variable_words_in life.now + most_logs }
+    requires logs { length (left_words (variable_words_in life.now) (world_of life.now).words) ≤ variable_words_in life.now + most_logs V1 }
     requires schedule { length (steps_in life.now).kept ≤ MOST_STEPS }
     ensures status { IfOk result (λ said. said.status ≡ 0) }
     ensures output { IfOk result (λ said.
         let words = left_words (variable_words_in life.now) (world_of life.now).words in
-        said.output.items ≡ spelling (contents source.now
-        (take (variable_words_in life.now) words) (drop (variable_words_in life.now) words) (steps_in life.now).kept)) }
+        said.output.items ≡ spelling First (contents source.now
+        (take (variable_words_in life.now) words) (drop (variable_words_in life.now) words) ((steps_in life.now).kept ∷ []))) }
     // It is read again.
     ensures again { IfOk result (λ said.
         let words = left_words (variable_words_in life.now) (world_of life.now).words in
-        IsReadAs (contents source.now
-        (take (variable_words_in life.now) words) (drop (variable_words_in life.now) words) (steps_in life.now).kept) said.output.items) }
+        IsReadAs First (contents source.now
+        (take (variable_words_in life.now) words) (drop (variable_words_in life.now) words) ((steps_in life.now).kept ∷ [])) said.output.items) }
 {
     let words = life.durable_words(alloc)?;
     let (variables, logs) = words.split_at(object.initial.len() / 8);
-    let output = write_image(alloc, source, variables, logs, life.kept())?;
+    let schedules = only(alloc, life.kept())?;
+    let output = write_image(alloc, Log::V1, source, variables, logs, &schedules)?;
     Ok(Said { status: 0, output })
 }

@@ -16,7 +16,7 @@ use crate::compiled_image::{Image, read_image};
 use crate::live::MOST_LEG_EVENTS;
 use crate::refusal::{
     VERSION_PLACE, refused, refused_at_byte, refused_at_register, refused_at_step,
-    refused_at_thread, refused_of_threads,
+    refused_at_thread, refused_of_life, refused_of_threads,
 };
 use crate::report::say_by_source;
 use crate::said::Said;
@@ -53,6 +53,7 @@ fn image_refused(alloc: Global, error: ImageError) -> Result<Said, OutOfMemory>
         } => refused_of_threads(alloc, "I7", lock, (first, second)),
         ImageError::Rest(place) => refused_at_byte(alloc, "I8", place),
         ImageError::Schedule { step } => refused_at_step(alloc, "I9", step),
+        ImageError::Lives { life } => refused_of_life(alloc, "I11", life),
         ImageError::Slot { thread, register } => {
             refused_at_register(alloc, "I10", thread, register)
         }

@@ -3,7 +3,7 @@ ghost use Rattle.std.specs.Prelude.{◌≡◌, ◌<◌, ◌≤◌, ◌^◌, leng
 ghost use Rattle.ido_base.specs.Places.{column_of, line_of};
 ghost use Rattle.ido_base.specs.declared.limits.TheConstants.{MOST_SOURCE_BYTES};
 ghost use Rattle.ido_cli.specs.Refusals.{code_of, fault_code, fault_place, line_after, line_at, line_at_byte, place_text, line_at_register};
-ghost use Rattle.ido_cli.specs.Refusals.{line_at_step, line_at_thread, line_of_threads, stop_code};
+ghost use Rattle.ido_cli.specs.Refusals.{line_at_life, line_at_step, line_at_thread, line_of_threads, stop_code};
 ghost use Rattle.ido_cli.specs.links.CompileRefusals.{TellsRefusal};
 ghost use Rattle.run_scripts.specs.Schedules as s;
 
@@ -132,6 +132,19 @@ pub fn refused_after(
     let output = format!(in alloc; "refused {code} at {place} after {earlier}\n")?;
     Ok(Said {
         status: 1,
+        output: output.into_bytes(),
+    })
+}
+
+/// The refusal by a code of a life.
+#[tactic(auto, unfolding(crate::specs::Refusals::line_at_life))]
+pub fn refused_of_life(alloc: Global, code: &str, life: u64) -> Result<Said, OutOfMemory>
+    ensures status { IfOk result (λ said. said.status ≡ 6) }
+    ensures output { IfOk result (λ said. said.output.items ≡ line_at_life code.now life) }
+{
+    let output = format!(in alloc; "refused {code} life {life}\n")?;
+    Ok(Said {
+        status: 6,
         output: output.into_bytes(),
     })
 }

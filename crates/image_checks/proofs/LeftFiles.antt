@@ -1,6 +1,6 @@
 -- What a crash leaves of a run has no fault.
-use Rattle.std.proofs.Common.{◌≡◌, refl, ap₂, ℕ, ◌+◌, ◌*◌, ◌≤◌, List, [], ◌∷◌, ◌++◌, length, map, take, drop, ap, sym, subst, ◌∙◌, arith, true, length-drop}
-use Rattle.std.specs.Prelude.{Vec}
+use Rattle.std.proofs.Common.{◌≡◌, refl, ap₂, ℕ, ◌+◌, ◌*◌, ◌≤◌, List, ◌++◌, length, map, take, drop, ap, sym, subst, ◌∙◌, arith, length-drop}
+use Rattle.std.specs.Prelude.{Vec, sum_by}
 use Rattle.std.specs.Global.{Global}
 use Rattle.std.proofs.Math.Seq.{take-append_seam, drop-append_seam}
 use Rattle.std.proofs.lemmas.List.{length-map, length-take-le}
@@ -11,11 +11,12 @@ use Rattle.ido_base.specs.declared.event.Event.{Event}
 use Rattle.ido_base.specs.declared.limits.TheConstants.{MOST_STEPS}
 use Rattle.ido_base.specs.Words.{Word, durable_value}
 use Rattle.c_tree.specs.Flats as f
-use Rattle.c_tree.specs.Source.{start, runs_from}
+use Rattle.c_tree.specs.Source.{start}
 use Rattle.rv64_isa.specs.declared.object.Object.{Object}
 use Rattle.rv64_isa.specs.declared.object.Marks.{Marks}
 use Rattle.rv64_isa.specs.Executables.{Executable}
 use Rattle.rv64_isa.specs.Programs.{slot_of}
+use Rattle.rv64_isa.specs.Schedule.{all_lives, schedules}
 use Rattle.flow_graph.specs.declared.cuts.Cuts.{Cuts}
 use Rattle.flow_graph.specs.IdempotentCuts.{Boundaries}
 use Rattle.crash_simulation.specs.AccountRelation.{MachinesResume}
@@ -23,27 +24,26 @@ use Rattle.crash_simulation.specs.SimulationRelation.{Simulates}
 use Rattle.crash_simulation.specs.Systems.{System, IsSystem, flat_of}
 use Rattle.compiler_correctness.specs.Images.{variable_words}
 use Rattle.compiler_correctness.specs.Laws.{MachinesRecord, translation_of}
-use Rattle.compiler_correctness.specs.Translations.{Translation, IsRunnable, steps, world, translation_to}
+use Rattle.compiler_correctness.specs.Translations.{Translation, steps, world, translation_to}
 use Rattle.flat_compile.specs.declared.resumes.Resume.{Resume}
 use Rattle.flat_compile.specs.ResumePlaces.{IsResumeTable}
 use Rattle.flat_compile.specs.TranslatedForms.{IsTranslated}
-use Rattle.run_scripts.specs.Runs.{runs_of, schedule_of}
-use Rattle.run_scripts.proofs.Public.{each_step, runs_merged}
 use Rattle.crash_images.specs.Contents.{State}
 use Rattle.image_checks.specs.Checks.{AreSound, IsUnshared, IsWellFormedState}
 use Rattle.image_checks.specs.Laws.{RunsLeaveNoFault}
 use Rattle.image_checks.specs.RunImages.{file_state, left_by}
-use Rattle.image_checks.specs.Schedules.{IsSchedule}
+use Rattle.image_checks.specs.Schedules.{AreSchedules}
 use Rattle.image_checks.proofs.LeftLogs.{are_sound, are_unshared, logs_left}
+use Rattle.image_checks.proofs.LivesLaws.{merged_lives}
 
 -- ---- What is so by whatever places threads are resumed
 
--- words of the variables and of a log for each thread, no mutex that two threads hold, and a schedule that the source makes
+-- words of the variables and of a log for each thread, no mutex that two threads hold, and schedules of lives that the source makes
 pub record IsWhole (flat : f.Flat) (threads size : ℕ) (x : State) : Type 0 where
   pub variables : 8 * length x.variables ≡ size
   pub logs : length x.logs ≡ 128 * threads
   pub unshared : (lock : ℕ) → IsUnshared x.logs threads lock
-  pub schedule : IsSchedule flat x.runs (schedule_of x.runs)
+  pub schedules : AreSchedules flat (start flat) 0 x.lives
 
 module _ (machines : MachinesResume) (records : MachinesRecord) (y : System) (s : IsSystem y) (events : List Event)
     (few : variable_words (translation_of y) ≤ 8192) (first : y.plan.log ≡ V1) where
@@ -59,8 +59,8 @@ module _ (machines : MachinesResume) (records : MachinesRecord) (y : System) (s 
   abbrev n : ℕ
   n = variable_words c
 
-  abbrev kept : List ℕ
-  kept = (steps c events).kept
+  abbrev kept : List (List ℕ)
+  kept = schedules (steps c events)
 
   abbrev left : State
   left = file_state c (left_by c events)
@@ -94,34 +94,22 @@ module _ (machines : MachinesResume) (records : MachinesRecord) (y : System) (s 
       subst (λ (logs : List ℕ). IsUnshared logs threads lock) (sym logs_are)
       (subst (λ (k : ℕ). IsUnshared (logs_left words) k lock) (sym (is ∙ s.count)) (are_unshared y s (world c events) stands logs lock))
 
-  -- where no life came before this one
-  kept_runs : (steps c events).earlier ≡ [] → runs_from (start (flat_of y)) kept ≡ true
-  kept_runs none = subst (λ (earlier : List (List ℕ)). IsRunnable c (earlier ++ kept ∷ [])) none (records y s events).kept
+  scheduled : sum_by length kept ≤ MOST_STEPS → AreSchedules (flat_of y) (start (flat_of y)) 0 left.lives
+  scheduled most = merged_lives (flat_of y) (start (flat_of y)) 0 kept (omega (arith, most)) (records y s events).kept
 
-  scheduled : (steps c events).earlier ≡ [] → length kept ≤ MOST_STEPS → IsSchedule (flat_of y) (runs_of kept) (schedule_of (runs_of kept))
-  scheduled none most = record {
-    formed = record {
-      is = refl;
-      merged = runs_merged kept;
-      few = subst (λ (steps : List ℕ). length steps ≤ MOST_STEPS) (sym (each_step kept)) most;
-    };
-    made = subst (λ (steps : List ℕ). runs_from (start (flat_of y)) steps ≡ true) (sym (each_step kept)) (kept_runs none);
-  }
-
-  whole : (steps c events).earlier ≡ [] → length kept ≤ MOST_STEPS → IsWhole (flat_of y) (length y.runs.program) (8 * n) left
-  whole none most = record {
+  whole : sum_by length kept ≤ MOST_STEPS → IsWhole (flat_of y) (length y.runs.program) (8 * n) left
+  whole most = record {
     variables = omega (arith, ap length variables_are, prefix);
     logs = omega (arith, ap length logs_are, length-drop 8192 ws, size);
     unshared = unshared (length y.runs.program) refl;
-    schedule = scheduled none most;
+    schedules = scheduled most;
   }
 
-  sound : (table : List (Vec Resume Global)) → IsResumeTable y.plan s.codes table → (steps c events).earlier ≡ [] → length kept ≤ MOST_STEPS →
-      IsWellFormedState (flat_of y) table left
-  sound table is none most = record {
+  sound : (table : List (Vec Resume Global)) → IsResumeTable y.plan s.codes table → sum_by length kept ≤ MOST_STEPS → IsWellFormedState (flat_of y) table left
+  sound table is most = record {
     logs = subst (λ (logs : List ℕ). AreSound (flat_of y).variables table logs) (sym logs_are) (are_sound y s (world c events) stands logs table is);
     mutexes = unshared (length table) (is.count ∙ sym s.count);
-    schedule = scheduled none most;
+    schedules = scheduled most;
   }
 
 -- ---- As a translation of a flat form
@@ -144,18 +132,16 @@ module _ (flat : f.Flat) (object : Object) (marks : Marks) (cuts : Cuts) (t : Is
   first_of : t.system.plan.log ≡ V1
   first_of = t.is.log ∙ (ap (λ (x : Executable). x.log) t.runs ∙ t.log)
 
-  few_of : length (left_by made events).kept.schedule ≤ MOST_STEPS → length (left_by (translation_of t.system) events).kept.schedule ≤ MOST_STEPS
-  few_of most = subst (λ (c : Translation). length (left_by c events).kept.schedule ≤ MOST_STEPS) (sym same) most
-
-  alone_of : (left_by made events).kept.earlier ≡ [] → (left_by (translation_of t.system) events).kept.earlier ≡ []
-  alone_of none = subst (λ (c : Translation). (left_by c events).kept.earlier ≡ []) (sym same) none
+  few_of : sum_by length (all_lives (left_by made events).kept) ≤ MOST_STEPS →
+      sum_by length (all_lives (left_by (translation_of t.system) events).kept) ≤ MOST_STEPS
+  few_of most = subst (λ (c : Translation). sum_by length (all_lives (left_by c events).kept) ≤ MOST_STEPS) (sym same) most
 
   programs : length t.system.runs.program ≡ length object.code.items
   programs = ap (λ (x : Executable). length x.program) t.runs ∙ length-map object.code.items (λ code. map slot_of code.items)
 
-  pub left_is_whole : MachinesResume → MachinesRecord → (left_by made events).kept.earlier ≡ [] → length (left_by made events).kept.schedule ≤ MOST_STEPS →
+  pub left_is_whole : MachinesResume → MachinesRecord → sum_by length (all_lives (left_by made events).kept) ≤ MOST_STEPS →
       IsWhole flat (length object.code.items) (length object.initial.items) (file_state made (left_by made events))
-  left_is_whole machines records none most =
+  left_is_whole machines records most =
       let size : 8 * variable_words (translation_of t.system) ≡ length object.initial.items = omega (arith, begins, t.limits.whole_words) in
       subst (λ (c : Translation). IsWhole flat (length object.code.items) (length object.initial.items) (file_state c (left_by c events))) same
       (subst (λ (x : f.Flat). IsWhole x (length object.code.items) (length object.initial.items)
@@ -164,12 +150,12 @@ module _ (flat : f.Flat) (object : Object) (marks : Marks) (cuts : Cuts) (t : Is
       (file_state (translation_of t.system) (left_by (translation_of t.system) events))) programs
       (subst (λ (k : ℕ). IsWhole (flat_of t.system) (length t.system.runs.program) k
       (file_state (translation_of t.system) (left_by (translation_of t.system) events))) size
-      (whole machines records t.system t.is events fits first_of (alone_of none) (few_of most)))))
+      (whole machines records t.system t.is events fits first_of (few_of most)))))
 
 pub runs_leave_no_fault : MachinesResume → MachinesRecord → RunsLeaveNoFault
-runs_leave_no_fault machines records flat object marks cuts table events r none most =
+runs_leave_no_fault machines records flat object marks cuts table events r most =
     let t = r.translated in
     subst (λ (c : Translation). IsWellFormedState flat table (file_state c (left_by c events))) (same flat object marks cuts t events)
     (subst (λ (x : f.Flat). IsWellFormedState x table (file_state (translation_of t.system) (left_by (translation_of t.system) events))) t.of_flat
     (sound machines records t.system t.is events (fits flat object marks cuts t events) (first_of flat object marks cuts t events) table r.are
-    (alone_of flat object marks cuts t events none) (few_of flat object marks cuts t events most)))
+    (few_of flat object marks cuts t events most)))

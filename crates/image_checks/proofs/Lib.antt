@@ -1,5 +1,7 @@
 pub mod Public
 mod ScheduleLaws
+mod LivesLaws
+mod CheckedLives
 mod Forms
 mod Elements
 mod Banks

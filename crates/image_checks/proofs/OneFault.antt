@@ -12,12 +12,12 @@ use Rattle.flat_compile.specs.declared.resumes.Resume.{Resume}
 use Rattle.image_checks.specs.declared.error.ImageError.{ImageError}
 use Rattle.image_checks.specs.declared.error.ImageError.TheVariants as e
 use Rattle.flat_compile.specs.ResumePlaces.{resumes_at}
-use Rattle.run_scripts.specs.Runs.{schedule_of}
+use Rattle.c_tree.specs.Source.{start}
 use Rattle.image_checks.specs.Logs.{point_in}
 use Rattle.image_checks.specs.Checks.{HasLocal, HasLocals, IsFirstWrong, IsRight, IsBankFault, other_mask, other_number, other_address}
 use Rattle.image_checks.specs.Checks.{resume_at, IsResumableLog, idle, resumed, IsLogFault, nowhere, of_bank, AreSound, IsThreadFault}
-use Rattle.image_checks.specs.Checks.{AreFirstTwo, IsUnshared, IsMutexFault, shared, of_thread, of_mutexes, of_schedule}
-use Rattle.image_checks.proofs.ScheduleLaws.{schedule_faultless, one_fault as one_step}
+use Rattle.image_checks.specs.Checks.{AreFirstTwo, IsUnshared, IsMutexFault, shared, of_thread, of_mutexes, of_schedules}
+use Rattle.image_checks.proofs.LivesLaws.{none_in_lives, one_in_lives}
 use Rattle.image_checks.specs.Laws.{OneFault, NoneIfSound}
 
 -- ---- Banks
@@ -166,15 +166,15 @@ module _ (logs : List ℕ) (threads : ℕ) where
 pub none_if_sound : NoneIfSound
 none_if_sound flat table s x h (of_thread y f) = sound_threads flat.variables table s.logs y h.logs f
 none_if_sound flat table s x h (of_mutexes y all f) = unshared s.logs (length table) y h.mutexes f
-none_if_sound flat table s x h (of_schedule step all none f) = schedule_faultless flat s.runs (schedule_of s.runs) h.schedule step f.is
+none_if_sound flat table s x h (of_schedules y all none f) = none_in_lives flat 1 (start flat) 0 s.lives y h.schedules f
 
 pub one_fault : OneFault
 one_fault flat table s x y (of_thread a f) (of_thread b g) = one_in_threads flat.variables table s.logs a b f g
 one_fault flat table s x y (of_thread a f) (of_mutexes b all g) = absurd (sound_threads flat.variables table s.logs a all f)
-one_fault flat table s x y (of_thread a f) (of_schedule step all none g) = absurd (sound_threads flat.variables table s.logs a all f)
+one_fault flat table s x y (of_thread a f) (of_schedules b all none g) = absurd (sound_threads flat.variables table s.logs a all f)
 one_fault flat table s x y (of_mutexes a all f) (of_thread b g) = absurd (sound_threads flat.variables table s.logs b all g)
 one_fault flat table s x y (of_mutexes a all f) (of_mutexes b all' g) = one_in_mutexes s.logs (length table) a b f g
-one_fault flat table s x y (of_mutexes a all f) (of_schedule step all' none g) = absurd (unshared s.logs (length table) a none f)
-one_fault flat table s x y (of_schedule step all none f) (of_thread b g) = absurd (sound_threads flat.variables table s.logs b all g)
-one_fault flat table s x y (of_schedule step all none f) (of_mutexes b all' g) = absurd (unshared s.logs (length table) b none g)
-one_fault flat table s x y (of_schedule step all none f) (of_schedule step' all' none' g) = ap e.Schedule (one_step flat s.runs step step' f g)
+one_fault flat table s x y (of_mutexes a all f) (of_schedules b all' none g) = absurd (unshared s.logs (length table) a none f)
+one_fault flat table s x y (of_schedules a all none f) (of_thread b g) = absurd (sound_threads flat.variables table s.logs b all g)
+one_fault flat table s x y (of_schedules a all none f) (of_mutexes b all' g) = absurd (unshared s.logs (length table) b none g)
+one_fault flat table s x y (of_schedules a all none f) (of_schedules b all' none' g) = one_in_lives flat 1 (start flat) 0 s.lives a b f g

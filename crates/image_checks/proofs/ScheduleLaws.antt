@@ -7,9 +7,7 @@ use Rattle.std.proofs.lemmas.List.{length-replicate, replicate-append-replicate,
 use Rattle.std.proofs.lemmas.List.Concat.{flat_map-append}
 use Rattle.std.proofs.lemmas.Option.{none-some, same_Some, slice_get_within, slice_get-get_or, get_or_from_slice_get}
 use Rattle.ido_base.specs.declared.limits.TheConstants.{MOST_STEPS}
-use Rattle.c_tree.specs.Flats.{Flat}
 use Rattle.c_tree.specs.Source as m
-use Rattle.c_tree.specs.Source.{source_step}
 use Rattle.run_scripts.specs.Runs.{Run, schedule_of, AreMerged}
 use Rattle.source_machine.specs.declared.answers.Refused.{Refused}
 use Rattle.source_machine.specs.Runs.{IsRefusedSchedule}
@@ -53,31 +51,31 @@ pub record AreMergedBelow (runs : List Run) (i : ℕ) : Type 0 where
   pub threads : (k : ℕ) (run next : Run) → k + 1 < i → slice_get runs k ≡ Some run → slice_get runs (k + 1) ≡ Some next →
       run.thread ≢ next.thread
 
-none_malformed : (runs : List Run) (i step : ℕ) → AreMergedBelow runs i → step ≤ length (schedule_of (take i runs)) → step ≤ MOST_STEPS →
-    ¬ (IsMalformed runs step)
-none_malformed runs i step good within few (empty k run h z e) =
+none_malformed : (done : ℕ) (runs : List Run) (i step : ℕ) → AreMergedBelow runs i → step ≤ done + length (schedule_of (take i runs)) →
+    step ≤ MOST_STEPS → ¬ (IsMalformed done runs step)
+none_malformed done runs i step good within few (empty k run h z e) =
     ⊎_elim (λ lt. good.steps k run lt h z) (λ le. absurd (omega (arith, begins_later runs i k le))) (cases_lt k i)
-none_malformed runs i step good within few (again k run next h n same e) =
+none_malformed done runs i step good within few (again k run next h n same e) =
     ⊎_elim (λ lt. good.threads k run next lt h n same) (λ le. absurd (omega (arith, begins_later runs i (k + 1) le))) (cases_lt (k + 1) i)
-none_malformed runs i step good within few (late past le) = absurd (omega arith)
+none_malformed done runs i step good within few (late past le) = absurd (omega arith)
 
 merged_below : (runs : List Run) (i : ℕ) → AreMerged runs → AreMergedBelow runs i
 merged_below runs i m = record { steps = λ k run lt h. m.steps k run h; threads = λ k run next lt h n. m.threads k run next h n }
 
-none_whole : (runs : List Run) (step : ℕ) → AreMerged runs → length (schedule_of runs) ≤ MOST_STEPS → ¬ (IsMalformed runs step)
-none_whole runs step good few (late past le) = absurd (omega arith)
-none_whole runs step good few (empty k run h z e) = good.steps k run h z
-none_whole runs step good few (again k run next h n same e) = good.threads k run next h n same
+none_whole : (done : ℕ) (runs : List Run) (step : ℕ) → AreMerged runs → done + length (schedule_of runs) ≤ MOST_STEPS → ¬ (IsMalformed done runs step)
+none_whole done runs step good few (late past le) = absurd (omega arith)
+none_whole done runs step good few (empty k run h z e) = good.steps k run h z
+none_whole done runs step good few (again k run next h n same e) = good.threads k run next h n same
 
 -- the first so many runs have no fault of form and tell the steps, and the last of them is of that thread
-pub record IsSoFar (runs : List Run) (i : ℕ) (steps : List ℕ) (last : Option ℕ) : Type 0 where
+pub record IsSoFar (done : ℕ) (runs : List Run) (i : ℕ) (steps : List ℕ) (last : Option ℕ) : Type 0 where
   pub is : steps ≡ schedule_of (take i runs)
-  pub few : length steps ≤ MOST_STEPS
+  pub few : done + length steps ≤ MOST_STEPS
   pub merged : AreMergedBelow runs i
   pub last_is : (k : ℕ) (run : Run) → k + 1 ≡ i → slice_get runs k ≡ Some run → last ≡ Some run.thread
   pub none : i ≡ 0 → last ≡ None
 
-module _ (runs : List Run) (i : ℕ) (steps : List ℕ) (last : Option ℕ) (run : Run) (so : IsSoFar runs i steps last)
+module _ (done : ℕ) (runs : List Run) (i : ℕ) (steps : List ℕ) (last : Option ℕ) (run : Run) (so : IsSoFar done runs i steps last)
     (here : slice_get runs i ≡ Some run) where
   is_here : (k : ℕ) (other : Run) → k ≡ i → slice_get runs k ≡ Some other → other ≡ run
   is_here k other e h = same_Some other run (sym h ∙ ap (slice_get runs) e ∙ here)
@@ -98,8 +96,8 @@ module _ (runs : List Run) (i : ℕ) (steps : List ℕ) (last : Option ℕ) (run
   through_long : length (schedule_of (take (i + 1) runs)) ≡ length steps + run.steps
   through_long = omega (arith, ap length through, length-append steps (replicate run.steps run.thread), length-replicate run.steps run.thread)
 
-  pub goes_so : (new : List ℕ) (count : ℕ) → Follows last run → count ≡ run.steps → length steps + count ≤ MOST_STEPS →
-      new ≡ steps ++ replicate count run.thread → IsSoFar runs (i + 1) new (Some run.thread)
+  pub goes_so : (new : List ℕ) (count : ℕ) → Follows last run → count ≡ run.steps → done + length steps + count ≤ MOST_STEPS →
+      new ≡ steps ++ replicate count run.thread → IsSoFar done runs (i + 1) new (Some run.thread)
   goes_so new count ok all room e = record {
     is = e ∙ ap (λ (n : ℕ). steps ++ replicate n run.thread) all ∙ sym through;
     few = omega (arith, ap length e, length-append steps (replicate count run.thread), length-replicate count run.thread);
@@ -108,12 +106,12 @@ module _ (runs : List Run) (i : ℕ) (steps : List ℕ) (last : Option ℕ) (run
     none = λ e. absurd (omega arith);
   }
 
-  not_following : ¬ (Follows last run) → IsMalformed runs (length steps + 1)
+  not_following : ¬ (Follows last run) → IsMalformed done runs (done + length steps + 1)
   not_following bad =
-      let begins : length steps + 1 ≡ length (schedule_of (take i runs)) + 1 = omega (arith, ap length so.is) in
+      let begins : done + length steps + 1 ≡ done + length (schedule_of (take i runs)) + 1 = omega (arith, ap length so.is) in
       ⊎_elim (λ z. empty i run here z begins) (λ some. by_last some last refl) (cases_eq run.steps 0)
     where
-      same_thread : (t : ℕ) → last ≡ Some t → t ≡ run.thread → IsMalformed runs (length steps + 1)
+      same_thread : (t : ℕ) → last ≡ Some t → t ≡ run.thread → IsMalformed done runs (done + length steps + 1)
       same_thread t is same =
           let after_one : ¬ (i ≡ 0) = λ z. none-some t (sym (so.none z) ∙ is) in
           let k : ℕ = i - 1 in
@@ -122,25 +120,25 @@ module _ (runs : List Run) (i : ℕ) (steps : List ℕ) (last : Option ℕ) (run
           let there : slice_get runs k ≡ Some before = slice_get-get_or runs k run (omega (arith, slice_get_within runs i run here)) in
           let lockstep : before.thread ≡ run.thread = same_Some before.thread run.thread (sym (so.last_is k before next there) ∙ is ∙ ap Some same) in
           again k before run there (ap (slice_get runs) next ∙ here) lockstep
-          (ap (λ (n : ℕ). n + 1) (ap length so.is) ∙ ap (λ (n : ℕ). length (schedule_of (take n runs)) + 1) (sym next))
+          (ap (λ (n : ℕ). done + n + 1) (ap length so.is) ∙ ap (λ (n : ℕ). done + length (schedule_of (take n runs)) + 1) (sym next))
 
-      by_last : run.steps ≢ 0 → (o : Option ℕ) → last ≡ o → IsMalformed runs (length steps + 1)
+      by_last : run.steps ≢ 0 → (o : Option ℕ) → last ≡ o → IsMalformed done runs (done + length steps + 1)
       by_last some None is = absurd (bad (record { steps = some; thread = λ e. none-some run.thread (sym is ∙ e) }))
       by_last some (Some t) is =
           ⊎_elim (same_thread t is) (λ ne. absurd (bad (record { steps = some; thread = λ e. ne (same_Some t run.thread (sym is ∙ e)) })))
           (cases_eq t run.thread)
 
-  pub stops_so : ¬ (Follows last run) → IsCut runs steps (length steps + 1)
+  pub stops_so : ¬ (Follows last run) → IsCut done runs steps (done + length steps + 1)
   stops_so bad = record {
     after = schedule_of (drop i runs);
     is = parts runs i ∙ ap (λ (ts : List ℕ). ts ++ schedule_of (drop i runs)) (sym so.is);
     count = refl;
     malformed = not_following bad;
-    first = λ earlier lt. none_malformed runs i earlier so.merged (omega (arith, ap length so.is)) (omega (arith, so.few));
+    first = λ earlier lt. none_malformed done runs i earlier so.merged (omega (arith, ap length so.is)) (omega (arith, so.few));
   }
 
-  pub fills_so : (new : List ℕ) (room : ℕ) → Follows last run → room ≡ MOST_STEPS - length steps → room < run.steps →
-      new ≡ steps ++ replicate room run.thread → IsCut runs new (MOST_STEPS + 1)
+  pub fills_so : (new : List ℕ) (room : ℕ) → Follows last run → room ≡ MOST_STEPS - (done + length steps) → room < run.steps →
+      new ≡ steps ++ replicate room run.thread → IsCut done runs new (MOST_STEPS + 1)
   fills_so new room ok is_room more e =
       let prefix : List ℕ = replicate room run.thread in
       let suffix : List ℕ = replicate (run.steps - room) run.thread in
@@ -148,7 +146,7 @@ module _ (runs : List Run) (i : ℕ) (steps : List ℕ) (last : Option ℕ) (run
       let both : run.steps ≡ room + (run.steps - room) = omega arith in
       let own : replicate run.steps run.thread ≡ prefix ++ suffix =
       ap (λ (n : ℕ). replicate n run.thread) both ∙ sym (replicate-append-replicate room (run.steps - room) run.thread) in
-      let new_long : length new ≡ MOST_STEPS =
+      let new_long : done + length new ≡ MOST_STEPS =
       omega (arith, ap length e, length-append steps prefix, length-replicate room run.thread, so.few) in
       let all_long : length (schedule_of runs) ≡ length (schedule_of (take (i + 1) runs)) + length after =
       omega (arith, ap length (parts runs (i + 1)), length-append (schedule_of (take (i + 1) runs)) after) in
@@ -158,11 +156,12 @@ module _ (runs : List Run) (i : ℕ) (steps : List ℕ) (last : Option ℕ) (run
             ∙ regrouped steps prefix suffix after ∙ ap (λ (ts : List ℕ). ts ++ (suffix ++ after)) (sym e);
         count = omega arith;
         malformed = late (omega arith) (omega (arith, through_long, so.few));
-        first = λ earlier lt. none_malformed runs (i + 1) earlier (merged_more ok) (omega (arith, through_long, so.few)) (omega arith);
+        first = λ earlier lt. none_malformed done runs (i + 1) earlier (merged_more ok) (omega (arith, through_long, so.few)) (omega arith);
       }
 
-pub ends_so : (runs : List Run) (i : ℕ) (steps : List ℕ) (last : Option ℕ) → length runs ≤ i → IsSoFar runs i steps last → IsFormed runs steps
-ends_so runs i steps last past so = record {
+pub ends_so : (done : ℕ) (runs : List Run) (i : ℕ) (steps : List ℕ) (last : Option ℕ) → length runs ≤ i → IsSoFar done runs i steps last →
+    IsFormed done runs steps
+ends_so done runs i steps last past so = record {
   is = so.is ∙ ap schedule_of (take_all i runs past);
   merged = record {
     steps = λ k run h. so.merged.steps k run (omega (arith, slice_get_within runs k run h)) h;
@@ -218,55 +217,60 @@ refused_within s done stop r = omega (arith, r.step, ap length r.is, length-appe
 -- ---- The first step at fault
 
 -- steps of runs, of which none has a fault of form
-record IsBeginning (runs : List Run) (steps : List ℕ) : Type 0 where
+record IsBeginning (done : ℕ) (runs : List Run) (steps : List ℕ) : Type 0 where
   after : List ℕ
   is : schedule_of runs ≡ steps ++ after
-  none : (step : ℕ) → step ≤ length steps → ¬ (IsMalformed runs step)
+  none : (step : ℕ) → step ≤ done + length steps → ¬ (IsMalformed done runs step)
 
-prefix_begins : (runs : List Run) (steps : List ℕ) (fault : Option ℕ) → IsPrefix runs steps fault → IsBeginning runs steps
-prefix_begins runs steps None w = record {
+prefix_begins : (done : ℕ) (runs : List Run) (steps : List ℕ) (fault : Option ℕ) → IsPrefix done runs steps fault → IsBeginning done runs steps
+prefix_begins done runs steps None w = record {
   after = [];
   is = sym w.is ∙ sym (append-nil steps);
-  none = λ step le. none_whole runs step w.merged (omega (arith, w.few, ap length w.is));
+  none = λ step le. none_whole done runs step w.merged (omega (arith, w.few, ap length w.is));
 }
-prefix_begins runs steps (Some n) c = record { after = c.after; is = c.is; none = λ step le. c.first step (omega (arith, c.count)) }
+prefix_begins done runs steps (Some n) c = record { after = c.after; is = c.is; none = λ step le. c.first step (omega (arith, c.count)) }
 
-module _ (program : Flat) (runs : List Run) (steps : List ℕ) where
-  pub source_fault : (fault : Option ℕ) (stop : Refused) → IsPrefix runs steps fault → IsRefusedSchedule stop (m.start program) steps →
-      IsScheduleFault program runs stop.step
+module _ (s : m.State) (done : ℕ) (runs : List Run) (steps : List ℕ) where
+  pub source_fault : (fault : Option ℕ) (stop : Refused) → IsPrefix done runs steps fault → IsRefusedSchedule stop s steps →
+      IsScheduleFault s done runs (done + stop.step)
   source_fault fault stop prefix r = record { is = refused stop whole refl; first = none }
     where
-      begins : IsBeginning runs steps
-      begins = prefix_begins runs steps fault prefix
+      begins : IsBeginning done runs steps
+      begins = prefix_begins done runs steps fault prefix
 
-      whole : IsRefusedSchedule stop (m.start program) (schedule_of runs)
-      whole = subst (IsRefusedSchedule stop (m.start program)) (sym begins.is) (refused_after (m.start program) steps begins.after stop r)
+      whole : IsRefusedSchedule stop s (schedule_of runs)
+      whole = subst (IsRefusedSchedule stop s) (sym begins.is) (refused_after s steps begins.after stop r)
 
-      none : (earlier : ℕ) → earlier < stop.step → ¬ (IsAtFault program runs earlier)
-      none earlier lt (malformed f) = begins.none earlier (omega (arith, refused_within (m.start program) steps stop r)) f
-      none earlier lt (refused other s e) =
+      none : (earlier : ℕ) → earlier < done + stop.step → ¬ (IsAtFault s done runs earlier)
+      none earlier lt (malformed f) = begins.none earlier (omega (arith, refused_within s steps stop r)) f
+      none earlier lt (refused other t e) =
           let rest : List ℕ = r.thread ∷ (r.after ++ begins.after) in
           let split : schedule_of runs ≡ r.before ++ rest = begins.is ∙ split_after steps begins.after r.before r.thread r.after r.is in
-          let later = made_before (m.start program) r.before rest other r.runs (subst (IsRefusedSchedule other (m.start program)) split s) in
-          absurd (omega (arith, r.step))
+          let later = made_before s r.before rest other r.runs (subst (IsRefusedSchedule other s) split t) in
+          absurd (omega (arith, r.step, e, later))
 
-  pub form_fault : (fault : ℕ) → IsCut runs steps fault → m.runs_from (m.start program) steps ≡ true → IsScheduleFault program runs fault
+  pub form_fault : (fault : ℕ) → IsCut done runs steps fault → m.runs_from s steps ≡ true → IsScheduleFault s done runs fault
   form_fault fault c made = record { is = malformed c.malformed; first = none }
     where
-      none : (earlier : ℕ) → earlier < fault → ¬ (IsAtFault program runs earlier)
+      none : (earlier : ℕ) → earlier < fault → ¬ (IsAtFault s done runs earlier)
       none earlier lt (malformed f) = c.first earlier lt f
       none earlier lt (refused stop r e) =
-          let later = made_before (m.start program) steps c.after stop made (subst (IsRefusedSchedule stop (m.start program)) c.is r) in
-          absurd (omega (arith, c.count))
+          let later = made_before s steps c.after stop made (subst (IsRefusedSchedule stop s) c.is r) in
+          absurd (omega (arith, c.count, e, later))
 
-  pub schedule_faultless : IsSchedule program runs steps → (step : ℕ) → ¬ (IsAtFault program runs step)
-  schedule_faultless s step (malformed f) = none_whole runs step s.formed.merged (omega (arith, s.formed.few, ap length s.formed.is)) f
-  schedule_faultless s step (refused stop r e) =
-      let r' : IsRefusedSchedule stop (m.start program) steps = subst (IsRefusedSchedule stop (m.start program)) (sym s.formed.is) r in
-      let later = made_before (m.start program) steps [] stop s.made (subst (IsRefusedSchedule stop (m.start program)) (sym (append-nil steps)) r') in
-      absurd (omega (arith, refused_within (m.start program) steps stop r'))
+  pub schedule_faultless : IsSchedule s done runs steps → (step : ℕ) → ¬ (IsAtFault s done runs step)
+  schedule_faultless sound step (malformed f) =
+      none_whole done runs step sound.formed.merged (omega (arith, sound.formed.few, ap length sound.formed.is)) f
+  schedule_faultless sound step (refused stop r e) =
+      let r' : IsRefusedSchedule stop s steps = subst (IsRefusedSchedule stop s) (sym sound.formed.is) r in
+      let later = made_before s steps [] stop sound.made (subst (IsRefusedSchedule stop s) (sym (append-nil steps)) r') in
+      absurd (omega (arith, refused_within s steps stop r', later))
 
-pub one_fault : (program : Flat) (runs : List Run) (step other : ℕ) → IsScheduleFault program runs step → IsScheduleFault program runs other →
+  -- the same steps, as the runs tell them
+  pub as_told : IsSchedule s done runs steps → IsSchedule s done runs (schedule_of runs)
+  as_told sound = subst (IsSchedule s done runs) sound.formed.is sound
+
+pub one_fault : (s : m.State) (done : ℕ) (runs : List Run) (step other : ℕ) → IsScheduleFault s done runs step → IsScheduleFault s done runs other →
     step ≡ other
-one_fault program runs step other x y =
+one_fault s done runs step other x y =
     ⊎_elim (λ e. e) (⊎_elim (λ lt. absurd (y.first step lt x.is)) (λ gt. absurd (x.first other gt y.is))) (cases_order step other)

@@ -1,17 +1,19 @@
 -- What is answered to all that stands after a source.
-use Rattle.std.proofs.Common.{◌≡◌, ℕ, List, map, subst, Err, Ok, length}
+use Rattle.std.proofs.Common.{◌≡◌, ℕ, List, map, Err, Ok, length}
 use Rattle.std.specs.Prelude.{Vec}
 use Rattle.std.specs.Global.{Global}
 use Rattle.c_tree.specs.Flats.{Flat}
 use Rattle.c_tree.specs.Programs.{variable_of}
+use Rattle.c_tree.specs.Source.{start}
 use Rattle.c_tree.specs.declared.program.Variable as declared
 use Rattle.flat_compile.specs.declared.resumes.Resume.{Resume}
 use Rattle.image_checks.specs.declared.error.ImageError.{ImageError}
 use Rattle.image_checks.specs.declared.schedules.ScheduleFault.{ScheduleFault}
 use Rattle.image_checks.specs.declared.schedules.ScheduleFault.TheVariants as schedule
+use Rattle.run_scripts.specs.links.ReportViews.{steps_of}
 use Rattle.crash_images.specs.Contents.{State}
-use Rattle.image_checks.specs.Schedules.{IsSchedule}
-use Rattle.image_checks.specs.Checks.{AreSound, IsThreadFault, IsUnshared, IsMutexFault, of_schedule}
+use Rattle.image_checks.specs.Schedules.{AreSchedules, schedules_of}
+use Rattle.image_checks.specs.Checks.{AreSound, IsThreadFault, IsUnshared, IsMutexFault, of_schedules}
 use Rattle.image_checks.specs.links.Errors as errors
 use Rattle.image_checks.specs.links.PrefixBeforeFault.{TellsFault}
 use Rattle.image_checks.specs.StateAnswers.{IsStateAnswer, sound, faulty, no_memory}
@@ -35,12 +37,12 @@ same_shared x l m n k a b h = coe 0 1 (i. IsMutexFault (a i) (b i) x) h
 -- ---- Answers
 
 module _ (flat : Flat) (table : List (Vec Resume Global)) (s : State) where
-  pub in_schedule : (x : ScheduleFault) → AreSound flat.variables table s.logs → ((lock : ℕ) → IsUnshared s.logs (length table) lock) →
-      TellsFault flat s.runs x → IsStateAnswer flat table s (Err (errors.of_schedule x))
-  in_schedule (schedule.Step step) logs mutexes fault = faulty _ (of_schedule step logs mutexes fault)
-  in_schedule schedule.Memory logs mutexes fault = no_memory
+  pub in_schedules : (x : ScheduleFault) → AreSound flat.variables table s.logs → ((lock : ℕ) → IsUnshared s.logs (length table) lock) →
+      TellsFault flat (start flat) s.lives x → IsStateAnswer flat table s (Err (errors.of_schedule x))
+  in_schedules (schedule.Step step) logs mutexes fault = faulty _ (of_schedules _ logs mutexes fault)
+  in_schedules (schedule.Life life) logs mutexes fault = faulty _ (of_schedules _ logs mutexes fault)
+  in_schedules schedule.Memory logs mutexes fault = no_memory
 
-  pub all_sound : (steps : Vec ℕ Global) → AreSound flat.variables table s.logs → ((lock : ℕ) → IsUnshared s.logs (length table) lock) →
-      IsSchedule flat s.runs steps.items → IsStateAnswer flat table s (Ok steps)
-  all_sound steps logs mutexes made =
-      sound steps (record { logs = logs; mutexes = mutexes; schedule = subst (IsSchedule flat s.runs) made.formed.is made }) made.formed.is
+  pub all_sound : (lives : Vec (Vec ℕ Global) Global) → AreSound flat.variables table s.logs → ((lock : ℕ) → IsUnshared s.logs (length table) lock) →
+      AreSchedules flat (start flat) 0 s.lives → map steps_of lives.items ≡ schedules_of s.lives → IsStateAnswer flat table s (Ok lives)
+  all_sound lives logs mutexes made told = sound lives (record { logs = logs; mutexes = mutexes; schedules = made }) told

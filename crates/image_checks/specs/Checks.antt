@@ -9,6 +9,7 @@ use Rattle.ido_ints.specs.Reduction.{register_of}
 use Rattle.c_tree.specs.Programs.{Variable}
 use Rattle.c_tree.specs.WellFormed.{shape_of}
 use Rattle.c_tree.specs.Flats.{Flat}
+use Rattle.c_tree.specs.Source.{start}
 use Rattle.memory_layout.specs.declared.log.TheConstants.{MASK_SLOT}
 use Rattle.memory_layout.specs.declared.roles.TheConstants.{PENDING_ADDRESS}
 use Rattle.memory_layout.specs.declared.point.Point.TheVariants.{Idle, At}
@@ -17,10 +18,9 @@ use Rattle.flat_compile.specs.declared.resumes.Resume.{Resume}
 use Rattle.flat_compile.specs.ResumePlaces.{resumes_at}
 use Rattle.image_checks.specs.declared.error.ImageError.{ImageError}
 use Rattle.image_checks.specs.declared.error.ImageError.TheVariants as e
-use Rattle.run_scripts.specs.Runs.{schedule_of}
 use Rattle.crash_images.specs.Contents.{State}
 use Rattle.image_checks.specs.Logs.{point_in, slot_in, HoldsLock}
-use Rattle.image_checks.specs.Schedules.{IsSchedule, IsScheduleFault}
+use Rattle.image_checks.specs.Schedules.{AreSchedules, IsLivesFault}
 
 -- ---- Slots
 
@@ -145,11 +145,11 @@ module _ (flat : Flat) (table : List (Vec Resume Global)) (s : State) where
   pub record IsWellFormedState : Type 0 where
     pub logs : AreSound flat.variables table s.logs
     pub mutexes : (lock : ℕ) → IsUnshared s.logs (length table) lock
-    pub schedule : IsSchedule flat s.runs (schedule_of s.runs)
+    pub schedules : AreSchedules flat (start flat) 0 s.lives
 
-  -- the first fault: of a thread's log, else of the mutexes that threads hold, else of the schedule
+  -- the first fault: of a thread's log, else of the mutexes that threads hold, else of the schedules of lives
   pub data IsStateFault : ImageError → Type 0 where
     of_thread : (error : ImageError) → IsThreadFault flat.variables table s.logs error → IsStateFault error
     of_mutexes : (error : ImageError) → AreSound flat.variables table s.logs → IsMutexFault s.logs (length table) error → IsStateFault error
-    of_schedule : (step : ℕ) → AreSound flat.variables table s.logs → ((lock : ℕ) → IsUnshared s.logs (length table) lock) →
-        IsScheduleFault flat s.runs step → IsStateFault (e.Schedule step)
+    of_schedules : (error : ImageError) → AreSound flat.variables table s.logs → ((lock : ℕ) → IsUnshared s.logs (length table) lock) →
+        IsLivesFault flat 1 (start flat) 0 s.lives error → IsStateFault error

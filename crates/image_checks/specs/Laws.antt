@@ -1,11 +1,12 @@
 -- What stands after a source is well formed, or has one fault; and what a run of the source has left has none.
-use Rattle.std.specs.Prelude.{◌≡◌, ◌≤◌, ℕ, List, [], length, Vec}
+use Rattle.std.specs.Prelude.{◌≡◌, ◌≤◌, List, length, sum_by, Vec}
 use Rattle.std.specs.Global.{Global}
 use Rattle.ido_base.specs.declared.event.Event.{Event}
 use Rattle.ido_base.specs.declared.limits.TheConstants.{MOST_STEPS}
 use Rattle.c_tree.specs.Flats.{Flat}
 use Rattle.rv64_isa.specs.declared.object.Object.{Object}
 use Rattle.rv64_isa.specs.declared.object.Marks.{Marks}
+use Rattle.rv64_isa.specs.Schedule.{all_lives}
 use Rattle.flow_graph.specs.declared.cuts.Cuts.{Cuts}
 use Rattle.flat_compile.specs.declared.resumes.Resume.{Resume}
 use Rattle.flat_compile.specs.TranslatedForms.{IsResumable}
@@ -25,8 +26,8 @@ NoneIfSound = (flat : Flat) (table : List (Vec Resume Global)) (s : State) (erro
 
 -- ---- Images that runs leave
 
--- nothing is at fault in what a crash leaves of a run in its first life, where its table tells where the translation's threads are resumed
+-- nothing is at fault in what a crash leaves of a run, where its table tells where the translation's threads are resumed
 abbrev pub RunsLeaveNoFault : Type 0
 RunsLeaveNoFault = (flat : Flat) (object : Object) (marks : Marks) (cuts : Cuts) (table : List (Vec Resume Global)) (events : List Event) →
     IsResumable flat object marks cuts table → let c = translation_to flat object marks cuts in
-    (left_by c events).kept.earlier ≡ [] → length (left_by c events).kept.schedule ≤ MOST_STEPS → IsWellFormedState flat table (file_state c (left_by c events))
+    sum_by length (all_lives (left_by c events).kept) ≤ MOST_STEPS → IsWellFormedState flat table (file_state c (left_by c events))

@@ -1,23 +1,30 @@
 -- The image file that a crash leaves of a run.
-use Rattle.std.specs.Prelude.{ℕ, List, [], take, drop}
+use Rattle.std.specs.Prelude.{ℕ, List, [], ◌∷◌, map, take, drop}
 use Rattle.ido_base.specs.declared.event.Event.{Event}
 use Rattle.compiler_correctness.specs.Images as left
 use Rattle.compiler_correctness.specs.Images.{file_of, image_of, variable_words}
 use Rattle.compiler_correctness.specs.Translations.{Translation}
 use Rattle.crash_images.specs.Contents.{Contents, State, contents}
+use Rattle.rv64_isa.specs.Schedule.{all_lives}
+use Rattle.run_scripts.specs.Runs.{runs_of}
 use Rattle.crash_images.specs.ImageEncoder.{spelling}
+use Rattle.crash_images.specs.declared.version.ImageVersion.TheVariants.{First}
 
 -- what a crash after the events leaves: the durable words of the variables and of the logs, and the kept steps
 abbrev pub left_by : Translation → List Event → left.Image
 left_by c events = file_of c (image_of c events)
 
--- a file of a source: the words of its variables, those of its logs, and the runs of the kept steps of its one life
+-- a file of a source, of one life: the words of its variables, those of its logs, and the runs of the kept steps
 abbrev pub file_contents : (source : List ℕ) → Translation → (file : left.Image) → Contents
-file_contents source c file = contents source (take (variable_words c) file.words) (drop (variable_words c) file.words) file.kept.schedule
+file_contents source c file = contents source (take (variable_words c) file.words) (drop (variable_words c) file.words) (file.kept.schedule ∷ [])
 
 abbrev pub file_text : (source : List ℕ) → Translation → (file : left.Image) → List ℕ
-file_text source c file = spelling (file_contents source c file)
+file_text source c file = spelling First (file_contents source c file)
 
--- what stands after the source
+-- what stands after the source, of all lives
 abbrev pub file_state : Translation → (file : left.Image) → State
-file_state c file = (file_contents [] c file).state
+file_state c file = record {
+  variables = take (variable_words c) file.words;
+  logs = drop (variable_words c) file.words;
+  lives = map runs_of (all_lives file.kept);
+}

@@ -38,9 +38,12 @@ pub enum ImageError {
     /// Both threads hold the mutex of this number.
     #[error("mutex {lock} is held by threads {first} and {second}")]
     Shared { lock: u32, first: u32, second: u32 },
-    /// The step of the schedule, counted from 1, is none that the source makes, or isn't told as it should be.
+    /// The step, counted from 1 over all lives, is none that the source makes, or isn't told as it should be.
     #[error("no step {step}")]
     Schedule { step: u64 },
+    /// The life, counted from 1, isn't the last, and a thread stands inside a section at its end.
+    #[error("no life after {life}")]
+    Lives { life: u64 },
     /// An allocation was refused.
     #[error("out of memory")]
     Memory,
@@ -81,6 +84,7 @@ impl From<ScheduleFault> for ImageError {
     fn from(error: ScheduleFault) -> Self {
         match error {
             ScheduleFault::Step(step) => ImageError::Schedule { step },
+            ScheduleFault::Life(life) => ImageError::Lives { life },
             ScheduleFault::Memory => ImageError::Memory,
         }
     }

@@ -11,7 +11,7 @@ ghost use Rattle.image_checks.specs.StateAnswers.{IsStateAnswer};
 
 use crate::error::ImageError;
 use crate::mutexes::check_mutexes;
-use crate::schedules::schedule_of;
+use crate::schedules::schedules_of;
 use crate::threads::check_logs;
 use c_tree::flat::Flat;
 use crash_images::state::State;
@@ -19,14 +19,14 @@ use flat_compile::resumes::Resume;
 use std::alloc::Global;
 use variable_words::places::addresses;
 
-/// The schedule of what stands after a source with this flat form, of whose threads each may be resumed at its places in the table; or
-/// the first fault there: by thread a point, a mask, a register; a mutex in two masks; a step of the schedule.
+/// The schedules of what stands after a source with this flat form, of whose threads each may be resumed at its places in the table; or
+/// the first fault there: by thread a point, a mask, a register; a mutex in two masks; by life a step of its schedule, or that it doesn't end.
 pub fn check_state(
     alloc: Global,
     flat: &Flat,
     table: &[Vec<Resume>],
     state: &State,
-) -> Result<Vec<u32>, ImageError>
+) -> Result<Vec<Vec<u32>>, ImageError>
     requires room { HaveRoom (map shape_of (flat_of flat.now).variables) }
     requires slots { TablesHaveSlots table.now }
     requires few { length table.now ≤ MOST_THREADS }
@@ -36,6 +36,6 @@ pub fn check_state(
     let addresses = addresses(alloc, &flat.variables)?;
     check_logs(&flat.variables, &addresses, table, &state.logs)?;
     check_mutexes(&state.logs, table.len() as u32)?;
-    let schedule = schedule_of(alloc, flat, &state.runs)?;
-    Ok(schedule)
+    let lives = schedules_of(alloc, flat, &state.lives)?;
+    Ok(lives)
 }

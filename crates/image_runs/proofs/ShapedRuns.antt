@@ -26,7 +26,7 @@ same_translation flat object marks cuts t =
     ap (λ (x : Flat). seen_as x t.system.runs t.system.plan.boundaries) t.of_flat ∙ ap₂ (seen_as flat) t.runs t.at_cuts
 
 pub accepted_run_on : AcceptedHaveShape → ShapesRunOn → AcceptedRunOn
-accepted_run_on have run flat object marks cuts table state r is formed =
+accepted_run_on have run flat object marks cuts table state kept r is formed =
     let t = r.translated in
-    subst (λ (c : Translation). RunsOn c (image_of_state state)) (same_translation flat object marks cuts t)
-    (run t.system t.is (image_of_state state) (have flat object marks cuts table state r is formed))
+    subst (λ (c : Translation). RunsOn c (image_of_state state kept)) (same_translation flat object marks cuts t)
+    (run t.system t.is (image_of_state state kept) (have flat object marks cuts table state r is formed))

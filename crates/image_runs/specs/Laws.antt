@@ -5,6 +5,7 @@ use Rattle.ido_base.specs.declared.event.Event.{Event}
 use Rattle.c_tree.specs.Flats.{Flat}
 use Rattle.rv64_isa.specs.declared.object.Object.{Object}
 use Rattle.rv64_isa.specs.declared.object.Marks.{Marks}
+use Rattle.rv64_isa.specs.Schedule.{LifeSchedules}
 use Rattle.flow_graph.specs.declared.cuts.Cuts.{Cuts}
 use Rattle.region_attempts.specs.Origins.{Origin}
 use Rattle.crash_simulation.specs.RecoveredWords.{IsRecoveredFrom}
@@ -16,17 +17,18 @@ use Rattle.compiler_correctness.specs.Laws.{translation_of}
 use Rattle.compiler_correctness.specs.Translations.{translation_to}
 use Rattle.compiler_correctness.specs.WordRuns.{RunsOn}
 use Rattle.crash_images.specs.Contents.{State, IsState}
+use Rattle.crash_images.specs.declared.version.ImageVersion.TheVariants.{First}
 use Rattle.image_checks.specs.Checks.{IsWellFormedState}
 use Rattle.image_runs.specs.Shapes.{HasShape}
-use Rattle.image_runs.specs.StateImages.{image_of_state}
+use Rattle.image_runs.specs.StateImages.{image_of_state, state_words}
 
 -- ---- Which words have it
 
 -- what stands after an image's source, where it has no fault
 abbrev pub AcceptedHaveShape : Type 0
 AcceptedHaveShape = (flat : Flat) (object : Object) (marks : Marks) (cuts : Cuts) (table : List (Vec Resume Global)) (state : State) →
-    (r : IsResumable flat object marks cuts table) → IsState (length object.initial.items) (length object.code.items) state →
-    IsWellFormedState flat table state → HasShape r.translated.system.plan r.translated.is.codes (image_of_state state).words
+    (r : IsResumable flat object marks cuts table) → IsState First (length object.initial.items) (length object.code.items) state →
+    IsWellFormedState flat table state → HasShape r.translated.system.plan r.translated.is.codes (state_words state)
 
 -- what a crash leaves of a run
 abbrev pub CrashesLeaveShape : Type 0
@@ -43,8 +45,8 @@ ShapesAreStates = (y : System) (s : IsSystem y) (words : List ℕ) → HasShape 
 abbrev pub ShapesRunOn : Type 0
 ShapesRunOn = (y : System) (s : IsSystem y) (image : Image) → HasShape y.plan s.codes image.words → RunsOn (translation_of y) image
 
--- an image without a fault is run on by the program that it is checked against
+-- an image without a fault is run on by the program that it is checked against, whatever its schedules are
 abbrev pub AcceptedRunOn : Type 0
-AcceptedRunOn = (flat : Flat) (object : Object) (marks : Marks) (cuts : Cuts) (table : List (Vec Resume Global)) (state : State) →
-    IsResumable flat object marks cuts table → IsState (length object.initial.items) (length object.code.items) state →
-    IsWellFormedState flat table state → RunsOn (translation_to flat object marks cuts) (image_of_state state)
+AcceptedRunOn = (flat : Flat) (object : Object) (marks : Marks) (cuts : Cuts) (table : List (Vec Resume Global)) (state : State) (kept : LifeSchedules) →
+    IsResumable flat object marks cuts table → IsState First (length object.initial.items) (length object.code.items) state →
+    IsWellFormedState flat table state → RunsOn (translation_to flat object marks cuts) (image_of_state state kept)

@@ -16,4 +16,5 @@ of_read read.Memory = e.Memory
 
 abbrev pub of_schedule : ScheduleFault → ImageError
 of_schedule (schedule.Step step) = e.Schedule step
+of_schedule (schedule.Life life) = e.Lives life
 of_schedule schedule.Memory = e.Memory

@@ -1,9 +1,9 @@
-use Rattle.std.proofs.Common.{ℕ, List, ◌++◌, refl, ap, ◌∙◌}
+use Rattle.std.proofs.Common.{ℕ, List, ◌++◌, ap, ◌∙◌}
 use Rattle.std.proofs.lemmas.Result.{err_from_is_err_and}
 use Rattle.ido_cli.specs.CompiledImages.{BeginsCompiled, no_memory}
 use Rattle.crash_images.specs.links.Views.{state_of}
 use Rattle.ido_cli.proofs.CompiledLimits.{ready}
-use Rattle.ido_cli.proofs.CompiledImages.{source_answer, compile_answer, state_answer, has_state, check_answer, image_answer}
+use Rattle.ido_cli.proofs.CompiledImages.{source_answer, compile_answer, state_answer, has_state, check_answer, image_answer, one_life, few_steps}
 use Rattle.ido_cli.proofs.compiled_image.read_image.Goals as goal
 
 pub returns-in_err-source-clause-answer : goal.returns-in_err-source-clause-answer
@@ -37,9 +37,9 @@ pub check_state-requires-clause-slots : goal.check_state-requires-clause-slots
 check_state-requires-clause-slots c =
     rw c.deref.ensures.value ((ready c.in_ok-source.source.now c.in_ok-compiled.compiled c.in_ok-compiled.ensures).slots)
 
-pub returns-in_err-schedule-clause-answer : goal.returns-in_err-schedule-clause-answer
-returns-in_err-schedule-clause-answer c =
-    let p = err_from_is_err_and c.from_residual-in_err-schedule.result c.from_residual-in_err-schedule.ensures.1 in
+pub returns-in_err-lives-clause-answer : goal.returns-in_err-lives-clause-answer
+returns-in_err-lives-clause-answer c =
+    let p = err_from_is_err_and c.from_residual-in_err-lives.result c.from_residual-in_err-lives.ensures.1 in
     let begun : BeginsCompiled c.args.bytes.now c.in_ok-compiled.compiled = record {
       source = c.in_ok-source.source.now;
       rest = c.in_ok-source.rest.now;
@@ -53,8 +53,8 @@ returns-in_err-schedule-clause-answer c =
     has_state c.args.bytes.now c.in_ok-compiled.compiled begun c.len-size.result c.len-threads.result size_is threads_is state
     c.in_ok-state.ensures.exact c.in_ok-state.ensures.found.0 in
     rw (p.1, p.2)
-    (check_answer c.args.bytes.now c.in_ok-compiled.compiled state c.in_err-schedule.field-0.0 has
-    (rw c.deref.ensures.value at c.in_err-schedule.ensures))
+    (check_answer c.args.bytes.now c.in_ok-compiled.compiled state c.in_err-lives.field-0.0 has
+    (rw c.deref.ensures.value at c.in_err-lives.ensures))
 
 pub returns-in_err-extend-clause-answer : goal.returns-in_err-extend-clause-answer
 returns-in_err-extend-clause-answer c =
@@ -76,6 +76,16 @@ returns-clause-answer c =
     has_state c.args.bytes.now c.in_ok-compiled.compiled begun c.len-size.result c.len-threads.result size_is threads_is state
     c.in_ok-state.ensures.exact c.in_ok-state.ensures.found.0 in
     image_answer c.args.bytes.now
-    (record { compiled = c.in_ok-compiled.compiled; words = c.extend.new.words; schedule = c.in_ok-schedule.schedule })
-    state c.in_ok-schedule.schedule has (rw c.deref.ensures.value at c.in_ok-schedule.ensures)
-    (c.in_ok-extend.ensures ∙ ap (λ (ws : List ℕ). c.in_ok-state.state.variables.items ++ ws) c.deref-2.ensures.value) refl
+    (record { compiled = c.in_ok-compiled.compiled; words = c.extend.new.words; schedule = c.only.result })
+    state c.in_ok-lives.lives has (rw c.deref.ensures.value at c.in_ok-lives.ensures)
+    (c.in_ok-extend.ensures ∙ ap (λ (ws : List ℕ). c.in_ok-state.state.variables.items ++ ws) c.deref-2.ensures.value) c.only.ensures
+
+pub only-requires : goal.only-requires
+only-requires c =
+    one_life c.in_ok-compiled.compiled (state_of c.in_ok-state.state) c.in_ok-lives.lives (rw c.deref.ensures.value at c.in_ok-lives.ensures)
+    c.in_ok-state.ensures.found.0.lives
+
+pub returns-clause-steps : goal.returns-clause-steps
+returns-clause-steps c =
+    few_steps c.in_ok-compiled.compiled (state_of c.in_ok-state.state) c.in_ok-lives.lives c.only.result.items
+    (rw c.deref.ensures.value at c.in_ok-lives.ensures) c.only.ensures

@@ -16,28 +16,28 @@ pub returns-then-not-follows : goal.returns-then-not-follows
 returns-then-not-follows c =
     let runs = map run_of c.args.runs.now in
     let steps = c.loop-run.steps.items in
-    let count : length steps + 1 ≡ c.len-done.result + 1 = omega (arith, c.len-done.ensures, c.loop-run.steps.ok.0) in
-    subst (IsCut runs steps) count
-    (stops_so runs c.loop-run.run-index steps c.loop-run.last _ c.loop-run.invariant
+    let count : c.args.before + length steps + 1 ≡ c.args.before + c.len.result + 1 = omega (arith, c.len.ensures, c.loop-run.steps.ok.0) in
+    subst (IsCut c.args.before runs steps) count
+    (stops_so c.args.before runs c.loop-run.run-index steps c.loop-run.last _ c.loop-run.invariant
     (there c.args.runs.now c.loop-run.run-index _ c.loop-run-test.true)
     (λ ok. let e : false ≡ true = c.if-not-follows.ensures.1 ok in cc))
 
 pub returns-then-count-room : goal.returns-then-count-room
 returns-then-count-room c =
-    fills_so (map run_of c.args.runs.now) c.loop-run.run-index c.loop-run.steps.items c.loop-run.last _ c.loop-run.invariant
+    fills_so c.args.before (map run_of c.args.runs.now) c.loop-run.run-index c.loop-run.steps.items c.loop-run.last _ c.loop-run.invariant
     (there c.args.runs.now c.loop-run.run-index _ c.loop-run-test.true)
     c.push_steps.new.steps.items _ (c.if-not-follows.ensures.0 refl)
-    (omega (arith, c.len-done.ensures, c.loop-run.steps.ok.0)) (omega (arith, c.if-count-room.true))
+    (omega (arith, c.len.ensures, c.loop-run.steps.ok.0)) (omega (arith, c.if-count-room.true))
     c.in_ok-push_steps.ensures
 
 pub loop-run-preserved : goal.loop-run-preserved
 loop-run-preserved c =
-    goes_so (map run_of c.args.runs.now) c.loop-run.run-index c.loop-run.steps.items c.loop-run.last _ c.loop-run.invariant
+    goes_so c.args.before (map run_of c.args.runs.now) c.loop-run.run-index c.loop-run.steps.items c.loop-run.last _ c.loop-run.invariant
     (there c.args.runs.now c.loop-run.run-index _ c.loop-run-test.true)
     c.push_steps-in-loop-run.new.steps.items _ (c.if-not-follows.ensures.0 refl) refl
-    (omega (arith, c.len-done.ensures, c.loop-run.steps.ok.0, c.if-count-room.false, c.loop-run.invariant.few)) c.in_ok-push_steps-2.ensures
+    (omega (arith, c.len.ensures, c.loop-run.steps.ok.0, c.if-count-room.false, c.loop-run.invariant.few)) c.in_ok-push_steps-2.ensures
 
 pub returns : goal.returns
 returns c =
-    ends_so (map run_of c.args.runs.now) c.loop-run.run-index c.loop-run.steps.items c.loop-run.last
+    ends_so c.args.before (map run_of c.args.runs.now) c.loop-run.run-index c.loop-run.steps.items c.loop-run.last
     (omega (arith, length-map c.args.runs.now run_of, c.loop-run-test.false)) c.loop-run.invariant

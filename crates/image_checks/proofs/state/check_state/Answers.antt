@@ -1,14 +1,17 @@
-use Rattle.std.proofs.Common.{List, map, refl, subst}
+use Rattle.std.proofs.Common.{◌≡◌, List, map, refl, subst}
+use Rattle.std.specs.Prelude.{Vec}
+use Rattle.std.specs.Global.{Global}
 use Rattle.std.proofs.lemmas.Result.{err_from_is_err_and}
 use Rattle.c_tree.specs.Flats.{flat_of}
-use Rattle.image_checks.specs.Schedules.{IsSchedule}
+use Rattle.c_tree.specs.Source.{start}
+use Rattle.image_checks.specs.Schedules.{AreSchedules, schedules_of}
 use Rattle.image_checks.specs.Checks.{of_thread, of_mutexes}
 use Rattle.run_scripts.specs.declared.runs.Run as code
 use Rattle.image_checks.specs.links.PrefixBeforeFault.{TellsFault}
 use Rattle.image_checks.specs.StateAnswers.{faulty, no_memory}
-use Rattle.run_scripts.specs.links.RunViews.{run_of}
-use Rattle.crash_images.specs.links.Views.{state_of}
-use Rattle.image_checks.proofs.States.{same_sound, same_fault, same_unshared, same_shared, in_schedule, all_sound}
+use Rattle.run_scripts.specs.links.ReportViews.{steps_of}
+use Rattle.crash_images.specs.links.Views.{life_of, state_of}
+use Rattle.image_checks.proofs.States.{same_sound, same_fault, same_unshared, same_shared, in_schedules, all_sound}
 use Rattle.image_checks.proofs.state.check_state.Goals as goal
 
 pub returns-in_err-addresses : goal.returns-in_err-addresses
@@ -32,22 +35,24 @@ returns-in_err-check_mutexes c =
     (same_sound _ _ _ _ _ _ c.deref-2.ensures.value refl c.deref-4.ensures.value c.in_ok-check_logs.ensures)
     (same_shared x _ _ _ _ c.deref-5.ensures.value refl c.in_err-check_mutexes.ensures)))
 
-pub returns-in_err-schedule : goal.returns-in_err-schedule
-returns-in_err-schedule c =
-    let p = err_from_is_err_and c.from_residual-in_err-schedule.result c.from_residual-in_err-schedule.ensures.1 in
+pub returns-in_err-lives : goal.returns-in_err-lives
+returns-in_err-lives c =
+    let p = err_from_is_err_and c.from_residual-in_err-lives.result c.from_residual-in_err-lives.ensures.1 in
     let flat = flat_of c.args.flat.now in
-    let x = c.in_err-schedule.field-0.0 in
+    let x = c.in_err-lives.field-0.0 in
     rw (p.1, p.2)
-    (in_schedule flat c.args.table.now (state_of c.args.state.now) x
+    (in_schedules flat c.args.table.now (state_of c.args.state.now) x
     (same_sound _ _ _ _ _ _ c.deref-2.ensures.value refl c.deref-4.ensures.value c.in_ok-check_logs.ensures)
     (same_unshared _ _ _ _ c.deref-5.ensures.value refl c.in_ok-check_mutexes.ensures)
-    (subst (λ (runs : List code.Run). TellsFault flat (map run_of runs) x) c.deref-6.ensures.value c.in_err-schedule.ensures.fault))
+    (subst (λ (lives : List (Vec code.Run Global)). TellsFault flat (start flat) (map life_of lives) x) c.deref-6.ensures.value c.in_err-lives.ensures.fault))
 
 pub returns : goal.returns
 returns c =
     let flat = flat_of c.args.flat.now in
-    let steps = c.in_ok-schedule.schedule in
-    all_sound flat c.args.table.now (state_of c.args.state.now) steps
+    let lives = c.in_ok-lives.lives in
+    all_sound flat c.args.table.now (state_of c.args.state.now) lives
     (same_sound _ _ _ _ _ _ c.deref-2.ensures.value refl c.deref-4.ensures.value c.in_ok-check_logs.ensures)
     (same_unshared _ _ _ _ c.deref-5.ensures.value refl c.in_ok-check_mutexes.ensures)
-    (subst (λ (runs : List code.Run). IsSchedule flat (map run_of runs) steps.items) c.deref-6.ensures.value c.in_ok-schedule.ensures.schedule)
+    (subst (λ (told : List (Vec code.Run Global)). AreSchedules flat (start flat) 0 (map life_of told)) c.deref-6.ensures.value c.in_ok-lives.ensures.sound)
+    (subst (λ (told : List (Vec code.Run Global)). map steps_of lives.items ≡ schedules_of (map life_of told)) c.deref-6.ensures.value
+    c.in_ok-lives.ensures.lives)
