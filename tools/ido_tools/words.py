@@ -11,7 +11,7 @@ PUNCTUATORS = (
     " ( ) [ ] { } ; , ? : = + - * / % & | ^ ~ ! < >"
 ).split()
 
-# Lines of scripts, and the word that a schedule may begin with.
+# Lines of scripts, and the word with which the schedule of a life begins.
 SCRIPT_LETTERS = "s b f g e c r".split()
 SCHEDULE = "schedule"
 

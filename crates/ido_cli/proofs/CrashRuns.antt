@@ -30,7 +30,8 @@ use Rattle.ido_cli.specs.Sweeps.{SweptScript, most_round_steps, status_of}
 use Rattle.ido_cli.specs.links.CompileRefusals.{TellsRefusal}
 use Rattle.ido_cli.specs.links.CountedSections.{CountsSections}
 use Rattle.ido_cli.specs.links.CrashPoints.{HasLivedTo, HasPoint, IsOutcomeAt, lines_in, translation_at}
-use Rattle.ido_cli.proofs.PlayedRuns.{HasPlayed, as_many_threads, counts_sections, harts_of_life, run_by}
+use Rattle.ido_cli.specs.links.PlayedLives.{HasPlayed}
+use Rattle.ido_cli.proofs.PlayedRuns.{as_many_threads, counts_sections, harts_of_life, run_by}
 use Rattle.ido_cli.proofs.SweptTables.{told_again}
 use Rattle.rv64_isa.specs.Schedule.{schedules}
 

@@ -11,7 +11,7 @@ use Rattle.rv64_isa.specs.declared.object.Object.{Object}
 use Rattle.rv64_isa.specs.declared.object.Marks.{Marks}
 use Rattle.rv64_isa.specs.Programs.{slot_of}
 use Rattle.run_tracker.specs.ObjectLives.{Course, new_life, opening_of}
-use Rattle.ido_cli.proofs.PlayedRuns.{HasPlayed}
+use Rattle.ido_cli.specs.links.PlayedLives.{HasPlayed}
 
 -- what is valid at so many harts
 pub all_valid : (log : Log) (harts many : ℕ) (es others : List Event) → V1 ≡ log → es ≡ others → many ≡ harts → All (IsValid many (IsEviction V1 many)) others →

@@ -18,7 +18,6 @@ use Rattle.run_scripts.specs.Laws.{ArePlayedBack, IsPlayedBack}
 use Rattle.run_scripts.specs.Plays.{MayStart, PlayFault, play_fault, script_events}
 use Rattle.run_scripts.specs.Reports.{line}
 use Rattle.run_scripts.specs.Scripts as scripts
-use Rattle.run_scripts.specs.Scripts.{IsEviction}
 use Rattle.run_tracker.specs.ObjectLives.{living}
 use Rattle.ido_cli.specs.Answers.{ScriptedAnswer, unplayed, no_script, of_script}
 use Rattle.ido_cli.specs.Inputs.{rest_from, rest_of, source_from, source_of}

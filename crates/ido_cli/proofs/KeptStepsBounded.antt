@@ -89,7 +89,8 @@ module _ (marks : List (List ℕ)) (program : List (List Slot)) where
     where
       so_many : (s : Steps) → sum_by length (schedules s) ≡ length (all_kept s)
       so_many s =
-          let flat = length-flat_map (λ (steps : List ℕ). steps) s.earlier in
+          let flat : length (flat_map (λ (steps : List ℕ). steps) s.earlier) ≡ sum_by length s.earlier =
+          length-flat_map (λ (steps : List ℕ). steps) s.earlier in
           let one = sum_by_push length s.earlier s.kept in
           let sum = length-append (flat_map (λ (steps : List ℕ). steps) s.earlier) s.kept in
           omega (arith, flat, one, sum)

@@ -38,6 +38,7 @@ use Rattle.ido_cli.specs.Plays.{IsRunBy, ScriptAnswer, barred_start, beginning, 
 use Rattle.ido_cli.specs.Refusals.{IsRefusedAt, play_fault_code, play_fault_place}
 use Rattle.ido_cli.specs.Reports.{machine_state, unsettled_harts}
 use Rattle.ido_cli.specs.links.CountedSections.{CountsSections}
+use Rattle.ido_cli.specs.links.PlayedLives.{HasPlayed}
 use Rattle.ido_cli.specs.Runs.{IsReport, named}
 use Rattle.ido_cli.proofs.EndedSections.{are_ended}
 use Rattle.ido_cli.proofs.ScriptEventCount.{events_fit}
@@ -80,10 +81,10 @@ has_room flat object marks cuts t =
 
 -- ---- A life that a script was played on
 
--- the life is that of the object, with these events
-pub record HasPlayed (object : Object) (marks : Marks) (life : Course) (events : List Event) : Type 0 where
-  pub begins : opening_of life ≡ opening_of (new_life object marks 0)
-  pub journal : life.journal ≡ events
+-- with all events that it has had
+pub all_played : (object : Object) (marks : Marks) (life : Course) (events : List Event) → HasPlayed object marks life events →
+    HasPlayed object marks life life.journal
+all_played object marks life events p = record { begins = p.begins; journal = refl }
 
 module _ (flat : f.Flat) (object : Object) (marks : Marks) (cuts : Cuts) (life : Course) (events : List Event) (p : HasPlayed object marks life events) where
   pub same_world : world_of life ≡ world (translation_to flat object marks cuts) events

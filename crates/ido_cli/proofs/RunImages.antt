@@ -26,7 +26,8 @@ use Rattle.run_tracker.specs.ObjectLives.{Course, LifeConfig, left_words, steps_
 use Rattle.image_checks.specs.RunImages.{left_by, file_contents}
 use Rattle.ido_cli.specs.Images.{IsImageAfter}
 use Rattle.ido_cli.proofs.KeptStepsBounded.{kept_few}
-use Rattle.ido_cli.proofs.PlayedRuns.{HasPlayed, same_steps, same_world}
+use Rattle.ido_cli.specs.links.PlayedLives.{HasPlayed}
+use Rattle.ido_cli.proofs.PlayedRuns.{same_steps, same_world}
 
 module _ (flat : f.Flat) (object : Object) (marks : Marks) (cuts : Cuts) (life : Course) (events : List Event) (p : HasPlayed object marks life events) where
   abbrev made : Translation

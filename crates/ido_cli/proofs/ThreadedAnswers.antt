@@ -38,7 +38,8 @@ use Rattle.ido_cli.specs.links.CompileRefusals.{TellsRefusal}
 use Rattle.ido_cli.specs.links.LegRuns.{CanRun, HasRounds, HasRunLegs, IsLiveRun, IsLoad, IsSaidOf}
 use Rattle.ido_cli.proofs.DrawnLives.{many_harts}
 use Rattle.ido_cli.proofs.LegRuns.{IsLifeDriven, is_leg_after}
-use Rattle.ido_cli.proofs.PlayedRuns.{HasPlayed, run_by, same_steps, same_world}
+use Rattle.ido_cli.specs.links.PlayedLives.{HasPlayed}
+use Rattle.ido_cli.proofs.PlayedRuns.{run_by, same_steps, same_world}
 use Rattle.ido_cli.proofs.Summaries.{summary_of}
 
 -- ---- A life that begins

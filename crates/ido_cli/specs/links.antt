@@ -4,3 +4,4 @@ pub mod CompileRefusals
 pub mod LegRuns
 pub mod CountedSections
 pub mod CrashPoints
+pub mod PlayedLives

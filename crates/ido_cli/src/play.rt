@@ -2,7 +2,7 @@
 ghost use Rattle.ido_base.specs.declared.log.Log.TheVariants.{V1};
 ghost use Rattle.ido_base.specs.declared.place.Place.{Place};
 ghost use Rattle.std.specs.Prelude.{◌≡◌, ◌+◌, ◌≤◌, All, None, length, map, option_map, IfOk, IfSome, IsSome};
-ghost use Rattle.ido_base.specs.declared.limits.TheConstants.{MOST_INPUT_BYTES, MOST_SOURCE_BYTES};
+ghost use Rattle.ido_base.specs.declared.limits.TheConstants.{MOST_EVENTS, MOST_INPUT_BYTES, MOST_SOURCE_BYTES};
 ghost use Rattle.c_tree.specs.Flats.{flat_of};
 ghost use Rattle.flat_compile.specs.TranslatedForms.{IsTranslated};
 ghost use Rattle.rv64_isa.specs.Machine.{IsEviction};
@@ -14,6 +14,7 @@ ghost use Rattle.ido_cli.specs.Answers.{ScriptedAnswer};
 ghost use Rattle.ido_cli.specs.Inputs.{source_of, rest_of};
 ghost use Rattle.ido_cli.specs.Plays.{ScriptAnswer, barred_start, first_start};
 ghost use Rattle.ido_cli.specs.Refusals.{IsRefusedAt, play_fault_code, play_fault_place, script_fault_code, script_fault_place};
+ghost use Rattle.ido_cli.specs.links.PlayedLives.{HasPlayed};
 ghost use Rattle.ido_cli.specs.links.RunRequests.{Says, takes_lives};
 
 use crate::image::image;
@@ -80,6 +81,27 @@ fn play_refused(
     refused_at(alloc, 6, code, input, begins + u64::from(place.0))
 }
 
+/// What is said of a life of a compiled source, by what is asked of it.
+fn say_asked(
+    alloc: Global,
+    asked: Asked,
+    compiled: &Compiled,
+    life: &Life,
+) -> Result<Said, OutOfMemory>
+    requires translated { IsTranslated (flat_of compiled.now.flat) compiled.now.translated.object compiled.now.translated.marks compiled.now.translated.cuts }
+    requires compilation { IsCompilation (translation_in compiled.now) }
+    requires short_source { length compiled.now.text.items ≤ MOST_SOURCE_BYTES }
+    requires played { HasPlayed compiled.now.translated.object compiled.now.translated.marks life.now life.now.journal }
+    requires few { length life.now.journal ≤ MOST_EVENTS }
+    ensures { IfOk result (λ said.
+        Says asked compiled.now.text.items (translation_in compiled.now) life.now.journal said.status said.output.items) }
+{
+    match asked {
+        Asked::Report => say(alloc, &compiled.flat, life),
+        Asked::Image => image(alloc, &compiled.text, &compiled.translated.object, life),
+    }
+}
+
 /// What is said of the run of a script without a start that is barred. It begins at a place of an input.
 fn played_answer(
     alloc: Global,
@@ -109,10 +131,7 @@ fn played_answer(
         cap,
     )?;
     match play(script, &mut life, cap) {
-        Ok(()) => match asked {
-            Asked::Report => say(alloc, &compiled.flat, &life),
-            Asked::Image => image(alloc, &compiled.text, &compiled.translated.object, &life),
-        },
+        Ok(()) => say_asked(alloc, asked, compiled, &life),
         Err(error) => play_refused(alloc, input, begins, error),
     }
 }

@@ -1,6 +1,7 @@
 use Rattle.std.proofs.Common.{refl}
 use Rattle.c_tree.specs.Flats.{flat_of}
 use Rattle.run_tracker.specs.ObjectLives.{life_from}
+use Rattle.ido_cli.specs.links.PlayedLives.{HasPlayed}
 use Rattle.ido_cli.proofs.PlayedRuns as played
 use Rattle.ido_cli.proofs.RecoveredRuns as recovered
 use Rattle.ido_cli.proofs.laws.lives_are_compiled.Goals as goal
@@ -9,7 +10,7 @@ pub returns-clause-starts : goal.returns-clause-starts
 returns-clause-starts c text x cap life is begins =
     let flat = flat_of x.flat in
     let y = x.translated in
-    let all : played.HasPlayed y.object y.marks life life.journal = record { begins = begins; journal = refl } in
+    let all : HasPlayed y.object y.marks life life.journal = record { begins = begins; journal = refl } in
     record {
       compilation = is.compilation;
       world_is = played.same_world flat y.object y.marks y.cuts life life.journal all;
