@@ -15,6 +15,7 @@ mod WorkedRanges
 mod WorkedReferences
 mod WorkedNulls
 mod WorkedReferenceReading
+mod WorkedReferenceRules
 mod WorkedInlining
 mod WorkedSource
 mod WorkedLocking

@@ -1,5 +1,5 @@
 -- Worked rows: where references may be null, and a run that follows one.
-use Rattle.std.proofs.Common.{◌≡◌, ℕ, List, [], ◌∷◌, map, replicate, Option, Some, None, refl}
+use Rattle.std.proofs.Common.{◌≡◌, ℕ, List, [], ◌∷◌, map, replicate, Some, None, refl}
 use Rattle.std.specs.Prelude.{pos, codes}
 use Rattle.ido_base.specs.declared.place.Place.{Place}
 use Rattle.ido_ints.specs.declared.kinds.Kind.TheVariants as kind
@@ -7,13 +7,14 @@ use Rattle.ido_ints.specs.declared.operators.Binary.TheVariants as b
 use Rattle.ido_ints.specs.Reduction as reduction
 use Rattle.ido_ints.specs.TypedNumbers.{typed}
 use Rattle.c_tree.specs.declared.language.Language.TheVariants.{Full}
+use Rattle.c_tree.specs.Elaboration.{typed_program}
 use Rattle.c_tree.specs.Exprs as e
 use Rattle.c_tree.specs.Programs as p
 use Rattle.c_tree.specs.Inlining.{flat_form}
 use Rattle.c_tree.specs.LockDiscipline.{lock_fault}
 use Rattle.c_tree.specs.NullReferences.{program_nulls}
 use Rattle.c_tree.specs.Source.{start, source_step, after_from, ended_from}
-use Rattle.c_tree.proofs.Samples.{at, int, name}
+use Rattle.c_tree.proofs.Samples.{at, int, name, references, null_followed}
 
 abbrev placed : ℕ → e.Expr → e.Placed
 placed place x = record { place = at place; expr = x }
@@ -92,6 +93,15 @@ whole_disciplined = refl
 
 never_null : nulls_of whole ≡ []
 never_null = refl
+
+-- the text becomes this program
+whole_read : typed_program references ≡ program whole
+unfolding typed_program reduction.from_least_on
+whole_read = refl
+
+read_null : map (λ (x : Place). x.0) (program_nulls (typed_program null_followed)) ≡ 71 ∷ []
+unfolding typed_program reduction.from_least_on
+read_null = refl
 
 -- `null != p` says it, too
 other_way : nulls_of (if_so (e.Binary b.NotEqual null reference) (change ∷ []) [] ∷ []) ≡ []

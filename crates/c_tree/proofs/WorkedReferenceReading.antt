@@ -1,4 +1,4 @@
--- Worked rows: tokens of references, their trees, and that no program has them yet.
+-- Worked rows: tokens of references and their trees, and that a plain program has none.
 use Rattle.std.proofs.Common.{◌≡◌, ℕ, [], ◌∷◌, refl}
 use Rattle.std.specs.Prelude.{codes}
 use Rattle.ido_ints.specs.declared.operators.Binary.TheVariants as b
@@ -67,13 +67,21 @@ is_null = refl
 abbrev at_rule : r.Rule → ℕ → Fault
 at_rule found place = record { rule = found; place = at place }
 
--- the array of each type, `&`, `null` and `*` are told
-refused : type_faults Full references ≡
+-- a plain program has none: the array of each type, `&`, `null` and `*` are told
+refused : type_faults Plain references ≡
     at_rule rule.WrongSort 71 ∷ at_rule rule.WrongSort 108 ∷ at_rule rule.WrongSort 101 ∷ at_rule rule.WrongSort 124 ∷ at_rule rule.WrongSort 132 ∷
     at_rule rule.WrongSort 137 ∷ []
 unfolding type_faults
 refused = refl
 
-null_refused : type_faults Full null_followed ≡ at_rule rule.WrongSort 56 ∷ at_rule rule.WrongSort 49 ∷ at_rule rule.WrongSort 71 ∷ []
+null_refused : type_faults Plain null_followed ≡ at_rule rule.WrongSort 56 ∷ at_rule rule.WrongSort 49 ∷ at_rule rule.WrongSort 71 ∷ []
 unfolding type_faults
 null_refused = refl
+
+allowed : type_faults Full references ≡ []
+unfolding type_faults
+allowed = refl
+
+null_allowed : type_faults Full null_followed ≡ []
+unfolding type_faults
+null_allowed = refl

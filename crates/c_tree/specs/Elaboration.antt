@@ -48,7 +48,7 @@ first_place (t.Conditional condition chosen otherwise) = first_place condition
 
 abbrev pub target_place : t.Lvalue → Place
 target_place (t.Target x index) = x.place
-target_place (t.Followed place reference) = place
+target_place (t.Followed place x) = place
 
 -- an `int`
 abbrev pub int : ℕ → e.Expr
@@ -60,9 +60,9 @@ conditional condition chosen otherwise = e.Conditional (common_of (kind_of chose
 
 -- ---- Parts
 
-abbrev pub with_parameters : n.Scope → List t.Parameter → n.Scope
-with_parameters s [] = s
-with_parameters s (x ∷ xs) = with_parameters (n.declared s x.name.text (n.kind_named x.type_name)) xs
+abbrev pub with_parameters : List n.Global → n.Scope → List t.Parameter → n.Scope
+with_parameters gs s [] = s
+with_parameters gs s (x ∷ xs) = with_parameters gs (n.declared gs s x.name.text x.type_name) xs
 
 abbrev pub body_of : t.Block → t.Statements
 body_of (t.Braced opening xs closing) = xs
@@ -96,28 +96,50 @@ numbers_of (Some (t.InBraces place xs)) = map signed_number xs
 abbrev pub filled : ℕ → List ℤ → List ℤ
 filled count zs = take count zs ++ replicate (count - length zs) (pos 0)
 
--- where a rule is broken, as by a name that isn't known or by a reference, these take any expression or target
+-- where a rule is broken, as by a name that isn't known, these take any expression or target
 module _ (gs : List n.Global) where
   abbrev pub named : n.Scope → t.Name → e.Expr
   named s x = elim (n.meaning gs s x.text) [
     | n.IsLocal l ↦ e.Local l.number l.kind
-    | n.IsGlobal (n.Variable number kind is_array) ↦ e.Variable x.place number kind
+    | n.IsGlobal (n.Variable number type_name length each) ↦ e.Variable x.place number (n.kind_named type_name)
     | _ ↦ int 0
   ]
 
   abbrev pub element : n.Scope → t.Name → (index_place : Place) → e.Expr → e.Expr
   element s x index_place index = elim (n.meaning gs s x.text) [
-    | n.IsGlobal (n.Variable number kind is_array) ↦ e.Element x.place number kind index_place index
+    | n.IsGlobal (n.Variable number type_name length each) ↦ e.Element x.place number (n.kind_named type_name) index_place index
     | _ ↦ int 0
+  ]
+
+  abbrev pub address : n.Scope → t.Name → (index_place : Place) → e.Expr → e.Expr
+  address s x index_place index = elim (n.meaning gs s x.text) [
+    | n.IsGlobal (n.Variable number type_name length each) ↦ e.Address number index_place index
+    | _ ↦ int 0
+  ]
+
+  abbrev pub reference : n.Scope → t.Name → Option n.Reference
+  reference s x = elim (n.meaning gs s x.text) [
+    | n.IsLocal l ↦ option_map (λ a. record { local = l.number; array = a }) l.refers
+    | _ ↦ None
+  ]
+
+  -- the index of the element to which it refers, at the place of `*`
+  abbrev pub referent : Place → n.Reference → e.Placed
+  referent place x = record { place = place; expr = e.Referent place x.array.last x.local }
+
+  abbrev pub followed : n.Scope → Place → t.Name → e.Expr
+  followed s place x = elim (reference s x) [
+    | Some y ↦ e.Element place y.array.number y.array.kind place (referent place y).expr
+    | None ↦ int 0
   ]
 
   abbrev pub expr : n.Scope → t.Expression → e.Expr
   expr s (t.Number place value) = e.Constant value
   expr s (t.Named x) = named s x
   expr s (t.Element array index) = element s array (first_place index) (expr s index)
-  expr s (t.Null place) = int 0
-  expr s (t.Address place array index) = int 0
-  expr s (t.Referent place reference) = int 0
+  expr s (t.Null place) = e.Constant (typed kind.UnsignedLong (pos 0))
+  expr s (t.Address place array index) = address s array (first_place index) (expr s index)
+  expr s (t.Referent place x) = followed s place x
   expr s (t.Parenthesised place inner) = expr s inner
   expr s (t.Unary place operator operand) = e.Unary operator (expr s operand)
   expr s (t.Cast place kind operand) = e.Cast kind (expr s operand)
@@ -132,26 +154,32 @@ module _ (gs : List n.Global) where
   abbrev pub target_named : n.Scope → t.Name → e.Lvalue
   target_named s x = elim (n.meaning gs s x.text) [
     | n.IsLocal l ↦ e.ToLocal x.place l.number l.kind
-    | n.IsGlobal (n.Variable number kind is_array) ↦ e.ToVariable x.place number kind
+    | n.IsGlobal (n.Variable number type_name length each) ↦ e.ToVariable x.place number (n.kind_named type_name)
     | _ ↦ e.ToLocal x.place 0 kind.Int
   ]
 
   abbrev pub target_element : n.Scope → t.Name → e.Placed → e.Lvalue
   target_element s x index = elim (n.meaning gs s x.text) [
-    | n.IsGlobal (n.Variable number kind is_array) ↦ e.ToElement x.place number kind index
+    | n.IsGlobal (n.Variable number type_name length each) ↦ e.ToElement x.place number (n.kind_named type_name) index
     | _ ↦ e.ToLocal x.place 0 kind.Int
   ]
 
+  abbrev pub target_followed : n.Scope → Place → t.Name → e.Lvalue
+  target_followed s place x = elim (reference s x) [
+    | Some y ↦ e.ToElement place y.array.number y.array.kind (referent place y)
+    | None ↦ e.ToLocal x.place 0 kind.Int
+  ]
+
   abbrev pub target : n.Scope → t.Lvalue → e.Lvalue
-  target s (t.Target x (Some index)) = target_element s x (placed s index)
   target s (t.Target x None) = target_named s x
-  target s (t.Followed place reference) = e.ToLocal place 0 kind.Int
+  target s (t.Target x (Some index)) = target_element s x (placed s index)
+  target s (t.Followed place x) = target_followed s place x
 
   -- what the target has before
   abbrev pub before : n.Scope → t.Lvalue → e.Expr
-  before s (t.Target x (Some index)) = element s x (first_place index) (expr s index)
   before s (t.Target x None) = named s x
-  before s (t.Followed place reference) = int 0
+  before s (t.Target x (Some index)) = element s x (first_place index) (expr s index)
+  before s (t.Followed place x) = followed s place x
 
   -- the new value; that of `x op= v` is `x op v`, and begins with the target
   abbrev pub changed : n.Scope → t.Lvalue → t.Change → e.Placed
@@ -182,7 +210,7 @@ module _ (gs : List n.Global) where
 
   abbrev pub first_at : Place → n.Scope → t.First → Made p.Statements
   first_at place s t.NoFirst = record { made = p.no_statement; scope = s }
-  first_at place s (t.Declared x) = record { made = one (declaration_at place s x); scope = n.declared s x.name.text (n.kind_named x.type_name) }
+  first_at place s (t.Declared x) = record { made = one (declaration_at place s x); scope = n.declared gs s x.name.text x.type_name }
   first_at place s (t.Assigned x) = record { made = one (assignment_at place s x); scope = s }
 
   abbrev pub last_at : Place → n.Scope → Option t.Assignment → p.Statements
@@ -207,7 +235,7 @@ module _ (gs : List n.Global) where
     pub statement : n.Scope → t.Statement → Made p.Statements
     statement s (t.BlockOf x) = inside s x
     statement s (t.Empty place) = record { made = p.no_statement; scope = s }
-    statement s (t.Declare x) = record { made = one (declaration_at x.place s x); scope = n.declared s x.name.text (n.kind_named x.type_name) }
+    statement s (t.Declare x) = record { made = one (declaration_at x.place s x); scope = n.declared gs s x.name.text x.type_name }
     statement s (t.Assign x) = record { made = one (assignment_at x.place s x); scope = s }
     statement s (t.AssignResult x c) = record { made = one (call (target_place x) s c (Some (target s x))); scope = s }
     statement s (t.CallOnly c) = record { made = one (call c.function.place s c None); scope = s }
@@ -254,7 +282,7 @@ module _ (gs : List n.Global) where
 
   -- parameters and the body are one scope
   abbrev pub function : t.Function → p.Function
-  function x = let m = statements (with_parameters n.no_locals x.parameters) x.body.statements in record {
+  function x = let m = statements (with_parameters gs n.no_locals x.parameters) x.body.statements in record {
     name = x.name;
     parameters = length x.parameters;
     locals = m.scope.kinds;

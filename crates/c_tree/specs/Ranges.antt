@@ -1,6 +1,6 @@
 -- An interval that holds every value that an expression can have, and the indexes of a program.
 use Rattle.std.specs.Prelude.{◌≡◌, ℕ, List, [], ◌∷◌, ◌++◌, Contains, flat_map, slice_get, Option, Some, None, Bool}
-use Rattle.std.specs.Prelude.{true, false, ◌&&◌, if◌then◌else◌, ℤ, pos, ◌+ℤ◌, ◌-ℤ◌, ◌*ℤ◌, neg_ℤ, int_le, int_lt, int_div, ◌≤ℤ◌}
+use Rattle.std.specs.Prelude.{true, ◌&&◌, if◌then◌else◌, ℤ, pos, ◌+ℤ◌, ◌-ℤ◌, ◌*ℤ◌, neg_ℤ, int_le, int_lt, int_div, ◌≤ℤ◌}
 use Rattle.std.specs.Int.{int_shr}
 use Rattle.std.specs.Ordering.{int_eq}
 use Rattle.ido_base.specs.declared.place.Place.{Place}

@@ -3,6 +3,7 @@ mod Lookups
 mod Counts
 mod Rows
 mod Uses
+mod Arguments
 mod ItemRows
 mod NestedScopes
 mod RowSteps

@@ -44,7 +44,7 @@ Known ks [] = Unit {0}
 Known ks (l ∷ ls) = (slice_get ks l.number ≡ Some l.kind) × Known ks ls
 
 -- one that is declared
-pub into_declared : (ks : List Kind) (s : n.Scope) (name : List ℕ) (kind : Kind) → Into (n.declared s name kind).kinds ks →
+pub into_declared : (ks : List Kind) (s : n.Scope) (name : List ℕ) (kind : Kind) → Into (s.kinds ++ kind ∷ []) ks →
     slice_get ks (length s.kinds) ≡ Some kind
 into_declared ks s name kind into = into (length s.kinds) kind (get_seam s.kinds kind)
 
@@ -92,17 +92,17 @@ module _ (gs : List n.Global) where
 
 -- ---- Parameters
 
-pub grow_parameters : (s : n.Scope) (ys : List t.Parameter) → Into s.kinds (made.with_parameters s ys).kinds
-grow_parameters s [] = into_self s.kinds
-grow_parameters s (y ∷ ys) =
-    let s' = n.declared s y.name.text (n.kind_named y.type_name) in
-    into_both s.kinds s'.kinds (made.with_parameters s' ys).kinds (into_more s.kinds (n.kind_named y.type_name ∷ []))
-    (grow_parameters s' ys)
+module _ (gs : List n.Global) where
+  pub grow_parameters : (s : n.Scope) (ys : List t.Parameter) → Into s.kinds (made.with_parameters gs s ys).kinds
+  grow_parameters s [] = into_self s.kinds
+  grow_parameters s (y ∷ ys) =
+      let s' = n.declared gs s y.name.text y.type_name in
+      into_both s.kinds s'.kinds (made.with_parameters gs s' ys).kinds (into_more s.kinds (n.kind_named y.type_name ∷ [])) (grow_parameters s' ys)
 
-pub known_parameters : (ks : List Kind) (s : n.Scope) (ys : List t.Parameter) → Known ks s.known → Into (made.with_parameters s ys).kinds ks →
-    Known ks (made.with_parameters s ys).known
-known_parameters ks s [] known into = known
-known_parameters ks s (y ∷ ys) known into =
-    let s' = n.declared s y.name.text (n.kind_named y.type_name) in
-    let within = into_both s'.kinds (made.with_parameters s' ys).kinds ks (grow_parameters s' ys) into in
-    known_parameters ks s' ys (into_declared ks s y.name.text (n.kind_named y.type_name) within, known) into
+  pub known_parameters : (ks : List Kind) (s : n.Scope) (ys : List t.Parameter) → Known ks s.known → Into (made.with_parameters gs s ys).kinds ks →
+      Known ks (made.with_parameters gs s ys).known
+  known_parameters ks s [] known into = known
+  known_parameters ks s (y ∷ ys) known into =
+      let s' = n.declared gs s y.name.text y.type_name in
+      let within = into_both s'.kinds (made.with_parameters gs s' ys).kinds ks (grow_parameters s' ys) into in
+      known_parameters ks s' ys (into_declared ks s y.name.text (n.kind_named y.type_name) within, known) into

@@ -18,7 +18,7 @@ use Rattle.c_tree.specs.Names as n
 use Rattle.c_typer.specs.links.Declarations.{names_declared}
 use Rattle.c_typer.specs.links.Locals.{names_in, hidden_in}
 use Rattle.c_typer.specs.links.Places.{place_of, first_place, last_place, places_before}
-use Rattle.c_typer.specs.links.Scopes.{global_of, local_of, name_in, known_of, own_of, names_before}
+use Rattle.c_typer.specs.links.Scopes.{array_of, global_of, local_of, name_in, known_of, own_of, names_before}
 use Rattle.c_typer.specs.declared.globals.Declared.{Declared}
 use Rattle.c_typer.specs.declared.names.Places.{Places}
 use Rattle.c_typer.specs.declared.scope.Local.{Local}
@@ -338,14 +338,15 @@ last_is_placed places xs ys x key placed at_key more =
     ∙ ap is_some (placed x.name.items ∙ ap (λ (zs : List Local). last_place x.name.items (names_in zs)) more ∙ last_push x.name.items xs x)
     ∙ ap (λ (b : Bool). is_some (cond b (Some (length xs)) (last_place x.name.items (names_in xs)))) (nat_list_eq_equiv.refl x.name.items)
 
-pub declares : (xs : List Local) (mark : ℕ) (kinds : List Kind) (x : Local) (ys : List Local) (ks : List Kind) (name : List ℕ) (kind : Kind) → mark ≤ length xs
-    → x.name.items ≡ name → x.number ≡ length kinds → x.kind ≡ kind → ys ≡ xs ++ x ∷ [] → ks ≡ kinds ++ kind ∷ []
-    → scope_made ys mark ks ≡ n.declared (scope_made xs mark kinds) name kind
-declares xs mark kinds x ys ks name kind within text number at_kind more more_kinds =
+pub declares : (xs : List Local) (mark : ℕ) (kinds : List Kind) (x : Local) (ys : List Local) (ks : List Kind) (name : List ℕ) (kind : Kind)
+    (refers : Option n.Array) → mark ≤ length xs → x.name.items ≡ name → x.number ≡ length kinds → x.kind ≡ kind → option_map array_of x.refers ≡ refers →
+    ys ≡ xs ++ x ∷ [] → ks ≡ kinds ++ kind ∷ []
+    → scope_made ys mark ks ≡ n.declared_as (scope_made xs mark kinds) name kind refers
+declares xs mark kinds x ys ks name kind refers within text number at_kind at_array more more_kinds =
     (λ i. scope_made (more i) mark (more_kinds i))
     ∙ (λ i. record { known = known_push xs x i; own = own_drop mark xs x within i; kinds = kinds ++ kind ∷ [] })
     ∙ (λ i. record {
-      known = record { name = text i; number = number i; kind = at_kind i } ∷ known_of xs;
+      known = record { name = text i; number = number i; kind = at_kind i; refers = at_array i } ∷ known_of xs;
       own = text i ∷ own_of (drop mark xs);
       kinds = kinds ++ kind ∷ [];
     })

@@ -46,14 +46,15 @@ made_step gs before after s s' x rest all whole split made scope h =
     ∙ ap (λ (ys : t.Statements). statements_and before (typing.statements gs s ys).made) (sym split)
     ∙ h
 
-pub noted_step : (gs : List n.Global) (before after : Option Fault) (s s' : n.Scope) (x : t.Statement) (rest all : t.Statements) (whole : Option Fault)
+pub noted_step : (l : Language) (gs : List n.Global) (before after : Option Fault) (s s' : n.Scope) (x : t.Statement) (rest all : t.Statements)
+    (whole : Option Fault)
     → all ≡ t.statement_and x rest
-    → after ≡ noted before (rules.statement_faults gs s x) → s' ≡ (typing.statement gs s x).scope
-    → noted before (rules.statements_faults gs s all) ≡ whole → noted after (rules.statements_faults gs s' rest) ≡ whole
-noted_step gs before after s s' x rest all whole split found scope h =
-    ap₂ (λ (f : Option Fault) (z : n.Scope). noted f (rules.statements_faults gs z rest)) found scope
-    ∙ sym (noted_append before (rules.statement_faults gs s x) (rules.statements_faults gs (typing.statement gs s x).scope rest))
-    ∙ ap (λ (ys : t.Statements). noted before (rules.statements_faults gs s ys)) (sym split)
+    → after ≡ noted before (rules.statement_faults l gs s x) → s' ≡ (typing.statement gs s x).scope
+    → noted before (rules.statements_faults l gs s all) ≡ whole → noted after (rules.statements_faults l gs s' rest) ≡ whole
+noted_step l gs before after s s' x rest all whole split found scope h =
+    ap₂ (λ (f : Option Fault) (z : n.Scope). noted f (rules.statements_faults l gs z rest)) found scope
+    ∙ sym (noted_append before (rules.statement_faults l gs s x) (rules.statements_faults l gs (typing.statement gs s x).scope rest))
+    ∙ ap (λ (ys : t.Statements). noted before (rules.statements_faults l gs s ys)) (sym split)
     ∙ h
 
 pub scope_step : (gs : List n.Global) (s s' : n.Scope) (x : t.Statement) (rest all : t.Statements) (whole : n.Scope) → all ≡ t.statement_and x rest
@@ -82,18 +83,19 @@ arms_made_step gs before after a s s' x body rest all whole split more condition
     ∙ ap (λ (ys : t.Arms). arms_and (p.arms_list_of before) (typing.arms_of gs s ys).made) (sym split)
     ∙ h
 
-pub arms_noted_step : (gs : List n.Global) (before between after : Option Fault) (s s' : n.Scope) (x : t.Expression) (body : t.Block) (rest all : t.Arms)
+pub arms_noted_step : (l : Language) (gs : List n.Global) (before between after : Option Fault) (s s' : n.Scope) (x : t.Expression) (body : t.Block)
+    (rest all : t.Arms)
     (whole : Option Fault)
-    → all ≡ t.arm_and x body rest → between ≡ noted before (rules.expression_faults gs s x) → after ≡ noted between (rules.block_faults gs s body)
+    → all ≡ t.arm_and x body rest → between ≡ noted before (rules.numeric_faults l gs s x) → after ≡ noted between (rules.block_faults l gs s body)
     → s' ≡ (typing.inside gs s body).scope
-    → noted before (rules.arms_faults gs s all) ≡ whole → noted after (rules.arms_faults gs s' rest) ≡ whole
-arms_noted_step gs before between after s s' x body rest all whole split condition inside scope h =
-    ap (λ (z : n.Scope). noted after (rules.arms_faults gs z rest)) scope
-    ∙ noted_both before after (noted after (rules.arms_faults gs (typing.inside gs s body).scope rest))
-    (rules.expression_faults gs s x ++ rules.block_faults gs s body)
-    (rules.arms_faults gs (typing.inside gs s body).scope rest)
-    (noted_both before between after (rules.expression_faults gs s x) (rules.block_faults gs s body) condition inside) refl
-    ∙ ap (λ (ys : t.Arms). noted before (rules.arms_faults gs s ys)) (sym split)
+    → noted before (rules.arms_faults l gs s all) ≡ whole → noted after (rules.arms_faults l gs s' rest) ≡ whole
+arms_noted_step l gs before between after s s' x body rest all whole split condition inside scope h =
+    ap (λ (z : n.Scope). noted after (rules.arms_faults l gs z rest)) scope
+    ∙ noted_both before after (noted after (rules.arms_faults l gs (typing.inside gs s body).scope rest))
+    (rules.numeric_faults l gs s x ++ rules.block_faults l gs s body)
+    (rules.arms_faults l gs (typing.inside gs s body).scope rest)
+    (noted_both before between after (rules.numeric_faults l gs s x) (rules.block_faults l gs s body) condition inside) refl
+    ∙ ap (λ (ys : t.Arms). noted before (rules.arms_faults l gs s ys)) (sym split)
     ∙ h
 
 pub arms_scope_step : (gs : List n.Global) (s s' : n.Scope) (x : t.Expression) (body : t.Block) (rest all : t.Arms) (whole : n.Scope)
@@ -119,13 +121,14 @@ items_made_step gs before after x rest all whole split made h =
     ∙ ap (λ (ys : List t.Item). joined before (typing.program_from gs ys)) (sym split)
     ∙ h
 
-pub items_noted_step : (gs : List n.Global) (before after : Option Fault) (x : t.Item) (rest all : List t.Item) (whole : Option Fault) → all ≡ x ∷ rest
-    → after ≡ noted before (rules.item_faults gs x)
-    → noted before (flat_map (rules.item_faults gs) all) ≡ whole → noted after (flat_map (rules.item_faults gs) rest) ≡ whole
-items_noted_step gs before after x rest all whole split found h =
-    ap (λ (f : Option Fault). noted f (flat_map (rules.item_faults gs) rest)) found
-    ∙ sym (noted_append before (rules.item_faults gs x) (flat_map (rules.item_faults gs) rest))
-    ∙ ap (λ (ys : List t.Item). noted before (flat_map (rules.item_faults gs) ys)) (sym split)
+pub items_noted_step : (l : Language) (gs : List n.Global) (before after : Option Fault) (x : t.Item) (rest all : List t.Item) (whole : Option Fault) →
+    all ≡ x ∷ rest
+    → after ≡ noted before (rules.item_faults l gs x)
+    → noted before (flat_map (rules.item_faults l gs) all) ≡ whole → noted after (flat_map (rules.item_faults l gs) rest) ≡ whole
+items_noted_step l gs before after x rest all whole split found h =
+    ap (λ (f : Option Fault). noted f (flat_map (rules.item_faults l gs) rest)) found
+    ∙ sym (noted_append before (rules.item_faults l gs x) (flat_map (rules.item_faults l gs) rest))
+    ∙ ap (λ (ys : List t.Item). noted before (flat_map (rules.item_faults l gs) ys)) (sym split)
     ∙ h
 
 -- ---- The whole text
@@ -136,16 +139,16 @@ pub all_noted : (l : Language) (xs : List t.Item) (gs : List n.Global) (begin tw
     → threads ≡ noted twice (rules.past rule.Threads MOST_THREADS (rules.thread_names xs))
     → mutexes ≡ noted threads (rules.too_many_mutexes (rules.most_mutexes l) 0 xs)
     → bytes ≡ noted mutexes (rules.too_many_bytes 0 xs)
-    → all ≡ noted bytes (flat_map (rules.item_faults gs) xs) → all ≡ noted None (type_faults l xs)
+    → all ≡ noted bytes (flat_map (rules.item_faults l gs) xs) → all ≡ noted None (type_faults l xs)
 unfolding type_faults
 all_noted l xs gs begin twice threads mutexes bytes all known none first second third fourth fifth =
     let a = rules.twice_from [] (n.globals_of xs) in
     let b = rules.past rule.Threads MOST_THREADS (rules.thread_names xs) in
     let d = rules.too_many_mutexes (rules.most_mutexes l) 0 xs in
     let e = rules.too_many_bytes 0 xs in
-    let f = flat_map (rules.item_faults (n.globals_of xs)) xs in
+    let f = flat_map (rules.item_faults l (n.globals_of xs)) xs in
     let first_is = first ∙ ap₂ (λ (o : Option Fault) (ys : List n.Global). noted o (rules.twice_from [] ys)) none known in
-    let last_is = fifth ∙ ap (λ (ys : List n.Global). noted bytes (flat_map (rules.item_faults ys) xs)) known in
+    let last_is = fifth ∙ ap (λ (ys : List n.Global). noted bytes (flat_map (rules.item_faults l ys) xs)) known in
     noted_both None bytes all (a ++ b ++ d ++ e) f
     (noted_both None mutexes bytes (a ++ b ++ d) e (noted_both None threads mutexes (a ++ b) d (noted_both None twice threads a b first_is second) third)
     fourth)

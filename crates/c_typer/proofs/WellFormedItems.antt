@@ -17,21 +17,24 @@ use Rattle.c_tree.specs.AcceptedTexts.{IsTyped}
 use Rattle.c_tree.specs.declared.language.Language.TheVariants.{Plain}
 use Rattle.c_tree.specs.Languages.{all_of}
 use Rattle.c_tree.specs.Tokens.{Token}
+use Rattle.ido_base.specs.declared.place.Place.{Place}
+use Rattle.c_tree.specs.LexicalScan.{Fault}
 use Rattle.c_tree.specs.Trees as t
 use Rattle.c_tree.specs.Grammar as g
 use Rattle.c_tree.specs.Names as n
 use Rattle.c_tree.specs.Names.{element_count, length_number}
 use Rattle.c_tree.specs.Programs as p
 use Rattle.c_tree.specs.TypeRules as rules
-use Rattle.c_tree.specs.TypeRules.{broken, broken_if, type_faults}
+use Rattle.c_tree.specs.TypeRules.{broken, type_faults}
 use Rattle.c_tree.specs.Elaboration as made
 use Rattle.c_tree.specs.Elaboration.{typed_program}
 use Rattle.c_tree.specs.Ranges.{mutexes_of}
 use Rattle.c_tree.specs.WellFormed.{elements_in, shape_of, IsSingle, IsSingleAt, IsArrayAt, IsVariable, IsGuard, AreStatements}
-use Rattle.c_tree.specs.WellFormed.{IsReturned, IsFunction, IsProgram}
+use Rattle.c_tree.specs.WellFormed.{IsExpr, IsReturned, IsFunction, IsProgram}
 use Rattle.c_tree.proofs.Public.{single_there}
 use Rattle.c_typer.proofs.LocalKindsGrow.{Into, into_self, into_length, Known, grow_statements, known_parameters}
-use Rattle.c_typer.proofs.WellFormedStatements.{nil_left, nil_right, not_broken, unbroken, SortIn, lock_formed, expr_formed, known_all, statements_formed}
+use Rattle.c_typer.proofs.WellFormedStatements.{nil_left, nil_right, not_broken, unbroken, SortIn, lock_formed}
+use Rattle.c_typer.proofs.WellFormedStatements.{expr_formed, numeric_formed, known_all, statements_formed}
 
 -- ---- Counts
 
@@ -144,7 +147,7 @@ module _ (q : p.Program) (gs : List n.Global) (sorts : AllByRecursion (λ (y : n
     (single : AllByRecursion IsSingle q.mutexes) where
   -- where there are no brackets, one mutex guards all of the variable
   guard_formed : (x : t.Persistent) (each : Bool) (us : List Token) → x.guard.each ≡ each → g.brackets Plain each us →
-      rules.mutex_faults gs n.no_locals x.guard.mutex x.guard.each ≡ [] → IsGuard q.mutexes (made.variable gs x)
+      rules.mutex_faults Plain gs n.no_locals x.guard.mutex x.guard.each ≡ [] → IsGuard q.mutexes (made.variable gs x)
   guard_formed x true us e d h = absurd d
   guard_formed x false us e d h =
       let number = made.mutex_number gs n.no_locals x.guard.mutex in
@@ -153,14 +156,14 @@ module _ (q : p.Program) (gs : List n.Global) (sorts : AllByRecursion (λ (y : n
         | p.Each first ↦ IsArrayAt q.mutexes first × ((made.variable gs x).length ≡ Some (mutexes_of q.mutexes first))
       ]) (sym e) (single_there q.mutexes number single (lock_formed q gs sorts [] n.no_locals tt x.guard.mutex x.guard.each h))
 
-  variable_formed : (x : t.Persistent) (us : List Token) → g.brackets Plain x.guard.each us → rules.item_faults gs (t.PersistentItem x) ≡ [] →
+  variable_formed : (x : t.Persistent) (us : List Token) → g.brackets Plain x.guard.each us → rules.item_faults Plain gs (t.PersistentItem x) ≡ [] →
       IsVariable q.mutexes (made.variable gs x)
   variable_formed x us d h =
-      let a = rules.mutex_faults gs n.no_locals x.guard.mutex x.guard.each in
-      let b = rules.each_faults gs x in
-      let old = ((a ++ b) ++ rules.length_faults x.length) ++ rules.initialiser_faults x.length x.initialiser in
-      let first = nil_left ((a ++ b) ++ rules.length_faults x.length) (rules.initialiser_faults x.length x.initialiser)
-      (nil_left old (rules.type_name_faults x.type_name) h) in
+      let a = rules.mutex_faults Plain gs n.no_locals x.guard.mutex x.guard.each in
+      let b = rules.each_faults Plain gs x in
+      let old = ((a ++ b) ++ rules.length_faults x.length) ++ rules.initialiser_faults x.type_name x.length x.initialiser in
+      let first = nil_left ((a ++ b) ++ rules.length_faults x.length) (rules.initialiser_faults x.type_name x.length x.initialiser)
+      (nil_left old (rules.type_name_faults Plain gs n.no_locals x.type_name) h) in
       let kind = n.kind_named x.type_name in
       let guard = nil_left a b (nil_left (a ++ b) (rules.length_faults x.length) first) in
       let size = bounds x.length (nil_right (a ++ b) (rules.length_faults x.length) first) in
@@ -175,50 +178,63 @@ module _ (q : p.Program) (gs : List n.Global) (sorts : AllByRecursion (λ (y : n
       }
 
   block_formed : (ks : List Kind) (s : n.Scope) (x : t.Block) (ts : List Token) → g.block Plain x ts → Known ks s.known →
-      Into (made.statements gs s (made.body_of x)).scope.kinds ks → rules.statements_faults gs s (made.body_of x) ≡ [] →
+      Into (made.statements gs s (made.body_of x)).scope.kinds ks → rules.statements_faults Plain gs s (made.body_of x) ≡ [] →
       AreStatements q ks (made.statements gs s (made.body_of x)).made
   block_formed ks s (t.Braced opening xs closing) ts d known into h = statements_formed q gs sorts ks s xs d.4.0 d.4.3 known into h
 
-  thread_formed : (x : t.Thread) (ts : List Token) → g.block Plain x.block ts → rules.item_faults gs (t.ThreadItem x) ≡ [] →
+  thread_formed : (x : t.Thread) (ts : List Token) → g.block Plain x.block ts → rules.item_faults Plain gs (t.ThreadItem x) ≡ [] →
       AreStatements q (made.thread gs x).locals (made.thread gs x).body
   thread_formed x ts d h = let ks = (made.statements gs n.no_locals (made.body_of x.block)).scope.kinds in block_formed ks n.no_locals x.block ts d tt
       (into_self ks) h
 
-  returned_formed : (ks : List Kind) (s : n.Scope) (kind : Option Kind) (o : Option t.Return) → Known ks s.known → rules.returned_faults gs s o ≡ [] →
-      IsReturned q ks (made.returned gs s kind o)
-  returned_formed ks s None o known h = tt
-  returned_formed ks s (Some kind) None known h = tt
-  returned_formed ks s (Some kind) (Some x) known h = go x.value h
-    where
-      go : (o : Option t.Expression) → rules.maybe_faults gs s o ≡ [] → IsReturned q ks (option_map (λ v. record { kind = kind; value = made.placed gs s v }) o)
-      go None k = tt
-      go (Some v) k = expr_formed q gs sorts ks s known v k
+  -- a value that is returned is an expression without faults, whatever the result's type
+  value_formed : (ks : List Kind) (s : n.Scope) (type_name : Option t.TypeName) (place : Place) (v : t.Expression) → Known ks s.known →
+      rules.value_faults Plain gs s type_name place (Some v) ≡ [] → IsExpr q.variables ks (made.expr gs s v)
+  value_formed ks s None place v known h = numeric_formed q gs sorts ks s known v h
+  value_formed ks s (Some type_name) place v known h =
+      expr_formed q gs sorts ks s known v (nil_left (rules.expression_faults Plain gs s v) (rules.given_faults Plain gs s (n.of_type gs type_name) place v) h)
 
-  function_formed : (x : t.Function) (ts : List Token) → g.function Plain x ts → rules.item_faults gs (t.FunctionItem x) ≡ [] →
+  returned_formed : (ks : List Kind) (s : n.Scope) (f : t.Function) (o : Option t.Return) → Known ks s.known → rules.returned_faults Plain gs s f o ≡ [] →
+      IsReturned q ks (made.returned gs s (option_map n.kind_named f.type_name) o)
+  returned_formed ks s f o known h = by f.type_name o h
+    where
+      go : (kind : Kind) (type_name : Option t.TypeName) (o : Option t.Expression) → rules.value_faults Plain gs s type_name f.name.place o ≡ [] →
+          IsReturned q ks (option_map (λ v. record { kind = kind; value = made.placed gs s v }) o)
+      go kind type_name None k = tt
+      go kind type_name (Some v) k = value_formed ks s type_name f.name.place v known k
+
+      by : (type_name : Option t.TypeName) (o : Option t.Return) → elim o as (λ o. List Fault) [
+        | None ↦ []
+        | Some r ↦ rules.value_faults Plain gs s type_name f.name.place r.value
+      ] ≡ [] → IsReturned q ks (made.returned gs s (option_map n.kind_named type_name) o)
+      by None o k = tt
+      by (Some type_name) None k = tt
+      by (Some type_name) (Some r) k = go (n.kind_named type_name) (Some type_name) r.value k
+
+  function_formed : (x : t.Function) (ts : List Token) → g.function Plain x ts → rules.item_faults Plain gs (t.FunctionItem x) ≡ [] →
       IsFunction q (made.function gs x)
   function_formed x ts d h =
-      let s = made.with_parameters n.no_locals x.parameters in
+      let s = made.with_parameters gs n.no_locals x.parameters in
       let m = made.statements gs s x.body.statements in
       let ks = m.scope.kinds in
-      let known = known_parameters ks n.no_locals x.parameters tt (grow_statements gs s x.body.statements) in
-      let p1 = rules.parameters_faults gs n.no_locals x.parameters in
-      let p2 = rules.statements_faults gs s x.body.statements in
-      let p3 = rules.returned_faults gs m.scope x.body.returned in
-      let h3 = nil_left ((p1 ++ p2) ++ p3) (rules.return_faults gs x)
-      (nil_left (((p1 ++ p2) ++ p3) ++ rules.return_faults gs x) (rules.result_faults x.type_name) h) in
+      let known = known_parameters gs ks n.no_locals x.parameters tt (grow_statements gs s x.body.statements) in
+      let p1 = rules.parameters_faults Plain gs n.no_locals x.parameters in
+      let p2 = rules.statements_faults Plain gs s x.body.statements in
+      let p3 = rules.returned_faults Plain gs m.scope x x.body.returned in
+      let h3 = nil_left ((p1 ++ p2) ++ p3) (rules.return_faults Plain gs x)
+      (nil_left (((p1 ++ p2) ++ p3) ++ rules.return_faults Plain gs x) (rules.result_faults Plain gs x.type_name) h) in
       let h2 = nil_left (p1 ++ p2) p3 h3 in record {
         parameters = omega (arith, into_length s.kinds ks (grow_statements gs s x.body.statements), parameters_count n.no_locals x.parameters);
         body = statements_formed q gs sorts ks s x.body.statements d.4.4.4.4.4.4.0 d.4.4.4.4.4.4.3 known (into_self ks) (nil_right p1 p2 h2);
-        result =
-            returned_formed ks m.scope (option_map n.kind_named x.type_name) x.body.returned (known_all q gs sorts ks s x.body.statements known (into_self ks))
+        result = returned_formed ks m.scope x x.body.returned (known_all q gs sorts ks s x.body.statements known (into_self ks))
             (nil_right (p1 ++ p2) p3 h3);
       }
     where
-      parameters_count : (s : n.Scope) (ys : List t.Parameter) → length (made.with_parameters s ys).kinds ≡ length s.kinds + length ys
+      parameters_count : (s : n.Scope) (ys : List t.Parameter) → length (made.with_parameters gs s ys).kinds ≡ length s.kinds + length ys
       parameters_count s [] = omega arith
       parameters_count s (y ∷ ys) = omega (
         arith,
-        parameters_count (n.declared s y.name.text (n.kind_named y.type_name)) ys,
+        parameters_count (n.declared gs s y.name.text y.type_name) ys,
         length-append s.kinds (n.kind_named y.type_name ∷ []),
       )
 
@@ -228,12 +244,13 @@ module _ (q : p.Program) (gs : List n.Global) (sorts : AllByRecursion (λ (y : n
     functions : AllByRecursion (IsFunction q) made_of.functions
     threads : AllByRecursion (λ (y : p.Thread). AreStatements q y.locals y.body) made_of.threads
 
-  parts_formed : (xs : List t.Item) (ts : List Token) → all_of (g.item Plain) xs ts → flat_map (rules.item_faults gs) xs ≡ [] → Parts (made.program_from gs xs)
+  parts_formed : (xs : List t.Item) (ts : List Token) → all_of (g.item Plain) xs ts → flat_map (rules.item_faults Plain gs) xs ≡ [] →
+      Parts (made.program_from gs xs)
   parts_formed [] ts d h = record { variables = tt; functions = tt; threads = tt }
-  parts_formed (x ∷ xs) ts d h = add x d.0 d.3 (nil_left (rules.item_faults gs x) (flat_map (rules.item_faults gs) xs) h)
-      (parts_formed xs d.1 d.4 (nil_right (rules.item_faults gs x) (flat_map (rules.item_faults gs) xs) h))
+  parts_formed (x ∷ xs) ts d h = add x d.0 d.3 (nil_left (rules.item_faults Plain gs x) (flat_map (rules.item_faults Plain gs) xs) h)
+      (parts_formed xs d.1 d.4 (nil_right (rules.item_faults Plain gs x) (flat_map (rules.item_faults Plain gs) xs) h))
     where
-      add : (y : t.Item) (us : List Token) → g.item Plain y us → rules.item_faults gs y ≡ [] → Parts (made.program_from gs xs) →
+      add : (y : t.Item) (us : List Token) → g.item Plain y us → rules.item_faults Plain gs y ≡ [] → Parts (made.program_from gs xs) →
           Parts (made.with_item gs y (made.program_from gs xs))
       add (t.MutexItem y count) us c k r = record { variables = r.variables; functions = r.functions; threads = r.threads }
       add (t.PersistentItem y) us c k r =
@@ -255,19 +272,21 @@ some_mapped f (Some x) = refl
 
 module _ (q : p.Program) (gs : List n.Global) where
   -- the result is there where one is declared
-  gives_formed : (s : n.Scope) (x : t.Function) → rules.return_faults gs x ≡ [] →
-      is_some (made.returned gs s (option_map n.kind_named x.type_name) x.body.returned) ≡ is_some (option_map n.kind_named x.type_name)
+  gives_formed : (s : n.Scope) (x : t.Function) → rules.return_faults Plain gs x ≡ [] →
+      is_some (made.returned gs s (option_map n.kind_named x.type_name) x.body.returned) ≡ is_some x.type_name
   gives_formed s x h = go (option_map n.kind_named x.type_name) x.body.returned (subst
-      (λ (b : Bool). (if b then not (rules.returns_value gs x.body.returned) else rules.returns_value gs x.body.returned) ≡ false)
+      (λ (b : Bool). (if b then not (rules.returns_value Plain gs x.body.returned) else rules.returns_value Plain gs x.body.returned) ≡ false)
       (sym (some_mapped n.kind_named x.type_name)) (unbroken
-      (if is_some x.type_name then not (rules.returns_value gs x.body.returned) else rules.returns_value gs x.body.returned) rule.Return x.name.place h))
+      (if is_some x.type_name then not (rules.returns_value Plain gs x.body.returned) else rules.returns_value Plain gs x.body.returned) rule.Return
+      x.name.place h)) ∙ some_mapped n.kind_named x.type_name
     where
       value : (kind : Kind) (o : Option t.Expression) → not (is_some o) ≡ false →
           is_some {T = p.Returned} (option_map (λ v. record { kind = kind; value = made.placed gs s v }) o) ≡ true
       value kind None k = absurd (cc)
       value kind (Some v) k = refl
 
-      go : (kind : Option Kind) (o : Option t.Return) → (if is_some kind then not (rules.returns_value gs o) else rules.returns_value gs o) ≡ false →
+      go : (kind : Option Kind) (o : Option t.Return) →
+          (if is_some kind then not (rules.returns_value Plain gs o) else rules.returns_value Plain gs o) ≡ false →
           is_some (made.returned gs s kind o) ≡ is_some kind
       go None o k = refl
       go (Some kind) None k = absurd (cc)
@@ -276,13 +295,13 @@ module _ (q : p.Program) (gs : List n.Global) where
   abbrev at : (A : Type 0) → List A → ℕ → A → Type 0
   at A xs i y = slice_get xs i ≡ Some y
 
-  sorts_formed : (c : n.Counts) (xs : List t.Item) → After q c (made.program_from gs xs) → flat_map (rules.item_faults gs) xs ≡ [] →
+  sorts_formed : (c : n.Counts) (xs : List t.Item) → After q c (made.program_from gs xs) → flat_map (rules.item_faults Plain gs) xs ≡ [] →
       AllByRecursion (λ (y : n.Global). SortIn q y.sort) (n.globals_from c xs)
   sorts_formed c [] b h = tt
-  sorts_formed c (x ∷ xs) b h = go x b (nil_left (rules.item_faults gs x) (flat_map (rules.item_faults gs) xs) h)
-      (λ d e. sorts_formed d xs e (nil_right (rules.item_faults gs x) (flat_map (rules.item_faults gs) xs) h))
+  sorts_formed c (x ∷ xs) b h = go x b (nil_left (rules.item_faults Plain gs x) (flat_map (rules.item_faults Plain gs) xs) h)
+      (λ d e. sorts_formed d xs e (nil_right (rules.item_faults Plain gs x) (flat_map (rules.item_faults Plain gs) xs) h))
     where
-      go : (y : t.Item) → After q c (made.with_item gs y (made.program_from gs xs)) → rules.item_faults gs y ≡ [] →
+      go : (y : t.Item) → After q c (made.with_item gs y (made.program_from gs xs)) → rules.item_faults Plain gs y ≡ [] →
           ((d : n.Counts) → After q d (made.program_from gs xs) → AllByRecursion (λ (z : n.Global). SortIn q z.sort) (n.globals_from d xs)) →
           AllByRecursion (λ (z : n.Global). SortIn q z.sort) (n.globals_from c (y ∷ xs))
       go (t.MutexItem y count) e k rest =
@@ -294,7 +313,7 @@ module _ (q : p.Program) (gs : List n.Global) where
       go (t.PersistentItem y) e k rest =
           let here : at p.Variable q.variables c.variables (made.variable gs y) = subst (λ (i : ℕ). at p.Variable q.variables i (made.variable gs y))
           (omega arith) (e.variables 0 (made.variable gs y) refl) in (
-            record { it = made.variable gs y; found = here; kind = refl; array = some_mapped length_number y.length },
+            record { it = made.variable gs y; found = here; kind = refl; array = refl },
             rest (n.counted c (t.PersistentItem y)) (record {
               mutexes = e.mutexes;
               variables = λ i v l. subst (λ (j : ℕ). at p.Variable q.variables j v) (omega arith) (e.variables (suc i) v l);
@@ -305,16 +324,16 @@ module _ (q : p.Program) (gs : List n.Global) where
       go (t.FunctionItem y) e k rest =
           let here : at p.Function q.functions c.functions (made.function gs y) = subst (λ (i : ℕ). at p.Function q.functions i (made.function gs y))
           (omega arith) (e.functions 0 (made.function gs y) refl) in
-          let s = made.with_parameters n.no_locals y.parameters in
+          let s = made.with_parameters gs n.no_locals y.parameters in
           let m = made.statements gs s y.body.statements in
-          let before = (rules.parameters_faults gs n.no_locals y.parameters ++ rules.statements_faults gs s y.body.statements)
-          ++ rules.returned_faults gs m.scope y.body.returned in (
+          let before = (rules.parameters_faults Plain gs n.no_locals y.parameters ++ rules.statements_faults Plain gs s y.body.statements)
+          ++ rules.returned_faults Plain gs m.scope y y.body.returned in (
             record {
               it = made.function gs y;
               found = here;
-              count = length-map y.parameters (λ (z : t.Parameter). n.kind_named z.type_name);
-              gives = gives_formed m.scope y (nil_right before (rules.return_faults gs y)
-                  (nil_left (before ++ rules.return_faults gs y) (rules.result_faults y.type_name) k));
+              count = length-map y.parameters (λ (z : t.Parameter). z.type_name);
+              gives = gives_formed m.scope y (nil_right before (rules.return_faults Plain gs y)
+                  (nil_left (before ++ rules.return_faults Plain gs y) (rules.result_faults Plain gs y.type_name) k));
             },
             rest (n.counted c (t.FunctionItem y)) (record {
               mutexes = e.mutexes;
@@ -350,7 +369,7 @@ formed xs ts d h =
     let b = rules.past rule.Threads MOST_THREADS (rules.thread_names xs) in
     let m = rules.too_many_mutexes MOST_MUTEXES 0 xs in
     let e = rules.too_many_bytes 0 xs in
-    let f = flat_map (rules.item_faults gs) xs in
+    let f = flat_map (rules.item_faults Plain gs) xs in
     let h4 = nil_left (((a ++ b) ++ m) ++ e) f h in
     let h3 = nil_left ((a ++ b) ++ m) e h4 in
     let h2 = nil_left (a ++ b) m h3 in

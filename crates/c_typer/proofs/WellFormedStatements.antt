@@ -3,6 +3,7 @@ use Rattle.std.proofs.Common.{◌≡◌, refl, ◌∙◌, subst, ℕ, ◌<◌, L
 use Rattle.std.proofs.Common.{true, false, not, ◌==◌, is_some, if◌then◌else◌, cond, Option, Some, None, arith}
 use Rattle.std.specs.Prelude.{slice_get}
 use Rattle.std.specs.List.{AllByRecursion}
+use Rattle.std.specs.Option.{option_map}
 use Rattle.std.proofs.lemmas.Bool.Decides.{nat_tests}
 use Rattle.std.proofs.lemmas.List.{length-map}
 use Rattle.std.proofs.lemmas.Option.{none-some, same_Some}
@@ -60,7 +61,7 @@ spelled_arms (t.arm_and y body rest) ts d = ((d.4.4.0, d.4.4.3), spelled_more re
 -- what stands for it is there
 abbrev pub SortIn : p.Program → n.Sort → Type 0
 SortIn x (n.Mutex number count) = number < length x.mutexes
-SortIn x (n.Variable number kind is_array) = IsDeclared x.variables number kind is_array
+SortIn x (n.Variable number type_name length each) = IsDeclared x.variables number (n.kind_named type_name) (is_some length)
 SortIn x (n.Function number gives parameters) = IsCall x.functions number (length parameters) (is_some gives)
 SortIn x n.Thread = Unit {0}
 
@@ -91,10 +92,11 @@ module _ (x : p.Program) (gs : List n.Global) (sorts : AllByRecursion (λ (y : n
   meaning_in : (s : n.Scope) (name : List ℕ) → Known ks s.known → MeaningIn x ks (n.meaning gs s name)
   meaning_in s name known = local (find (λ (y : n.Local). n.same_name y.name name) s.known) refl
     where
-      global : (o : Option n.Global) → find (λ (y : n.Global). n.same_name y.name.text name) gs ≡ o → MeaningIn x ks (elim o [
-        | Some y ↦ n.IsGlobal y.sort
-        | None ↦ n.IsUnknown
-      ])
+      global : (o : Option n.Global) → find (λ (y : n.Global). n.same_name y.name.text name) gs ≡ o →
+          MeaningIn x ks (elim (option_map (λ (y : n.Global). y.sort) o) [
+            | Some sort ↦ n.IsGlobal sort
+            | None ↦ n.IsUnknown
+          ])
       global None q = tt
       global (Some y) q = found_in (λ (z : n.Global). SortIn x z.sort) (λ (z : n.Global). n.same_name z.name.text name) gs y sorts q
 
@@ -109,172 +111,205 @@ module _ (x : p.Program) (gs : List n.Global) (sorts : AllByRecursion (λ (y : n
 
   -- a name, with an index or without
   module _ (s : n.Scope) (known : Known ks s.known) where
-    named_formed : (y : t.Name) → rules.use_faults gs s y false ≡ [] → IsExpr x.variables ks (made.named gs s y)
+    named_formed : (y : t.Name) → rules.use_faults Plain gs s y false ≡ [] → IsExpr x.variables ks (made.named gs s y)
     named_formed y h = go (n.meaning gs s y.text) (meaning_in s y.text known) h
       where
         go : (m : n.Meaning) → MeaningIn x ks m → ◌≡◌ {A = List Fault} (elim m [
           | n.IsUnknown ↦ broken rule.Unknown y.place
           | n.IsLocal l ↦ broken_if false rule.WrongSort y.place
-          | n.IsGlobal (n.Variable number kind is_array) ↦ broken_if (if is_array then not false else false) rule.WrongSort y.place
+          | n.IsGlobal (n.Variable number type_name length each) ↦ broken_if (if is_some length then not false else false) rule.WrongSort y.place
           | _ ↦ broken rule.WrongSort y.place
         ]) [] → IsExpr x.variables ks (elim m [
           | n.IsLocal l ↦ e.Local l.number l.kind
-          | n.IsGlobal (n.Variable number kind is_array) ↦ e.Variable y.place number kind
+          | n.IsGlobal (n.Variable number type_name length each) ↦ e.Variable y.place number (n.kind_named type_name)
           | _ ↦ made.int 0
         ])
         go n.IsUnknown k q = absurd (not_broken rule.Unknown y.place q)
         go (n.IsLocal l) k q = k
         go (n.IsGlobal (n.Mutex number count)) k q = tt
-        go (n.IsGlobal (n.Variable number kind is_array)) k q =
-            subst (IsDeclared x.variables number kind) (equal_bools is_array false
-            (unbroken (if is_array then not false else false) rule.WrongSort y.place q)) k
+        go (n.IsGlobal (n.Variable number type_name length each)) k q =
+            subst (IsDeclared x.variables number (n.kind_named type_name)) (equal_bools (is_some length) false
+            (unbroken (if is_some length then not false else false) rule.WrongSort y.place q)) k
         go (n.IsGlobal (n.Function number gives parameters)) k q = tt
         go (n.IsGlobal n.Thread) k q = tt
 
-    element_formed : (y : t.Name) (place : Place) (index : e.Expr) → rules.use_faults gs s y true ≡ [] → IsExpr x.variables ks index →
+    element_formed : (y : t.Name) (place : Place) (index : e.Expr) → rules.use_faults Plain gs s y true ≡ [] → IsExpr x.variables ks index →
         IsExpr x.variables ks (made.element gs s y place index)
     element_formed y place index h i = go (n.meaning gs s y.text) (meaning_in s y.text known) h
       where
         go : (m : n.Meaning) → MeaningIn x ks m → ◌≡◌ {A = List Fault} (elim m [
           | n.IsUnknown ↦ broken rule.Unknown y.place
           | n.IsLocal l ↦ broken_if true rule.WrongSort y.place
-          | n.IsGlobal (n.Variable number kind is_array) ↦ broken_if (if is_array then not true else true) rule.WrongSort y.place
+          | n.IsGlobal (n.Variable number type_name length each) ↦ broken_if (if is_some length then not true else true) rule.WrongSort y.place
           | _ ↦ broken rule.WrongSort y.place
         ]) [] → IsExpr x.variables ks (elim m [
-          | n.IsGlobal (n.Variable number kind is_array) ↦ e.Element y.place number kind place index
+          | n.IsGlobal (n.Variable number type_name length each) ↦ e.Element y.place number (n.kind_named type_name) place index
           | _ ↦ made.int 0
         ])
         go n.IsUnknown k q = tt
         go (n.IsLocal l) k q = tt
         go (n.IsGlobal (n.Mutex number count)) k q = tt
-        go (n.IsGlobal (n.Variable number kind is_array)) k q = (
-          subst (IsDeclared x.variables number kind) (equal_bools is_array true
-              (unbroken (if is_array then not true else true) rule.WrongSort y.place q)) k,
+        go (n.IsGlobal (n.Variable number type_name length each)) k q = (
+          subst (IsDeclared x.variables number (n.kind_named type_name)) (equal_bools (is_some length) true
+              (unbroken (if is_some length then not true else true) rule.WrongSort y.place q)) k,
           i,
         )
         go (n.IsGlobal (n.Function number gives parameters)) k q = tt
         go (n.IsGlobal n.Thread) k q = tt
 
-    target_named_formed : (y : t.Name) → rules.use_faults gs s y false ≡ [] → IsTarget x.variables ks (made.target_named gs s y)
+    target_named_formed : (y : t.Name) → rules.use_faults Plain gs s y false ≡ [] → IsTarget x.variables ks (made.target_named gs s y)
     target_named_formed y h = go (n.meaning gs s y.text) (meaning_in s y.text known) h
       where
         go : (m : n.Meaning) → MeaningIn x ks m → ◌≡◌ {A = List Fault} (elim m [
           | n.IsUnknown ↦ broken rule.Unknown y.place
           | n.IsLocal l ↦ broken_if false rule.WrongSort y.place
-          | n.IsGlobal (n.Variable number kind is_array) ↦ broken_if (if is_array then not false else false) rule.WrongSort y.place
+          | n.IsGlobal (n.Variable number type_name length each) ↦ broken_if (if is_some length then not false else false) rule.WrongSort y.place
           | _ ↦ broken rule.WrongSort y.place
         ]) [] → IsTarget x.variables ks (elim m [
           | n.IsLocal l ↦ e.ToLocal y.place l.number l.kind
-          | n.IsGlobal (n.Variable number kind is_array) ↦ e.ToVariable y.place number kind
+          | n.IsGlobal (n.Variable number type_name length each) ↦ e.ToVariable y.place number (n.kind_named type_name)
           | _ ↦ e.ToLocal y.place 0 Int
         ])
         go n.IsUnknown k q = absurd (not_broken rule.Unknown y.place q)
         go (n.IsLocal l) k q = k
         go (n.IsGlobal (n.Mutex number count)) k q = absurd (not_broken rule.WrongSort y.place q)
-        go (n.IsGlobal (n.Variable number kind is_array)) k q =
-            subst (IsDeclared x.variables number kind) (equal_bools is_array false
-            (unbroken (if is_array then not false else false) rule.WrongSort y.place q)) k
+        go (n.IsGlobal (n.Variable number type_name length each)) k q =
+            subst (IsDeclared x.variables number (n.kind_named type_name)) (equal_bools (is_some length) false
+            (unbroken (if is_some length then not false else false) rule.WrongSort y.place q)) k
         go (n.IsGlobal (n.Function number gives parameters)) k q = absurd (not_broken rule.WrongSort y.place q)
         go (n.IsGlobal n.Thread) k q = absurd (not_broken rule.WrongSort y.place q)
 
-    target_element_formed : (y : t.Name) (index : e.Placed) → rules.use_faults gs s y true ≡ [] → IsExpr x.variables ks index.expr →
+    target_element_formed : (y : t.Name) (index : e.Placed) → rules.use_faults Plain gs s y true ≡ [] → IsExpr x.variables ks index.expr →
         IsTarget x.variables ks (made.target_element gs s y index)
     target_element_formed y index h i = go (n.meaning gs s y.text) (meaning_in s y.text known) h
       where
         go : (m : n.Meaning) → MeaningIn x ks m → ◌≡◌ {A = List Fault} (elim m [
           | n.IsUnknown ↦ broken rule.Unknown y.place
           | n.IsLocal l ↦ broken_if true rule.WrongSort y.place
-          | n.IsGlobal (n.Variable number kind is_array) ↦ broken_if (if is_array then not true else true) rule.WrongSort y.place
+          | n.IsGlobal (n.Variable number type_name length each) ↦ broken_if (if is_some length then not true else true) rule.WrongSort y.place
           | _ ↦ broken rule.WrongSort y.place
         ]) [] → IsTarget x.variables ks (elim m [
-          | n.IsGlobal (n.Variable number kind is_array) ↦ e.ToElement y.place number kind index
+          | n.IsGlobal (n.Variable number type_name length each) ↦ e.ToElement y.place number (n.kind_named type_name) index
           | _ ↦ e.ToLocal y.place 0 Int
         ])
         go n.IsUnknown k q = absurd (not_broken rule.Unknown y.place q)
         go (n.IsLocal l) k q = absurd (not_broken rule.WrongSort y.place q)
         go (n.IsGlobal (n.Mutex number count)) k q = absurd (not_broken rule.WrongSort y.place q)
-        go (n.IsGlobal (n.Variable number kind is_array)) k q = (
-          subst (IsDeclared x.variables number kind) (equal_bools is_array true
-              (unbroken (if is_array then not true else true) rule.WrongSort y.place q)) k,
+        go (n.IsGlobal (n.Variable number type_name length each)) k q = (
+          subst (IsDeclared x.variables number (n.kind_named type_name)) (equal_bools (is_some length) true
+              (unbroken (if is_some length then not true else true) rule.WrongSort y.place q)) k,
           i,
         )
         go (n.IsGlobal (n.Function number gives parameters)) k q = absurd (not_broken rule.WrongSort y.place q)
         go (n.IsGlobal n.Thread) k q = absurd (not_broken rule.WrongSort y.place q)
 
-    pub expr_formed : (y : t.Expression) → rules.expression_faults gs s y ≡ [] → IsExpr x.variables ks (made.expr gs s y)
+    pub expr_formed : (y : t.Expression) → rules.expression_faults Plain gs s y ≡ [] → IsExpr x.variables ks (made.expr gs s y)
     expr_formed (t.Number place value) h = tt
     expr_formed (t.Named y) h = named_formed y h
     expr_formed (t.Element array index) h =
+        let first = rules.use_faults Plain gs s array true in
+        let inner = nil_left (first ++ rules.expression_faults Plain gs s index) (rules.number_faults Plain gs s index) h in
         element_formed array (made.first_place index) (made.expr gs s index)
-        (nil_left (rules.use_faults gs s array true) (rules.expression_faults gs s index) h)
-        (expr_formed index (nil_right (rules.use_faults gs s array true) (rules.expression_faults gs s index) h))
+        (nil_left first (rules.expression_faults Plain gs s index) inner)
+        (expr_formed index (nil_right first (rules.expression_faults Plain gs s index) inner))
     expr_formed (t.Null place) h = absurd (not_broken rule.WrongSort place h)
-    expr_formed (t.Address place array index) h = absurd (not_broken rule.WrongSort place h)
-    expr_formed (t.Referent place reference) h = absurd (not_broken rule.WrongSort place h)
+    expr_formed (t.Address place array index) h =
+        let first = broken rule.WrongSort place in
+        let second = rules.array_faults Plain gs s array in
+        let third = rules.expression_faults Plain gs s index in
+        absurd (not_broken rule.WrongSort place
+        (nil_left first second (nil_left (first ++ second) third (nil_left ((first ++ second) ++ third) (rules.number_faults Plain gs s index) h))))
+    expr_formed (t.Referent place reference) h =
+        absurd (not_broken rule.WrongSort place (nil_left (broken rule.WrongSort place) (rules.reference_faults Plain gs s reference) h))
     expr_formed (t.Parenthesised place inner) h = expr_formed inner h
-    expr_formed (t.Unary place operator operand) h = expr_formed operand h
-    expr_formed (t.Cast place kind operand) h = expr_formed operand h
-    expr_formed (t.Binary operator left right) h = (
-      expr_formed left (nil_left (rules.expression_faults gs s left) (rules.expression_faults gs s right) h),
-      expr_formed right (nil_right (rules.expression_faults gs s left) (rules.expression_faults gs s right) h),
-    )
+    expr_formed (t.Unary place operator operand) h =
+        expr_formed operand (nil_left (rules.expression_faults Plain gs s operand) (rules.number_faults Plain gs s operand) h)
+    expr_formed (t.Cast place kind operand) h =
+        expr_formed operand (nil_left (rules.expression_faults Plain gs s operand) (rules.number_faults Plain gs s operand) h)
+    expr_formed (t.Binary operator left right) h =
+        let first = rules.expression_faults Plain gs s left in
+        let second = rules.expression_faults Plain gs s right in
+        let both = nil_left (first ++ second) (rules.operand_faults Plain gs s operator left right) h in
+        (expr_formed left (nil_left first second both), expr_formed right (nil_right first second both))
     expr_formed (t.Conditional condition chosen otherwise) h =
-        let both = rules.expression_faults gs s condition ++ rules.expression_faults gs s chosen in
-        let first = nil_left both (rules.expression_faults gs s otherwise) h in (
-          expr_formed condition (nil_left (rules.expression_faults gs s condition) (rules.expression_faults gs s chosen) first),
-          expr_formed chosen (nil_right (rules.expression_faults gs s condition) (rules.expression_faults gs s chosen) first),
-          expr_formed otherwise (nil_right both (rules.expression_faults gs s otherwise) h),
+        let first = rules.expression_faults Plain gs s condition in
+        let second = rules.expression_faults Plain gs s chosen in
+        let third = rules.expression_faults Plain gs s otherwise in
+        let all = (first ++ second) ++ third in
+        let told = rules.number_faults Plain gs s condition in
+        let more = rules.number_faults Plain gs s chosen in
+        let each = nil_left all told (nil_left (all ++ told) more (nil_left ((all ++ told) ++ more) (rules.number_faults Plain gs s otherwise) h)) in
+        let both = nil_left (first ++ second) third each in (
+          expr_formed condition (nil_left first second both),
+          expr_formed chosen (nil_right first second both),
+          expr_formed otherwise (nil_right (first ++ second) third each),
         )
+
+    pub numeric_formed : (y : t.Expression) → rules.numeric_faults Plain gs s y ≡ [] → IsExpr x.variables ks (made.expr gs s y)
+    numeric_formed y h = expr_formed y (nil_left (rules.expression_faults Plain gs s y) (rules.number_faults Plain gs s y) h)
 
     -- ---- Assignments and calls
 
-    target_formed : (y : t.Lvalue) → rules.target_faults gs s y ≡ [] → IsTarget x.variables ks (made.target gs s y)
-    target_formed (t.Target y None) h = target_named_formed y (nil_left (rules.use_faults gs s y false) [] h)
+    target_formed : (y : t.Lvalue) → rules.target_faults Plain gs s y ≡ [] → IsTarget x.variables ks (made.target gs s y)
+    target_formed (t.Target y None) h = target_named_formed y (nil_left (rules.use_faults Plain gs s y false) [] h)
     target_formed (t.Target y (Some index)) h =
-        target_element_formed y (made.placed gs s index) (nil_left (rules.use_faults gs s y true) (rules.expression_faults gs s index) h)
-        (expr_formed index (nil_right (rules.use_faults gs s y true) (rules.expression_faults gs s index) h))
-    target_formed (t.Followed place reference) h = absurd (not_broken rule.WrongSort place h)
+        target_element_formed y (made.placed gs s index) (nil_left (rules.use_faults Plain gs s y true) (rules.numeric_faults Plain gs s index) h)
+        (numeric_formed index (nil_right (rules.use_faults Plain gs s y true) (rules.numeric_faults Plain gs s index) h))
+    target_formed (t.Followed place reference) h =
+        absurd (not_broken rule.WrongSort place (nil_left (broken rule.WrongSort place) (rules.reference_faults Plain gs s reference) h))
 
-    before_formed : (y : t.Lvalue) → rules.target_faults gs s y ≡ [] → IsExpr x.variables ks (made.before gs s y)
-    before_formed (t.Target y None) h = named_formed y (nil_left (rules.use_faults gs s y false) [] h)
+    before_formed : (y : t.Lvalue) → rules.target_faults Plain gs s y ≡ [] → IsExpr x.variables ks (made.before gs s y)
+    before_formed (t.Target y None) h = named_formed y (nil_left (rules.use_faults Plain gs s y false) [] h)
     before_formed (t.Target y (Some index)) h =
         element_formed y (made.first_place index) (made.expr gs s index)
-        (nil_left (rules.use_faults gs s y true) (rules.expression_faults gs s index) h)
-        (expr_formed index (nil_right (rules.use_faults gs s y true) (rules.expression_faults gs s index) h))
-    before_formed (t.Followed place reference) h = absurd (not_broken rule.WrongSort place h)
+        (nil_left (rules.use_faults Plain gs s y true) (rules.numeric_faults Plain gs s index) h)
+        (numeric_formed index (nil_right (rules.use_faults Plain gs s y true) (rules.numeric_faults Plain gs s index) h))
+    before_formed (t.Followed place reference) h =
+        absurd (not_broken rule.WrongSort place (nil_left (broken rule.WrongSort place) (rules.reference_faults Plain gs s reference) h))
 
-    changed_formed : (y : t.Lvalue) (c : t.Change) → rules.target_faults gs s y ≡ [] → rules.change_faults gs s c ≡ [] →
+    changed_formed : (y : t.Lvalue) (c : t.Change) → rules.target_faults Plain gs s y ≡ [] → rules.change_faults Plain gs s y c ≡ [] →
         IsPlaced x.variables ks (made.changed gs s y c)
-    changed_formed y (t.Set value) h k = expr_formed value k
-    changed_formed y (t.Update operator value) h k = (before_formed y h, expr_formed value k)
+    changed_formed y (t.Set value) h k =
+        expr_formed value (nil_left (rules.expression_faults Plain gs s value)
+        (rules.given_faults Plain gs s (rules.target_referring Plain gs s y) (rules.target_name y).place value) k)
+    changed_formed y (t.Update operator value) h k =
+        (before_formed y h, numeric_formed value (nil_right (rules.numeric_target_faults Plain gs s y) (rules.numeric_faults Plain gs s value) k))
     changed_formed y t.Increment h k = (before_formed y h, tt)
     changed_formed y t.Decrement h k = (before_formed y h, tt)
 
-    assignment_formed : (place : Place) (y : t.Assignment) → rules.assignment_faults gs s y ≡ [] → IsStatement x ks (made.assignment_at gs place s y)
+    assignment_formed : (place : Place) (y : t.Assignment) → rules.assignment_faults Plain gs s y ≡ [] → IsStatement x ks (made.assignment_at gs place s y)
     assignment_formed place y h =
-        let first = nil_left (rules.target_faults gs s y.target) (rules.change_faults gs s y.change) h in (
-          target_formed y.target first,
-          changed_formed y.target y.change first
-              (nil_right (rules.target_faults gs s y.target) (rules.change_faults gs s y.change) h),
-        )
+        let target = rules.target_faults Plain gs s y.target in
+        let change = rules.change_faults Plain gs s y.target y.change in
+        let first = nil_left target change h in
+        (target_formed y.target first, changed_formed y.target y.change first (nil_right target change h))
 
-    arguments_formed : (ys : List t.Expression) → flat_map (rules.expression_faults gs s) ys ≡ [] →
+    arguments_formed : (ys : List t.Expression) → flat_map (rules.expression_faults Plain gs s) ys ≡ [] →
         AllByRecursion (IsPlaced x.variables ks) (map (made.placed gs s) ys)
     arguments_formed [] h = tt
     arguments_formed (y ∷ ys) h = (
-      expr_formed y (nil_left (rules.expression_faults gs s y) (flat_map (rules.expression_faults gs s) ys) h),
-      arguments_formed ys (nil_right (rules.expression_faults gs s y) (flat_map (rules.expression_faults gs s) ys) h),
+      expr_formed y (nil_left (rules.expression_faults Plain gs s y) (flat_map (rules.expression_faults Plain gs s) ys) h),
+      arguments_formed ys (nil_right (rules.expression_faults Plain gs s y) (flat_map (rules.expression_faults Plain gs s) ys) h),
     )
 
-    call_formed : (place : Place) (c : t.Call) (result : Option e.Lvalue) → rules.call_faults gs s c (is_some result) ≡ [] → IsResult x ks result →
+    call_formed : (place : Place) (c : t.Call) (result : Option e.Lvalue) → rules.call_faults Plain gs s c (is_some result) ≡ [] → IsResult x ks result →
         IsStatement x ks (made.call gs place s c result)
     call_formed place c result h r =
         go (n.meaning gs s c.function.text) (meaning_in s c.function.text known)
-        (nil_left (rules.function_faults gs s c.function (is_some result) (length c.arguments)) (flat_map (rules.expression_faults gs s) c.arguments) h)
+        (nil_left function arguments inner)
       where
+        function : List Fault
+        function = rules.function_faults Plain gs s c.function (is_some result) (length c.arguments)
+
+        arguments : List Fault
+        arguments = flat_map (rules.expression_faults Plain gs s) c.arguments
+
+        inner : function ++ arguments ≡ []
+        inner = nil_left (function ++ arguments)
+            (rules.arguments_faults Plain gs s c.function.place (rules.parameters_of Plain gs s c.function) c.arguments) h
+
         passed : AllByRecursion (IsPlaced x.variables ks) (map (made.placed gs s) c.arguments)
-        passed = arguments_formed c.arguments (nil_right (rules.function_faults gs s c.function (is_some result) (length c.arguments))
-            (flat_map (rules.expression_faults gs s) c.arguments) h)
+        passed = arguments_formed c.arguments (nil_right function arguments inner)
 
         go : (m : n.Meaning) → MeaningIn x ks m → ◌≡◌ {A = List Fault} (elim m [
           | n.IsUnknown ↦ broken rule.Unknown c.function.place
@@ -289,7 +324,7 @@ module _ (x : p.Program) (gs : List n.Global) (sorts : AllByRecursion (λ (y : n
         go n.IsUnknown k q = absurd (not_broken rule.Unknown c.function.place q)
         go (n.IsLocal l) k q = absurd (not_broken rule.WrongSort c.function.place q)
         go (n.IsGlobal (n.Mutex number count)) k q = absurd (not_broken rule.WrongSort c.function.place q)
-        go (n.IsGlobal (n.Variable number kind is_array)) k q = absurd (not_broken rule.WrongSort c.function.place q)
+        go (n.IsGlobal (n.Variable number type_name length each)) k q = absurd (not_broken rule.WrongSort c.function.place q)
         go (n.IsGlobal (n.Function number gives parameters)) k q =
             let wrong = broken_if (if is_some gives then not (is_some result) else is_some result) rule.WrongSort c.function.place in
             let many = broken_if (not (length c.arguments == length parameters)) rule.Count c.function.place in
@@ -300,27 +335,32 @@ module _ (x : p.Program) (gs : List n.Global) (sorts : AllByRecursion (λ (y : n
             (record { it = k.it; found = k.found; count = length-map c.arguments (made.placed gs s) ∙ count ∙ k.count; gives = k.gives ∙ same }, passed, r)
         go (n.IsGlobal n.Thread) k q = absurd (not_broken rule.WrongSort c.function.place q)
 
-    declaration_formed : (place : Place) (y : t.Declaration) → rules.declaration_faults gs s y ≡ [] →
+    declaration_formed : (place : Place) (y : t.Declaration) → rules.declaration_faults Plain gs s y ≡ [] →
         slice_get ks (length s.kinds) ≡ Some (n.kind_named y.type_name) →
         IsStatement x ks (made.declaration_at gs place s y)
     declaration_formed place y h new =
         let twice = rules.twice s.own y.name in
-        let initial = rules.initial_faults gs s y.initial in
-        go y.initial (nil_right twice initial (nil_left (twice ++ initial) (rules.type_name_faults y.type_name) h))
+        let initial = rules.initial_faults Plain gs s to y.name.place y.initial in
+        go y.initial (nil_right twice initial (nil_left (twice ++ initial) (rules.type_name_faults Plain gs s y.type_name) h))
       where
+        to : n.Referring
+        to = n.of_type gs y.type_name
+
         local : e.Lvalue
         local = e.ToLocal y.place (length s.kinds) (n.kind_named y.type_name)
 
-        go : (i : t.Initial) → rules.initial_faults gs s i ≡ [] → IsStatement x ks (elim i [
+        go : (i : t.Initial) → rules.initial_faults Plain gs s to y.name.place i ≡ [] → IsStatement x ks (elim i [
           | t.Absent ↦ p.Assign place local (record { place = y.place; expr = made.int 0 })
           | t.Value value ↦ p.Assign place local (made.placed gs s value)
           | t.Result c ↦ made.call gs place s c (Some local)
         ])
         go t.Absent q = (new, tt)
-        go (t.Value value) q = (new, expr_formed value q)
-        go (t.Result c) q = call_formed place c (Some local) q new
+        go (t.Value value) q =
+            (new, expr_formed value (nil_left (rules.expression_faults Plain gs s value) (rules.given_faults Plain gs s to y.name.place value) q))
+        go (t.Result c) q = call_formed place c (Some local) (nil_left (rules.call_faults Plain gs s c true)
+            (broken_if (not (rules.gives_so Plain gs to (rules.result_of Plain gs s c.function))) rule.WrongSort y.name.place) q) new
 
-    pub lock_formed : (y : t.Name) (keyed : Bool) → rules.mutex_faults gs s y keyed ≡ [] → made.mutex_number gs s y < length x.mutexes
+    pub lock_formed : (y : t.Name) (keyed : Bool) → rules.mutex_faults Plain gs s y keyed ≡ [] → made.mutex_number gs s y < length x.mutexes
     lock_formed y keyed h = go (n.meaning gs s y.text) (meaning_in s y.text known) h
       where
         go : (m : n.Meaning) → MeaningIn x ks m → ◌≡◌ {A = List Fault} (elim m [
@@ -334,7 +374,7 @@ module _ (x : p.Program) (gs : List n.Global) (sorts : AllByRecursion (λ (y : n
         go n.IsUnknown k q = absurd (not_broken rule.Unknown y.place q)
         go (n.IsLocal l) k q = absurd (not_broken rule.WrongSort y.place q)
         go (n.IsGlobal (n.Mutex number count)) k q = k
-        go (n.IsGlobal (n.Variable number kind is_array)) k q = absurd (not_broken rule.WrongSort y.place q)
+        go (n.IsGlobal (n.Variable number type_name length each)) k q = absurd (not_broken rule.WrongSort y.place q)
         go (n.IsGlobal (n.Function number gives parameters)) k q = absurd (not_broken rule.WrongSort y.place q)
         go (n.IsGlobal n.Thread) k q = absurd (not_broken rule.WrongSort y.place q)
 
@@ -346,14 +386,14 @@ module _ (x : p.Program) (gs : List n.Global) (sorts : AllByRecursion (λ (y : n
 
   -- ---- What is known after a statement
 
-  known_declared : (s : n.Scope) (name : List ℕ) (kind : Kind) → Known ks s.known → Into (n.declared s name kind).kinds ks →
-      Known ks (n.declared s name kind).known
-  known_declared s name kind known into = (into_declared ks s name kind into, known)
+  known_declared : (s : n.Scope) (name : List ℕ) (kind : Kind) (refers : Option n.Array) → Known ks s.known → Into (s.kinds ++ kind ∷ []) ks →
+      Known ks (n.declared_as s name kind refers).known
+  known_declared s name kind refers known into = (into_declared ks s name kind into, known)
 
   known_first : (place : Place) (s : n.Scope) (y : t.First) → Known ks s.known → Into (made.first_at gs place s y).scope.kinds ks →
       Known ks (made.first_at gs place s y).scope.known
   known_first place s t.NoFirst known into = known
-  known_first place s (t.Declared y) known into = known_declared s y.name.text (n.kind_named y.type_name) known into
+  known_first place s (t.Declared y) known into = known_declared s y.name.text (n.kind_named y.type_name) (n.referred gs y.type_name) known into
   known_first place s (t.Assigned y) known into = known
 
   known_inside : (s : n.Scope) (y : t.Block) → Known ks s.known → Known ks (made.inside gs s y).scope.known
@@ -371,7 +411,7 @@ module _ (x : p.Program) (gs : List n.Global) (sorts : AllByRecursion (λ (y : n
       Known ks (made.statement gs s y).scope.known
   known_after s (t.BlockOf y) known into = known_inside s y known
   known_after s (t.Empty place) known into = known
-  known_after s (t.Declare y) known into = known_declared s y.name.text (n.kind_named y.type_name) known into
+  known_after s (t.Declare y) known into = known_declared s y.name.text (n.kind_named y.type_name) (n.referred gs y.type_name) known into
   known_after s (t.Assign y) known into = known
   known_after s (t.AssignResult y c) known into = known
   known_after s (t.CallOnly c) known into = known
@@ -392,20 +432,20 @@ module _ (x : p.Program) (gs : List n.Global) (sorts : AllByRecursion (λ (y : n
   -- ---- The parts of a `for`
 
   first_formed : (place : Place) (s : n.Scope) (y : t.First) → Known ks s.known → Into (made.first_at gs place s y).scope.kinds ks →
-      rules.first_faults gs s y ≡ [] → AreStatements x ks (made.first_at gs place s y).made
+      rules.first_faults Plain gs s y ≡ [] → AreStatements x ks (made.first_at gs place s y).made
   first_formed place s t.NoFirst known into h = tt
   first_formed place s (t.Declared y) known into h = (declaration_formed s known place y h (into_declared ks s y.name.text (n.kind_named y.type_name) into), tt)
   first_formed place s (t.Assigned y) known into h = (assignment_formed s known place y h, tt)
 
-  last_formed : (place : Place) (s : n.Scope) (y : Option t.Assignment) → Known ks s.known → rules.last_faults gs s y ≡ [] →
+  last_formed : (place : Place) (s : n.Scope) (y : Option t.Assignment) → Known ks s.known → rules.last_faults Plain gs s y ≡ [] →
       AreStatements x ks (made.last_at gs place s y)
   last_formed place s None known h = tt
   last_formed place s (Some y) known h = (assignment_formed s known place y h, tt)
 
-  condition_formed : (place : Place) (s : n.Scope) (y : Option t.Expression) → Known ks s.known → rules.maybe_faults gs s y ≡ [] →
+  condition_formed : (place : Place) (s : n.Scope) (y : Option t.Expression) → Known ks s.known → rules.maybe_faults Plain gs s y ≡ [] →
       IsPlaced x.variables ks (made.condition_at gs place s y)
   condition_formed place s None known h = tt
-  condition_formed place s (Some y) known h = expr_formed s known y h
+  condition_formed place s (Some y) known h = numeric_formed s known y h
 
   arms_there : (s : n.Scope) (ys : t.Arms) (ts : List Token) → g.arms_of Plain ys ts → HasProgramArm (made.arms_of gs s ys).made
   arms_there s t.no_arm ts d = d
@@ -414,23 +454,25 @@ module _ (x : p.Program) (gs : List n.Global) (sorts : AllByRecursion (λ (y : n
   mutual
     statement_formed : (s : n.Scope) (y : t.Statement) (ts : List Token) → g.statement Plain y ts → Known ks s.known →
         Into (made.statement gs s y).scope.kinds ks →
-        rules.statement_faults gs s y ≡ [] → AreStatements x ks (made.statement gs s y).made
+        rules.statement_faults Plain gs s y ≡ [] → AreStatements x ks (made.statement gs s y).made
     statement_formed s (t.BlockOf y) ts d known into h = inside_formed s y ts d known into h
     statement_formed s (t.Empty place) ts d known into h = tt
     statement_formed s (t.Declare y) ts d known into h =
         (declaration_formed s known y.place y h (into_declared ks s y.name.text (n.kind_named y.type_name) into), tt)
     statement_formed s (t.Assign y) ts d known into h = (assignment_formed s known y.place y h, tt)
     statement_formed s (t.AssignResult y c) ts d known into h =
-        let first = nil_left (rules.target_faults gs s y) (rules.call_faults gs s c true) h in (
-          call_formed s known (made.target_place y) c (Some (made.target gs s y)) (nil_right (rules.target_faults gs s y) (rules.call_faults gs s c true) h)
-              (target_formed s known y first),
-          tt,
-        )
+        let target = rules.target_faults Plain gs s y in
+        let to = rules.target_referring Plain gs s y in
+        let name = (rules.target_name y).place in
+        let assigned = rules.assigned_faults Plain gs s to name c in
+        let call = nil_left (rules.call_faults Plain gs s c true)
+        (broken_if (not (rules.gives_so Plain gs to (rules.result_of Plain gs s c.function))) rule.WrongSort name) (nil_right target assigned h) in
+        (call_formed s known (made.target_place y) c (Some (made.target gs s y)) call (target_formed s known y (nil_left target assigned h)), tt)
     statement_formed s (t.CallOnly c) ts d known into h = (call_formed s known c.function.place c None h tt, tt)
     statement_formed s (t.If place arms otherwise) ts d known into h =
         let s' = (made.arms_of gs s arms).scope in
-        let first = nil_left (rules.arms_faults gs s arms) (rules.otherwise_faults gs s' otherwise) h in
-        let second = nil_right (rules.arms_faults gs s arms) (rules.otherwise_faults gs s' otherwise) h in
+        let first = nil_left (rules.arms_faults Plain gs s arms) (rules.otherwise_faults Plain gs s' otherwise) h in
+        let second = nil_right (rules.arms_faults Plain gs s arms) (rules.otherwise_faults Plain gs s' otherwise) h in
         let within = into_both s'.kinds (made.otherwise_of gs s' otherwise).scope.kinds ks (grow_otherwise gs s' otherwise) into in (
           (
             arms_there s arms d.0 d.3.1,
@@ -441,23 +483,23 @@ module _ (x : p.Program) (gs : List n.Global) (sorts : AllByRecursion (λ (y : n
           tt,
         )
     statement_formed s (t.While place y body) ts d known into h =
-        let first = nil_left (rules.expression_faults gs s y) (rules.block_faults gs s body) h in
-        let second = nil_right (rules.expression_faults gs s y) (rules.block_faults gs s body) h in
-        ((expr_formed s known y first, inside_formed s body d.4.1 d.4.4 known into second), tt)
+        let first = nil_left (rules.numeric_faults Plain gs s y) (rules.block_faults Plain gs s body) h in
+        let second = nil_right (rules.numeric_faults Plain gs s y) (rules.block_faults Plain gs s body) h in
+        ((numeric_formed s known y first, inside_formed s body d.4.1 d.4.4 known into second), tt)
     statement_formed s (t.Do place body y) ts d known into h =
         let s' = (made.inside gs s body).scope in
-        let first = nil_left (rules.block_faults gs s body) (rules.expression_faults gs s' y) h in
-        let second = nil_right (rules.block_faults gs s body) (rules.expression_faults gs s' y) h in
-        ((inside_formed s body d.4.0 d.4.3 known into first, expr_formed s' (known_inside s body known) y second), tt)
+        let first = nil_left (rules.block_faults Plain gs s body) (rules.numeric_faults Plain gs s' y) h in
+        let second = nil_right (rules.block_faults Plain gs s body) (rules.numeric_faults Plain gs s' y) h in
+        ((inside_formed s body d.4.0 d.4.3 known into first, numeric_formed s' (known_inside s body known) y second), tt)
     statement_formed s (t.For place start y last body) ts d known into h =
         let s0 = n.entered s in
         let s1 = (made.first_at gs place s0 start).scope in
         let s2 = (made.inside gs s1 body).scope in
-        let maybe = rules.maybe_faults gs s1 y in
-        let after = rules.last_faults gs s1 last in
-        let inner = rules.block_faults gs s1 body in
-        let h0 = nil_left (rules.first_faults gs s0 start) ((maybe ++ after) ++ inner) h in
-        let h1 = nil_right (rules.first_faults gs s0 start) ((maybe ++ after) ++ inner) h in
+        let maybe = rules.maybe_faults Plain gs s1 y in
+        let after = rules.last_faults Plain gs s1 last in
+        let inner = rules.block_faults Plain gs s1 body in
+        let h0 = nil_left (rules.first_faults Plain gs s0 start) ((maybe ++ after) ++ inner) h in
+        let h1 = nil_right (rules.first_faults Plain gs s0 start) ((maybe ++ after) ++ inner) h in
         let h2 = nil_left (maybe ++ after) inner h1 in
         let within = into_both s1.kinds s2.kinds ks (grow_inside gs s1 body) into in
         let known1 = known_first place s0 start known within in
@@ -468,41 +510,42 @@ module _ (x : p.Program) (gs : List n.Global) (sorts : AllByRecursion (λ (y : n
         let start_is = first_formed place s0 start known within h0 in
         both_formed (made.first_at gs place s0 start).made _ start_is ((condition, both_formed (made.inside gs s1 body).made _ body_is third), tt)
     statement_formed s (t.Lock place mutex None) ts d known into h =
-        ((lock_formed s known mutex false (nil_left (rules.mutex_faults gs s mutex false) [] h), refl), tt)
+        ((lock_formed s known mutex false (nil_left (rules.mutex_faults Plain gs s mutex false) [] h), refl), tt)
     statement_formed s (t.Lock place mutex (Some key)) ts d known into h = absurd d.4.4.4.3
     statement_formed s (t.Unlock place mutex None) ts d known into h =
-        ((lock_formed s known mutex false (nil_left (rules.mutex_faults gs s mutex false) [] h), refl), tt)
+        ((lock_formed s known mutex false (nil_left (rules.mutex_faults Plain gs s mutex false) [] h), refl), tt)
     statement_formed s (t.Unlock place mutex (Some key)) ts d known into h = absurd d.4.4.4.3
 
     inside_formed : (s : n.Scope) (y : t.Block) (ts : List Token) → g.block Plain y ts → Known ks s.known → Into (made.inside gs s y).scope.kinds ks →
-        rules.block_faults gs s y ≡ [] → AreStatements x ks (made.inside gs s y).made
+        rules.block_faults Plain gs s y ≡ [] → AreStatements x ks (made.inside gs s y).made
     inside_formed s (t.Braced opening ys closing) ts d known into h = statements_formed (n.entered s) ys d.4.0 d.4.3 known into h
 
     pub statements_formed : (s : n.Scope) (ys : t.Statements) (ts : List Token) → g.statements Plain ys ts → Known ks s.known →
-        Into (made.statements gs s ys).scope.kinds ks → rules.statements_faults gs s ys ≡ [] → AreStatements x ks (made.statements gs s ys).made
+        Into (made.statements gs s ys).scope.kinds ks → rules.statements_faults Plain gs s ys ≡ [] → AreStatements x ks (made.statements gs s ys).made
     statements_formed s t.no_statement ts d known into h = tt
     statements_formed s (t.statement_and y ys) ts d known into h =
         let s' = (made.statement gs s y).scope in
-        let first = nil_left (rules.statement_faults gs s y) (rules.statements_faults gs s' ys) h in
-        let second = nil_right (rules.statement_faults gs s y) (rules.statements_faults gs s' ys) h in
+        let first = nil_left (rules.statement_faults Plain gs s y) (rules.statements_faults Plain gs s' ys) h in
+        let second = nil_right (rules.statement_faults Plain gs s y) (rules.statements_faults Plain gs s' ys) h in
         let within = into_both s'.kinds (made.statements gs s' ys).scope.kinds ks (grow_statements gs s' ys) into in
         both_formed (made.statement gs s y).made (made.statements gs s' ys).made (statement_formed s y d.0 d.3 known within first)
         (statements_formed s' ys d.1 d.4 (known_after s y known within) into second)
 
-    arms_formed : (s : n.Scope) (ys : t.Arms) → Spelled ys → Known ks s.known → Into (made.arms_of gs s ys).scope.kinds ks → rules.arms_faults gs s ys ≡ [] →
+    arms_formed : (s : n.Scope) (ys : t.Arms) → Spelled ys → Known ks s.known → Into (made.arms_of gs s ys).scope.kinds ks →
+        rules.arms_faults Plain gs s ys ≡ [] →
         AreArms x ks (made.arms_of gs s ys).made
     arms_formed s t.no_arm d known into h = tt
     arms_formed s (t.arm_and y body rest) d known into h =
         let s' = (made.inside gs s body).scope in
-        let both = rules.expression_faults gs s y ++ rules.block_faults gs s body in
-        let first = nil_left both (rules.arms_faults gs s' rest) h in
+        let both = rules.numeric_faults Plain gs s y ++ rules.block_faults Plain gs s body in
+        let first = nil_left both (rules.arms_faults Plain gs s' rest) h in
         let within = into_both s'.kinds (made.arms_of gs s' rest).scope.kinds ks (grow_arms gs s' rest) into in (
-          expr_formed s known y (nil_left (rules.expression_faults gs s y) (rules.block_faults gs s body) first),
-          inside_formed s body d.0.0 d.0.1 known within (nil_right (rules.expression_faults gs s y) (rules.block_faults gs s body) first),
-          arms_formed s' rest d.1 (known_inside s body known) into (nil_right both (rules.arms_faults gs s' rest) h),
+          numeric_formed s known y (nil_left (rules.numeric_faults Plain gs s y) (rules.block_faults Plain gs s body) first),
+          inside_formed s body d.0.0 d.0.1 known within (nil_right (rules.numeric_faults Plain gs s y) (rules.block_faults Plain gs s body) first),
+          arms_formed s' rest d.1 (known_inside s body known) into (nil_right both (rules.arms_faults Plain gs s' rest) h),
         )
 
     otherwise_formed : (s : n.Scope) (y : t.Otherwise) (ts : List Token) → g.otherwise_of Plain y ts → Known ks s.known →
-        Into (made.otherwise_of gs s y).scope.kinds ks → rules.otherwise_faults gs s y ≡ [] → AreStatements x ks (made.otherwise_of gs s y).made
+        Into (made.otherwise_of gs s y).scope.kinds ks → rules.otherwise_faults Plain gs s y ≡ [] → AreStatements x ks (made.otherwise_of gs s y).made
     otherwise_formed s t.Nothing ts d known into h = tt
     otherwise_formed s (t.Else body) ts d known into h = inside_formed s body d.1 d.4 known into h

@@ -1,6 +1,8 @@
 //! Functions, threads and variables.
-ghost use Rattle.std.specs.Prelude.{◌≡◌, List, [], map, IfOk, OnOk};
+ghost use Rattle.std.specs.Prelude.{◌≡◌, [], map, Option, Some, IfOk, OnOk};
 ghost use Rattle.std.specs.Option.{option_map};
+ghost use Rattle.c_tree.specs.declared.language.Language.TheVariants.{Plain};
+ghost use Rattle.c_tree.specs.Exprs.{placed_of};
 ghost use Rattle.c_tree.specs.Names as n;
 ghost use Rattle.c_tree.specs.Names.{element_count, length_number};
 ghost use Rattle.c_tree.specs.Programs as p;
@@ -13,18 +15,22 @@ ghost use Rattle.c_typer.specs.links.Scopes.{globals_of, scope_of};
 ghost use Rattle.ido_ints.specs.Reduction.{reduced};
 
 use crate::assignment::{note_twice, note_type_name};
-use crate::expression::placed;
+use crate::expression::{note_given, numeric, placed};
 use crate::faults::Faults;
 use crate::globals::{Globals, copied, kind_of_result};
 use crate::length::{element_count, length_number};
 use crate::meaning::resolve;
 use crate::scope::Scope;
 use crate::statement::{mutex, statements};
+use c_tree::expr::Placed;
 use c_tree::program::{Function, Guard, Returned, Thread, Variable};
 use c_tree::rule::Rule;
 use c_tree::tree;
-use c_tree::tree::{Initialiser, Length, Parameter, Persistent, Return, Signed, TypeName};
+use c_tree::tree::{
+    Expression, Initialiser, Length, Parameter, Persistent, Return, Signed, TypeName,
+};
 use ido_base::limits::MOST_ELEMENTS;
+use ido_base::place::Place;
 use ido_ints::{Kind, Unary, Value, unary};
 use std::alloc::{AllocError, Global};
 
@@ -32,45 +38,84 @@ use std::alloc::{AllocError, Global};
 #[tactic(auto, using(crate::proofs::FirstFaultLaws::noted_append))]
 fn with_parameters(
     alloc: Global,
+    globals: &Globals,
     faults: &mut Faults,
     parameters: &[Parameter],
 ) -> Result<Scope, AllocError>
-    ensures made { IfOk result (λ scope. scope_of scope ≡ typing.with_parameters n.no_locals (map v.parameter_of parameters.now)) }
-    ensures noted { (gs : List n.Global) → OnOk result (first_of faults.new
-        ≡ noted (first_of faults.old) (rules.parameters_faults gs n.no_locals (map v.parameter_of parameters.now))) }
+    ensures made { IfOk result (λ scope. scope_of scope
+        ≡ typing.with_parameters (globals_of globals.now) n.no_locals (map v.parameter_of parameters.now)) }
+    ensures noted { OnOk result (first_of faults.new ≡ noted (first_of faults.old)
+        (rules.parameters_faults globals.now.language (globals_of globals.now) n.no_locals (map v.parameter_of parameters.now))) }
 {
     let mut scope = Scope::new(alloc);
     for parameter in parameters {
         note_twice(&scope, faults, &parameter.name);
-        note_type_name(faults, &parameter.type_name);
-        scope.declare(&parameter.name.text, parameter.type_name.kind())?;
+        note_type_name(globals, &scope, faults, &parameter.type_name);
+        let refers = globals.referred(&parameter.type_name);
+        scope.declare(&parameter.name.text, parameter.type_name.kind(), refers)?;
     }
     Ok(scope)
 }
 
-/// What a function of a kind gives.
+/// The value that is returned by a function whose name stands at the place; notes one of another type.
+#[tactic(auto, using(crate::proofs::FirstFaultLaws::noted_append))]
+fn returned_value(
+    alloc: Global,
+    globals: &Globals,
+    scope: &Scope,
+    faults: &mut Faults,
+    type_name: &Option<TypeName>,
+    place: Place,
+    value: &Expression,
+) -> Result<Placed, AllocError>
+    ensures made { IfOk result (λ x. placed_of x ≡ typing.placed (globals_of globals.now) (scope_of scope.now) (v.expression_of value.now)) }
+    ensures noted { OnOk result (first_of faults.new ≡ noted (first_of faults.old)
+        (rules.value_faults globals.now.language (globals_of globals.now) (scope_of scope.now) (option_map v.type_name_of type_name.now) place
+        (Some (v.expression_of value.now)))) }
+{
+    match type_name {
+        Some(type_name) => {
+            let made = placed(alloc, globals, scope, faults, value)?;
+            let to = globals.of_type(type_name);
+            note_given(globals, scope, faults, to, place, value);
+            Ok(made)
+        }
+        None => numeric(alloc, globals, scope, faults, value),
+    }
+}
+
+/// What a function gives.
 fn returned(
     alloc: Global,
     globals: &Globals,
     scope: &Scope,
     faults: &mut Faults,
-    kind: Option<Kind>,
-    read: &Option<Return>,
+    function: &tree::Function,
 ) -> Result<Option<Returned>, AllocError>
-    ensures made { IfOk result (λ x. option_map p.returned_of x
-        ≡ typing.returned (globals_of globals.now) (scope_of scope.now) kind (option_map v.return_of read.now)) }
+    ensures made { IfOk result (λ x. option_map p.returned_of x ≡ typing.returned (globals_of globals.now) (scope_of scope.now)
+        (option_map n.kind_named (option_map v.type_name_of function.now.type_name)) (option_map v.return_of function.now.body.returned)) }
     ensures noted { OnOk result (first_of faults.new ≡ noted (first_of faults.old)
-        (rules.returned_faults (globals_of globals.now) (scope_of scope.now) (option_map v.return_of read.now))) }
+        (rules.returned_faults globals.now.language (globals_of globals.now) (scope_of scope.now) (v.function_of function.now)
+        (option_map v.return_of function.now.body.returned))) }
 {
-    match read {
+    match &function.body.returned {
         Some(
             Return {
                 value: Some(value),
                 ..
             },
         ) => {
-            let value = placed(alloc, globals, scope, faults, value)?;
-            match kind {
+            let place = function.name.place;
+            let value = returned_value(
+                alloc,
+                globals,
+                scope,
+                faults,
+                &function.type_name,
+                place,
+                value,
+            )?;
+            match kind_of_result(&function.type_name) {
                 Some(kind) => Ok(Some(Returned { kind, value })),
                 None => Ok(None),
             }
@@ -81,7 +126,7 @@ fn returned(
 
 /// Notes a function with a result that returns none, or one without that returns one.
 fn note_return(faults: &mut Faults, read: &tree::Function)
-    ensures { first_of faults.new ≡ noted (first_of faults.old) (rules.return_faults [] (v.function_of read.now)) }
+    ensures { first_of faults.new ≡ noted (first_of faults.old) (rules.return_faults Plain [] (v.function_of read.now)) }
 {
     let returns_value = match &read.body.returned {
         Some(returned) => returned.value.is_some(),
@@ -92,12 +137,19 @@ fn note_return(faults: &mut Faults, read: &tree::Function)
     }
 }
 
-/// Notes a result that is a reference: no program has them yet.
-fn note_result(faults: &mut Faults, type_name: &Option<TypeName>)
-    ensures { first_of faults.new ≡ noted (first_of faults.old) (rules.result_faults (option_map v.type_name_of type_name.now)) }
+/// Notes the rule that the type of a result breaks.
+fn note_result(
+    globals: &Globals,
+    outside: &Scope,
+    faults: &mut Faults,
+    type_name: &Option<TypeName>,
+)
+    requires { scope_of outside.now ≡ n.no_locals }
+    ensures { first_of faults.new ≡ noted (first_of faults.old)
+        (rules.result_faults globals.now.language (globals_of globals.now) (option_map v.type_name_of type_name.now)) }
 {
     if let Some(type_name) = type_name {
-        note_type_name(faults, type_name);
+        note_type_name(globals, outside, faults, type_name);
     }
 }
 
@@ -111,9 +163,9 @@ pub fn function(
 ) -> Result<Function, AllocError>
     ensures made { IfOk result (λ x. p.function_of x ≡ typing.function (globals_of globals.now) (v.function_of read.now)) }
     ensures noted { OnOk result (first_of faults.new ≡ noted (first_of faults.old)
-        (rules.item_faults (globals_of globals.now) (t.FunctionItem (v.function_of read.now)))) }
+        (rules.item_faults globals.now.language (globals_of globals.now) (t.FunctionItem (v.function_of read.now)))) }
 {
-    let mut scope = with_parameters(alloc, faults, &read.parameters)?;
+    let mut scope = with_parameters(alloc, globals, faults, &read.parameters)?;
     let mut body = Vec::new(alloc);
     statements(
         alloc,
@@ -123,16 +175,9 @@ pub fn function(
         &read.body.statements,
         &mut body,
     )?;
-    let result = returned(
-        alloc,
-        globals,
-        &scope,
-        faults,
-        kind_of_result(&read.type_name),
-        &read.body.returned,
-    )?;
+    let result = returned(alloc, globals, &scope, faults, read)?;
     note_return(faults, read);
-    note_result(faults, &read.type_name);
+    note_result(globals, &Scope::new(alloc), faults, &read.type_name);
     Ok(Function {
         name: copied(&read.name)?,
         parameters: u32::try_from(read.parameters.len()).map_err(|_| AllocError)?,
@@ -151,7 +196,7 @@ pub fn thread(
 ) -> Result<Thread, AllocError>
     ensures made { IfOk result (λ x. p.thread_of x ≡ typing.thread (globals_of globals.now) (v.thread_of read.now)) }
     ensures noted { OnOk result (first_of faults.new ≡ noted (first_of faults.old)
-        (rules.item_faults (globals_of globals.now) (t.ThreadItem (v.thread_of read.now)))) }
+        (rules.item_faults globals.now.language (globals_of globals.now) (t.ThreadItem (v.thread_of read.now)))) }
 {
     let mut scope = Scope::new(alloc);
     let mut body = Vec::new(alloc);
@@ -192,9 +237,37 @@ fn note_count(faults: &mut Faults, count: u64, numbers: &[Signed])
     }
 }
 
-fn note_initialiser(faults: &mut Faults, length: &Option<Length>, initialiser: &Option<Initialiser>)
+/// Notes an initialiser of references: they begin as null.
+fn note_no_initialiser(faults: &mut Faults, initialiser: &Option<Initialiser>)
+    ensures { (array : t.Name) (size : Option t.Length) → first_of faults.new ≡ noted (first_of faults.old)
+        (rules.initialiser_faults (t.RefTo array) size (option_map v.initialiser_of initialiser.now)) }
+{
+    match initialiser {
+        None => (),
+        Some(Initialiser::Single(number)) => faults.note(Rule::WrongSort, number.place),
+        Some(Initialiser::Braced { place, .. }) => faults.note(Rule::WrongSort, *place),
+    }
+}
+
+/// Notes what an initialiser of a variable of the type breaks.
+fn note_initialiser(
+    faults: &mut Faults,
+    type_name: &TypeName,
+    length: &Option<Length>,
+    initialiser: &Option<Initialiser>,
+)
     ensures { first_of faults.new ≡ noted (first_of faults.old)
-        (rules.initialiser_faults (option_map v.length_of length.now) (option_map v.initialiser_of initialiser.now)) }
+        (rules.initialiser_faults (v.type_name_of type_name.now) (option_map v.length_of length.now) (option_map v.initialiser_of initialiser.now)) }
+{
+    match type_name {
+        TypeName::Kind(_) => note_numbers(faults, length, initialiser),
+        TypeName::Reference { .. } => note_no_initialiser(faults, initialiser),
+    }
+}
+
+fn note_numbers(faults: &mut Faults, length: &Option<Length>, initialiser: &Option<Initialiser>)
+    ensures { first_of faults.new ≡ noted (first_of faults.old)
+        (rules.numbers_faults (option_map v.length_of length.now) (option_map v.initialiser_of initialiser.now)) }
 {
     match initialiser {
         None => (),
@@ -288,7 +361,7 @@ pub fn checked_length(length: &Option<Length>) -> Option<u32>
 
 /// Notes a length that isn't that of the array of mutexes.
 fn note_same_count(faults: &mut Faults, mutexes: Option<u64>, length: &Length)
-    ensures { first_of faults.new ≡ noted (first_of faults.old) (rules.count_faults [] mutexes (v.length_of length.now)) }
+    ensures { first_of faults.new ≡ noted (first_of faults.old) (rules.count_faults Plain [] mutexes (v.length_of length.now)) }
 {
     if let Some(count) = mutexes {
         if length_number(length) != count {
@@ -300,7 +373,7 @@ fn note_same_count(faults: &mut Faults, mutexes: Option<u64>, length: &Length)
 /// Notes a variable, each element of which has a mutex of its own, that is no array or has another length than their array.
 fn note_each(globals: &Globals, scope: &Scope, faults: &mut Faults, read: &Persistent)
     requires { scope_of scope.now ≡ n.no_locals }
-    ensures { first_of faults.new ≡ noted (first_of faults.old) (rules.each_faults (globals_of globals.now) (v.persistent_of read.now)) }
+    ensures { first_of faults.new ≡ noted (first_of faults.old) (rules.each_faults globals.now.language (globals_of globals.now) (v.persistent_of read.now)) }
 {
     if read.guard.each {
         match &read.length {
@@ -323,7 +396,7 @@ fn guard(
     requires { scope_of scope.now ≡ n.no_locals }
     ensures made { IfOk result (λ x. p.guard_of x ≡ typing.guard (globals_of globals.now) (v.guard_of read.now)) }
     ensures noted { OnOk result (first_of faults.new ≡ noted (first_of faults.old)
-        (rules.mutex_faults (globals_of globals.now) n.no_locals (v.name_of read.now.mutex) read.now.each)) }
+        (rules.mutex_faults globals.now.language (globals_of globals.now) n.no_locals (v.name_of read.now.mutex) read.now.each)) }
 {
     let number = mutex(globals, scope, faults, &read.mutex, read.each)?;
     if read.each {
@@ -342,14 +415,14 @@ pub fn variable(
 ) -> Result<Variable, AllocError>
     ensures made { IfOk result (λ x. first_of faults.new ≡ None → p.variable_of x ≡ typing.variable (globals_of globals.now) (v.persistent_of read.now)) }
     ensures noted { OnOk result (first_of faults.new ≡ noted (first_of faults.old)
-        (rules.item_faults (globals_of globals.now) (t.PersistentItem (v.persistent_of read.now)))) }
+        (rules.item_faults globals.now.language (globals_of globals.now) (t.PersistentItem (v.persistent_of read.now)))) }
 {
     let outside = Scope::new(alloc);
     let guard = guard(globals, &outside, faults, &read.guard)?;
     note_each(globals, &outside, faults, read);
     note_length(faults, &read.length);
-    note_initialiser(faults, &read.length, &read.initialiser);
-    note_type_name(faults, &read.type_name);
+    note_initialiser(faults, &read.type_name, &read.length, &read.initialiser);
+    note_type_name(globals, &outside, faults, &read.type_name);
     let number_kind = read.type_name.kind();
     let mut initial = given_numbers(alloc, number_kind, &read.initialiser)?;
     fill(&mut initial, checked_count(&read.length) as usize)?;

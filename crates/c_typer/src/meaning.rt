@@ -1,19 +1,24 @@
 //! What a name means where it stands.
-ghost use Rattle.std.specs.Prelude.{◌≡◌, ℕ, IfOk};
+ghost use Rattle.std.specs.Prelude.{◌≡◌, map, IfOk};
+ghost use Rattle.std.specs.Option.{option_map};
+ghost use Rattle.c_tree.specs.Views.{type_name_of};
 ghost use Rattle.ido_ints.specs.Kinds.{Holds};
 ghost use Rattle.ido_ints.specs.TypedNumbers.{typed};
 ghost use Rattle.ido_ints.specs.declared.kinds.Kind.TheVariants.{Int};
 ghost use Rattle.c_tree.specs.Exprs as e;
 ghost use Rattle.c_tree.specs.Exprs.{expr_of, placed_of, lvalue_of};
 ghost use Rattle.c_tree.specs.Names as n;
+ghost use Rattle.c_typer.specs.links.Meanings.{address_as, address_of_as, array_rule, name_as, parameters_as};
+ghost use Rattle.c_typer.specs.links.Meanings.{reference_as, reference_of, reference_rule, result_as};
 ghost use Rattle.c_typer.specs.links.Meanings.{count_rule, element_as, function_as, function_rule, meaning_of, mutex_as, mutexes_as};
 ghost use Rattle.c_typer.specs.links.Meanings.{mutex_rule, named_as, persistent_rule, rule_if, target_as, target_element_as, use_rule};
-ghost use Rattle.c_typer.specs.links.Scopes.{globals_of, scope_of};
+ghost use Rattle.c_typer.specs.links.Scopes.{globals_of, referring_of, scope_of};
 
-use crate::globals::{Globals, Sort};
+use crate::globals::{Array, Globals, Referring, Sort};
 use crate::scope::{Local, Scope};
 use c_tree::expr::{Expr, Lvalue, Placed};
 use c_tree::rule::Rule;
+use c_tree::tree::TypeName;
 use ido_base::place::Place;
 use ido_ints::{Kind, Value};
 use std::alloc::{AllocError, Global};
@@ -24,6 +29,13 @@ pub enum Meaning<'a> {
     Local(&'a Local),
     Global(&'a Sort),
     Unknown,
+}
+
+/// A local that is a reference, and its array.
+#[derive(Clone, Copy)]
+pub struct Reference {
+    pub local: u32,
+    pub array: Array,
 }
 
 /// What a name means: a local hides what is declared outside its scope.
@@ -59,10 +71,16 @@ impl<'a> Meaning<'a> {
                 local: local.number,
                 kind: local.kind,
             },
-            Meaning::Global(Sort::Variable { number, kind, .. }) => Expr::Variable {
+            Meaning::Global(
+                Sort::Variable {
+                    number,
+                    type_name,
+                    ..
+                },
+            ) => Expr::Variable {
                 place,
                 variable: *number,
-                kind: *kind,
+                kind: type_name.kind(),
             },
             _ => int(0),
         }
@@ -73,10 +91,16 @@ impl<'a> Meaning<'a> {
         ensures { IfOk result (λ x. expr_of x ≡ element_as (meaning_of self.entry) place index.place (expr_of index.expr)) }
     {
         match self {
-            Meaning::Global(Sort::Variable { number, kind, .. }) => Ok(Expr::Element {
+            Meaning::Global(
+                Sort::Variable {
+                    number,
+                    type_name,
+                    ..
+                },
+            ) => Ok(Expr::Element {
                 place,
                 variable: *number,
-                kind: *kind,
+                kind: type_name.kind(),
                 index_place: index.place,
                 index: Box::new(alloc, index.expr)?,
             }),
@@ -94,10 +118,16 @@ impl<'a> Meaning<'a> {
                 local: local.number,
                 kind: local.kind,
             },
-            Meaning::Global(Sort::Variable { number, kind, .. }) => Lvalue::Variable {
+            Meaning::Global(
+                Sort::Variable {
+                    number,
+                    type_name,
+                    ..
+                },
+            ) => Lvalue::Variable {
                 place,
                 variable: *number,
-                kind: *kind,
+                kind: type_name.kind(),
             },
             _ => Lvalue::Local {
                 place,
@@ -112,10 +142,16 @@ impl<'a> Meaning<'a> {
         ensures { lvalue_of result ≡ target_element_as (meaning_of self.entry) place (placed_of index) }
     {
         match self {
-            Meaning::Global(Sort::Variable { number, kind, .. }) => Lvalue::Element {
+            Meaning::Global(
+                Sort::Variable {
+                    number,
+                    type_name,
+                    ..
+                },
+            ) => Lvalue::Element {
                 place,
                 variable: *number,
-                kind: *kind,
+                kind: type_name.kind(),
                 index,
             },
             _ => Lvalue::Local {
@@ -123,6 +159,109 @@ impl<'a> Meaning<'a> {
                 local: 0,
                 kind: Kind::Int,
             },
+        }
+    }
+
+    /// The address of an element of the array, or any value where it is none.
+    pub fn address(self, alloc: Global, index: Placed) -> Result<Expr, AllocError>
+        ensures { IfOk result (λ x. expr_of x ≡ address_as (meaning_of self.entry) index.place (expr_of index.expr)) }
+    {
+        match self {
+            Meaning::Global(Sort::Variable { number, .. }) => Ok(Expr::Address {
+                variable: *number,
+                index_place: index.place,
+                index: Box::new(alloc, index.expr)?,
+            }),
+            _ => Ok(int(0)),
+        }
+    }
+
+    /// The reference that the local is, if it is one.
+    pub fn reference(self) -> Option<Reference>
+        ensures { option_map reference_of result ≡ reference_as (meaning_of self.entry) }
+    {
+        match self {
+            Meaning::Local(local) => match local.refers {
+                Some(array) => Some(Reference {
+                    local: local.number,
+                    array,
+                }),
+                None => None,
+            },
+            _ => None,
+        }
+    }
+
+    /// What the value of the name is, or an element of it.
+    pub fn referring(self, globals: &Globals) -> Referring
+        ensures { referring_of result ≡ name_as (globals_of globals.now) (meaning_of self.entry) }
+    {
+        match self {
+            Meaning::Local(local) => match local.refers {
+                Some(array) => Referring::To {
+                    array: array.number,
+                },
+                None => Referring::Number,
+            },
+            Meaning::Global(Sort::Variable { type_name, .. }) => globals.of_type(type_name),
+            _ => Referring::Anything,
+        }
+    }
+
+    /// What the address of an element of it is.
+    pub fn address_referring(self) -> Referring
+        ensures { referring_of result ≡ address_of_as (meaning_of self.entry) }
+    {
+        match self {
+            Meaning::Global(sort) => sort.referred(),
+            _ => Referring::Anything,
+        }
+    }
+
+    /// The types of the parameters of the function.
+    pub fn parameters(self) -> &'a [TypeName]
+        ensures { map type_name_of result.now ≡ parameters_as (meaning_of self.entry) }
+    {
+        match self {
+            Meaning::Global(Sort::Function { parameters, .. }) => parameters,
+            _ => &[],
+        }
+    }
+
+    /// What the result of the function is.
+    pub fn result(self, globals: &Globals) -> Referring
+        ensures { referring_of result ≡ result_as (globals_of globals.now) (meaning_of self.entry) }
+    {
+        match self {
+            Meaning::Global(
+                Sort::Function {
+                    result: Some(type_name),
+                    ..
+                },
+            ) => globals.of_type(type_name),
+            _ => Referring::Anything,
+        }
+    }
+
+    /// The rule that its use as an array breaks to whose elements there may be references.
+    pub fn array_rule(self, globals: &Globals) -> Option<Rule>
+        ensures { result ≡ array_rule (globals_of globals.now) (meaning_of self.entry) }
+    {
+        match self {
+            Meaning::Unknown => Some(Rule::Unknown),
+            Meaning::Global(sort) => rule_if(globals.array(sort).is_none(), Rule::WrongSort),
+            Meaning::Local(_) => Some(Rule::WrongSort),
+        }
+    }
+
+    /// The rule that its use as a reference breaks: only a local is followed.
+    pub fn reference_rule(self) -> Option<Rule>
+        ensures { result ≡ reference_rule (meaning_of self.entry) }
+    {
+        match self {
+            Meaning::Unknown => Some(Rule::Unknown),
+            Meaning::Local(local) => rule_if(local.refers.is_none(), Rule::WrongSort),
+            Meaning::Global(_) => Some(Rule::WrongSort),
         }
     }
 
@@ -165,9 +304,10 @@ impl<'a> Meaning<'a> {
         match self {
             Meaning::Unknown => Some(Rule::Unknown),
             Meaning::Local(_) => rule_if(indexed, Rule::WrongSort),
-            Meaning::Global(Sort::Variable { is_array, .. }) => {
-                rule_if(if *is_array { !indexed } else { indexed }, Rule::WrongSort)
-            }
+            Meaning::Global(Sort::Variable { length, .. }) => rule_if(
+                if length.is_some() { !indexed } else { indexed },
+                Rule::WrongSort,
+            ),
             Meaning::Global(_) => Some(Rule::WrongSort),
         }
     }

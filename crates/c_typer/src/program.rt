@@ -57,7 +57,8 @@ fn add(
 ) -> Result<(), AllocError>
     ensures made { OnOk result (first_of faults.new ≡ None
         → p.program_of made.new ≡ and_item (globals_of globals.now) (p.program_of made.old) (item_of item.now)) }
-    ensures noted { OnOk result (first_of faults.new ≡ noted (first_of faults.old) (rules.item_faults (globals_of globals.now) (item_of item.now))) }
+    ensures noted { OnOk result (first_of faults.new
+        ≡ noted (first_of faults.old) (rules.item_faults globals.now.language (globals_of globals.now) (item_of item.now))) }
 {
     match item {
         Item::Mutex(read) => {
@@ -88,7 +89,8 @@ fn add_last(
 ) -> Result<(), AllocError>
     ensures made { OnOk result (first_of faults.new ≡ None
         → p.program_of made.new ≡ and_item (globals_of globals.now) (p.program_of made.old) (item_of item)) }
-    ensures noted { OnOk result (first_of faults.new ≡ noted (first_of faults.old) (rules.item_faults (globals_of globals.now) (item_of item))) }
+    ensures noted { OnOk result (first_of faults.new
+        ≡ noted (first_of faults.old) (rules.item_faults globals.now.language (globals_of globals.now) (item_of item))) }
 {
     add(alloc, globals, faults, &item, made)
 }
@@ -103,7 +105,7 @@ fn items(
 ) -> Result<Program, AllocError>
     ensures made { IfOk result (λ x. first_of faults.new ≡ None → p.program_of x ≡ typing.program_from (globals_of globals.now) (items_of tree)) }
     ensures noted { OnOk result (first_of faults.new ≡ noted (first_of faults.old)
-        (flat_map (rules.item_faults (globals_of globals.now)) (items_of tree))) }
+        (flat_map (rules.item_faults globals.now.language (globals_of globals.now)) (items_of tree))) }
 {
     let mut made = empty(alloc);
     for item in tree.items {
@@ -120,7 +122,7 @@ fn items(
 pub fn type_tree(alloc: Global, language: Language, tree: Tree) -> Result<Program, SourceError>
     ensures { Answers language (items_of tree) result }
 {
-    let globals = Globals::of(alloc, &tree)?;
+    let globals = Globals::of(alloc, language, &tree)?;
     let mut faults = Faults::new();
     note_second_declarations(&globals, &mut faults);
     note_threads(&tree, &mut faults);

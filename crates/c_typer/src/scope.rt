@@ -4,6 +4,7 @@ ghost use Rattle.std.proofs.Props.{props};
 ghost use Rattle.c_typer.specs.links.Places.{place_of, last_place, places_before};
 ghost use Rattle.c_typer.specs.links.Locals.{names_in, hidden_in};
 
+use crate::globals::Array;
 use crate::names::Places;
 use ido_ints::Kind;
 use std::alloc::{AllocError, Global};
@@ -14,6 +15,8 @@ pub struct Local {
     pub name: Vec<u8>,
     pub number: u32,
     pub kind: Kind,
+    /// The array to whose elements it refers, where it is a reference.
+    pub refers: Option<Array>,
     hidden: Option<usize>,
 }
 
@@ -42,7 +45,7 @@ impl Scope {
     ghost use Rattle.std.specs.List.{list_any};
     ghost use Rattle.std.specs.Option.{option_map};
     ghost use Rattle.c_tree.specs.Names as n;
-    ghost use Rattle.c_typer.specs.links.Scopes.{ScopeGrows, local_of, scope_of};
+    ghost use Rattle.c_typer.specs.links.Scopes.{ScopeGrows, array_of, local_of, scope_of};
 
     /// No locals.
     pub fn new(alloc: Global) -> Scope
@@ -82,8 +85,13 @@ impl Scope {
     }
 
     /// Declares a local.
-    pub fn declare(&mut self, name: &Vec<u8>, kind: Kind) -> Result<(), AllocError>
-        ensures declared { OnOk result (scope_of self.new ≡ n.declared (scope_of self.old) name.now.items kind) }
+    pub fn declare(
+        &mut self,
+        name: &Vec<u8>,
+        kind: Kind,
+        refers: Option<Array>,
+    ) -> Result<(), AllocError>
+        ensures declared { OnOk result (scope_of self.new ≡ n.declared_as (scope_of self.old) name.now.items kind (option_map array_of refers)) }
         ensures grows { OnOk result (ScopeGrows self.old self.new) }
     {
         let number = self.next_number()?;
@@ -95,6 +103,7 @@ impl Scope {
             name: text,
             number,
             kind,
+            refers,
             hidden,
         });
         self.kinds.push(kind)?;

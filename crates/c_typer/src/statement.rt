@@ -1,5 +1,5 @@
 //! Statements. Each is made after those that were made before, in the order of the text.
-ghost use Rattle.std.specs.Prelude.{◌≡◌, ◌++◌, ◌∷◌, [], Some, OnOk, IfOk};
+ghost use Rattle.std.specs.Prelude.{◌≡◌, Some, OnOk, IfOk};
 ghost use Rattle.std.specs.Box.{box_value};
 ghost use Rattle.std.specs.Option.{option_map};
 ghost use Rattle.c_tree.specs.Exprs.{placed_of, lock_name_of};
@@ -14,8 +14,10 @@ ghost use Rattle.c_typer.specs.links.FirstFaults.{first_of, noted};
 ghost use Rattle.c_typer.specs.links.Rows.{loop_as, loop_faults, maybe_one};
 ghost use Rattle.c_typer.specs.links.Scopes.{globals_of, scope_of, ScopeGrows, Stays};
 
-use crate::assignment::{assignment, call, declaration, target};
-use crate::expression::{note_shared, placed};
+use crate::assignment::{
+    assigned_call, assignment, call, declaration, name_place, target, target_referring,
+};
+use crate::expression::{note_shared, numeric};
 use crate::faults::Faults;
 use crate::globals::Globals;
 use crate::meaning::{int, resolve};
@@ -90,7 +92,7 @@ pub fn mutex(
 ) -> Result<u32, AllocError>
     ensures made { IfOk result (λ x. x ≡ typing.mutex_number (globals_of globals.now) (scope_of scope.now) (v.name_of name.now)) }
     ensures noted { OnOk result (first_of faults.new ≡ noted (first_of faults.old)
-        (rules.mutex_faults (globals_of globals.now) (scope_of scope.now) (v.name_of name.now) keyed)) }
+        (rules.mutex_faults globals.now.language (globals_of globals.now) (scope_of scope.now) (v.name_of name.now) keyed)) }
 {
     let meaning = resolve(globals, scope, &name.text);
     faults.note_some(meaning.mutex_rule(keyed), name.place);
@@ -108,9 +110,9 @@ fn key(
 ) -> Result<Placed, AllocError>
     ensures made { IfOk result (λ x. placed_of x ≡ typing.placed (globals_of globals.now) (scope_of scope.now) (v.expression_of read.now)) }
     ensures noted { OnOk result (first_of faults.new ≡ noted (first_of faults.old)
-        (rules.key_faults (globals_of globals.now) (scope_of scope.now) (Some (v.expression_of read.now)))) }
+        (rules.key_faults globals.now.language (globals_of globals.now) (scope_of scope.now) (Some (v.expression_of read.now)))) }
 {
-    let key = placed(alloc, globals, scope, faults, read)?;
+    let key = numeric(alloc, globals, scope, faults, read)?;
     note_shared(globals, scope, faults, read);
     Ok(key)
 }
@@ -128,7 +130,8 @@ fn lock_name(
     ensures made { IfOk result (λ x. lock_name_of x
         ≡ typing.lock_name (globals_of globals.now) (scope_of scope.now) (v.name_of name.now) (option_map (λ x. v.expression_of (box_value x)) read.now)) }
     ensures noted { OnOk result (first_of faults.new ≡ noted (first_of faults.old)
-        (rules.lock_faults (globals_of globals.now) (scope_of scope.now) (v.name_of name.now) (option_map (λ x. v.expression_of (box_value x)) read.now))) }
+        (rules.lock_faults globals.now.language (globals_of globals.now) (scope_of scope.now) (v.name_of name.now)
+        (option_map (λ x. v.expression_of (box_value x)) read.now))) }
 {
     let mutex = mutex(globals, scope, faults, name, read.is_some())?;
     match read {
@@ -154,13 +157,14 @@ fn declare(
 ) -> Result<program::Statement, AllocError>
     ensures made { IfOk result (λ x. p.statement_of x ≡ typing.declaration_at (globals_of globals.now) place (scope_of scope.old) (v.declaration_of read.now)) }
     ensures noted { OnOk result (first_of faults.new ≡ noted (first_of faults.old)
-        (rules.declaration_faults (globals_of globals.now) (scope_of scope.old) (v.declaration_of read.now))) }
+        (rules.declaration_faults globals.now.language (globals_of globals.now) (scope_of scope.old) (v.declaration_of read.now))) }
     ensures scope { OnOk result (scope_of scope.new
-        ≡ n.declared (scope_of scope.old) read.now.name.text.items (n.kind_named (v.type_name_of read.now.type_name))) }
+        ≡ n.declared (globals_of globals.now) (scope_of scope.old) read.now.name.text.items (v.type_name_of read.now.type_name)) }
     ensures grows { OnOk result (ScopeGrows scope.old scope.new) }
 {
     let made = declaration(alloc, globals, scope, faults, place, read)?;
-    scope.declare(&read.name.text, read.type_name.kind())?;
+    let refers = globals.referred(&read.type_name);
+    scope.declare(&read.name.text, read.type_name.kind(), refers)?;
     Ok(made)
 }
 
@@ -177,7 +181,7 @@ fn start_of_for(
     ensures made { OnOk result (p.statements_of made.new.items
         ≡ statements_and (p.statements_of made.old.items) (typing.first_at (globals_of globals.now) place (scope_of scope.old) (v.first_of read.now)).made) }
     ensures noted { OnOk result (first_of faults.new ≡ noted (first_of faults.old)
-        (rules.first_faults (globals_of globals.now) (scope_of scope.old) (v.first_of read.now))) }
+        (rules.first_faults globals.now.language (globals_of globals.now) (scope_of scope.old) (v.first_of read.now))) }
     ensures scope { OnOk result (scope_of scope.new ≡ (typing.first_at (globals_of globals.now) place (scope_of scope.old) (v.first_of read.now)).scope) }
     ensures grows { OnOk result (ScopeGrows scope.old scope.new) }
 {
@@ -206,7 +210,7 @@ fn last(
     ensures made { IfOk result (λ x. maybe_one (option_map p.statement_of x)
         ≡ typing.last_at (globals_of globals.now) place (scope_of scope.now) (option_map v.assignment_of read.now)) }
     ensures noted { OnOk result (first_of faults.new ≡ noted (first_of faults.old)
-        (rules.last_faults (globals_of globals.now) (scope_of scope.now) (option_map v.assignment_of read.now))) }
+        (rules.last_faults globals.now.language (globals_of globals.now) (scope_of scope.now) (option_map v.assignment_of read.now))) }
 {
     match read {
         None => Ok(None),
@@ -226,14 +230,14 @@ fn condition_of_for(
     ensures made { IfOk result (λ x. placed_of x ≡ typing.condition_at (globals_of globals.now) place (scope_of scope.now)
         (option_map v.expression_of read.now)) }
     ensures noted { OnOk result (first_of faults.new ≡ noted (first_of faults.old)
-        (rules.maybe_faults (globals_of globals.now) (scope_of scope.now) (option_map v.expression_of read.now))) }
+        (rules.maybe_faults globals.now.language (globals_of globals.now) (scope_of scope.now) (option_map v.expression_of read.now))) }
 {
     match read {
         None => Ok(Placed {
             place,
             expr: int(1),
         }),
-        Some(read) => placed(alloc, globals, scope, faults, read),
+        Some(read) => numeric(alloc, globals, scope, faults, read),
     }
 }
 
@@ -250,7 +254,7 @@ fn statement(
     ensures made { OnOk result (p.statements_of made.new.items
         ≡ statements_and (p.statements_of made.old.items) (typing.statement (globals_of globals.now) (scope_of scope.old) (v.statement_of read.now)).made) }
     ensures noted { OnOk result (first_of faults.new ≡ noted (first_of faults.old)
-        (rules.statement_faults (globals_of globals.now) (scope_of scope.old) (v.statement_of read.now))) }
+        (rules.statement_faults globals.now.language (globals_of globals.now) (scope_of scope.old) (v.statement_of read.now))) }
     ensures scope { OnOk result (scope_of scope.new ≡ (typing.statement (globals_of globals.now) (scope_of scope.old) (v.statement_of read.now)).scope) }
     ensures grows { OnOk result (ScopeGrows scope.old scope.new) }
 {
@@ -269,9 +273,18 @@ fn statement(
             target: assigned,
             call: read,
         } => {
-            let place = assigned.place();
-            let assigned = target(alloc, globals, scope, faults, assigned)?;
-            let next = call(alloc, globals, scope, faults, place, read, Some(assigned))?;
+            let made_target = target(alloc, globals, scope, faults, assigned)?;
+            let next = assigned_call(
+                alloc,
+                globals,
+                scope,
+                faults,
+                assigned.place(),
+                read,
+                made_target,
+                target_referring(globals, scope, assigned),
+                name_place(assigned),
+            )?;
             add(made, next)
         }
         Statement::Call(read) => {
@@ -346,7 +359,7 @@ fn last_block(
     ensures made { IfOk result (λ xs. p.statements_of xs.items
         ≡ (typing.otherwise_of (globals_of globals.now) (scope_of scope.old) (v.otherwise_of read.now)).made) }
     ensures noted { OnOk result (first_of faults.new ≡ noted (first_of faults.old)
-        (rules.otherwise_faults (globals_of globals.now) (scope_of scope.old) (v.otherwise_of read.now))) }
+        (rules.otherwise_faults globals.now.language (globals_of globals.now) (scope_of scope.old) (v.otherwise_of read.now))) }
     ensures scope { OnOk result (scope_of scope.new ≡ (typing.otherwise_of (globals_of globals.now) (scope_of scope.old) (v.otherwise_of read.now)).scope) }
     ensures stays { OnOk result (Stays scope.old scope.new) }
 {
@@ -371,12 +384,13 @@ fn while_statement(
     ensures made { IfOk result (λ x. one (p.statement_of x)
         ≡ (typing.statement (globals_of globals.now) (scope_of scope.old) (t.While place (v.expression_of condition.now) (v.block_of read.now))).made) }
     ensures noted { OnOk result (first_of faults.new ≡ noted (first_of faults.old)
-        (rules.statement_faults (globals_of globals.now) (scope_of scope.old) (t.While place (v.expression_of condition.now) (v.block_of read.now)))) }
+        (rules.statement_faults globals.now.language (globals_of globals.now) (scope_of scope.old)
+        (t.While place (v.expression_of condition.now) (v.block_of read.now)))) }
     ensures scope { OnOk result (scope_of scope.new ≡ (typing.statement (globals_of globals.now) (scope_of scope.old)
         (t.While place (v.expression_of condition.now) (v.block_of read.now))).scope) }
     ensures stays { OnOk result (Stays scope.old scope.new) }
 {
-    let condition = placed(alloc, globals, scope, faults, condition)?;
+    let condition = numeric(alloc, globals, scope, faults, condition)?;
     let body = body_of(alloc, globals, scope, faults, read)?;
     Ok(while_of(place, condition, body))
 }
@@ -396,13 +410,14 @@ fn do_statement(
     ensures made { IfOk result (λ x. one (p.statement_of x)
         ≡ (typing.statement (globals_of globals.now) (scope_of scope.old) (t.Do place (v.block_of read.now) (v.expression_of condition.now))).made) }
     ensures noted { OnOk result (first_of faults.new ≡ noted (first_of faults.old)
-        (rules.statement_faults (globals_of globals.now) (scope_of scope.old) (t.Do place (v.block_of read.now) (v.expression_of condition.now)))) }
+        (rules.statement_faults globals.now.language (globals_of globals.now) (scope_of scope.old)
+        (t.Do place (v.block_of read.now) (v.expression_of condition.now)))) }
     ensures scope { OnOk result (scope_of scope.new ≡ (typing.statement (globals_of globals.now) (scope_of scope.old)
         (t.Do place (v.block_of read.now) (v.expression_of condition.now))).scope) }
     ensures stays { OnOk result (Stays scope.old scope.new) }
 {
     let body = body_of(alloc, globals, scope, faults, read)?;
-    let condition = placed(alloc, globals, scope, faults, condition)?;
+    let condition = numeric(alloc, globals, scope, faults, condition)?;
     Ok(do_of(place, body, condition))
 }
 
@@ -421,8 +436,8 @@ fn loop_of_for(
     ensures made { IfOk result (λ x. p.statement_of x ≡ loop_as (globals_of globals.now) place (scope_of scope.old)
         (option_map v.expression_of head.now.condition) (option_map v.assignment_of head.now.last) (v.block_of read.now)) }
     ensures noted { OnOk result (first_of faults.new ≡ noted (first_of faults.old)
-        (loop_faults (globals_of globals.now) (scope_of scope.old) (option_map v.expression_of head.now.condition) (option_map v.assignment_of head.now.last)
-        (v.block_of read.now))) }
+        (loop_faults globals.now.language (globals_of globals.now) (scope_of scope.old) (option_map v.expression_of head.now.condition)
+        (option_map v.assignment_of head.now.last) (v.block_of read.now))) }
     ensures scope { OnOk result (scope_of scope.new ≡ (typing.inside (globals_of globals.now) (scope_of scope.old) (v.block_of read.now)).scope) }
     ensures stays { OnOk result (Stays scope.old scope.new) }
 {
@@ -445,7 +460,7 @@ fn body_of(
 ) -> Result<Vec<program::Statement>, AllocError>
     ensures made { IfOk result (λ xs. p.statements_of xs.items ≡ (typing.inside (globals_of globals.now) (scope_of scope.old) (v.block_of read.now)).made) }
     ensures noted { OnOk result (first_of faults.new ≡ noted (first_of faults.old)
-        (rules.block_faults (globals_of globals.now) (scope_of scope.old) (v.block_of read.now))) }
+        (rules.block_faults globals.now.language (globals_of globals.now) (scope_of scope.old) (v.block_of read.now))) }
     ensures scope { OnOk result (scope_of scope.new ≡ (typing.inside (globals_of globals.now) (scope_of scope.old) (v.block_of read.now)).scope) }
     ensures stays { OnOk result (Stays scope.old scope.new) }
 {
@@ -468,7 +483,7 @@ fn block(
     ensures made { OnOk result (p.statements_of made.new.items
         ≡ statements_and (p.statements_of made.old.items) (typing.inside (globals_of globals.now) (scope_of scope.old) (v.block_of read.now)).made) }
     ensures noted { OnOk result (first_of faults.new ≡ noted (first_of faults.old)
-        (rules.block_faults (globals_of globals.now) (scope_of scope.old) (v.block_of read.now))) }
+        (rules.block_faults globals.now.language (globals_of globals.now) (scope_of scope.old) (v.block_of read.now))) }
     ensures scope { OnOk result (scope_of scope.new ≡ (typing.inside (globals_of globals.now) (scope_of scope.old) (v.block_of read.now)).scope) }
     ensures stays { OnOk result (Stays scope.old scope.new) }
 {
@@ -491,7 +506,7 @@ pub fn statements(
     ensures made { OnOk result (p.statements_of made.new.items
         ≡ statements_and (p.statements_of made.old.items) (typing.statements (globals_of globals.now) (scope_of scope.old) (v.statements_of read.now)).made) }
     ensures noted { OnOk result (first_of faults.new ≡ noted (first_of faults.old)
-        (rules.statements_faults (globals_of globals.now) (scope_of scope.old) (v.statements_of read.now))) }
+        (rules.statements_faults globals.now.language (globals_of globals.now) (scope_of scope.old) (v.statements_of read.now))) }
     ensures scope { OnOk result (scope_of scope.new ≡ (typing.statements (globals_of globals.now) (scope_of scope.old) (v.statements_of read.now)).scope) }
     ensures grows { OnOk result (ScopeGrows scope.old scope.new) }
 {
@@ -512,13 +527,13 @@ fn arms_of(
 ) -> Result<Vec<Arm>, AllocError>
     ensures made { IfOk result (λ xs. p.arms_list_of xs.items ≡ (typing.arms_of (globals_of globals.now) (scope_of scope.old) (v.arms_list_of read.now)).made) }
     ensures noted { OnOk result (first_of faults.new ≡ noted (first_of faults.old)
-        (rules.arms_faults (globals_of globals.now) (scope_of scope.old) (v.arms_list_of read.now))) }
+        (rules.arms_faults globals.now.language (globals_of globals.now) (scope_of scope.old) (v.arms_list_of read.now))) }
     ensures scope { OnOk result (scope_of scope.new ≡ (typing.arms_of (globals_of globals.now) (scope_of scope.old) (v.arms_list_of read.now)).scope) }
     ensures stays { OnOk result (Stays scope.old scope.new) }
 {
     let mut made = Vec::new(alloc);
     for arm in read {
-        let condition = placed(alloc, globals, scope, faults, &arm.condition)?;
+        let condition = numeric(alloc, globals, scope, faults, &arm.condition)?;
         let body = body_of(alloc, globals, scope, faults, &arm.block)?;
         made.push(Arm { condition, body })?;
     }

@@ -28,6 +28,18 @@ const KEYED_GUARD: &[u8] = b"persistent(m[1]) int a[4];";
 /// An array of no length.
 const NO_LENGTH: &[u8] = b"mutex m[];";
 
+/// References to the elements of an array.
+const REFERENCE: &[u8] = b"persistent(m) ref(a) h;";
+
+/// Elements to which references refer, and the address of one.
+const FOLLOWED: &[u8] = b"thread t { *p = &a[*q]; }";
+
+/// A name in the plain language.
+const NULL: &[u8] = b"mutex null;";
+
+/// References to no array.
+const NO_REFERRED: &[u8] = b"persistent(m) ref h;";
+
 /// A wrong token at this place.
 fn wrong(place: u32) -> Option<SourceError>
     ensures { result ≡ Some (error.Refused (record { rule = rule.Syntax; place = record { 0 = place } })) }
@@ -58,5 +70,18 @@ fn full(rt: HostRuntime) -> Result<(), Fail> {
     assert_eq!(rt; read(a, Language::Full, NO_KEY).err(), wrong(18));
     assert_eq!(rt; read(a, Language::Full, KEYED_GUARD).err(), wrong(13));
     assert_eq!(rt; read(a, Language::Full, NO_LENGTH).err(), wrong(8));
+    Ok(())
+}
+
+#[test]
+fn references(rt: HostRuntime) -> Result<(), Fail> {
+    let a = rt.alloc();
+    assert_eq!(rt; read(a, Language::Plain, REFERENCE).err(), wrong(14));
+    assert_eq!(rt; read(a, Language::Plain, FOLLOWED).err(), wrong(11));
+    assert_eq!(rt; read(a, Language::Plain, NULL).err(), None);
+    assert_eq!(rt; read(a, Language::Full, REFERENCE).err(), None);
+    assert_eq!(rt; read(a, Language::Full, FOLLOWED).err(), None);
+    assert_eq!(rt; read(a, Language::Full, NULL).err(), wrong(6));
+    assert_eq!(rt; read(a, Language::Full, NO_REFERRED).err(), wrong(18));
     Ok(())
 }

@@ -11,6 +11,8 @@ abbrev pub invariant-loop-argument : goal.invariant-loop-argument
 invariant-loop-argument l = record {
   made : map placed_of l.made.items ≡ map (placed (globals_of l.globals) (scope_of l.scope)) (map expression_of (take l.argument-index l.read));
   noted :
-      noted (first_of l.faults) (flat_map (expression_faults (globals_of l.globals) (scope_of l.scope)) (map expression_of (drop l.argument-index l.read)))
-      ≡ noted (first_of l.initial.faults) (flat_map (expression_faults (globals_of l.globals) (scope_of l.scope)) (map expression_of l.read));
+      noted (first_of l.faults) (flat_map (expression_faults l.globals.language (globals_of l.globals) (scope_of l.scope))
+      (map expression_of (drop l.argument-index l.read)))
+      ≡ noted (first_of l.initial.faults)
+      (flat_map (expression_faults l.globals.language (globals_of l.globals) (scope_of l.scope)) (map expression_of l.read));
 }

@@ -21,4 +21,4 @@ returns c =
     c.note_some-2.ensures
     ∙ ap₂ (λ first rule. noted first (fault_at rule x.place)) (c.note_some.ensures ∙ ap (λ rule. noted faults (fault_at rule x.place)) rule) count
     ∙ sym (noted_append faults (fault_at (function_rule known c.args.assigned) x.place) (fault_at (count_rule known c.args.arguments) x.place))
-    ∙ ap (noted faults) (sym (function_is gs s (v.name_of x) c.args.assigned c.args.arguments))
+    ∙ ap (noted faults) (sym (function_is c.args.globals.now.language gs s (v.name_of x) c.args.assigned c.args.arguments))

@@ -18,26 +18,30 @@ returns-clause-noted c =
     let parameters = map v.parameter_of x.parameters.items in
     let body = v.statements_of x.body.statements.items in
     let gives = option_map v.return_of x.body.returned in
-    let s = typing.with_parameters n.no_locals parameters in
+    let s = typing.with_parameters gs n.no_locals parameters in
     let faults = first_of c.args.faults.now in
     let f = first_of c.with_parameters.new.faults in
     let g = first_of c.statements.new.faults in
     let h = first_of c.returned.new.faults in
-    let scope = c.in_ok-scope.ensures.made ∙ ap (λ (xs : List Parameter). typing.with_parameters n.no_locals (map v.parameter_of xs)) c.deref.ensures.value in
-    let first = c.in_ok-scope.ensures.noted gs ∙ ap (λ (xs : List Parameter). noted faults (rules.parameters_faults gs n.no_locals (map v.parameter_of xs)))
+    let scope = c.in_ok-scope.ensures.made
+    ∙ ap (λ (xs : List Parameter). typing.with_parameters gs n.no_locals (map v.parameter_of xs)) c.deref.ensures.value in
+    let first = c.in_ok-scope.ensures.noted
+    ∙ ap (λ (xs : List Parameter). noted faults (rules.parameters_faults c.args.globals.now.language gs n.no_locals (map v.parameter_of xs)))
     c.deref.ensures.value in
     let second = c.in_ok-statements.ensures.noted
-    ∙ ap (λ (xs : List Statement). noted f (rules.statements_faults gs (scope_of c.in_ok-scope.scope) (v.statements_of xs))) c.deref-2.ensures.value
-    ∙ ap (λ (z : n.Scope). noted f (rules.statements_faults gs z body)) scope in
+    ∙ ap (λ (xs : List Statement). noted f (rules.statements_faults c.args.globals.now.language gs (scope_of c.in_ok-scope.scope) (v.statements_of xs)))
+    c.deref-2.ensures.value
+    ∙ ap (λ (z : n.Scope). noted f (rules.statements_faults c.args.globals.now.language gs z body)) scope in
     let after = c.in_ok-statements.ensures.scope
     ∙ ap (λ (xs : List Statement). (typing.statements gs (scope_of c.in_ok-scope.scope) (v.statements_of xs)).scope) c.deref-2.ensures.value
     ∙ ap (λ (z : n.Scope). (typing.statements gs z body).scope) scope in
-    let third = c.in_ok-result.ensures.noted ∙ ap (λ (z : n.Scope). noted g (rules.returned_faults gs z gives)) after in
-    let before = rules.parameters_faults gs n.no_locals parameters in
-    let inside = rules.statements_faults gs s body in
-    let given = rules.returned_faults gs (typing.statements gs s body).scope gives in
-    let returns = rules.return_faults gs (v.function_of x) in
-    let result = rules.result_faults (option_map v.type_name_of x.type_name) in
+    let third = c.in_ok-result.ensures.noted
+    ∙ ap (λ (z : n.Scope). noted g (rules.returned_faults c.args.globals.now.language gs z (v.function_of x) gives)) after in
+    let before = rules.parameters_faults c.args.globals.now.language gs n.no_locals parameters in
+    let inside = rules.statements_faults c.args.globals.now.language gs s body in
+    let given = rules.returned_faults c.args.globals.now.language gs (typing.statements gs s body).scope (v.function_of x) gives in
+    let returns = rules.return_faults c.args.globals.now.language gs (v.function_of x) in
+    let result = rules.result_faults c.args.globals.now.language gs (option_map v.type_name_of x.type_name) in
     let all = noted_both faults h (first_of c.note_return.new.faults) (before ++ inside ++ given) returns
     (noted_both faults g h (before ++ inside) given (noted_both faults f g before inside first second) third)
     c.note_return.ensures in

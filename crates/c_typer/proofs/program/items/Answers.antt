@@ -15,6 +15,6 @@ loop-item-preserved c =
     let before = c.loop-item.invariant in
     let done = c.in_ok-add_last.ensures in record {
       made = λ none. items_made_step gs _ _ x _ _ _ split (done.made none)
-          (before.made (noted_none (first_of c.loop-item.faults) (rules.item_faults gs x) (sym done.noted ∙ none)).0);
-      noted = items_noted_step gs _ _ x _ _ _ split done.noted before.noted;
+          (before.made (noted_none (first_of c.loop-item.faults) (rules.item_faults c.args.globals.now.language gs x) (sym done.noted ∙ none)).0);
+      noted = items_noted_step c.args.globals.now.language gs _ _ x _ _ _ split done.noted before.noted;
     }

@@ -14,6 +14,6 @@ invariant-loop-item l = record {
       first_of l.faults ≡ None → joined (program_of l.made) (program_from (globals_of l.globals) (map item_of (l.item-iterator.rest.items)))
       ≡ program_from (globals_of l.globals) (map item_of l.fn.tree.items.items);
   noted :
-      noted (first_of l.faults) (flat_map (item_faults (globals_of l.globals)) (map item_of (l.item-iterator.rest.items)))
-      ≡ noted (first_of l.initial.faults) (flat_map (item_faults (globals_of l.globals)) (map item_of l.fn.tree.items.items));
+      noted (first_of l.faults) (flat_map (item_faults l.globals.language (globals_of l.globals)) (map item_of (l.item-iterator.rest.items)))
+      ≡ noted (first_of l.initial.faults) (flat_map (item_faults l.globals.language (globals_of l.globals)) (map item_of l.fn.tree.items.items));
 }

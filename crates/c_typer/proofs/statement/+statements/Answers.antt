@@ -1,7 +1,8 @@
-use Rattle.std.proofs.Common.{◌≡◌, List, true, take, sym, ap, ap₂, ◌∙◌, arith}
+use Rattle.std.proofs.Common.{◌≡◌, List, take, sym, ap, ap₂, ◌∙◌, arith}
 use Rattle.std.proofs.lemmas.List.{at_drop_all}
 use Rattle.std.proofs.lemmas.Result.{IfOk-equal}
 use Rattle.std.specs.Option.{option_map}
+use Rattle.ido_base.specs.declared.place.Place.{Place}
 use Rattle.c_tree.specs.Names as n
 use Rattle.c_tree.specs.Programs as p
 use Rattle.c_tree.specs.Trees as tree
@@ -36,7 +37,7 @@ statements-loop-next-preserved t c =
     let done = c.in_ok-statement.ensures in
     let before = c.loop-next.invariant in record {
       made = made_step gs _ _ s (scope_of c.statement.new.scope) x _ _ _ split done.made done.scope before.made;
-      noted = noted_step gs _ _ s (scope_of c.statement.new.scope) x _ _ _ split done.noted done.scope before.noted;
+      noted = noted_step c.args.globals.now.language gs _ _ s (scope_of c.statement.new.scope) x _ _ _ split done.noted done.scope before.noted;
       scope = scope_step gs s (scope_of c.statement.new.scope) x _ _ _ split done.scope before.scope;
       grows = grows_both _ _ _ before.grows done.grows;
     }
@@ -64,7 +65,9 @@ arms_of-loop-arm-preserved t c =
     let before = c.loop-arm.invariant in record {
       made = arms_made_step gs c.loop-arm.made.items c.push.new.self.items _ s
           (scope_of c.body_of.new.scope) x body _ _ _ split c.in_ok-push.ensures.items condition.made inside.made inside.scope before.made;
-      noted = arms_noted_step gs _ _ _ s (scope_of c.body_of.new.scope) x body _ _ _ split condition.noted inside.noted inside.scope before.noted;
+      noted =
+          arms_noted_step c.args.globals.now.language gs _ _ _ s (scope_of c.body_of.new.scope) x body _ _ _ split condition.noted inside.noted
+          inside.scope before.noted;
       scope = arms_scope_step gs s (scope_of c.body_of.new.scope) x body _ _ _ split inside.scope before.scope;
       stays = stays_both _ _ _ before.stays inside.stays;
     }
@@ -92,7 +95,8 @@ pub statement-returns-in-Block-clause-noted : goal.statement-returns-in-Block-cl
 statement-returns-in-Block-clause-noted t c =
     let view = ap v.statement_of c.in-Block.is ∙ of_block c.in-Block.read in
     IfOk-equal c.block.result _ _ _ c.block.ensures.noted
-    (ap (λ (x : tree.Statement). noted (first_of c.args.faults.now) (rules.statement_faults (globals_of c.args.globals.now) (scope_of c.args.scope.now) x))
+    (ap (λ (x : tree.Statement). noted (first_of c.args.faults.now)
+    (rules.statement_faults c.args.globals.now.language (globals_of c.args.globals.now) (scope_of c.args.scope.now) x))
     (sym view))
 
 pub statement-returns-in-Block-clause-scope : goal.statement-returns-in-Block-clause-scope
@@ -113,16 +117,25 @@ statement-returns-in_ok-next-in-CallAssignment-clause-noted t c =
     let gs = globals_of c.args.globals.now in
     let s = scope_of c.args.scope.now in
     let w = c.in-CallAssignment in
-    let assigned = v.lvalue_of c.deref-in-CallAssignment-2.result.now in
+    let l = c.args.globals.now.language in
+    let assigned = v.lvalue_of c.deref-in-CallAssignment.result.now in
     let read = v.call_of c.deref-in-CallAssignment-3.result.now in
     let view = ap v.statement_of w.is
-    ∙ ap₂ (λ (x : Lvalue) (y : Call). tree.AssignResult (v.lvalue_of x) (v.call_of y)) (sym c.deref-in-CallAssignment-2.ensures)
+    ∙ ap₂ (λ (x : Lvalue) (y : Call). tree.AssignResult (v.lvalue_of x) (v.call_of y)) (sym c.deref-in-CallAssignment.ensures)
     (sym c.deref-in-CallAssignment-3.ensures) in
+    let second = first_of c.target.new.faults in
+    let to = c.target_referring.ensures
+    ∙ ap (λ (x : Lvalue). rules.target_referring l gs s (v.lvalue_of x)) (c.deref-in-CallAssignment-4.ensures ∙ sym c.deref-in-CallAssignment.ensures) in
+    let place = c.name_place.ensures
+    ∙ ap (λ (x : Lvalue). (rules.target_name (v.lvalue_of x)).place) (c.deref-in-CallAssignment-5.ensures ∙ sym c.deref-in-CallAssignment.ensures) in
+    let given = c.in_ok-next-in-CallAssignment.ensures.noted
+    ∙ ap₂ (λ (y : n.Referring) (q : Place). noted second (rules.assigned_faults l gs s y q read)) to place in
     always c.add-in-CallAssignment.result
-    (noted_both (first_of c.args.faults.now) (first_of c.target.new.faults) (first_of c.call.new.faults) (rules.target_faults gs s assigned)
-    (rules.call_faults gs s read true)
-    c.in_ok-assigned-in-CallAssignment.ensures.noted c.in_ok-next-in-CallAssignment.ensures.noted
-    ∙ ap (λ (x : tree.Statement). noted (first_of c.args.faults.now) (rules.statement_faults gs s x)) (sym view))
+    (noted_both (first_of c.args.faults.now) second (first_of c.assigned_call.new.faults)
+    (rules.target_faults l gs s assigned)
+    (rules.assigned_faults l gs s (rules.target_referring l gs s assigned) (rules.target_name assigned).place read)
+    c.in_ok-made_target-in-CallAssignment.ensures.noted given
+    ∙ ap (λ (x : tree.Statement). noted (first_of c.args.faults.now) (rules.statement_faults l gs s x)) (sym view))
 
 pub statement-returns-in_ok-last-in-If-clause-made : goal.statement-returns-in_ok-last-in-If-clause-made
 statement-returns-in_ok-last-in-If-clause-made t c =
@@ -148,12 +161,14 @@ statement-returns-in_ok-last-in-If-clause-noted t c =
     let view : v.statement_of c.args.read.now ≡ tree.If w.place arms otherwise
     = ap v.statement_of w.is ∙ of_if w.place w.arms w.otherwise ∙ ap (λ xs. tree.If w.place (v.arms_list_of xs) otherwise) (sym c.deref-in-If.ensures.value) in
     let first = c.in_ok-arms-in-If.ensures in
-    let last = c.in_ok-last-in-If.ensures.noted ∙ ap (λ (z : n.Scope). noted (first_of c.arms_of.new.faults) (rules.otherwise_faults gs z otherwise))
+    let last = c.in_ok-last-in-If.ensures.noted
+    ∙ ap (λ (z : n.Scope). noted (first_of c.arms_of.new.faults) (rules.otherwise_faults c.args.globals.now.language gs z otherwise))
     first.scope in
     always c.add-in-If.result
-    (noted_both (first_of c.args.faults.now) (first_of c.arms_of.new.faults) (first_of c.last_block.new.faults) (rules.arms_faults gs s arms)
-    (rules.otherwise_faults gs (typing.arms_of gs s arms).scope otherwise) first.noted last
-    ∙ ap (λ (x : tree.Statement). noted (first_of c.args.faults.now) (rules.statement_faults gs s x)) (sym view))
+    (noted_both (first_of c.args.faults.now) (first_of c.arms_of.new.faults) (first_of c.last_block.new.faults)
+    (rules.arms_faults c.args.globals.now.language gs s arms)
+    (rules.otherwise_faults c.args.globals.now.language gs (typing.arms_of gs s arms).scope otherwise) first.noted last
+    ∙ ap (λ (x : tree.Statement). noted (first_of c.args.faults.now) (rules.statement_faults c.args.globals.now.language gs s x)) (sym view))
 
 pub statement-returns-in_ok-last-in-If-clause-scope : goal.statement-returns-in_ok-last-in-If-clause-scope
 statement-returns-in_ok-last-in-If-clause-scope t c =
@@ -184,7 +199,8 @@ statement-returns-in_ok-next-in-While-clause-noted t c =
     ∙ ap (λ (x : Expression). tree.While w.place (v.expression_of x) (v.block_of w.block)) (sym c.deref-in-While.ensures) in
     always c.add-in-While.result
     (c.in_ok-next-in-While.ensures.noted
-    ∙ ap (λ (x : tree.Statement). noted (first_of c.args.faults.now) (rules.statement_faults (globals_of c.args.globals.now) (scope_of c.args.scope.now) x))
+    ∙ ap (λ (x : tree.Statement). noted (first_of c.args.faults.now)
+    (rules.statement_faults c.args.globals.now.language (globals_of c.args.globals.now) (scope_of c.args.scope.now) x))
     (sym view))
 
 pub statement-returns-in_ok-next-in-While-clause-scope : goal.statement-returns-in_ok-next-in-While-clause-scope
@@ -212,7 +228,8 @@ statement-returns-in_ok-next-in-Do-clause-noted t c =
     ∙ ap (λ (x : Expression). tree.Do w.place (v.block_of w.block) (v.expression_of x)) (sym c.deref-in-Do.ensures) in
     always c.add-in-Do.result
     (c.in_ok-next-in-Do.ensures.noted
-    ∙ ap (λ (x : tree.Statement). noted (first_of c.args.faults.now) (rules.statement_faults (globals_of c.args.globals.now) (scope_of c.args.scope.now) x))
+    ∙ ap (λ (x : tree.Statement). noted (first_of c.args.faults.now)
+    (rules.statement_faults c.args.globals.now.language (globals_of c.args.globals.now) (scope_of c.args.scope.now) x))
     (sym view))
 
 pub statement-returns-in_ok-next-in-Do-clause-scope : goal.statement-returns-in_ok-next-in-Do-clause-scope
@@ -266,11 +283,11 @@ statement-returns-in_ok-next-in-For-clause-noted t c =
     let faults = first_of c.args.faults.now in
     let between = first_of c.start_of_for.new.faults in
     always c.add-in-For.result
-    (noted_both faults between (first_of c.loop_of_for.new.faults) (rules.first_faults gs (n.entered s) start)
-    (loop_faults gs (typing.first_at gs w.place (n.entered s) start).scope condition end block)
-    (begins.noted ∙ ap (λ (z : n.Scope). noted faults (rules.first_faults gs z start)) entered)
-    (c.in_ok-next-in-For.ensures.noted ∙ ap (λ (z : n.Scope). noted between (loop_faults gs z condition end block)) scope)
-    ∙ ap (λ (x : tree.Statement). noted faults (rules.statement_faults gs s x)) (sym view))
+    (noted_both faults between (first_of c.loop_of_for.new.faults) (rules.first_faults c.args.globals.now.language gs (n.entered s) start)
+    (loop_faults c.args.globals.now.language gs (typing.first_at gs w.place (n.entered s) start).scope condition end block)
+    (begins.noted ∙ ap (λ (z : n.Scope). noted faults (rules.first_faults c.args.globals.now.language gs z start)) entered)
+    (c.in_ok-next-in-For.ensures.noted ∙ ap (λ (z : n.Scope). noted between (loop_faults c.args.globals.now.language gs z condition end block)) scope)
+    ∙ ap (λ (x : tree.Statement). noted faults (rules.statement_faults c.args.globals.now.language gs s x)) (sym view))
 
 pub statement-returns-in_ok-next-in-For-clause-scope : goal.statement-returns-in_ok-next-in-For-clause-scope
 statement-returns-in_ok-next-in-For-clause-scope t c =

@@ -17,8 +17,10 @@ invariant-statements-loop-next l = record {
       ≡ statements_and (p.statements_of l.initial.made.items)
       (typing.statements (globals_of l.globals) (scope_of l.initial.scope) (v.statements_of l.read)).made;
   noted :
-      noted (first_of l.faults) (rules.statements_faults (globals_of l.globals) (scope_of l.scope) (v.statements_of (drop l.next-index l.read)))
-      ≡ noted (first_of l.initial.faults) (rules.statements_faults (globals_of l.globals) (scope_of l.initial.scope) (v.statements_of l.read));
+      noted (first_of l.faults) (rules.statements_faults l.globals.language (globals_of l.globals) (scope_of l.scope)
+      (v.statements_of (drop l.next-index l.read)))
+      ≡ noted (first_of l.initial.faults)
+      (rules.statements_faults l.globals.language (globals_of l.globals) (scope_of l.initial.scope) (v.statements_of l.read));
   scope :
       (typing.statements (globals_of l.globals) (scope_of l.scope) (v.statements_of (drop l.next-index l.read))).scope
       ≡ (typing.statements (globals_of l.globals) (scope_of l.initial.scope) (v.statements_of l.read)).scope;
@@ -31,8 +33,8 @@ invariant-arms_of-loop-arm l = record {
       arms_and (p.arms_list_of l.made.items) (typing.arms_of (globals_of l.globals) (scope_of l.scope) (v.arms_list_of (drop l.arm-index l.read))).made
       ≡ (typing.arms_of (globals_of l.globals) (scope_of l.initial.scope) (v.arms_list_of l.read)).made;
   noted :
-      noted (first_of l.faults) (rules.arms_faults (globals_of l.globals) (scope_of l.scope) (v.arms_list_of (drop l.arm-index l.read)))
-      ≡ noted (first_of l.initial.faults) (rules.arms_faults (globals_of l.globals) (scope_of l.initial.scope) (v.arms_list_of l.read));
+      noted (first_of l.faults) (rules.arms_faults l.globals.language (globals_of l.globals) (scope_of l.scope) (v.arms_list_of (drop l.arm-index l.read)))
+      ≡ noted (first_of l.initial.faults) (rules.arms_faults l.globals.language (globals_of l.globals) (scope_of l.initial.scope) (v.arms_list_of l.read));
   scope :
       (typing.arms_of (globals_of l.globals) (scope_of l.scope) (v.arms_list_of (drop l.arm-index l.read))).scope
       ≡ (typing.arms_of (globals_of l.globals) (scope_of l.initial.scope) (v.arms_list_of l.read)).scope;

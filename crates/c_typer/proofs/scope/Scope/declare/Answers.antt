@@ -1,13 +1,21 @@
 use Rattle.std.proofs.Common.{◌≡◌, ◌∙◌, ◌++◌, List, [], ◌∷◌, length, ap, sym, refl, arith, rules}
 use Rattle.std.specs.List.{each_same}
+use Rattle.std.specs.Option.{option_map}
 use Rattle.c_typer.specs.links.Places.{place_of}
+use Rattle.c_typer.specs.links.Scopes.{array_of}
 use Rattle.c_typer.specs.declared.scope.Local.{Local}
 use Rattle.c_typer.proofs.Lookups.{placed_push, hidden_grow, declares}
 use Rattle.c_typer.proofs.scope.Scope.declare.Goals as goal
 
 pub invariant_of-self-2-clause-placed : goal.invariant_of-self-2-clause-placed
 invariant_of-self-2-clause-placed c =
-    let local : Local = record { name = c.in_ok-text.text; number = c.in_ok-number.number; kind = c.args.kind; hidden = c.in_ok-hidden.hidden } in
+    let local : Local = record {
+      name = c.in_ok-text.text;
+      number = c.in_ok-number.number;
+      kind = c.args.kind;
+      refers = c.args.refers;
+      hidden = c.in_ok-hidden.hidden;
+    } in
     let key = each_same _ _ c.in_ok-key.ensures.cases.0 in
     let text = each_same _ _ c.in_ok-text.ensures.cases.0 in
     let place : c.len.result ≡ length c.args.self.now.known.items = omega (arith, c.len.ensures, c.reserve.ensures.len, c.args.self.now.known.ok) in
@@ -17,7 +25,13 @@ invariant_of-self-2-clause-placed c =
 
 pub invariant_of-self-2-clause-hiding : goal.invariant_of-self-2-clause-hiding
 invariant_of-self-2-clause-hiding c =
-    let local : Local = record { name = c.in_ok-text.text; number = c.in_ok-number.number; kind = c.args.kind; hidden = c.in_ok-hidden.hidden } in
+    let local : Local = record {
+      name = c.in_ok-text.text;
+      number = c.in_ok-number.number;
+      kind = c.args.kind;
+      refers = c.args.refers;
+      hidden = c.in_ok-hidden.hidden;
+    } in
     let key = each_same _ _ c.in_ok-key.ensures.cases.0 in
     let text = each_same _ _ c.in_ok-text.ensures.cases.0 in
     hidden_grow c.args.self.now.known.items c.push_reserved.new.self.items local c.args.self.now.hiding
@@ -26,8 +40,14 @@ invariant_of-self-2-clause-hiding c =
 
 pub returns-clause-declared : goal.returns-clause-declared
 returns-clause-declared c =
-    let local : Local = record { name = c.in_ok-text.text; number = c.in_ok-number.number; kind = c.args.kind; hidden = c.in_ok-hidden.hidden } in
+    let local : Local = record {
+      name = c.in_ok-text.text;
+      number = c.in_ok-number.number;
+      kind = c.args.kind;
+      refers = c.args.refers;
+      hidden = c.in_ok-hidden.hidden;
+    } in
     declares c.args.self.now.known.items c.args.self.now.mark c.args.self.now.kinds.items local c.push_reserved.new.self.items c.push.new.self.items
-    c.args.name.now.items c.args.kind
-    c.args.self.now.within (each_same _ _ c.in_ok-text.ensures.cases.0) (search rules) refl
+    c.args.name.now.items c.args.kind (option_map array_of c.args.refers)
+    c.args.self.now.within (each_same _ _ c.in_ok-text.ensures.cases.0) (search rules) refl refl
     (c.push_reserved.ensures.items ∙ ap (λ (xs : List Local). xs ++ local ∷ []) c.reserve.ensures.items) (search rules)
