@@ -4,6 +4,7 @@
 use anyhow::Error;
 use c_inline::inline::inline;
 use c_reader::read;
+use c_tree::flat::Flat;
 use c_tree::language::Language;
 use c_typer::type_tree;
 use ido_base::limits::MOST_SOURCE_BYTES;
@@ -77,18 +78,21 @@ fn source(alloc: Global, form: &Form) -> Result<Vec<u8>, AllocError> {
     Ok(text)
 }
 
-/// Whether the front takes the source.
-fn accepts(alloc: Global, text: &[u8]) -> bool {
+/// The form of a source without calls, where the front takes it.
+pub(crate) fn flat_form(alloc: Global, text: &[u8]) -> Option<Flat> {
     if text.len() > MOST_SOURCE_BYTES {
-        return false;
+        return None;
     }
     let Ok(tree) = read(alloc, Language::Plain, text) else {
-        return false;
+        return None;
     };
     let Ok(program) = type_tree(alloc, Language::Plain, tree) else {
-        return false;
+        return None;
     };
-    c_ranges::check(alloc, &program).is_ok() && inline(alloc, Language::Plain, &program).is_ok()
+    if c_ranges::check(alloc, &program).is_err() {
+        return None;
+    }
+    inline(alloc, Language::Plain, &program).ok()
 }
 
 /// Takes a source of the form through the front.
@@ -96,7 +100,7 @@ fn measure_form(rt: &HostRuntime, form: &Form) -> Result<(), Error> {
     let alloc = rt.alloc();
     let text = source(alloc, form)?;
     let start = Instant::now(rt)?;
-    let accepted = accepts(alloc, &text);
+    let accepted = flat_form(alloc, &text).is_some();
     let time = start.elapsed(rt)?;
     eprintln!(rt; "{}: {} ms", form.name, time.as_millis())?;
     println!(rt; "{}: {} bytes, accepted {accepted}", form.name, text.len())?;

@@ -1,182 +1,120 @@
-//! Analyses of two flow graphs of eight threads. The first has 681 nodes a thread, which assign a local and then one of 16 variables, over and
-//! over in one section; the second has a loop of 230 assignments a thread, of each of as many elements to any element of the same array. They
-//! are lowered, their live locals, registers and cuts are found, and the cuts are checked.
+//! Analyses of two flow graphs of eight threads, of sources near the greatest price of a thread. In the first each thread assigns a local and then one
+//! of 16 variables, over and over in one section, and has 514 nodes; in the second it has a loop of 230 assignments, of each of as many elements to
+//! any element of the same array. They are lowered, their live locals, registers and cuts are found, and the cuts are checked.
+use crate::front::flat_form;
 use anyhow::Error;
-use c_tree::expr::{Expr, LockName, Lvalue, Placed};
-use c_tree::flat::{Flat, Statement, Thread};
-use c_tree::tree::Name;
+use c_tree::flat::Flat;
 use flow_graph::graph::Graph;
 use flow_live::live;
 use flow_lower::lower;
-use ido_base::place::Place;
-use ido_ints::{Binary, Kind, Value};
 use reg_colour::colour;
 use region_checker::check;
 use region_cutter::cut;
 use std::alloc::{AllocError, Global};
 use std::time::Instant;
 
-const HERE: Place = Place(0);
-
-const KIND: Kind = Kind::Long;
-
 const THREADS: u32 = 8;
 
-const ROUNDS: u32 = 226;
+/// What stands before the threads.
+const VARIABLES: &[u8] = b"mutex q; persistent(q) long z[512];
+persistent(q) long A; persistent(q) long B; persistent(q) long C; persistent(q) long D;
+persistent(q) long E; persistent(q) long F; persistent(q) long G; persistent(q) long H;
+persistent(q) long I; persistent(q) long J; persistent(q) long K; persistent(q) long L;
+persistent(q) long M; persistent(q) long N; persistent(q) long O; persistent(q) long P;
+";
 
-const VARIABLES: u32 = 16;
+/// After a thread's name, of a thread with assignments in a row.
+const ROW: &[u8] = b" { long a; long b; long c; long d; long e; long f; long g; long h;
+long i; long j; long k; long l; long m; long n; long o; long p; lock(q);
+";
 
-const LOCALS: u32 = 16;
+/// A local and a variable are assigned, for which `x` and `X` stand.
+const ROUND: &[u8] = b"x = x + X; X = X + x;\n";
+
+const ROUNDS: u32 = 165;
+
+/// Locals of a thread with assignments in a row, and variables.
+const NAMES: u32 = 16;
+
+const ROW_END: &[u8] = b"unlock(q); }\n";
+
+/// After a thread's name, of a thread with a loop.
+const LOOP: &[u8] = b" { long i; lock(q); while (i < 3) {\n";
 
 const ELEMENTS: u32 = 230;
 
-fn placed(expr: Expr) -> Placed {
-    Placed { place: HERE, expr }
-}
+const LOOP_END: &[u8] = b"} unlock(q); }\n";
 
-fn sum(a: Global, left: Expr, right: Expr) -> Result<Expr, AllocError> {
-    Ok(Expr::Binary {
-        operator: Binary::Add,
-        left: Box::new(a, left)?,
-        right: Box::new(a, right)?,
-    })
-}
-
-/// The local takes what it holds and the variable's number.
-fn to_local(a: Global, local: u32, variable: u32) -> Result<Statement, AllocError> {
-    let held = Expr::Local { local, kind: KIND };
-    let number = Expr::Variable {
-        place: HERE,
-        variable,
-        kind: KIND,
-    };
-    Ok(Statement::Assign {
-        place: HERE,
-        target: Lvalue::Local {
-            place: HERE,
-            local,
-            kind: KIND,
-        },
-        value: placed(sum(a, held, number)?),
-    })
-}
-
-/// The variable takes its own number and what the local holds.
-fn to_variable(a: Global, local: u32, variable: u32) -> Result<Statement, AllocError> {
-    let number = Expr::Variable {
-        place: HERE,
-        variable,
-        kind: KIND,
-    };
-    let held = Expr::Local { local, kind: KIND };
-    Ok(Statement::Assign {
-        place: HERE,
-        target: Lvalue::Variable {
-            place: HERE,
-            variable,
-            kind: KIND,
-        },
-        value: placed(sum(a, number, held)?),
-    })
-}
-
-/// Any element of the array, by a local, takes the number of this one.
-fn to_element(a: Global, element: u32) -> Result<Statement, AllocError> {
-    let any = Expr::Local {
-        local: 0,
-        kind: KIND,
-    };
-    let one = Expr::Constant {
-        value: Value::reduce(KIND, element as i128),
-    };
-    Ok(Statement::Assign {
-        place: HERE,
-        target: Lvalue::Element {
-            place: HERE,
-            variable: 0,
-            kind: KIND,
-            index: placed(any),
-        },
-        value: placed(Expr::Element {
-            place: HERE,
-            variable: 0,
-            kind: KIND,
-            index_place: HERE,
-            index: Box::new(a, one)?,
-        }),
-    })
-}
-
-/// Assignments in a row.
-fn row(a: Global) -> Result<Vec<Statement>, AllocError> {
-    let mut row = Vec::new(a);
-    for round in 0..ROUNDS {
-        row.push(to_local(a, round % LOCALS, round % VARIABLES)?)?;
-        row.push(to_variable(a, round % LOCALS, round % VARIABLES)?)?;
+/// Adds the assignments of a local and of a variable.
+fn push_round(text: &mut Vec<u8>, number: u32) -> Result<(), AllocError> {
+    let name = (number % NAMES) as u8;
+    for byte in ROUND {
+        text.push(match *byte {
+            b'x' => b'a' + name,
+            b'X' => b'A' + name,
+            other => other,
+        })?;
     }
-    Ok(row)
+    Ok(())
 }
 
-/// Assignments in a loop.
-fn turns(a: Global) -> Result<Vec<Statement>, AllocError> {
-    let mut body = Vec::new(a);
+/// Adds assignments in a row.
+fn push_row(text: &mut Vec<u8>) -> Result<(), AllocError> {
+    text.extend_from_slice(ROW)?;
+    for number in 0..ROUNDS {
+        push_round(text, number)?;
+    }
+    text.extend_from_slice(ROW_END)
+}
+
+/// Adds three decimal digits.
+fn push_digits(text: &mut Vec<u8>, number: u32) -> Result<(), AllocError> {
+    for power in [100, 10, 1] {
+        text.push(b'0' + (number / power % 10) as u8)?;
+    }
+    Ok(())
+}
+
+/// Adds the assignment of an element, from the hundredth on, to any one.
+fn push_assignment(text: &mut Vec<u8>, element: u32) -> Result<(), AllocError> {
+    text.extend_from_slice(b"z[i & 511] = z[")?;
+    push_digits(text, element % 400 + 100)?;
+    text.extend_from_slice(b"];\n")
+}
+
+/// Adds assignments in a loop.
+fn push_loop(text: &mut Vec<u8>) -> Result<(), AllocError> {
+    text.extend_from_slice(LOOP)?;
     for element in 0..ELEMENTS {
-        body.push(to_element(a, element)?)?;
+        push_assignment(text, element)?;
     }
-    let mut all = Vec::new(a);
-    all.push(Statement::While {
-        place: HERE,
-        condition: placed(Expr::Local {
-            local: 0,
-            kind: KIND,
-        }),
-        body,
-    })?;
-    Ok(all)
+    text.extend_from_slice(LOOP_END)
 }
 
-/// A thread with one section, in which it does these.
-fn thread(a: Global, inner: Vec<Statement>) -> Result<Thread, AllocError> {
-    let mut body = Vec::new(a);
-    body.push(Statement::Lock {
-        place: HERE,
-        lock: LockName {
-            mutex: 0,
-            key: None,
-        },
-    })?;
-    for statement in inner {
-        body.push(statement)?;
+/// Adds the thread of this number.
+fn push_thread(text: &mut Vec<u8>, number: u32, looped: bool) -> Result<(), AllocError> {
+    text.extend_from_slice(b"thread t")?;
+    text.push(b'0' + (number % 10) as u8)?;
+    if looped {
+        push_loop(text)
+    } else {
+        push_row(text)
     }
-    body.push(Statement::Unlock {
-        place: HERE,
-        lock: LockName {
-            mutex: 0,
-            key: None,
-        },
-    })?;
-    Ok(Thread {
-        name: Name {
-            text: b"t".to_vec(a)?,
-            place: HERE,
-        },
-        locals: vec![in a; KIND; LOCALS as usize]?,
-        body,
-        closing: HERE,
-    })
 }
 
-fn flat(a: Global, looped: bool) -> Result<Flat, AllocError> {
-    let mut threads = Vec::new(a);
-    for _ in 0..THREADS {
-        let inner = if looped { turns(a)? } else { row(a)? };
-        threads.push(thread(a, inner)?)?;
+fn source(a: Global, looped: bool) -> Result<Vec<u8>, AllocError> {
+    let mut text = Vec::new(a);
+    text.extend_from_slice(VARIABLES)?;
+    for number in 0..THREADS {
+        push_thread(&mut text, number, looped)?;
     }
-    Ok(Flat {
-        mutexes: Vec::new(a),
-        variables: Vec::new(a),
-        threads,
-    })
+    Ok(text)
+}
+
+/// The form of the source, which the front takes.
+fn flat(a: Global, looped: bool) -> Result<Option<Flat>, AllocError> {
+    let text = source(a, looped)?;
+    Ok(flat_form(a, &text))
 }
 
 /// What is found of a flow graph.
@@ -215,7 +153,10 @@ fn analysed(a: Global, flat: &Flat) -> Result<Found, Error> {
 
 /// Analyses the graph of assignments in a row, or in a loop.
 fn measure_graph(rt: &HostRuntime, looped: bool) -> Result<(), Error> {
-    let flat = flat(rt.alloc(), looped)?;
+    let Some(flat) = flat(rt.alloc(), looped)? else {
+        println!(rt; "refused")?;
+        return Ok(());
+    };
     let start = Instant::now(rt)?;
     let found = analysed(rt.alloc(), &flat)?;
     let time = start.elapsed(rt)?;

@@ -53,7 +53,7 @@ fn are_ranks(ranks: &[Option<u32>], calls: &[Vec<Call>]) -> bool
 }
 
 /// A function whose calls are being followed, and how many of them were.
-#[derive(Clone, Copy, Debug)]
+#[derive(Clone, Copy)]
 struct Visit {
     function: usize,
     followed: usize,

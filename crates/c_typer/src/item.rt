@@ -165,6 +165,7 @@ pub fn function(
     ensures noted { OnOk result (first_of faults.new ≡ noted (first_of faults.old)
         (rules.item_faults globals.now.language (globals_of globals.now) (t.FunctionItem (v.function_of read.now)))) }
 {
+    let parameters = u32::try_from(read.parameters.len()).map_err(|_| AllocError)?;
     let mut scope = with_parameters(alloc, globals, faults, &read.parameters)?;
     let mut body = Vec::new(alloc);
     statements(
@@ -180,7 +181,7 @@ pub fn function(
     note_result(globals, &Scope::new(alloc), faults, &read.type_name);
     Ok(Function {
         name: copied(&read.name)?,
-        parameters: u32::try_from(read.parameters.len()).map_err(|_| AllocError)?,
+        parameters,
         locals: scope.kinds,
         body,
         result,

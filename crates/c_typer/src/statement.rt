@@ -1,5 +1,5 @@
 //! Statements. Each is made after those that were made before, in the order of the text.
-ghost use Rattle.std.specs.Prelude.{◌≡◌, Some, OnOk, IfOk};
+ghost use Rattle.std.specs.Prelude.{◌≡◌, ◌++◌, Some, OnOk, IfOk};
 ghost use Rattle.std.specs.Box.{box_value};
 ghost use Rattle.std.specs.Option.{option_map};
 ghost use Rattle.c_tree.specs.Exprs.{placed_of, lock_name_of};
@@ -146,7 +146,7 @@ fn lock_name(
     }
 }
 
-/// A declaration, as a statement at a place, and its local in the scope.
+/// A declaration, as a statement at a place after those that were made, and its local in the scope.
 fn declare(
     alloc: Global,
     globals: &Globals,
@@ -154,18 +154,20 @@ fn declare(
     faults: &mut Faults,
     place: Place,
     read: &tree::Declaration,
-) -> Result<program::Statement, AllocError>
-    ensures made { IfOk result (λ x. p.statement_of x ≡ typing.declaration_at (globals_of globals.now) place (scope_of scope.old) (v.declaration_of read.now)) }
+    made: &mut Vec<program::Statement>,
+) -> Result<(), AllocError>
+    ensures made { OnOk result (p.statements_of made.new.items ≡ statements_and (p.statements_of made.old.items)
+        (one (typing.declaration_at (globals_of globals.now) place (scope_of scope.old) (v.declaration_of read.now)))) }
     ensures noted { OnOk result (first_of faults.new ≡ noted (first_of faults.old)
         (rules.declaration_faults globals.now.language (globals_of globals.now) (scope_of scope.old) (v.declaration_of read.now))) }
     ensures scope { OnOk result (scope_of scope.new
         ≡ n.declared (globals_of globals.now) (scope_of scope.old) read.now.name.text.items (v.type_name_of read.now.type_name)) }
     ensures grows { OnOk result (ScopeGrows scope.old scope.new) }
 {
-    let made = declaration(alloc, globals, scope, faults, place, read)?;
+    let next = declaration(alloc, globals, scope, faults, place, read)?;
+    add(made, next)?;
     let refers = globals.referred(&read.type_name);
-    scope.declare(&read.name.text, read.type_name.kind(), refers)?;
-    Ok(made)
+    scope.declare(&read.name.text, read.type_name.kind(), refers)
 }
 
 /// The first part of a `for` at a place.
@@ -187,10 +189,7 @@ fn start_of_for(
 {
     match read {
         First::Absent => Ok(()),
-        First::Declaration(read) => {
-            let next = declare(alloc, globals, scope, faults, place, read)?;
-            add(made, next)
-        }
+        First::Declaration(read) => declare(alloc, globals, scope, faults, place, read, made),
         First::Assignment(read) => {
             let next = assignment(alloc, globals, scope, faults, place, read)?;
             add(made, next)
@@ -262,8 +261,7 @@ fn statement(
         Statement::Block(read) => block(alloc, globals, scope, faults, read, made),
         Statement::Empty { .. } => Ok(()),
         Statement::Declaration(read) => {
-            let next = declare(alloc, globals, scope, faults, read.place, read)?;
-            add(made, next)
+            declare(alloc, globals, scope, faults, read.place, read, made)
         }
         Statement::Assignment(read) => {
             let next = assignment(alloc, globals, scope, faults, read.place, read)?;
@@ -442,11 +440,36 @@ fn loop_of_for(
     ensures stays { OnOk result (Stays scope.old scope.new) }
 {
     let condition = condition_of_for(alloc, globals, scope, faults, place, &head.condition)?;
-    let end = last(alloc, globals, scope, faults, place, &head.last)?;
+    let body = body_of_for(alloc, globals, scope, faults, place, &head.last, read)?;
+    Ok(while_of(place, condition, body))
+}
+
+/// The body of the loop that a `for` is, with its last part at the end.
+#[cycle(statements)]
+#[tactic(auto, using(crate::proofs::FirstFaultLaws::noted_append))]
+fn body_of_for(
+    alloc: Global,
+    globals: &Globals,
+    scope: &mut Scope,
+    faults: &mut Faults,
+    place: Place,
+    end: &Option<Assignment>,
+    read: &Block,
+) -> Result<Vec<program::Statement>, AllocError>
+    ensures made { IfOk result (λ xs. p.statements_of xs.items
+        ≡ statements_and (typing.inside (globals_of globals.now) (scope_of scope.old) (v.block_of read.now)).made
+        (typing.last_at (globals_of globals.now) place (scope_of scope.old) (option_map v.assignment_of end.now))) }
+    ensures noted { OnOk result (first_of faults.new ≡ noted (first_of faults.old)
+        (rules.last_faults globals.now.language (globals_of globals.now) (scope_of scope.old) (option_map v.assignment_of end.now)
+        ++ rules.block_faults globals.now.language (globals_of globals.now) (scope_of scope.old) (v.block_of read.now))) }
+    ensures scope { OnOk result (scope_of scope.new ≡ (typing.inside (globals_of globals.now) (scope_of scope.old) (v.block_of read.now)).scope) }
+    ensures stays { OnOk result (Stays scope.old scope.new) }
+{
+    let end = last(alloc, globals, scope, faults, place, end)?;
     let mut body = body_of(alloc, globals, scope, faults, read)?;
     add_some(&mut body, end)?;
     body.shrink_to_fit();
-    Ok(while_of(place, condition, body))
+    Ok(body)
 }
 
 /// A block by itself.

@@ -1,4 +1,5 @@
 //! Words without a command, a source and a sink that fail, an input at its limit, and runs on threads.
+use ido_base::memory::OutOfMemory;
 use ido_cli::{alone, ido};
 use ido_outside::{Gate, MemSink, MemSource, OpenGate, SureSink, SureSource};
 use std::alloc::{AllocError, Global};
@@ -19,6 +20,18 @@ fn words_of(alloc: Global, texts: &[&str]) -> Result<Vec<String>, AllocError> {
     Ok(words)
 }
 
+/// A source whose read of this number fails, counted from 1.
+fn source_with(alloc: Global, input: &[u8], read: u64) -> Result<MemSource, AllocError> {
+    let fails = vec![in alloc; read]?;
+    Ok(MemSource::new(input.to_vec(alloc)?, 16, fails))
+}
+
+/// A sink whose write of this number fails, counted from 1.
+fn sink_with(alloc: Global, write: u64) -> Result<MemSink, OutOfMemory> {
+    let fails = vec![in alloc; write]?;
+    MemSink::new(alloc, 2_000, 8, fails)
+}
+
 /// What a call comes to where its read and its write of these numbers fail, counted from 1.
 fn call_with_faults<R: Threads + Wait + Sync>(
     rt: &R,
@@ -29,22 +42,20 @@ fn call_with_faults<R: Threads + Wait + Sync>(
     write: u64,
 ) -> Result<(u8, Vec<u8>), Fail> {
     let words = words_of(alloc, texts)?;
-    let reads = vec![in alloc; read]?;
-    let writes = vec![in alloc; write]?;
-    let mut source = MemSource::new(input.to_vec(alloc)?, 16, reads);
-    let mut sink = MemSink::new(alloc, 2_000, 8, writes)?;
+    let mut source = source_with(alloc, input, read)?;
+    let mut sink = sink_with(alloc, write)?;
     let status = ido(rt, alloc, &words, &mut source, &mut sink, &OpenGate);
     Ok((status, sink.into_written()))
 }
 
-/// Each read of a call fails in turn, and then each of its writes: how many of each there are.
-fn fail_each<R: Threads + Wait + Sync + Abort>(
+/// How many reads a call has that ends so: each fails in turn, and nothing is written.
+fn fail_reads<R: Threads + Wait + Sync + Abort>(
     rt: &R,
     alloc: Global,
     texts: &[&str],
     input: &[u8],
-) -> Result<(usize, usize), Fail> {
-    let (ended, output) = call_with_faults(rt, alloc, texts, input, 0, 0)?;
+    ended: u8,
+) -> Result<usize, Fail> {
     let mut reads = 0;
     for read in 1..1_000u32 {
         let (status, written) = call_with_faults(rt, alloc, texts, input, u64::from(read), 0)?;
@@ -54,6 +65,18 @@ fn fail_each<R: Threads + Wait + Sync + Abort>(
         assert_eq!(rt; (status, written.len()), (4, 0), "{texts:?}, read {read}");
         reads = read as usize;
     }
+    Ok(reads)
+}
+
+/// How many writes a call has that ends so, with this output: each fails in turn, and what was written before is the head of it.
+fn fail_writes<R: Threads + Wait + Sync + Abort>(
+    rt: &R,
+    alloc: Global,
+    texts: &[&str],
+    input: &[u8],
+    ended: u8,
+    output: &[u8],
+) -> Result<usize, Fail> {
     let mut writes = 0;
     for write in 1..1_000u32 {
         let (status, written) = call_with_faults(rt, alloc, texts, input, 0, u64::from(write))?;
@@ -61,45 +84,80 @@ fn fail_each<R: Threads + Wait + Sync + Abort>(
             break;
         }
         assert_eq!(rt;
-            (status, written.len()),
-            (5, 8 * (write as usize - 1)),
+            (status, written.len(), output.starts_with(&written)),
+            (5, 8 * (write as usize - 1), true),
             "{texts:?}, write {write}"
         );
-        assert!(rt; output.starts_with(&written), "{texts:?}, write {write}");
         writes = write as usize;
     }
-    Ok((reads, writes))
+    Ok(writes)
 }
 
-/// Each read and each write of each command fails in turn. Reads have 16 bytes at most, writes 8.
+/// Each read of a call fails in turn, and then each of its writes. Reads have 16 bytes at most, writes 8; there are so many writes.
+fn fail_each<R: Threads + Wait + Sync + Abort>(
+    rt: &R,
+    alloc: Global,
+    texts: &[&str],
+    input: &[u8],
+    writes: usize,
+) -> Result<(), Fail> {
+    let (ended, output) = call_with_faults(rt, alloc, texts, input, 0, 0)?;
+    let read = fail_reads(rt, alloc, texts, input, ended)?;
+    let written = fail_writes(rt, alloc, texts, input, ended, &output)?;
+    let reads = if input.is_empty() {
+        0
+    } else {
+        input.len().div_ceil(16) + 1
+    };
+    assert_eq!(rt; (read, written), (reads, writes), "{texts:?}");
+    Ok(())
+}
+
+/// Each read and each write of each command fails in turn.
 #[test]
 fn faults_outside(rt: HostRuntime) -> Result<(), Fail> {
-    let played = joined(rt.alloc(), ADD_ONE, b"s 0 100000\n")?;
-    let swept = joined(rt.alloc(), ADD_ONE, b"s 0 3\n")?;
-    let scheduled = joined(rt.alloc(), ADD_ONE, b"schedule 0*4\n")?;
-    let (_, object) = call(&rt, rt.alloc(), &["ido", "compile"], ADD_ONE)?;
-    let (_, image) = call(&rt, rt.alloc(), &["ido", "image"], &played)?;
     for (texts, input, writes) in [
-        (["ido", "play"].as_slice(), played.as_slice(), 4),
-        (&["ido", "image"], &played, 143),
-        (&["ido", "sweep"], &swept, 5),
-        (&["ido", "source"], &scheduled, 4),
-        (&["ido", "compile"], ADD_ONE, 32),
+        (["ido", "compile"].as_slice(), ADD_ONE, 32),
         (&["ido", "regions"], ADD_ONE, 10),
         (&["ido", "order"], ADD_ONE, 1),
         (&["ido", "seeded", "7", "1000"], ADD_ONE, 4),
         (&["ido", "live", "1000"], ADD_ONE, 4),
-        (&["ido", "list"], &object, 226),
-        (&["ido", "recover", "1000"], &image, 4),
+        (&["ido", "make", "1", "0"], b"", 130),
+        (&["ido", "load", "1", "0"], b"", 3),
     ] {
-        let found = fail_each(&rt, rt.alloc(), texts, input)?;
-        assert_eq!(rt; found, (input.len().div_ceil(16) + 1, writes), "{texts:?}");
+        fail_each(&rt, rt.alloc(), texts, input, writes)?;
     }
-    let made = fail_each(&rt, rt.alloc(), &["ido", "make", "1", "0"], b"")?;
-    assert_eq!(rt; made, (0, 130));
-    let loaded = fail_each(&rt, rt.alloc(), &["ido", "load", "1", "0"], b"")?;
-    assert_eq!(rt; loaded, (0, 3));
     Ok(())
+}
+
+/// That of commands whose input is a source with what follows it.
+#[test]
+fn faults_outside_a_script(rt: HostRuntime) -> Result<(), Fail> {
+    for (texts, rest, writes) in [
+        (["ido", "play"].as_slice(), b"s 0 100000\n".as_slice(), 4),
+        (&["ido", "image"], b"s 0 100000\n", 143),
+        (&["ido", "sweep"], b"s 0 3\n", 5),
+        (&["ido", "source"], b"schedule 0*4\n", 4),
+    ] {
+        let input = joined(rt.alloc(), ADD_ONE, rest)?;
+        fail_each(&rt, rt.alloc(), texts, &input, writes)?;
+    }
+    Ok(())
+}
+
+/// That of the listing of an object.
+#[test]
+fn faults_outside_an_object(rt: HostRuntime) -> Result<(), Fail> {
+    let (_, object) = call(&rt, rt.alloc(), &["ido", "compile"], ADD_ONE)?;
+    fail_each(&rt, rt.alloc(), &["ido", "list"], &object, 226)
+}
+
+/// That of a recovery by an image.
+#[test]
+fn faults_outside_an_image(rt: HostRuntime) -> Result<(), Fail> {
+    let played = joined(rt.alloc(), ADD_ONE, b"s 0 100000\n")?;
+    let (_, image) = call(&rt, rt.alloc(), &["ido", "image"], &played)?;
+    fail_each(&rt, rt.alloc(), &["ido", "recover", "1000"], &image, 4)
 }
 
 /// Words that name no command, and none at all.
@@ -116,6 +174,23 @@ fn no_words(rt: HostRuntime) -> Result<(), Fail> {
     Ok(())
 }
 
+/// An input of `play` that is so long, by line feeds at its end.
+fn long_input(alloc: Global, length: usize) -> Result<Vec<u8>, AllocError> {
+    let mut bytes = ADD_ONE.to_vec(alloc)?;
+    bytes.extend_from_slice(b"\n%%\ns 0 100000\n")?;
+    bytes.resize(length, b'\n')?;
+    Ok(bytes)
+}
+
+/// What is answered to an input of `play` that is so long, and what it was written to.
+fn play_long(alloc: Global, length: usize) -> Result<(Option<u8>, SureSink), Fail> {
+    let words = words_of(alloc, &["ido", "play"])?;
+    let mut source = SureSource::new(long_input(alloc, length)?, 65_536);
+    let mut sink = SureSink::new(alloc, 200, 7)?;
+    let answer = alone(alloc, &words, &mut source, &mut sink);
+    Ok((answer, sink))
+}
+
 #[test]
 fn limits_of_an_input(rt: HostRuntime) -> Result<(), Fail> {
     for (length, status, output) in [
@@ -126,13 +201,7 @@ fn limits_of_an_input(rt: HostRuntime) -> Result<(), Fail> {
         ),
         (67_108_865, 6, b"refused limit\n"),
     ] {
-        let words = words_of(rt.alloc(), &["ido", "play"])?;
-        let mut bytes = ADD_ONE.to_vec(rt.alloc())?;
-        bytes.extend_from_slice(b"\n%%\ns 0 100000\n")?;
-        bytes.resize(length, b'\n')?;
-        let mut source = SureSource::new(bytes, 65_536);
-        let mut sink = SureSink::new(rt.alloc(), 200, 7)?;
-        let answer = alone(rt.alloc(), &words, &mut source, &mut sink);
+        let (answer, sink) = play_long(rt.alloc(), length)?;
         assert_eq!(rt;
             (answer, sink.written()),
             (Some(status), Some(output)),
@@ -150,6 +219,15 @@ thread c { for (int i = 0; i < 100; i++) { lock(m); x = x + 1; unlock(m); } }
 thread d { for (int i = 0; i < 100; i++) { lock(m); x = x + 1; unlock(m); } }
 ";
 
+/// What is answered without threads, and what it was written to, where each first read and write would fail.
+fn left(alloc: Global, texts: &[&str]) -> Result<(Option<u8>, MemSink), Fail> {
+    let words = words_of(alloc, texts)?;
+    let mut source = source_with(alloc, ADD_ONE, 1)?;
+    let mut sink = sink_with(alloc, 1)?;
+    let answer = alone(alloc, &words, &mut source, &mut sink);
+    Ok((answer, sink))
+}
+
 /// What needs threads is left, with nothing read or written: this source and this sink would fail.
 #[test]
 fn left_to_threads(rt: HostRuntime) -> Result<(), Fail> {
@@ -159,10 +237,7 @@ fn left_to_threads(rt: HostRuntime) -> Result<(), Fail> {
         &["ido", "load", "1", "0"],
         &["ido", "sweep"],
     ] {
-        let words = words_of(rt.alloc(), texts)?;
-        let mut source = MemSource::new(ADD_ONE.to_vec(rt.alloc())?, 10, vec![in rt.alloc(); 1]?);
-        let mut sink = MemSink::new(rt.alloc(), 200, 7, vec![in rt.alloc(); 1]?)?;
-        let answer = alone(rt.alloc(), &words, &mut source, &mut sink);
+        let (answer, sink) = left(rt.alloc(), texts)?;
         assert_eq!(rt;
             (answer, sink.written()),
             (None, b"".as_slice()),
@@ -223,16 +298,29 @@ impl Gate for Meeting {
 /// Harts run beside each other.
 #[test]
 fn beside(rt: HostRuntime) -> Result<(), Fail> {
-    let words = words_of(rt.alloc(), &["ido", "live", "10000"])?;
-    let mut source = SureSource::new(HUNDREDS.to_vec(rt.alloc())?, 100);
-    let mut sink = SureSink::new(rt.alloc(), 65_536, 4096)?;
     let gate = Meeting::new();
-    let status = ido(&rt, rt.alloc(), &words, &mut source, &mut sink, &gate);
+    let (status, _) = call_at(&rt, rt.alloc(), &["ido", "live", "10000"], HUNDREDS, &gate)?;
     assert!(rt; status == 0 || status == 3, "status {status}");
     assert_eq!(rt; gate.missed.load(Ordering::SeqCst), false);
     assert_eq!(rt; gate.first.load(Ordering::SeqCst), MEETINGS);
     assert_eq!(rt; gate.second.load(Ordering::SeqCst), MEETINGS);
     Ok(())
+}
+
+/// The status and the output of a call whose threads pass the gate.
+fn call_at<R: Threads + Wait + Sync, G: Gate + Sync>(
+    rt: &R,
+    alloc: Global,
+    texts: &[&str],
+    input: &[u8],
+    gate: &G,
+) -> Result<(u8, Vec<u8>), Fail> {
+    let words = words_of(alloc, texts)?;
+    let mut source = SureSource::new(input.to_vec(alloc)?, 65_536);
+    let mut sink = SureSink::new(alloc, 4_194_304, 65_536)?;
+    let status = ido(rt, alloc, &words, &mut source, &mut sink, gate);
+    let output = sink.written().unwrap_or(b"").to_vec(alloc)?;
+    Ok((status, output))
 }
 
 /// The status and the output of a call.
@@ -242,12 +330,7 @@ fn call<R: Threads + Wait + Sync>(
     texts: &[&str],
     input: &[u8],
 ) -> Result<(u8, Vec<u8>), Fail> {
-    let words = words_of(alloc, texts)?;
-    let mut source = SureSource::new(input.to_vec(alloc)?, 65_536);
-    let mut sink = SureSink::new(alloc, 4_194_304, 65_536)?;
-    let status = ido(rt, alloc, &words, &mut source, &mut sink, &OpenGate);
-    let output = sink.written().unwrap_or(b"").to_vec(alloc)?;
-    Ok((status, output))
+    call_at(rt, alloc, texts, input, &OpenGate)
 }
 
 /// An input of a source and what stands after its line `%%`.
@@ -258,7 +341,71 @@ fn joined(alloc: Global, source: &[u8], rest: &[u8]) -> Result<Vec<u8>, AllocErr
     Ok(input)
 }
 
-/// A journal is an input of `play`, and where its report is settled, it is that of the source's own run by the schedule in it.
+/// A program that is made of these rounds.
+fn made<R: Threads + Wait + Sync + Abort>(
+    rt: &R,
+    alloc: Global,
+    rounds: &str,
+) -> Result<Vec<u8>, Fail> {
+    let (status, source) = call(rt, alloc, &["ido", "make", rounds, "12345"], b"")?;
+    assert_eq!(rt; status, 0);
+    Ok(source)
+}
+
+/// The journal of a run of a source, with that source before it.
+fn journal_of<R: Threads + Wait + Sync + Abort>(
+    rt: &R,
+    alloc: Global,
+    texts: &[&str],
+    source: &[u8],
+) -> Result<Vec<u8>, Fail> {
+    let (status, journal) = call(rt, alloc, texts, source)?;
+    assert!(rt; status == 0 && journal.starts_with(source), "{texts:?}");
+    Ok(journal)
+}
+
+/// The source's own run by these steps is told by the same report.
+fn runs_so<R: Threads + Wait + Sync + Abort>(
+    rt: &R,
+    alloc: Global,
+    source: &[u8],
+    steps: &[u8],
+    status: u8,
+    report: &[u8],
+) -> Result<(), Fail> {
+    let input = joined(alloc, source, steps)?;
+    let (own, output) = call(rt, alloc, &["ido", "source"], &input)?;
+    assert_eq!(rt; (own, output.as_slice()), (status, report));
+    Ok(())
+}
+
+/// The journal of a run is an input of `play`, and where its report is settled, it is that of the source's own run by the schedule in it.
+fn replay<R: Threads + Wait + Sync + Abort>(
+    rt: &R,
+    alloc: Global,
+    texts: &[&str],
+    source: &[u8],
+    settles: bool,
+) -> Result<(), Fail> {
+    let journal = journal_of(rt, alloc, texts, source)?;
+    let (status, report) = call(rt, alloc, &["ido", "play"], &journal)?;
+    assert!(rt;
+        status == 0 || status == 3 && !settles,
+        "{texts:?}: {status}"
+    );
+    match str::from_utf8(&report).unwrap_or("").split_once("schedule") {
+        Some((_, steps)) => runs_so(
+            rt,
+            alloc,
+            source,
+            steps.trim_start().as_bytes(),
+            status,
+            &report,
+        ),
+        None => Ok(()),
+    }
+}
+
 #[test]
 fn replayed(rt: HostRuntime) -> Result<(), Fail> {
     for (rounds, texts, settles) in [
@@ -292,20 +439,8 @@ fn replayed(rt: HostRuntime) -> Result<(), Fail> {
             false,
         ),
     ] {
-        let (made, source) = call(&rt, rt.alloc(), &["ido", "make", rounds, "12345"], b"")?;
-        assert_eq!(rt; made, 0);
-        let (told, journal) = call(&rt, rt.alloc(), texts, &source)?;
-        assert!(rt; told == 0 && journal.starts_with(&source), "{texts:?}");
-        let (status, report) = call(&rt, rt.alloc(), &["ido", "play"], &journal)?;
-        assert!(rt;
-            status == 0 || status == 3 && !settles,
-            "{texts:?}: {status}"
-        );
-        if let Some((_, steps)) = str::from_utf8(&report).unwrap_or("").split_once("schedule") {
-            let input = joined(rt.alloc(), &source, steps.trim_start().as_bytes())?;
-            let own = call(&rt, rt.alloc(), &["ido", "source"], &input)?;
-            assert_eq!(rt; own, (status, report.to_vec(rt.alloc())?), "{texts:?}");
-        }
+        let source = made(&rt, rt.alloc(), rounds)?;
+        replay(&rt, rt.alloc(), texts, &source, settles)?;
     }
     Ok(())
 }
@@ -333,23 +468,19 @@ impl Gate for Ends {
 /// Points of a sweep are looked at beside each other, the first of four beside the last.
 #[test]
 fn swept_beside(rt: HostRuntime) -> Result<(), Fail> {
-    let words = words_of(rt.alloc(), &["ido", "sweep"])?;
-    let mut bytes = ADD_ONE.to_vec(rt.alloc())?;
-    bytes.extend_from_slice(b"\n%%\ns 0 3\n")?;
-    let mut source = SureSource::new(bytes, 65_536);
-    let mut sink = SureSink::new(rt.alloc(), 200, 7)?;
+    let input = joined(rt.alloc(), ADD_ONE, b"s 0 3\n")?;
     let gate = Ends {
         meeting: Meeting::new(),
     };
-    let status = ido(&rt, rt.alloc(), &words, &mut source, &mut sink, &gate);
+    let (status, output) = call_at(&rt, rt.alloc(), &["ido", "sweep"], &input, &gate)?;
     assert_eq!(rt; gate.meeting.missed.load(Ordering::SeqCst), false);
     assert_eq!(rt; gate.meeting.first.load(Ordering::SeqCst), 1);
     assert_eq!(rt; gate.meeting.second.load(Ordering::SeqCst), 1);
     assert_eq!(rt;
-        (status, sink.written()),
+        (status, output.as_slice()),
         (
             0,
-            Some(b"from 0 to 3\nx = 5\nended 0 0\nschedule\n".as_slice())
+            b"from 0 to 3\nx = 5\nended 0 0\nschedule\n".as_slice()
         )
     );
     Ok(())

@@ -17,8 +17,9 @@ use c_typer::type_tree;
 use flat_analysis::analyse;
 use flat_compile::{Translated, translate};
 use ido_base::event::Event;
+use ido_base::limits::MOST_SOURCE_BYTES;
 use ido_base::log::Log;
-use ido_compile::{checked, compile, flatten};
+use ido_compile::{Compiled, compile};
 use run_tracker::life::Life;
 use std::alloc::Global;
 use std::test::Fail;
@@ -56,15 +57,15 @@ fn paid_form(alloc: Global, text: &[u8]) -> Result<Flat, Fail>
     Ok(flat)
 }
 
-/// The text, compiled, where its threads log with masks.
-fn with_masks(alloc: Global, text: &[u8]) -> Result<Translated, Fail>
-    requires { length text.now ≤ MOST_SOURCE_BYTES }
+/// What a machine runs for a form, where its threads log with lists.
+fn listed(alloc: Global, flat: &Flat) -> Result<Translated, Fail>
+    requires formed { IsWellFormed (flat_of flat.now) }
+    requires priced { price_fault Full (flat_of flat.now) ≡ None }
     ensures limits { IfOk result (λ made. IsWithinLimits made.object) }
     ensures marks { IfOk result (λ made. length made.marks.threads.items ≡ length made.object.code.items) }
 {
-    let flat = flatten(alloc, text)?;
-    let analysis = checked(alloc, text, &flat)?;
-    let made = translate(alloc, Log::V1, &analysis)?;
+    let analysis = analyse(alloc, Language::Full, flat)?;
+    let made = translate(alloc, Log::V2, &analysis)?;
     Ok(made)
 }
 
@@ -75,9 +76,18 @@ fn with_lists(alloc: Global, text: &[u8]) -> Result<Translated, Fail>
     ensures marks { IfOk result (λ made. length made.marks.threads.items ≡ length made.object.code.items) }
 {
     let flat = paid_form(alloc, text)?;
-    let analysis = analyse(alloc, Language::Full, &flat)?;
-    let made = translate(alloc, Log::V2, &analysis)?;
-    Ok(made)
+    listed(alloc, &flat)
+}
+
+/// The text, compiled, where its threads log with masks.
+fn with_masks(alloc: Global, text: &[u8]) -> Result<Translated, Fail>
+    requires { length text.now ≤ MOST_SOURCE_BYTES }
+    ensures limits { IfOk result (λ made. IsWithinLimits made.object) }
+    ensures marks { IfOk result (λ made. length made.marks.threads.items ≡ length made.object.code.items) }
+{
+    let compiled = compile(alloc, text)?;
+    let Compiled { translated, .. } = compiled;
+    Ok(translated)
 }
 
 /// The text, compiled, where its threads log so.
@@ -138,15 +148,6 @@ fn step_to_end(life: &mut Life) {
     }
 }
 
-/// The life of a text, compiled so, at its start.
-fn life_of(alloc: Global, log: Log, text: &[u8]) -> Result<Life, Fail>
-    requires { length text.now ≤ MOST_SOURCE_BYTES }
-{
-    let made = translated(alloc, log, text)?;
-    let life = Life::new(alloc, &made.object, &made.marks, ROOM)?;
-    Ok(life)
-}
-
 fn look(life: &Life) -> Seen {
     Seen {
         settled: life.settled(),
@@ -156,100 +157,110 @@ fn look(life: &Life) -> Seen {
     }
 }
 
-/// What a life comes to in which no power is lost.
-fn run(alloc: Global, log: Log, text: &[u8]) -> Result<Seen, Fail>
-    requires { length text.now ≤ MOST_SOURCE_BYTES }
-{
-    let mut life = life_of(alloc, log, text)?;
-    step_to_end(&mut life);
-    Ok(look(&life))
+/// What a life is when power is lost, two steps after so many fences; it is lost then.
+fn lose_power_after(life: &mut Life, fences: u64) -> Seen {
+    step_to_fence(life, fences);
+    step(life);
+    step(life);
+    let before = look(life);
+    lose_power(life);
+    before
 }
 
-/// What a life is when power is lost, two steps after so many fences, and what it comes to.
-fn run_through_loss(alloc: Global, log: Log, text: &[u8], fences: u64) -> Result<[Seen; 2], Fail>
+/// What a life is when power is lost, if it is after so many fences.
+fn lost(life: &mut Life, fences: Option<u64>) -> Option<Seen> {
+    match fences {
+        Some(fences) => Some(lose_power_after(life, fences)),
+        None => None,
+    }
+}
+
+/// The life of a text, compiled so, at its start.
+fn life_of(alloc: Global, log: Log, text: &[u8]) -> Result<Life, Fail>
     requires { length text.now ≤ MOST_SOURCE_BYTES }
 {
+    let made = translated(alloc, log, text)?;
+    let life = Life::new(alloc, &made.object, &made.marks, ROOM)?;
+    Ok(life)
+}
+
+/// What the life of a text is when power is lost, if it is, and what it comes to.
+fn seen(
+    alloc: Global,
+    log: Log,
+    text: &[u8],
+    fences: Option<u64>,
+) -> Result<(Option<Seen>, Seen), Fail> {
+    if text.len() > MOST_SOURCE_BYTES {
+        return Err("a text too long".into());
+    }
     let mut life = life_of(alloc, log, text)?;
-    step_to_fence(&mut life, fences);
-    step(&mut life);
-    step(&mut life);
-    let before = look(&life);
-    lose_power(&mut life);
+    let before = lost(&mut life, fences);
     step_to_end(&mut life);
-    Ok([before, look(&life)])
+    Ok((before, look(&life)))
+}
+
+/// The code is another one and for lists, and its boundaries stand where those of the first stand.
+fn are_of_two_logs(first: &Translated, second: &Translated) -> bool {
+    second.object != first.object
+        && second.object.log == Log::V2
+        && second.cuts.before.as_slice() == first.cuts.before.as_slice()
 }
 
 #[test]
 fn each_log_has_its_code(rt: HostRuntime) -> Result<(), Fail> {
-    let a = rt.alloc();
-    let compiled = compile(a, NESTED)?;
-    let first = translated(a, Log::V1, NESTED)?;
-    let second = translated(a, Log::V2, NESTED)?;
-    assert!(rt; first.object == compiled.translated.object && second.object != first.object);
-    assert!(rt;
-        second.object.log == Log::V2
-            && second.cuts.before.as_slice() == first.cuts.before.as_slice()
-    );
+    let first = with_masks(rt.alloc(), NESTED)?;
+    let second = with_lists(rt.alloc(), NESTED)?;
+    assert!(rt; are_of_two_logs(&first, &second));
     Ok(())
 }
 
-#[test]
-fn each_log_runs(rt: HostRuntime) -> Result<(), Fail> {
-    let a = rt.alloc();
-    let wanted = Seen {
-        settled: true,
-        word: BOTH,
-        steps: 8,
-        ended: 1,
-    };
-    assert_eq!(rt;
-        [run(a, Log::V1, NESTED)?, run(a, Log::V2, NESTED)?],
-        [wanted, wanted]
-    );
-    Ok(())
-}
+/// A life in which the thread has come to its end, with both variables written.
+const BOTH_WRITTEN: Seen = Seen {
+    settled: true,
+    word: BOTH,
+    steps: 8,
+    ended: 1,
+};
 
-/// Power is lost between the two stores, long after the second lock's point: recovery takes both locks, since an unlock of one that isn't
-/// held is stuck, and goes on at the first store.
-#[test]
-fn power_lost_with_two_locks(rt: HostRuntime) -> Result<(), Fail> {
-    let before = Seen {
-        settled: false,
-        word: 0,
-        steps: 2,
-        ended: 0,
-    };
-    let after = Seen {
-        settled: true,
-        word: BOTH,
-        steps: 8,
-        ended: 1,
-    };
-    assert_eq!(rt;
-        run_through_loss(rt.alloc(), Log::V2, NESTED, 4)?,
-        [before, after]
-    );
-    Ok(())
-}
+/// Power is lost between the two stores, long after the second lock's point.
+const TWO_HELD: Seen = Seen {
+    settled: false,
+    word: 0,
+    steps: 2,
+    ended: 0,
+};
 
-/// Power is lost where all sixteen are held: recovery takes each, and the section is ended.
+/// Power is lost where all sixteen locks are held.
+const ALL_HELD: Seen = Seen {
+    settled: false,
+    word: 0,
+    steps: 16,
+    ended: 0,
+};
+
+/// Each of sixteen locks is taken and given back, and the store is made.
+const ALL_GIVEN: Seen = Seen {
+    settled: true,
+    word: 7,
+    steps: 34,
+    ended: 1,
+};
+
+/// How threads log, a text, after how many fences power is lost, what the life is then, and what it comes to. Recovery takes the locks that are
+/// held, since an unlock of one that isn't is stuck, and goes on at the first store.
+const ROWS: [(Log, &[u8], Option<u64>, Option<Seen>, Seen); 4] = [
+    (Log::V1, NESTED, None, None, BOTH_WRITTEN),
+    (Log::V2, NESTED, None, None, BOTH_WRITTEN),
+    (Log::V2, NESTED, Some(4), Some(TWO_HELD), BOTH_WRITTEN),
+    (Log::V2, SIXTEEN, Some(32), Some(ALL_HELD), ALL_GIVEN),
+];
+
 #[test]
-fn power_lost_with_sixteen_locks(rt: HostRuntime) -> Result<(), Fail> {
-    let before = Seen {
-        settled: false,
-        word: 0,
-        steps: 16,
-        ended: 0,
-    };
-    let after = Seen {
-        settled: true,
-        word: 7,
-        steps: 34,
-        ended: 1,
-    };
-    assert_eq!(rt;
-        run_through_loss(rt.alloc(), Log::V2, SIXTEEN, 32)?,
-        [before, after]
-    );
+fn lives(rt: HostRuntime) -> Result<(), Fail> {
+    for (log, text, fences, before, after) in ROWS {
+        let found = seen(rt.alloc(), log, text, fences)?;
+        assert_eq!(rt; found, (before, after), "{log:?}, {fences:?}");
+    }
     Ok(())
 }

@@ -2,7 +2,7 @@
 use run_scripts::runs::Run;
 
 /// What stands after the source.
-#[derive(Debug, Drop)]
+#[derive(Drop)]
 pub struct State {
     /// The durable words of the variables.
     pub variables: Vec<u64>,

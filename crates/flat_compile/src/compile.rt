@@ -18,7 +18,7 @@ use rv64_link::link::link;
 use std::alloc::Global;
 
 /// An accepted program, compiled.
-#[derive(Debug, Drop)]
+#[derive(Drop)]
 pub struct Translated {
     pub object: Object,
     /// Of each thread the addresses of its nodes, and where recovery may resume it.

@@ -26,7 +26,7 @@ use rv64_isa::object::Marks;
 use std::alloc::Global;
 
 /// A local that is live at a node.
-#[derive(Clone, Copy, Debug, PartialEq, Eq, Drop)]
+#[derive(Clone, Copy, PartialEq, Eq, Drop)]
 pub struct LiveLocal {
     /// The number of its register.
     pub register: u8,
@@ -35,7 +35,7 @@ pub struct LiveLocal {
 }
 
 /// Where a thread may be resumed, and what it has there.
-#[derive(Debug, Drop)]
+#[derive(Drop)]
 pub struct Resume {
     pub address: u64,
     /// The node that it goes on at.

@@ -1,7 +1,7 @@
 //! Registers of locals.
 
 /// Of each thread the registers of its locals, in the order of their numbers. Registers are counted from 0.
-#[derive(Debug, Drop)]
+#[derive(Drop)]
 pub struct Colours {
     pub threads: Vec<Vec<u8>>,
 }

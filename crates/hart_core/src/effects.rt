@@ -3,7 +3,7 @@ use rv64_isa::field::Register;
 use rv64_isa::instr::{LoadKind, StoreKind};
 
 /// What an instruction does, by its operands. What it reads from registers it has read already.
-#[derive(Clone, Copy, Debug, PartialEq, Eq, Drop)]
+#[derive(Clone, Copy, Drop)]
 pub enum Effect {
     /// Writes a register, and goes on at the pc.
     Writes {

@@ -7,7 +7,7 @@ use line_memory::queue::Queue;
 use rv64_isa::field::Register;
 
 /// The state of a hart. Register x0 holds 0 unless it is set here.
-#[derive(Debug, Drop)]
+#[derive(Drop)]
 pub struct Hart {
     /// x0 to x31.
     pub registers: [u64; 32],

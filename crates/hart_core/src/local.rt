@@ -11,7 +11,7 @@ use rv64_isa::field::Register;
 use rv64_isa::instr::Instr;
 
 /// What local steps change of a hart.
-#[derive(Clone, Copy, Debug, Drop)]
+#[derive(Clone, Copy, Drop)]
 pub struct LocalState {
     /// x0 to x31.
     pub registers: [u64; 32],
@@ -20,7 +20,7 @@ pub struct LocalState {
 }
 
 /// What a local step does: it writes a register, x0 where it writes none, and goes on at the pc.
-#[derive(Clone, Copy, Debug, Drop)]
+#[derive(Clone, Copy, Drop)]
 pub struct LocalWrite {
     pub register: Register,
     pub value: u64,

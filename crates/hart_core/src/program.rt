@@ -12,7 +12,7 @@ use std::alloc::Global;
 use std::marker::Model;
 
 /// What a machine runs: each thread's instructions, and the words that are none.
-#[derive(Debug, Drop)]
+#[derive(Drop)]
 pub struct Program {
     code: Vec<Vec<Slot>>,
     starts: Vec<u64>,

@@ -4,7 +4,7 @@ ghost use Rattle.std.specs.Prelude.{◌≡◌, ℕ, List};
 use std::marker::Model;
 
 /// A report: contracts see its bytes.
-#[derive(Debug, Drop)]
+#[derive(Drop)]
 pub struct Report {
     bytes: Vec<u8>,
 }

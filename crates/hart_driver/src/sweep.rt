@@ -14,7 +14,7 @@ use std::thread::{Threads, join};
 const MOST_PARTS: u32 = 32;
 
 /// What became of a run that was cut short at a point.
-#[derive(Debug, Drop)]
+#[derive(Drop)]
 pub struct Outcome {
     /// Whether nothing is left to be done.
     pub settled: bool,

@@ -31,7 +31,7 @@ use std::sync::Wait;
 use std::thread::Threads;
 
 /// What is asked of a source alone.
-#[derive(Clone, Copy, Debug)]
+#[derive(Clone, Copy)]
 enum Product {
     /// Its object.
     Object,

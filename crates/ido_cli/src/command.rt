@@ -21,7 +21,7 @@ use std::alloc::{AllocError, Global};
 const MOST_CRASHES: usize = 1000;
 
 /// A command of the program.
-#[derive(Debug, Drop)]
+#[derive(Drop)]
 pub enum Command {
     /// Writes the object of a source.
     Compile,

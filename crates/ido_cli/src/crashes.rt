@@ -5,7 +5,7 @@ use std::marker::Model;
 
 /// The crash words of a run, which say when each of its crashes comes: of `seeded` after how many draws, of `live` after how many
 /// events of a leg at the latest.
-#[derive(Debug, Drop)]
+#[derive(Drop)]
 pub struct Crashes {
     words: Vec<u64>,
 }

@@ -42,7 +42,7 @@ use std::thread::Threads;
 pub const MOST_LEG_EVENTS: u64 = 3_999_000;
 
 /// What is asked of a run on threads.
-#[derive(Clone, Copy, Debug)]
+#[derive(Clone, Copy)]
 pub struct LiveRun<'a> {
     /// Turns of each worker in a leg.
     pub turns: u32,

@@ -32,7 +32,7 @@ use run_tracker::life::Life;
 use std::alloc::Global;
 
 /// What is asked of the run of a script.
-#[derive(Clone, Copy, Debug)]
+#[derive(Clone, Copy)]
 pub enum Asked {
     /// The report of the run.
     Report,

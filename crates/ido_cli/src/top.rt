@@ -20,7 +20,7 @@ use std::thread::Threads;
 const OUT_OF_MEMORY: u8 = 7;
 
 /// Why nothing is said.
-#[derive(Debug, Drop)]
+#[derive(Drop)]
 enum Unsaid {
     /// The source failed.
     Failed,

@@ -18,7 +18,7 @@ use rv64_isa::phase::Phase;
 use std::alloc::Global;
 
 /// A machine that runs an object, one event at a time.
-#[derive(Debug, Drop)]
+#[derive(Drop)]
 pub struct Machine {
     program: Program,
     phases: Vec<Phase>,

@@ -5,47 +5,34 @@ use crate::schedules::ScheduleFault;
 use file_fields::error::ReadError;
 use ido_base::memory::OutOfMemory;
 use ido_base::place::Place;
-use thiserror::Error;
 
 /// The first fault of bytes, in the order of these variants.
-#[derive(Clone, Copy, Debug, PartialEq, Eq, Drop, Error)]
+#[derive(Clone, Copy, Drop)]
 pub enum ImageError {
     /// The first 8 bytes are others.
-    #[error("no image")]
     Magic,
     /// The version, at byte 8, is another.
-    #[error("another version")]
     Version,
     /// A field isn't whole. The place is the end of the bytes.
-    #[error("bytes are missing")]
     Cut(Place),
     /// The source is too long, the compiler refuses it, or its variables take another number of bytes.
-    #[error("another source")]
     Source,
     /// The image ends there, and more bytes follow.
-    #[error("bytes past the end")]
     Rest(Place),
     /// The thread can't be resumed at its point.
-    #[error("no point of thread {thread}")]
     Point { thread: u32 },
     /// Where the thread is resumed, it holds other mutexes than its log says.
-    #[error("other mutexes of thread {thread}")]
     Mask { thread: u32 },
     /// No local that is live in the register where the thread is resumed has such a number; or, of register 28,
     /// no element that the thread may write next has this address.
-    #[error("another number in register {register} of thread {thread}")]
     Slot { thread: u32, register: u8 },
     /// Both threads hold the mutex of this number.
-    #[error("mutex {lock} is held by threads {first} and {second}")]
     Shared { lock: u32, first: u32, second: u32 },
     /// The step, counted from 1 over all lives, is none that the source makes, or isn't told as it should be.
-    #[error("no step {step}")]
     Schedule { step: u64 },
     /// The life, counted from 1, isn't the last, and a thread stands inside a section at its end.
-    #[error("no life after {life}")]
     Lives { life: u64 },
     /// An allocation was refused.
-    #[error("out of memory")]
     Memory,
 }
 

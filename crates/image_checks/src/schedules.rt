@@ -18,19 +18,15 @@ use ido_base::memory::OutOfMemory;
 use run_scripts::runs::{Run, push_steps};
 use source_machine::SourceState;
 use std::alloc::Global;
-use thiserror::Error;
 
 /// Why runs tell no schedules.
-#[derive(Clone, Copy, Debug, PartialEq, Eq, Drop, Error)]
+#[derive(Clone, Copy, Drop)]
 pub(crate) enum ScheduleFault {
     /// The first step at fault. Steps count from 1 over all lives.
-    #[error("step {0} is at fault")]
     Step(u64),
     /// The first life that isn't the last and leaves a thread inside a section. Lives count from 1.
-    #[error("life {0} doesn't end")]
     Life(u64),
     /// An allocation was refused.
-    #[error("out of memory")]
     Memory,
 }
 

@@ -3,7 +3,7 @@ use crate::queue::Saved;
 
 /// The newest value of a word and its durable one, with their version numbers: version n is the n-th value
 /// since the start or the last crash.
-#[derive(Clone, Copy, Debug, PartialEq, Eq, Drop)]
+#[derive(Clone, Copy, PartialEq, Eq, Drop)]
 pub struct Cell {
     pub live: u64,
     pub version: u64,

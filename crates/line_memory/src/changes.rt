@@ -9,7 +9,7 @@ const ROOM: usize = 1024;
 
 /// The numbers of the words that were stored to, in room that is made once. Where that is full, every word
 /// counts as stored to.
-#[derive(Debug, Drop)]
+#[derive(Drop)]
 pub struct Changes {
     numbers: Vec<u32>,
     is_all: bool,

@@ -16,7 +16,7 @@ use memory_layout::variables::VARIABLES_BASE;
 use std::alloc::Global;
 
 /// All words of the variables and of the logs of at most 8 threads, as one flat array.
-#[derive(Debug, Drop)]
+#[derive(Drop)]
 pub struct LineMemory {
     cells: Vec<Cell>,
     changes: Changes,

@@ -2,21 +2,21 @@
 ghost use Rattle.std.specs.Prelude.{◌<◌, ◌≤◌};
 
 /// A value that a word had, and its version.
-#[derive(Clone, Copy, Debug, PartialEq, Eq, Drop)]
+#[derive(Clone, Copy, PartialEq, Eq, Drop)]
 pub struct Saved {
     pub value: u64,
     pub version: u64,
 }
 
 /// A line as it was when it was cleaned: of each of its words the value and the version.
-#[derive(Clone, Copy, Debug, PartialEq, Eq, Drop)]
+#[derive(Clone, Copy, PartialEq, Eq, Drop)]
 pub struct Snapshot {
     pub line: u32,
     pub words: [Saved; 8],
 }
 
 /// A queue of at most 16 cleaned lines, the oldest first.
-#[derive(Debug, Drop)]
+#[derive(Drop)]
 pub struct Queue {
     ring: [Snapshot; 16],
     head: u32,

@@ -19,7 +19,7 @@ use std::alloc::Global;
 use std::marker::Model;
 
 /// The locks that are held before each step of each thread, by its names.
-#[derive(Debug, Drop)]
+#[derive(Drop)]
 pub struct Held {
     threads: Vec<Vec<NameSet>>,
 }

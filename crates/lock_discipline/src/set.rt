@@ -10,7 +10,7 @@ use std::alloc::AllocError;
 use std::marker::Model;
 
 /// Which of a thread's names are held.
-#[derive(Debug, Drop)]
+#[derive(Drop)]
 pub struct NameSet {
     /// Bit i is set where name i is held.
     mask: u64,

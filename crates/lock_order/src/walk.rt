@@ -12,14 +12,14 @@ use ido_base::place::Place;
 use std::alloc::Global;
 
 /// A `lock` that a walk has met.
-#[derive(Clone, Copy, Debug, Drop)]
+#[derive(Clone, Copy, Drop)]
 pub struct Met {
     pub mutex: u32,
     pub place: Place,
 }
 
 /// How far a walk through a thread has come.
-#[derive(Debug, Drop)]
+#[derive(Drop)]
 pub struct Walk {
     /// Of each mutex whether it is held.
     pub held: Vec<bool>,

@@ -12,7 +12,7 @@ use std::marker::Model;
 
 /// Of each lock the hart that holds it, or none. Harts are any numbers; of the first ones it counts what each holds, so that no lock has to be looked at to see
 /// that such a hart holds none.
-#[derive(Debug, Drop)]
+#[derive(Drop)]
 pub struct LockTable {
     holders: Vec<Option<u32>>,
     held: Vec<u32>,

@@ -11,7 +11,7 @@ use rv64_isa::field::{Immediate, Register, ShiftCount, WordShiftCount};
 use rv64_isa::instr::{ImmediateOperation, Instr, Operation, ShiftOperation};
 
 /// An instruction that has a constant in place of its second register, but for its registers.
-#[derive(Clone, Copy, Debug, PartialEq, Eq)]
+#[derive(Clone, Copy)]
 pub enum ImmediateForm {
     Number {
         operation: ImmediateOperation,

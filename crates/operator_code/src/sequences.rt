@@ -6,7 +6,7 @@ use ido_base::memory::OutOfMemory;
 use rv64_isa::instr::Instr;
 
 /// At most two instructions, in order.
-#[derive(Clone, Copy, Debug, PartialEq, Eq, Drop)]
+#[derive(Clone, Copy, Drop)]
 pub enum Sequence {
     Empty,
     One(Instr),

@@ -60,7 +60,7 @@ fn is_step(number: u32, steps: u32, event: Event) -> bool
 
 impl Counter {
     /// A core before any event, that takes so many.
-    pub fn new(alloc: Global, most: u32) -> Result<Counter, AllocError>
+    pub(crate) fn new(alloc: Global, most: u32) -> Result<Counter, AllocError>
         ensures journal { IfOk result (λ core. core.journal.items ≡ []) }
         ensures most { IfOk result (λ core. core.most ≡ most) }
     {

@@ -1,7 +1,7 @@
 //! A source and the graph of its flat form, stepped beside each other: what C leaves open, worked by hand.
 use crate::flats::{HERE, KIND, assign, binary, flat};
 use c_tree::expr::{Expr, LockName, Lvalue};
-use c_tree::flat::Statement;
+use c_tree::flat::{Flat, Statement};
 use flow_lower::lower;
 use flow_machine::FlowState;
 use ido_ints::{Binary, Kind, Unary, Value};
@@ -66,6 +66,53 @@ fn keep(
     Ok(assign(HERE, target, binary(a, operator, left, right)?))
 }
 
+/// The mutex's lock.
+const LOCK: LockName = LockName {
+    mutex: 0,
+    key: None,
+};
+
+/// `lock(m); a = a + 1; c = b / z; d = b % z;`.
+fn first_half(a: Global) -> Result<Vec<Statement>, AllocError> {
+    let mut body = Vec::new(a);
+    body.push(Statement::Lock {
+        place: HERE,
+        lock: LOCK,
+    })?;
+    body.push(keep(a, 0, Binary::Add, read(0), one(KIND))?)?;
+    body.push(keep(a, 2, Binary::Div, read(1), read(4))?)?;
+    body.push(keep(a, 3, Binary::Rem, read(1), read(4))?)?;
+    Ok(body)
+}
+
+/// `-1`.
+fn minus_one(a: Global) -> Result<Expr, AllocError> {
+    Ok(Expr::Unary {
+        operator: Unary::Minus,
+        operand: Box::new(a, one(KIND))?,
+    })
+}
+
+/// Adds `b = a / (z - 1); e = -1 < 1u; unlock(m);`.
+fn push_second_half(a: Global, body: &mut Vec<Statement>) -> Result<(), AllocError> {
+    let below = binary(a, Binary::Sub, read(4), one(KIND))?;
+    body.push(keep(a, 1, Binary::Div, read(0), below)?)?;
+    let minus_one = minus_one(a)?;
+    body.push(keep(a, 5, Binary::Less, minus_one, one(Kind::UnsignedInt))?)?;
+    body.push(Statement::Unlock {
+        place: HERE,
+        lock: LOCK,
+    })?;
+    Ok(())
+}
+
+/// The flat form of the section.
+fn section(a: Global) -> Result<Flat, AllocError> {
+    let mut body = first_half(a)?;
+    push_second_half(a, &mut body)?;
+    flat(a, 0, body, &INITIAL)
+}
+
 /// Another life of the source begins, if one may.
 fn begin_another(source: &mut SourceState<'_>) {
     if source.can_restart() {
@@ -76,41 +123,17 @@ fn begin_another(source: &mut SourceState<'_>) {
 #[test]
 fn in_step_with_the_source(rt: HostRuntime) -> Result<(), Fail> {
     let a = rt.alloc();
-    let minus_one = Expr::Unary {
-        operator: Unary::Minus,
-        operand: Box::new(a, one(KIND))?,
-    };
-    let below = binary(a, Binary::Sub, read(4), one(KIND))?;
-    let body = vec![in a;
-        Statement::Lock {
-            place: HERE,
-            lock: LockName {
-                mutex: 0,
-                key: None,
-            },
-        },
-        keep(a, 0, Binary::Add, read(0), one(KIND))?,
-        keep(a, 2, Binary::Div, read(1), read(4))?,
-        keep(a, 3, Binary::Rem, read(1), read(4))?,
-        keep(a, 1, Binary::Div, read(0), below)?,
-        keep(a, 5, Binary::Less, minus_one, one(Kind::UnsignedInt))?,
-        Statement::Unlock {
-            place: HERE,
-            lock: LockName {
-                mutex: 0,
-                key: None,
-            },
-        },
-    ]?;
-    let flat = flat(a, 0, body, &INITIAL)?;
+    let flat = section(a)?;
     let graph = lower(a, &flat)?;
     let mut source = SourceState::start(a, &flat)?;
     let mut flow = FlowState::start(a, &graph, &flat)?;
     for (answer, numbers) in STEPS {
         assert!(rt; source.threads() > 0 && flow.threads() > 0);
-        assert_eq!(rt; (source.step(0), flow.step(0)), (answer, answer));
-        assert_eq!(rt; source.variables(), numbers.as_slice());
-        assert_eq!(rt; flow.variables(), numbers.as_slice());
+        let answers = (source.step(0), flow.step(0));
+        assert_eq!(rt;
+            (answers, source.variables(), flow.variables()),
+            ((answer, answer), numbers.as_slice(), numbers.as_slice())
+        );
     }
     assert!(rt; flow.threads() > 0);
     assert_eq!(rt; (flow.ended_sections(0), flow.between(0)), (1, true));

@@ -1,9 +1,9 @@
 //! Texts of the full language, whose threads cost more for the locks that they hold.
+use crate::typings::typed;
 use c_inline::inline::{InlineError, inline};
-use c_reader::read;
 use c_tree::language::Language;
-use c_typer::type_tree;
 use ido_base::place::Place;
+use std::alloc::Global;
 use std::test::Fail;
 
 /// A lock with a key of one node, held over 479 assignments: 65,512 words, 24 for each step that it is held before or after.
@@ -18,18 +18,27 @@ const DEAR: &[u8] =
 void f4() { f3(); f3(); } void f5() { f4(); f4(); } void f6() { f5(); f5(); } void f7() { f6(); f6(); } void f8() { f7(); f7(); }
 thread t { lock(m[0]); f8(); f7(); f6(); f5(); unlock(m[0]); }";
 
+/// Which text is inlined, in which language, and where the thread is that costs too much, if one does.
+const PRICED: [(&[u8], Language, Option<u32>); 3] = [
+    (CHEAP, Language::Full, None),
+    (DEAR, Language::Full, Some(278)),
+    (DEAR, Language::Plain, None),
+];
+
+/// Why the calls of a text that is right otherwise aren't replaced, if they aren't.
+fn refused(a: Global, text: &[u8], language: Language) -> Result<Option<InlineError>, Fail> {
+    let program = typed(a, text)??;
+    Ok(inline(a, language, &program).err())
+}
+
 #[test]
 fn priced_with_what_is_held(rt: HostRuntime) -> Result<(), Fail> {
-    let a = rt.alloc();
-    let tree = read(a, Language::Full, CHEAP)?;
-    let cheap = type_tree(a, Language::Full, tree)?;
-    assert_eq!(rt; inline(a, Language::Full, &cheap).err(), None);
-    let tree = read(a, Language::Full, DEAR)?;
-    let dear = type_tree(a, Language::Full, tree)?;
-    assert_eq!(rt;
-        inline(a, Language::Full, &dear).err(),
-        Some(InlineError::Code { place: Place(278) })
-    );
-    assert_eq!(rt; inline(a, Language::Plain, &dear).err(), None);
+    for (text, language, place) in PRICED {
+        let found = refused(rt.alloc(), text, language)?;
+        let wanted = place.map(|place| InlineError::Code {
+            place: Place(place),
+        });
+        assert_eq!(rt; found, wanted, "{language:?}");
+    }
     Ok(())
 }

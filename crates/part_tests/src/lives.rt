@@ -137,20 +137,30 @@ fn run_ahead<C: Core>(core: &mut C, alloc: Global) -> Result<[bool; 8], OutOfMem
     Ok([one, two, three, four, adopted, again, five, last])
 }
 
+/// What is seen of a life: how many events it has, whether all are steps of hart 0, and its first word.
+fn seen(life: &Life, alloc: Global) -> Result<(u64, bool, u64), OutOfMemory> {
+    let events = life.journal(alloc)?;
+    let all = events.iter().all(|event| *event == Event::Step(0));
+    Ok((life.events(), all, life.live_word(0, 0)))
+}
+
 #[test]
 fn ahead_of_a_hart(rt: HostRuntime) -> Result<(), Fail> {
     let mut life = straight_life(rt.alloc())?;
-    assert_eq!(rt; life.can_step(), Some(0));
+    let first = life.can_step();
     let ran = run_ahead(&mut life, rt.alloc())?;
-    assert_eq!(rt; ran, [true, true, true, false, true, false, false, true]);
-    assert_eq!(rt; life.events(), 3);
-    assert_eq!(rt;
-        life.journal(rt.alloc())?.as_slice(),
-        [Event::Step(0); 3].as_slice()
-    );
+    let before = seen(&life, rt.alloc())?;
     assert!(rt; life.harts() > 0 && life.room() > 0);
-    assert_eq!(rt; life.event(Event::Step(0)), Reply::Moved);
-    assert_eq!(rt; life.live_word(0, 0), 14);
+    let reply = life.event(Event::Step(0));
+    let after = seen(&life, rt.alloc())?;
+    assert_eq!(rt;
+        (first, ran),
+        (Some(0), [true, true, true, false, true, false, false, true])
+    );
+    assert_eq!(rt;
+        (before, reply, after),
+        ((3, true, 0), Reply::Moved, (4, true, 14))
+    );
     Ok(())
 }
 

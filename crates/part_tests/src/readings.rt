@@ -1,16 +1,14 @@
 //! Texts that only the full language takes, in both languages.
-ghost use Rattle.std.specs.Prelude.{◌≡◌, Some};
-ghost use Rattle.c_tree.specs.declared.refusal.SourceError.TheVariants as error;
-ghost use Rattle.c_tree.specs.declared.rule.Rule.TheVariants as rule;
-
 use c_reader::read;
 use c_tree::language::Language;
 use c_tree::refusal::{Refusal, SourceError};
 use c_tree::rule::Rule;
+use ido_base::limits::MOST_SOURCE_BYTES;
 use ido_base::place::Place;
+use std::alloc::Global;
 use std::test::Fail;
 
-/// A part of a text, and where the plain language refuses it.
+/// A part of a text.
 const ARRAY: &[u8] = b"mutex m[4];";
 
 const GUARD: &[u8] = b"mutex m; persistent(m[]) int a[4];";
@@ -40,48 +38,47 @@ const NULL: &[u8] = b"mutex null;";
 /// References to no array.
 const NO_REFERRED: &[u8] = b"persistent(m) ref h;";
 
-/// A wrong token at this place.
-fn wrong(place: u32) -> Option<SourceError>
-    ensures { result ≡ Some (error.Refused (record { rule = rule.Syntax; place = record { 0 = place } })) }
-{
-    Some(SourceError::Refused(Refusal {
-        rule: Rule::Syntax,
-        place: Place(place),
-    }))
+/// Which language is asked about which text, and where the text has a wrong token, if it has one.
+const TEXTS: [(Language, &[u8], Option<u32>); 18] = [
+    (Language::Plain, ARRAY, Some(7)),
+    (Language::Plain, GUARD, Some(21)),
+    (Language::Plain, KEY, Some(17)),
+    (Language::Plain, OTHER_KEY, Some(19)),
+    (Language::Full, ARRAY, None),
+    (Language::Full, GUARD, None),
+    (Language::Full, KEY, None),
+    (Language::Full, OTHER_KEY, None),
+    (Language::Full, NO_KEY, Some(18)),
+    (Language::Full, KEYED_GUARD, Some(13)),
+    (Language::Full, NO_LENGTH, Some(8)),
+    (Language::Plain, REFERENCE, Some(14)),
+    (Language::Plain, FOLLOWED, Some(11)),
+    (Language::Plain, NULL, None),
+    (Language::Full, REFERENCE, None),
+    (Language::Full, FOLLOWED, None),
+    (Language::Full, NULL, Some(6)),
+    (Language::Full, NO_REFERRED, Some(18)),
+];
+
+/// Why the text isn't read, if it isn't.
+fn refused(a: Global, language: Language, text: &[u8]) -> Result<Option<SourceError>, Fail> {
+    if text.len() > MOST_SOURCE_BYTES as usize {
+        return Err("a text too long".into());
+    }
+    Ok(read(a, language, text).err())
 }
 
 #[test]
-fn plain(rt: HostRuntime) -> Result<(), Fail> {
-    let a = rt.alloc();
-    assert_eq!(rt; read(a, Language::Plain, ARRAY).err(), wrong(7));
-    assert_eq!(rt; read(a, Language::Plain, GUARD).err(), wrong(21));
-    assert_eq!(rt; read(a, Language::Plain, KEY).err(), wrong(17));
-    assert_eq!(rt; read(a, Language::Plain, OTHER_KEY).err(), wrong(19));
-    Ok(())
-}
-
-#[test]
-fn full(rt: HostRuntime) -> Result<(), Fail> {
-    let a = rt.alloc();
-    assert_eq!(rt; read(a, Language::Full, ARRAY).err(), None);
-    assert_eq!(rt; read(a, Language::Full, GUARD).err(), None);
-    assert_eq!(rt; read(a, Language::Full, KEY).err(), None);
-    assert_eq!(rt; read(a, Language::Full, OTHER_KEY).err(), None);
-    assert_eq!(rt; read(a, Language::Full, NO_KEY).err(), wrong(18));
-    assert_eq!(rt; read(a, Language::Full, KEYED_GUARD).err(), wrong(13));
-    assert_eq!(rt; read(a, Language::Full, NO_LENGTH).err(), wrong(8));
-    Ok(())
-}
-
-#[test]
-fn references(rt: HostRuntime) -> Result<(), Fail> {
-    let a = rt.alloc();
-    assert_eq!(rt; read(a, Language::Plain, REFERENCE).err(), wrong(14));
-    assert_eq!(rt; read(a, Language::Plain, FOLLOWED).err(), wrong(11));
-    assert_eq!(rt; read(a, Language::Plain, NULL).err(), None);
-    assert_eq!(rt; read(a, Language::Full, REFERENCE).err(), None);
-    assert_eq!(rt; read(a, Language::Full, FOLLOWED).err(), None);
-    assert_eq!(rt; read(a, Language::Full, NULL).err(), wrong(6));
-    assert_eq!(rt; read(a, Language::Full, NO_REFERRED).err(), wrong(18));
+fn texts_in_both_languages(rt: HostRuntime) -> Result<(), Fail> {
+    for (language, text, wrong) in TEXTS {
+        let found = refused(rt.alloc(), language, text)?;
+        let wanted = wrong.map(|place| {
+            SourceError::Refused(Refusal {
+                rule: Rule::Syntax,
+                place: Place(place),
+            })
+        });
+        assert_eq!(rt; found, wanted, "{language:?} {wrong:?}");
+    }
     Ok(())
 }

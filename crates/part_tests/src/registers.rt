@@ -45,27 +45,40 @@ const COLOURS: [([u8; 4], Option<(usize, usize, usize)>); 6] = [
     ([5, 7, 8, 7], Some((3, 1, 3))),
 ];
 
-#[test]
-fn live_locals_and_clashes(rt: HostRuntime) -> Result<(), Fail> {
-    let a = rt.alloc();
+/// Four locals are set, the last from two others, and a variable from two.
+fn short(a: Global) -> Result<Flat, AllocError> {
     let target = Lvalue::Variable {
         place: HERE,
         variable: 0,
         kind: KIND,
     };
-    let body = vec![in a;
-        keep(a, 0, number(), number())?,
-        keep(a, 1, number(), number())?,
-        keep(a, 2, number(), number())?,
-        keep(a, 3, local(0), local(2))?,
-        sum(a, target, local(1), local(3))?,
-    ]?;
-    let flat = flat(a, 4, body, &[0])?;
+    let mut body = Vec::new(a);
+    body.push(keep(a, 0, number(), number())?)?;
+    body.push(keep(a, 1, number(), number())?)?;
+    body.push(keep(a, 2, number(), number())?)?;
+    body.push(keep(a, 3, local(0), local(2))?)?;
+    body.push(sum(a, target, local(1), local(3))?)?;
+    flat(a, 4, body, &[0])
+}
+
+#[test]
+fn live_locals(rt: HostRuntime) -> Result<(), Fail> {
+    let a = rt.alloc();
+    let flat = short(a)?;
     let graph = lower(a, &flat)?;
     let sets = live(a, &graph)?;
     for (node, locals) in LIVE.iter().enumerate() {
         assert_eq!(rt; sets.locals(a, node)?.as_slice(), *locals, "node {node}");
     }
+    Ok(())
+}
+
+#[test]
+fn clashes(rt: HostRuntime) -> Result<(), Fail> {
+    let a = rt.alloc();
+    let flat = short(a)?;
+    let graph = lower(a, &flat)?;
+    let sets = live(a, &graph)?;
     for (registers, clash) in COLOURS {
         let threads = vec![in a; registers.to_vec(a)?]?;
         let found = check_colours(a, &graph, &sets, &Colours { threads }).err();

@@ -121,6 +121,30 @@ fn first_stretch(a: Global, graph: &Graph) -> Result<Option<Stretch>, OutOfMemor
     Ok(Some(found[0]))
 }
 
+/// Before which nodes the fewest boundaries of the first stretch stand, and what is said of labels that show it.
+type Fewest = (Vec<usize>, Result<Least, LabelError>);
+
+/// What is found of the graph's first stretch, if there is one.
+fn fewest_of(a: Global, graph: &Graph) -> Result<Option<Fewest>, OutOfMemory> {
+    let Some(stretch) = first_stretch(a, graph)? else {
+        return Ok(None);
+    };
+    let (cuts, labels) = fewest(a, graph, stretch.first, stretch.past)?;
+    let said = check_labels(a, graph, stretch.first, stretch.past, &cuts, &labels);
+    Ok(Some((cuts, said)))
+}
+
+/// Whether boundaries stand before these nodes, and before no others up to the last two.
+fn stand_before(before: &[bool], wanted: &[usize]) -> bool {
+    let mut same = true;
+    for (node, stands) in before.iter().enumerate() {
+        if *stands != wanted.contains(&node) && node + 2 < before.len() {
+            same = false;
+        }
+    }
+    same
+}
+
 #[test]
 fn fewest_boundaries(rt: HostRuntime) -> Result<(), Fail> {
     let a = rt.alloc();
@@ -132,24 +156,11 @@ fn fewest_boundaries(rt: HostRuntime) -> Result<(), Fail> {
     };
     for (assignments, wanted) in SECTIONS {
         let graph = section(a, &lock, &target, &value, assignments)?;
-        let mut looked = false;
-        if let Some(stretch) = first_stretch(a, &graph)? {
-            looked = true;
-            let (cuts, labels) = fewest(a, &graph, stretch.first, stretch.past)?;
-            assert_eq!(rt; &cuts[..], wanted);
-            assert_eq!(rt;
-                check_labels(a, &graph, stretch.first, stretch.past, &cuts, &labels),
-                Ok(Least)
-            );
-        }
-        assert!(rt; looked);
-        let all = cut(a, &graph)?;
-        for (node, stands) in all.before.iter().enumerate() {
-            assert!(rt;
-                *stands == wanted.contains(&node) || node + 2 >= all.before.len(),
-                "{node}"
-            );
-        }
+        let Some((cuts, said)) = fewest_of(a, &graph)? else {
+            return Err("no stretch".into());
+        };
+        let stand = stand_before(&cut(a, &graph)?.before, wanted);
+        assert_eq!(rt; (&cuts[..], said, stand), (wanted, Ok(Least), true));
     }
     Ok(())
 }

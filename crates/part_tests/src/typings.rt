@@ -1,15 +1,14 @@
 //! Texts of the full language, whose names and kinds are checked.
-ghost use Rattle.std.specs.Prelude.{◌≡◌, Some};
-ghost use Rattle.c_tree.specs.declared.refusal.SourceError.TheVariants as error;
-
 use c_reader::read;
 use c_tree::language::Language;
-use c_tree::program::Guard;
+use c_tree::program::{Guard, Program};
 use c_tree::refusal::{Refusal, SourceError};
 use c_tree::rule::Rule;
 use c_typer::type_tree;
+use ido_base::limits::MOST_SOURCE_BYTES;
 use ido_base::place::Place;
 use ido_ints::Kind;
+use std::alloc::Global;
 use std::test::Fail;
 
 /// An array of mutexes, numbered on from another mutex, each of which guards an element.
@@ -48,87 +47,59 @@ const NO_REFERENCE: &[u8] =
 /// References to an array, each element of which has a mutex of its own.
 const EACH_REFERRED: &[u8] = b"mutex m[2]; persistent(m[]) int a[2]; thread t { ref(a) p; }";
 
-/// A refusal by the rule at the place.
-fn by(rule: Rule, place: u32) -> Option<SourceError>
-    ensures { result ≡ Some (error.Refused (record { rule = rule; place = record { 0 = place } })) }
-{
-    Some(SourceError::Refused(Refusal {
-        rule,
-        place: Place(place),
-    }))
+/// Texts that are read, with the rule that their names and kinds break, and where.
+const REFUSED: [(&[u8], Rule, u32); 8] = [
+    (TOO_MANY, Rule::Mutexes, 15),
+    (FAR_TOO_MANY, Rule::Mutexes, 6),
+    (OTHER_LENGTH, Rule::Count, 34),
+    (SHARED_KEY, Rule::WrongSort, 60),
+    (OTHER_ARRAY, Rule::WrongSort, 78),
+    (NO_NUMBER, Rule::WrongSort, 62),
+    (NO_REFERENCE, Rule::WrongSort, 65),
+    (EACH_REFERRED, Rule::WrongSort, 53),
+];
+
+/// The program of a text that is read, or why its names and kinds are wrong.
+fn typed(a: Global, text: &[u8]) -> Result<Result<Program, SourceError>, Fail> {
+    if text.len() > MOST_SOURCE_BYTES as usize {
+        return Err("a text too long".into());
+    }
+    let tree = read(a, Language::Full, text)?;
+    Ok(type_tree(a, Language::Full, tree))
 }
 
 #[test]
 fn made(rt: HostRuntime) -> Result<(), Fail> {
-    let a = rt.alloc();
-    let tree = read(a, Language::Full, GUARDED)?;
-    let program = type_tree(a, Language::Full, tree)?;
-    assert_eq!(rt; program.mutexes.len(), 3);
-    let Some(variable) = program.variables.first() else {
-        return Err("no variable".into());
-    };
-    assert_eq!(rt; variable.guard, Guard::Each { first: 1 });
+    let program = typed(rt.alloc(), GUARDED)??;
+    let guard = program.variables.first().map(|variable| variable.guard);
+    assert_eq!(rt;
+        (program.mutexes.len(), guard),
+        (3, Some(Guard::Each { first: 1 }))
+    );
     Ok(())
 }
 
 #[test]
 fn refused(rt: HostRuntime) -> Result<(), Fail> {
-    let a = rt.alloc();
-    let many = read(a, Language::Full, TOO_MANY)?;
-    assert_eq!(rt;
-        type_tree(a, Language::Full, many).err(),
-        by(Rule::Mutexes, 15)
-    );
-    let far = read(a, Language::Full, FAR_TOO_MANY)?;
-    assert_eq!(rt;
-        type_tree(a, Language::Full, far).err(),
-        by(Rule::Mutexes, 6)
-    );
-    let other = read(a, Language::Full, OTHER_LENGTH)?;
-    assert_eq!(rt;
-        type_tree(a, Language::Full, other).err(),
-        by(Rule::Count, 34)
-    );
-    let shared = read(a, Language::Full, SHARED_KEY)?;
-    assert_eq!(rt;
-        type_tree(a, Language::Full, shared).err(),
-        by(Rule::WrongSort, 60)
-    );
+    for (text, rule, place) in REFUSED {
+        let found = typed(rt.alloc(), text)?.err();
+        let wanted = Some(SourceError::Refused(Refusal {
+            rule,
+            place: Place(place),
+        }));
+        assert_eq!(rt; found, wanted, "{rule:?} at {place}");
+    }
     Ok(())
 }
 
 #[test]
 fn references(rt: HostRuntime) -> Result<(), Fail> {
-    let a = rt.alloc();
-    let tree = read(a, Language::Full, REFERENCES)?;
-    let program = type_tree(a, Language::Full, tree)?;
-    let Some(head) = program.variables.get(1) else {
-        return Err("no variable".into());
-    };
-    assert_eq!(rt; head.kind, Kind::UnsignedLong);
-    let Some(thread) = program.threads.first() else {
-        return Err("no thread".into());
-    };
-    assert_eq!(rt; thread.locals.len(), 2);
-    let other = read(a, Language::Full, OTHER_ARRAY)?;
+    let program = typed(rt.alloc(), REFERENCES)??;
+    let kind = program.variables.get(1).map(|variable| variable.kind);
+    let locals = program.threads.first().map(|thread| thread.locals.len());
     assert_eq!(rt;
-        type_tree(a, Language::Full, other).err(),
-        by(Rule::WrongSort, 78)
-    );
-    let number = read(a, Language::Full, NO_NUMBER)?;
-    assert_eq!(rt;
-        type_tree(a, Language::Full, number).err(),
-        by(Rule::WrongSort, 62)
-    );
-    let reference = read(a, Language::Full, NO_REFERENCE)?;
-    assert_eq!(rt;
-        type_tree(a, Language::Full, reference).err(),
-        by(Rule::WrongSort, 65)
-    );
-    let each = read(a, Language::Full, EACH_REFERRED)?;
-    assert_eq!(rt;
-        type_tree(a, Language::Full, each).err(),
-        by(Rule::WrongSort, 53)
+        (kind, locals),
+        (Some(Kind::UnsignedLong), Some(2))
     );
     Ok(())
 }

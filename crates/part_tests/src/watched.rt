@@ -28,7 +28,7 @@ pub struct Watch {
 
 impl Watch {
     /// A watch that holds up nothing, or each turn until it lets them go on.
-    pub fn new(open: bool) -> Watch {
+    pub(crate) fn new(open: bool) -> Watch {
         Watch {
             begun: AtomicBool::new(false),
             open: AtomicBool::new(open),
@@ -49,7 +49,7 @@ impl Watch {
     }
 
     /// Looks for a turn that has begun, many times at most.
-    pub fn await_turn(&self) {
+    pub(crate) fn await_turn(&self) {
         for _ in 0..LOOKS {
             if self.begun.load(Ordering::SeqCst) {
                 return;
@@ -58,22 +58,22 @@ impl Watch {
     }
 
     /// Lets turns go on.
-    pub fn let_on(&self) {
+    pub(crate) fn let_on(&self) {
         self.open.store(true, Ordering::SeqCst);
     }
 
     /// How often what runs ahead of hart 1 was asked for one more step.
-    pub fn asked(&self) -> u64 {
+    pub(crate) fn asked(&self) -> u64 {
         self.asked.load(Ordering::SeqCst)
     }
 
     /// How often the core was asked to adopt steps.
-    pub fn adoptions(&self) -> u64 {
+    pub(crate) fn adoptions(&self) -> u64 {
         self.adoptions.load(Ordering::SeqCst)
     }
 
     /// How many steps it has adopted.
-    pub fn adopted(&self) -> u64 {
+    pub(crate) fn adopted(&self) -> u64 {
         self.adopted.load(Ordering::SeqCst)
     }
 }
@@ -111,7 +111,7 @@ fn reply(event: Event) -> Reply
 
 impl<'a> Watched<'a> {
     /// A core before any event, that takes so many.
-    pub fn new(alloc: Global, most: u32, watch: &'a Watch) -> Result<Watched<'a>, AllocError>
+    pub(crate) fn new(alloc: Global, most: u32, watch: &'a Watch) -> Result<Watched<'a>, AllocError>
         ensures journal { IfOk result (λ core. core.journal.items ≡ []) }
         ensures most { IfOk result (λ core. core.most ≡ most) }
     {

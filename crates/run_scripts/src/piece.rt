@@ -4,7 +4,7 @@ ghost use Rattle.run_scripts.specs.Pieces.{pieces_at};
 ghost use Rattle.run_scripts.specs.links.Lengths.{is_gap, gap_length, piece_length};
 
 /// What stands between the pieces of a text.
-#[derive(Clone, Copy, Debug, Drop)]
+#[derive(Clone, Copy, Drop)]
 pub(crate) enum Gap {
     /// Spaces, LFs, and CRs with an LF after them: the pieces are words.
     Blank,

@@ -27,7 +27,7 @@ pub enum PlayError {
 }
 
 /// What a hart is stepped to.
-#[derive(Clone, Copy, Debug, Drop)]
+#[derive(Clone, Copy, Drop)]
 enum Goal {
     Point,
     Fence,

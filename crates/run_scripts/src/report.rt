@@ -11,14 +11,14 @@ use ido_base::memory::OutOfMemory;
 use std::alloc::Global;
 
 /// A variable as it is reported: its name, and the number of each element.
-#[derive(Debug, Drop)]
+#[derive(Drop)]
 pub struct Variable {
     pub name: Vec<u8>,
     pub elements: Vec<i128>,
 }
 
 /// A state as it is reported.
-#[derive(Debug, Drop)]
+#[derive(Drop)]
 pub struct Reported {
     /// The harts, or the threads, that aren't settled, ascending.
     pub unsettled: Vec<u32>,

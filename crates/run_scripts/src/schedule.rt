@@ -49,7 +49,7 @@ impl From<OutOfMemory> for ScheduleError {
 }
 
 /// Lives as far as their schedules are read.
-#[derive(Debug, Drop)]
+#[derive(Drop)]
 struct Lives {
     // of those that have ended
     ended: Vec<Vec<u32>>,

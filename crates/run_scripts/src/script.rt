@@ -21,7 +21,7 @@ use thiserror::Error;
 const GREATEST_MASK: u64 = 255;
 
 /// What a line of a script asks for.
-#[derive(Clone, Copy, Debug, PartialEq, Eq, Drop)]
+#[derive(Clone, Copy, Drop)]
 pub enum Command {
     /// `s H N`: N steps of hart H.
     Steps { hart: u32, count: u32 },
@@ -40,14 +40,14 @@ pub enum Command {
 }
 
 /// A line of a script, and where its first byte stands.
-#[derive(Clone, Copy, Debug, PartialEq, Eq, Drop)]
+#[derive(Clone, Copy, Drop)]
 pub struct Line {
     pub place: Place,
     pub command: Command,
 }
 
 /// A script: its lines that aren't empty.
-#[derive(Debug, Drop)]
+#[derive(Drop)]
 pub struct Script {
     pub lines: Vec<Line>,
 }
@@ -101,7 +101,7 @@ impl From<OutOfMemory> for ScriptError {
 }
 
 /// What a number of a line may be.
-#[derive(Clone, Copy, Debug, Drop)]
+#[derive(Clone, Copy, Drop)]
 enum Rule {
     Any,
     /// A hart, of so many.

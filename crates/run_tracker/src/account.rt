@@ -12,7 +12,7 @@ use std::alloc::Global;
 
 /// A store of a hart's point, with the steps that are bound to it: they are kept once the point's word is durable up
 /// to its position.
-#[derive(Clone, Copy, Debug, Drop)]
+#[derive(Clone, Copy, Drop)]
 pub(crate) struct PointStore {
     pub hart: u32,
     pub position: u64,
@@ -20,7 +20,7 @@ pub(crate) struct PointStore {
 }
 
 /// The steps of a hart that aren't kept.
-#[derive(Clone, Copy, Debug, Drop)]
+#[derive(Clone, Copy, Drop)]
 pub(crate) struct OpenSteps {
     /// Begun since the hart's last store of its point.
     pub free: u64,
@@ -29,7 +29,7 @@ pub(crate) struct OpenSteps {
 }
 
 /// Steps begun and kept.
-#[derive(Debug, Drop)]
+#[derive(Drop)]
 pub(crate) struct Account {
     /// The kept schedules, one life's after another's.
     pub kept: Vec<u32>,
@@ -39,7 +39,7 @@ pub(crate) struct Account {
 }
 
 /// Steps of a hart that are kept, and the first of its stores that still binds some.
-#[derive(Clone, Copy, Debug, Drop)]
+#[derive(Clone, Copy, Drop)]
 struct Kept {
     pub steps: u64,
     pub first: usize,

@@ -5,7 +5,7 @@ use ido_base::memory::OutOfMemory;
 use std::alloc::Global;
 
 /// How often each hart has stored its point, and how many fences it has finished.
-#[derive(Debug, Drop)]
+#[derive(Drop)]
 pub(crate) struct Counts {
     pub points: Vec<u64>,
     pub fences: Vec<u64>,

@@ -10,7 +10,7 @@ use std::alloc::Global;
 use std::marker::Model;
 
 /// Events that were made one after the other.
-#[derive(Clone, Copy, Debug, Drop)]
+#[derive(Clone, Copy, Drop)]
 enum Entry {
     /// Steps of a hart, `count` of them.
     Steps { hart: u32, count: u32 },
@@ -20,7 +20,7 @@ enum Entry {
 }
 
 /// Events in the order in which they were made. It has room for them from the start.
-#[derive(Debug, Drop)]
+#[derive(Drop)]
 pub(crate) struct Journal {
     entries: Vec<Entry>,
     /// How many events these are.

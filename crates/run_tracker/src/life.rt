@@ -43,7 +43,7 @@ use std::marker::Model;
 ///
 /// Marks may stand anywhere: one that is no code word of its thread is never passed. It is a `Core`, whose events are those of its
 /// journal.
-#[derive(Debug, Drop)]
+#[derive(Drop)]
 pub struct Life {
     /// The initial bytes of the variables and the number of mutexes are those of the object, and the marks too.
     initial: Vec<u8>,

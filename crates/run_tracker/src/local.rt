@@ -13,7 +13,7 @@ use std::marker::Model;
 
 /// A hart of a life as it was at some time, and the instructions that it has executed since which touch nothing but its registers
 /// and its pc. It has the hart's own code and marks, and runs apart from the life.
-#[derive(Debug, Drop)]
+#[derive(Drop)]
 pub struct LocalRun {
     /// The addresses of its marks, and its code words with their signs.
     addresses: Vec<u64>,

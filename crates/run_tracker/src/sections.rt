@@ -13,7 +13,7 @@ use std::alloc::Global;
 
 /// Of a hart: its durable point and where that stands among the values that the point's word has had, and how often it has become 0. Each
 /// time a section of its thread has ended, and is kept.
-#[derive(Clone, Copy, Debug, Drop)]
+#[derive(Clone, Copy, Drop)]
 pub(crate) struct HartSections {
     pub position: u64,
     pub point: u64,
@@ -21,7 +21,7 @@ pub(crate) struct HartSections {
 }
 
 /// The sections of all threads.
-#[derive(Debug, Drop)]
+#[derive(Drop)]
 pub(crate) struct Sections {
     pub harts: Vec<HartSections>,
 }

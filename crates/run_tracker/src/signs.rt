@@ -15,7 +15,7 @@ use rv64_isa::object::{Marks, Object, Slot, ThreadMarks};
 use std::alloc::Global;
 
 /// What is told of a code word.
-#[derive(Clone, Copy, Debug, Drop)]
+#[derive(Clone, Copy, Drop)]
 pub(crate) struct Sign {
     /// The code word is a mark.
     pub mark: bool,
@@ -36,14 +36,14 @@ const NO_SIGN: Sign = Sign {
 };
 
 /// A code word, decoded, and what is told of it: all that a step of its hart looks up.
-#[derive(Clone, Copy, Debug, Drop)]
+#[derive(Clone, Copy, Drop)]
 pub(crate) struct Entry {
     pub slot: Slot,
     pub sign: Sign,
 }
 
 /// A thread's code words.
-#[derive(Debug, Drop)]
+#[derive(Drop)]
 pub(crate) struct SignTable {
     /// The address of the first one.
     pub start: u64,

@@ -32,7 +32,7 @@ use rv64_isa::object::Slot;
 use rv64_isa::phase::Phase;
 
 /// What is seen of a hart before its step.
-#[derive(Clone, Copy, Debug, Drop)]
+#[derive(Clone, Copy, Drop)]
 pub(crate) struct Observation {
     /// The hart executes instructions.
     pub running: bool,

@@ -12,6 +12,7 @@ use Rattle.c_tree.specs.Exprs as e
 use Rattle.c_tree.specs.LockDiscipline.{key_locals}
 use Rattle.c_tree.specs.LockNames.{Held, held_names, holds}
 use Rattle.c_tree.specs.Ranges.{mutexes_of}
+use Rattle.c_tree.specs.References.{Follows}
 use Rattle.c_tree.proofs.Public.{array_within}
 use Rattle.c_tree.specs.Values.{element_at, lock_number, value}
 use Rattle.c_tree.specs.WellFormed.{Fits, IsExpr, IsFlatLockName}
@@ -33,27 +34,27 @@ use Rattle.rv64_codegen.proofs.ReadLocals.{reads_are_held}
 
 -- ---- Keys read no variables
 
-key_unloaded : (s : Source) (loads : ℕ → ℕ → Option ℕ) (ks : List Kind) (z : e.Expr) → IsExpr [] ks z → AreLoaded s loads z
-key_unloaded s loads ks (e.Constant x) h = tt
-key_unloaded s loads ks (e.Local local kind) h = tt
-key_unloaded s loads ks (e.Variable place variable kind) h = absurd (none-some h.it h.found)
-key_unloaded s loads ks (e.Element place variable kind index_place index) h = absurd (none-some h.0.it h.0.found)
-key_unloaded s loads ks (e.Address variable index_place index) h = absurd h
-key_unloaded s loads ks (e.Referent place last local) h = absurd h
-key_unloaded s loads ks (e.Unary operator x) h = key_unloaded s loads ks x h
-key_unloaded s loads ks (e.Cast kind x) h = key_unloaded s loads ks x h
-key_unloaded s loads ks (e.Converted kind x) h = key_unloaded s loads ks x h
-key_unloaded s loads ks (e.Binary operator x y) h = (key_unloaded s loads ks x h.0, key_unloaded s loads ks y h.1)
-key_unloaded s loads ks (e.Conditional kind x y z) h =
-    (key_unloaded s loads ks x h.0, key_unloaded s loads ks y h.1, key_unloaded s loads ks z h.2)
+key_unloaded : (s : Source) (loads : ℕ → ℕ → Option ℕ) (ks : List Kind) (z : e.Expr) → IsExpr [] ks z → Follows [] [] z → AreLoaded s loads z
+key_unloaded s loads ks (e.Constant x) h g = tt
+key_unloaded s loads ks (e.Local local kind) h g = tt
+key_unloaded s loads ks (e.Variable place variable kind) h g = absurd (none-some h.it h.found)
+key_unloaded s loads ks (e.Element place variable kind index_place index) h g = absurd (none-some h.0.it h.0.found)
+key_unloaded s loads ks (e.Address variable index_place index) h g = absurd (none-some h.0.it h.0.found)
+key_unloaded s loads ks (e.Referent place last local) h g = absurd (none-some (Some g.variable) g.refers)
+key_unloaded s loads ks (e.Unary operator x) h g = key_unloaded s loads ks x h g
+key_unloaded s loads ks (e.Cast kind x) h g = key_unloaded s loads ks x h g
+key_unloaded s loads ks (e.Converted kind x) h g = key_unloaded s loads ks x h g
+key_unloaded s loads ks (e.Binary operator x y) h g = (key_unloaded s loads ks x h.0 g.0, key_unloaded s loads ks y h.1 g.1)
+key_unloaded s loads ks (e.Conditional kind x y z) h g =
+    (key_unloaded s loads ks x h.0 g.0, key_unloaded s loads ks y h.1 g.1, key_unloaded s loads ks z h.2 g.2)
 
 key_value : (ls : List ℤ) (vs : List (List ℤ)) (ks : List Kind) (z : e.Expr) → IsExpr [] ks z → value ls vs z ≡ value ls [] z
 key_value ls vs ks (e.Constant x) h = refl
 key_value ls vs ks (e.Local local kind) h = refl
 key_value ls vs ks (e.Variable place variable kind) h = absurd (none-some h.it h.found)
 key_value ls vs ks (e.Element place variable kind index_place index) h = absurd (none-some h.0.it h.0.found)
-key_value ls vs ks (e.Address variable index_place index) h = absurd h
-key_value ls vs ks (e.Referent place last local) h = absurd h
+key_value ls vs ks (e.Address variable index_place index) h = absurd (none-some h.0.it h.0.found)
+key_value ls vs ks (e.Referent place last local) h = refl
 key_value ls vs ks (e.Unary operator x) h = ap (unary_of operator) (key_value ls vs ks x h)
 key_value ls vs ks (e.Cast kind x) h = ap (λ (y : Typed). converted y kind) (key_value ls vs ks x h)
 key_value ls vs ks (e.Converted kind x) h = ap (λ (y : Typed). converted y kind) (key_value ls vs ks x h)
@@ -88,7 +89,8 @@ module _ (p : Plan) (t : Thread) (plan : IsPlan p) (of : IsThread p t) (seen : S
   key_known mutex key formed held =
       let expr = key_expr p.flat.variables t.kinds key.expr formed.reads in
       let locals : HoldsLocals h s x key.expr = reads_are_held h s x key.expr expr held in
-      let unloaded : (loads : ℕ → ℕ → Option ℕ) → AreLoaded s loads key.expr = λ loads. key_unloaded s loads t.kinds key.expr formed.reads in
+      let unloaded : (loads : ℕ → ℕ → Option ℕ) → AreLoaded s loads key.expr =
+      λ loads. key_unloaded s loads t.kinds key.expr formed.reads formed.follows in
       let no_loads : ℕ → ℕ → Option ℕ = λ address bytes. None in
       let values = all_held h s no_loads x key.expr locals expr (unloaded no_loads) in
       let named = fits_element (mutexes_of p.flat.mutexes mutex) key.expr formed.fits s.locals s.numbers values in

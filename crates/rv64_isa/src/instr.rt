@@ -90,7 +90,7 @@ pub enum ShiftOperation {
 }
 
 /// An instruction.
-#[derive(Clone, Copy, Debug, PartialEq, Eq, Drop)]
+#[derive(Clone, Copy, Drop)]
 pub enum Instr {
     Lui {
         rd: Register,

@@ -10,7 +10,7 @@ use ido_base::log::Log;
 /// A compiled program. Calls that need it ask that threads, mutexes, initial bytes and words are within the limits of an object
 /// (`IsWithinLimits`), which is no invariant of this type: at most
 /// 8 threads of 1 to 65,536 words, 64 mutexes, and 65,536 bytes, a multiple of 8.
-#[derive(Debug, PartialEq, Eq, Drop)]
+#[derive(PartialEq, Eq, Drop)]
 pub struct Object {
     /// The code words of each thread. Any word may stand here, also one that is no instruction.
     pub code: Vec<Vec<u32>>,
@@ -23,7 +23,7 @@ pub struct Object {
 }
 
 /// What a machine keeps of a code word: its instruction, or the word where it has none.
-#[derive(Clone, Copy, Debug, PartialEq, Eq, Drop)]
+#[derive(Clone, Copy, Drop)]
 pub enum Slot {
     Row(Instr),
     NoRow(u32),
@@ -53,7 +53,7 @@ impl Slot {
 }
 
 /// Addresses in the code of one thread.
-#[derive(Debug, PartialEq, Eq, Drop)]
+#[derive(Drop)]
 pub struct ThreadMarks {
     /// Of each node in its order, the instruction that begins its step when it is executed.
     pub nodes: Vec<u64>,
@@ -62,7 +62,7 @@ pub struct ThreadMarks {
 }
 
 /// Addresses in the code of each thread.
-#[derive(Debug, PartialEq, Eq, Drop)]
+#[derive(Drop)]
 pub struct Marks {
     pub threads: Vec<ThreadMarks>,
 }
@@ -72,7 +72,7 @@ pub struct Marks {
 pub struct Label(pub u32);
 
 /// A part of a thread's code, before it is linked.
-#[derive(Clone, Copy, Debug, PartialEq, Eq, Drop)]
+#[derive(Clone, Copy, Drop)]
 pub enum CodeItem {
     /// An instruction that stands as it is.
     Instruction(Instr),
@@ -97,7 +97,7 @@ pub enum CodeItem {
 }
 
 /// The code of a program, before it is linked.
-#[derive(Debug, PartialEq, Eq, Drop)]
+#[derive(Drop)]
 pub struct Code {
     /// The parts of each thread's code.
     pub threads: Vec<Vec<CodeItem>>,

@@ -101,7 +101,7 @@ fn push(words: &mut Vec<u32>, instr: Instr) -> Result<(), OutOfMemory>
 }
 
 /// A branch between words.
-#[derive(Clone, Copy, Debug, Drop)]
+#[derive(Clone, Copy, Drop)]
 struct BranchBetween {
     condition: Condition,
     rs1: Register,

@@ -7,7 +7,7 @@ use rv64_isa::object::{CodeItem, Label};
 use std::alloc::Global;
 
 /// The positions of labels, by their numbers. Labels past them stand at the end.
-#[derive(Debug, Drop)]
+#[derive(Drop)]
 pub struct Labels {
     pub positions: Vec<usize>,
     pub end: usize,

@@ -10,14 +10,14 @@ use std::alloc::Global;
 use std::marker::Model;
 
 /// Where the elements of a variable stand among all.
-#[derive(Clone, Copy, Debug)]
+#[derive(Clone, Copy)]
 struct Span {
     start: usize,
     length: usize,
 }
 
 /// The elements of all variables, one variable after another.
-#[derive(Debug, Drop)]
+#[derive(Drop)]
 pub struct Variables {
     elements: Vec<i128>,
     spans: Vec<Span>,

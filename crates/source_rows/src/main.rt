@@ -158,14 +158,20 @@ fn put_byte_rounds(repeated: &[u8], text: &mut Vec<u8>) -> Result<(), OutOfMemor
     Ok(())
 }
 
+/// Adds a number in decimal digits.
+fn put_number(alloc: Global, number: u64, text: &mut Vec<u8>) -> Result<(), OutOfMemory> {
+    text.extend_from_slice(format!(in alloc; "{number}")?.as_bytes())?;
+    Ok(())
+}
+
 /// Adds the rounds of `N:TEXT`.
 fn put_rounds(alloc: Global, repeated: &[u8], text: &mut Vec<u8>) -> Result<(), OutOfMemory> {
     let (count, part) = split(repeated, b':');
     for round in 0..number(count) {
         for byte in part {
             match *byte {
-                b'#' => text.extend_from_slice(format!(in alloc; "{round}")?.as_bytes())?,
-                b'@' => text.extend_from_slice(format!(in alloc; "{}", round + 1)?.as_bytes())?,
+                b'#' => put_number(alloc, u64::from(round), text)?,
+                b'@' => put_number(alloc, u64::from(round) + 1, text)?,
                 other => text.push(other)?,
             }
         }
@@ -176,8 +182,7 @@ fn put_rounds(alloc: Global, repeated: &[u8], text: &mut Vec<u8>) -> Result<(), 
 /// Adds what stands for a text between backquotes.
 fn put_marked(alloc: Global, marked: &[u8], k: u32, text: &mut Vec<u8>) -> Result<(), OutOfMemory> {
     if marked == NUMBER {
-        text.extend_from_slice(format!(in alloc; "{k}")?.as_bytes())?;
-        return Ok(());
+        return put_number(alloc, u64::from(k), text);
     }
     match marked.strip_prefix(b"x") {
         Some(bytes) => put_byte_rounds(bytes, text),
@@ -228,25 +233,62 @@ fn call<R: Threads + Wait + Sync>(
     Ok((status, output))
 }
 
-/// The status and the output that a row gets for a number.
+/// The status and the output of a row's commands, for a number.
+fn outcome<R: Threads + Wait + Sync>(
+    rt: &R,
+    alloc: Global,
+    row: &Row<'_>,
+    k: u32,
+) -> Result<(u8, Vec<u8>), OutOfMemory> {
+    let (words, then) = split(row.words, b'|');
+    let input = written_out(alloc, row.input, k)?;
+    let (status, output) = call(rt, alloc, words, input)?;
+    if status != 0 || then.is_empty() {
+        return Ok((status, output));
+    }
+    call(rt, alloc, then, output)
+}
+
+/// The answer that a row gets for a number, as it is written.
 fn answer_to<R: Threads + Wait + Sync>(
     rt: &R,
     alloc: Global,
     row: &Row<'_>,
     k: u32,
 ) -> Result<Vec<u8>, OutOfMemory> {
-    let (words, then) = split(row.words, b'|');
-    let input = written_out(alloc, row.input, k)?;
-    let (status, output) = call(rt, alloc, words, input)?;
-    let (status, output) = if status == 0 && !then.is_empty() {
-        call(rt, alloc, then, output)?
-    } else {
-        (status, output)
-    };
+    let (status, output) = outcome(rt, alloc, row, k)?;
     let mut answer = Vec::new(alloc);
-    answer.extend_from_slice(format!(in alloc; "{status} ")?.as_bytes())?;
+    put_number(alloc, u64::from(status), &mut answer)?;
+    answer.push(b' ')?;
     answer.extend_from_slice(&output)?;
     Ok(answer)
+}
+
+/// The answer that a row is to get for a number.
+fn wanted_of(alloc: Global, row: &Row<'_>, k: u32) -> Result<Vec<u8>, OutOfMemory> {
+    let mut wanted = written_out(alloc, row.answer, k)?;
+    if !row.answer.ends_with(OPEN_END) {
+        wanted.push(b'\n')?;
+    }
+    Ok(wanted)
+}
+
+/// Adds a row's name, the number and the answer that it gets.
+fn put_answer(
+    alloc: Global,
+    row: &Row<'_>,
+    k: u32,
+    answer: &[u8],
+    said: &mut Vec<u8>,
+) -> Result<(), OutOfMemory> {
+    said.extend_from_slice(row.name)?;
+    if row.first < row.last {
+        said.extend_from_slice(b", ")?;
+        put_number(alloc, u64::from(k), said)?;
+    }
+    said.extend_from_slice(b": ")?;
+    said.extend_from_slice(answer)?;
+    Ok(())
 }
 
 /// Adds what is said of a row for a number.
@@ -257,20 +299,27 @@ fn put_finding<R: Threads + Wait + Sync>(
     k: u32,
     said: &mut Vec<u8>,
 ) -> Result<(), OutOfMemory> {
-    let mut wanted = written_out(alloc, row.answer, k)?;
-    if !row.answer.ends_with(OPEN_END) {
-        wanted.push(b'\n')?;
-    }
+    let wanted = wanted_of(alloc, row, k)?;
     let answer = answer_to(rt, alloc, row, k)?;
     if answer != wanted {
-        said.extend_from_slice(row.name)?;
-        if row.first < row.last {
-            said.extend_from_slice(format!(in alloc; ", {k}")?.as_bytes())?;
-        }
-        said.extend_from_slice(b": ")?;
-        said.extend_from_slice(&answer)?;
+        put_answer(alloc, row, k, &answer, said)?;
     }
     Ok(())
+}
+
+/// Adds what is said of a row, and tells for how many numbers it stands.
+fn put_findings<R: Threads + Wait + Sync>(
+    rt: &R,
+    alloc: Global,
+    row: &Row<'_>,
+    said: &mut Vec<u8>,
+) -> Result<u64, OutOfMemory> {
+    let mut rows = 0u64;
+    for k in row.first..row.last.saturating_add(1) {
+        put_finding(rt, alloc, row, k, said)?;
+        rows = rows.saturating_add(1);
+    }
+    Ok(rows)
 }
 
 /// What is said of the rows of a table.
@@ -287,13 +336,11 @@ fn findings<R: Threads + Wait + Sync>(
         let Some((row, next)) = first_row(rest) else {
             break;
         };
-        for k in row.first..row.last.saturating_add(1) {
-            put_finding(rt, alloc, &row, k, &mut said)?;
-            rows = rows.saturating_add(1);
-        }
+        rows = rows.saturating_add(put_findings(rt, alloc, &row, &mut said)?);
         rest = next;
     }
-    said.extend_from_slice(format!(in alloc; "{rows} rows\n")?.as_bytes())?;
+    put_number(alloc, rows, &mut said)?;
+    said.extend_from_slice(b" rows\n")?;
     Ok(said)
 }
 

@@ -1,17 +1,12 @@
--- A machine can begin with what is translated.
+-- What is asked of a form that is listed.
+use Rattle.c_tree.specs.Flats.{flat_of}
 use Rattle.command_tests.proofs.second_log.with_lists.Goals as goal
 
-pub analyse-requires-clause-formed : goal.analyse-requires-clause-formed
-analyse-requires-clause-formed c = c.in_ok-flat.ensures.formed
+pub listed-requires-clause-formed : goal.listed-requires-clause-formed
+listed-requires-clause-formed c = c.in_ok-flat.ensures.formed
 
-pub analyse-requires-clause-priced : goal.analyse-requires-clause-priced
-analyse-requires-clause-priced c = c.in_ok-flat.ensures.priced
+pub listed-requires-clause-named : goal.listed-requires-clause-named
+listed-requires-clause-named c = c.few_have_names.ensures (flat_of c.in_ok-flat.flat) c.in_ok-flat.ensures.formed c.in_ok-want_few_names.ensures
 
-pub translate-requires : goal.translate-requires
-translate-requires c = c.in_ok-analysis.ensures.analysed
-
-pub returns-clause-limits : goal.returns-clause-limits
-returns-clause-limits c = c.in_ok-made.ensures.translated.limits
-
-pub returns-clause-marks : goal.returns-clause-marks
-returns-clause-marks c = c.in_ok-made.ensures.translated.threads
+pub listed-requires-clause-priced : goal.listed-requires-clause-priced
+listed-requires-clause-priced c = c.in_ok-flat.ensures.priced

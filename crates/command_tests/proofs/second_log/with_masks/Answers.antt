@@ -1,11 +1,8 @@
--- A machine can begin with what is translated.
+-- A machine can begin with what is compiled.
 use Rattle.command_tests.proofs.second_log.with_masks.Goals as goal
 
-pub translate-requires : goal.translate-requires
-translate-requires c = c.in_ok-analysis.ensures.answer.1
-
 pub returns-clause-limits : goal.returns-clause-limits
-returns-clause-limits c = c.in_ok-made.ensures.translated.limits
+returns-clause-limits c = c.in_ok-compiled.ensures.translated.limits
 
 pub returns-clause-marks : goal.returns-clause-marks
-returns-clause-marks c = c.in_ok-made.ensures.translated.threads
+returns-clause-marks c = c.in_ok-compiled.ensures.translated.threads

@@ -1,5 +1,7 @@
-use Rattle.std.proofs.Common.{refl}
+use Rattle.std.proofs.Common.{refl, subst, sym}
+use Rattle.ido_base.specs.declared.log.Log.{Log}
 use Rattle.c_tree.specs.Flats.{flat_of}
+use Rattle.flat_compile.specs.TranslatedForms.{IsTranslatedAs}
 use Rattle.run_tracker.specs.ObjectLives.{life_from}
 use Rattle.ido_cli.specs.links.PlayedLives.{HasPlayed}
 use Rattle.ido_cli.proofs.PlayedRuns as played
@@ -22,8 +24,10 @@ returns-clause-files c text x file cap life is begins =
     let flat = flat_of x.flat in
     let y = x.translated in
     let begun = life_from y.object y.marks file.words file.kept cap in
+    let own : IsTranslatedAs y.object.log flat y.object y.marks y.cuts =
+    subst (λ (log : Log). IsTranslatedAs log flat y.object y.marks y.cuts) (sym is.translated.log) is.translated in
     record {
       compilation = is.compilation;
-      world_is = recovered.same_world flat y.object y.marks y.cuts is.translated file cap begun refl life begins c.files_begin.ensures;
-      steps_are = recovered.same_steps flat y.object y.marks y.cuts is.translated file cap begun refl life begins c.files_begin.ensures;
+      world_is = recovered.same_world flat y.object y.marks y.cuts own file cap begun refl life begins c.files_begin.ensures;
+      steps_are = recovered.same_steps flat y.object y.marks y.cuts own file cap begun refl life begins c.files_begin.ensures;
     }

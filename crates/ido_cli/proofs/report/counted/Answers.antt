@@ -1,4 +1,4 @@
-use Rattle.std.proofs.Common.{◌-◌, arith, length, map}
+use Rattle.std.proofs.Common.{arith, length, map}
 use Rattle.rv64_isa.specs.Machine.{numbers_from}
 use Rattle.run_tracker.specs.ObjectLives.{ended_sections}
 use Rattle.ido_cli.proofs.GatheredReports.{map_pushed}
