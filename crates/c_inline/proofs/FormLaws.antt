@@ -17,12 +17,11 @@ use Rattle.c_tree.specs.Flats as f
 use Rattle.c_tree.specs.Inlining as i
 use Rattle.c_tree.specs.Inlining.{shifted, shifted_placed, shifted_target}
 use Rattle.c_tree.specs.Ranges as r
-use Rattle.c_tree.specs.Ranges.{Index, Interval, AllFit, index_fits, range_of, lies_in, interval, elements_of}
+use Rattle.c_tree.specs.Ranges.{Index, Interval, AllFit, index_fits, range_of, lies_in, interval, elements_of, mutexes_of}
 use Rattle.c_tree.specs.Elaboration.{kind_of}
 use Rattle.c_tree.specs.WellFormed.{IsExpr, IsPlaced, IsTarget, Fits, TargetFits, IndexFits, IsResult, IsStatement, AreStatements, AreArms, HasProgramArm}
 use Rattle.c_tree.specs.WellFormed.{IsReturned, IsFunction, IsProgram, HasArm, IsFlatPlaced, IsFlatTarget, AreFlatStatements, AreFlatArms, IsWellFormed}
-use Rattle.c_tree.specs.WellFormed.{IsFlatLockName}
-use Rattle.c_tree.proofs.Public.{single_there}
+use Rattle.c_tree.specs.WellFormed.{ArePlain, IsFlatLockName, IsLockName}
 use Rattle.c_inline.specs.links.KnownWeights.{Low}
 use Rattle.c_inline.proofs.CallDepth.{low_all}
 use Rattle.c_inline.proofs.WeightsByDepth.{calls_of_some}
@@ -203,11 +202,18 @@ module _ (x : p.Program) (prog : IsProgram x) (fit : AllFit x) where
   both_formed final f.no_statement ys h k = k
   both_formed final (f.statement_and y xs) ys h k = (h.0, both_formed final xs ys h.1 k)
 
-  -- a name has no key in the program, and none in the flat form
-  name_formed : (n : ℕ) (ks : List Kind) (mutex : ℕ) (key : Option e.Placed) → (mutex < length x.mutexes) × (key ≡ None) →
+  -- a key reads other locals, and is as small as it was
+  name_formed : (n : ℕ) (js ks : List Kind) → At n js ks → (mutex : ℕ) (key : Option e.Placed) →
+      IsLockName x.mutexes js (record { mutex = mutex; key = key }) →
+      AllIn x.variables x.mutexes (r.lock_indexes (record { mutex = mutex; key = key })) →
       IsFlatLockName x.mutexes ks (i.shifted_lock n (record { mutex = mutex; key = key }))
-  name_formed n ks mutex None h = single_there x.mutexes mutex prog.single h.0
-  name_formed n ks mutex (Some key) h = absurd (none-some key (sym h.1))
+  name_formed n js ks at mutex None h k = h
+  name_formed n js ks at mutex (Some key) h k = record {
+    array = h.0;
+    reads = expr_shifted [] x.mutexes n js ks at key.expr h.1;
+    fits = ap (λ (j : Interval). lies_in j (interval (pos 0) (pos (mutexes_of x.mutexes mutex) -ℤ pos 1))) (range_same n key.expr)
+        ∙ head_in x.variables x.mutexes _ (r.placed_indexes key) k;
+  }
 
   placed_formed : (n : ℕ) (js ks : List Kind) → At n js ks → (y : e.Placed) → IsPlaced x.variables js y → AllIn x.variables x.mutexes (r.placed_indexes y) →
       IsFlatPlaced z ks (shifted_placed n y)
@@ -375,9 +381,9 @@ module _ (x : p.Program) (prog : IsProgram x) (fit : AllFit x) where
               );
             }
         statement_formed ks (p.Lock place name) at h k c =
-            record { grows = into_self ks; formed = λ final into. (name_formed n final name.mutex name.key h, tt) }
+            record { grows = into_self ks; formed = λ final into. (name_formed n js final (at_into n js ks final at into) name.mutex name.key h k, tt) }
         statement_formed ks (p.Unlock place name) at h k c =
-            record { grows = into_self ks; formed = λ final into. (name_formed n final name.mutex name.key h, tt) }
+            record { grows = into_self ks; formed = λ final into. (name_formed n js final (at_into n js ks final at into) name.mutex name.key h k, tt) }
 
         statements_formed : (ks : List Kind) (ys : p.Statements) → At n js ks → AreStatements x js ys → AllIn x.variables x.mutexes (r.statements_indexes ys) →
             Called (i.statements_calls ys) → Good ks (i.statements fs bodies n ks ys)
@@ -476,7 +482,10 @@ flat_formed x prog fit none =
         variables = prog.shared.variables;
         bytes = prog.shared.bytes;
       };
-      single = prog.single;
       threads = threads_formed x prog fit none x.threads prog.threads threads;
     } in
     subst IsWellFormed (sym (flat_is x)) made
+
+-- its mutexes are those of the program
+pub flat_plain : (x : p.Program) → ArePlain x.mutexes → ArePlain (i.flat_form x).mutexes
+flat_plain x plain = subst ArePlain (sym (ap (λ (z : f.Flat). z.mutexes) (flat_is x))) plain

@@ -3,8 +3,12 @@ use Rattle.c_tree.specs.AcceptedTexts.{HasNoBack}
 use Rattle.c_tree.specs.Inlining.{flat_form}
 use Rattle.c_tree.specs.Programs.{Program}
 use Rattle.c_tree.specs.Ranges.{AllFit}
-use Rattle.c_tree.specs.WellFormed.{IsProgram, IsWellFormed}
+use Rattle.c_tree.specs.WellFormed.{ArePlain, IsProgram, IsWellFormed}
 
 -- the flat form is well formed where the program's indexes fit and no call leads back
 abbrev pub FlatIsFormed : Type 0
 FlatIsFormed = (x : Program) → IsProgram x → AllFit x → HasNoBack x → IsWellFormed (flat_form x)
+
+-- the flat form's mutexes are as plain as the program's
+abbrev pub FlatIsPlain : Type 0
+FlatIsPlain = (x : Program) → ArePlain x.mutexes → ArePlain (flat_form x).mutexes

@@ -1,7 +1,7 @@
 //! Laws of calls and of the flat form: nothing is computed here.
 ghost use Rattle.c_inline.specs.CallLaws.{BodiesAreBodies, CallersAreKept, DepthIsEnough, KindsGrow};
 ghost use Rattle.c_inline.specs.CallLaws.{LocalsAreNew, NoneIsShared, ParametersHold, UnassignedAreKept};
-ghost use Rattle.c_inline.specs.FormLaws.{FlatIsFormed};
+ghost use Rattle.c_inline.specs.FormLaws.{FlatIsFormed, FlatIsPlain};
 
 /// Where no call leads back, calls are no deeper than there are functions: the flat form doesn't change
 /// where deeper ones are allowed, and each call in it is the whole body of its function.
@@ -28,6 +28,11 @@ pub fn calls_keep_their_callers()
 /// The flat form of a well formed program whose indexes fit, and in which no call leads back, is well formed.
 pub fn flat_is_formed()
     ensures { FlatIsFormed }
+{}
+
+/// In the flat form of a program in which no mutex is in an array none is, either.
+pub fn flat_is_plain()
+    ensures { FlatIsPlain }
 {}
 
 /// Once the arguments of a call are passed, its parameters hold their values, converted to the parameters' kinds.

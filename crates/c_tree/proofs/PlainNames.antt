@@ -14,7 +14,7 @@ use Rattle.std.specs.Prelude.{ℤ}
 use Rattle.c_tree.specs.Values.{lock_number}
 use Rattle.c_tree.specs.Ranges.{mutexes_of}
 use Rattle.c_tree.specs.LockDiscipline.{variable_guard}
-use Rattle.c_tree.specs.WellFormed.{IsSingle, IsSingleAt, IsArrayAt, IsGuard, IsVariable, IsFlatLockName}
+use Rattle.c_tree.specs.WellFormed.{IsSingle, IsArrayAt, IsGuard, IsVariable, IsFlatLockName}
 
 -- ---- The table
 
@@ -101,15 +101,6 @@ keyless_by ms ks mutex (Some key) single h = absurd (no_array ms mutex single h.
 -- and no name has a key
 pub plain_name : (ms : List Mutex) (ks : List Kind) (x : e.LockName) → AllByRecursion IsSingle ms → IsFlatLockName ms ks x → x.key ≡ None
 plain_name ms ks x single h = keyless_by ms ks x.mutex x.key single h
-
--- and each mutex that is there is in none
-pub single_there : (ms : List Mutex) (n : ℕ) → AllByRecursion IsSingle ms → n < length ms → IsSingleAt ms n
-single_there [] n h low = absurd (omega (arith, low))
-single_there (m ∷ ms) zero h low = record { it = m; found = refl; single = h.0 }
-single_there (m ∷ ms) (suc n) h low =
-    let less : n < length ms = omega (arith, low) in
-    let s = single_there ms n h.1 less in
-    record { it = s.it; found = s.found; single = s.single }
 
 one_guard : (ms : List Mutex) (v : Variable) (guard : Guard) → v.guard ≡ guard → AllByRecursion IsSingle ms → IsGuard ms v →
     (mutex : ℕ) × (v.guard ≡ By mutex)

@@ -19,7 +19,7 @@ use Rattle.c_tree.specs.Inlining.{flat_form}
 use Rattle.c_tree.specs.TypeRules.{type_faults}
 use Rattle.c_tree.specs.LockNames.{lock_names}
 use Rattle.c_tree.specs.HoldPrices.{full_price}
-use Rattle.c_tree.specs.WellFormed.{AreShared, AreFlatStatements, IsFlatLockName, IsWellFormed}
+use Rattle.c_tree.specs.WellFormed.{AreShared, AreFlatStatements, IsFlatLockName, IsSingle, IsWellFormed}
 use Rattle.c_tree.specs.Source.{start, source_step, after_from, ended_from}
 use Rattle.c_tree.proofs.Samples.{at, int, name, length_at, thread, block, buckets}
 
@@ -121,10 +121,14 @@ buckets_threads =
       tt,
     )
 
--- all but that no mutex is in an array
-buckets_unformed : ¬ (IsWellFormed flat)
+buckets_formed : IsWellFormed flat
 unfolding flat_form typed_program reduction.from_least_on
-buckets_unformed w = let single = w.single.0 in cc
+buckets_formed = record { shared = buckets_shared; threads = buckets_threads }
+
+-- its mutexes are in an array
+buckets_keyed : ¬ (AllByRecursion IsSingle flat.mutexes)
+unfolding flat_form typed_program reduction.from_least_on
+buckets_keyed all = let single = all.0 in cc
 
 -- ---- Names and lengths
 

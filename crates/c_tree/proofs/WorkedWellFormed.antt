@@ -38,7 +38,6 @@ masked_formed = record {
     );
     bytes = omega arith;
   };
-  single = (refl, tt);
   threads = (
     (
       ((refl, tt), (tt, tt)),

@@ -4,7 +4,7 @@ use Rattle.std.specs.Prelude.{Some, None, Bool, true, false, not, ◌||◌, ◌&
 use Rattle.std.specs.List.{list_any}
 use Rattle.ido_base.specs.declared.place.Place.{Place}
 use Rattle.ido_base.specs.Layout.{aligned_up}
-use Rattle.ido_base.specs.declared.limits.TheConstants.{MOST_THREADS, MOST_MUTEXES, MOST_VARIABLE_BYTES, MOST_ELEMENTS}
+use Rattle.ido_base.specs.declared.limits.TheConstants.{MOST_THREADS, MOST_MUTEXES, MOST_VARIABLE_BYTES, MOST_ELEMENTS, MOST_LOCKS}
 use Rattle.c_tree.specs.declared.language.Language.{Language}
 use Rattle.c_tree.specs.declared.language.Language.TheVariants.{Plain, Full}
 use Rattle.ido_ints.specs.Kinds.{bytes_of}
@@ -46,7 +46,7 @@ thread_names xs = flat_map (λ x. elim x [ t.ThreadItem y ↦ y.name ∷ [] | _ 
 -- how many mutexes there may be, with those of arrays
 abbrev pub most_mutexes : Language → ℕ
 most_mutexes Plain = MOST_MUTEXES
-most_mutexes Full = 1024
+most_mutexes Full = MOST_LOCKS
 
 -- the first name by which there are more, after n of them
 abbrev pub too_many_mutexes : (most n : ℕ) → List t.Item → List Fault

@@ -4,7 +4,7 @@ use Rattle.std.specs.List.{AllByRecursion}
 use Rattle.ido_base.specs.declared.place.Place.{Place}
 use Rattle.ido_base.specs.declared.location.Shape.{Shape}
 use Rattle.ido_base.specs.Layout.{end_from}
-use Rattle.ido_base.specs.declared.limits.TheConstants.{MOST_THREADS, MOST_MUTEXES, MOST_VARIABLE_BYTES, MOST_ELEMENTS}
+use Rattle.ido_base.specs.declared.limits.TheConstants.{MOST_THREADS, MOST_MUTEXES, MOST_VARIABLE_BYTES, MOST_ELEMENTS, MOST_LOCKS}
 use Rattle.ido_ints.specs.declared.kinds.Kind.{Kind}
 use Rattle.ido_ints.specs.Kinds.{bytes_of, Holds}
 use Rattle.c_tree.specs.Exprs as e
@@ -17,6 +17,11 @@ use Rattle.c_tree.specs.Ranges.{is_below, elements_of, mutexes_of}
 -- a mutex that is in no array
 abbrev pub IsSingle : p.Mutex → Type 0
 IsSingle m = m.length ≡ None
+
+-- no mutex is in an array, and there are no more than a mask has bits
+pub record ArePlain (ms : List p.Mutex) : Type 0 where
+  pub single : AllByRecursion IsSingle ms
+  pub few : length ms ≤ MOST_MUTEXES
 
 -- the mutex of that number is there, and in no array
 pub record IsSingleAt (ms : List p.Mutex) (mutex : ℕ) : Type 0 where
@@ -63,7 +68,7 @@ initial_numbers v = v.initial
 
 -- what the threads share
 pub record AreShared (ms : List p.Mutex) (thread_count : ℕ) (vs : List p.Variable) : Type 0 where
-  pub mutexes : length ms ≤ MOST_MUTEXES
+  pub mutexes : length ms ≤ MOST_LOCKS
   pub threads : thread_count ≤ MOST_THREADS
   pub variables : AllByRecursion (IsVariable ms) vs
   pub bytes : end_from 0 (map shape_of vs) ≤ MOST_VARIABLE_BYTES
@@ -126,10 +131,6 @@ module _ (vs : List p.Variable) where
 
 -- ---- Names of locks
 
--- of a program: a mutex, where there are so many, and no key
-abbrev pub IsLockName : (mutexes : ℕ) → e.LockName → Type 0
-IsLockName mutexes x = (x.mutex < mutexes) × (x.key ≡ None)
-
 -- the key reads locals alone, and is the number of a mutex of the array, whatever they hold
 pub record IsKey (ms : List p.Mutex) (ks : List Kind) (first : ℕ) (key : e.Expr) : Type 0 where
   pub array : IsArrayAt ms first
@@ -144,6 +145,13 @@ IsFlatLockName ms ks x = elim x.key [
 ]
 
 -- ---- Programs, with calls; whether indexes fit is asked apart, by `AllFit`
+
+-- a mutex that is in no array and no key, or the first one of an array and a key that reads locals alone
+abbrev pub IsLockName : (ms : List p.Mutex) → (ks : List Kind) → e.LockName → Type 0
+IsLockName ms ks x = elim x.key [
+  | None ↦ IsSingleAt ms x.mutex
+  | Some key ↦ IsArrayAt ms x.mutex × IsExpr [] ks key.expr
+]
 
 -- a call of a function that is there: as many arguments as parameters, and a result exactly where one is assigned
 pub record IsCall (fs : List p.Function) (function arguments : ℕ) (assigned : Bool) : Type 0 where
@@ -169,8 +177,8 @@ module _ (x : p.Program) (ks : List Kind) where
     IsStatement (p.If place arms otherwise) = HasProgramArm arms × AreArms arms × AreStatements otherwise
     IsStatement (p.While place condition body) = IsPlaced x.variables ks condition × AreStatements body
     IsStatement (p.Do place body condition) = AreStatements body × IsPlaced x.variables ks condition
-    IsStatement (p.Lock place lock) = IsLockName (length x.mutexes) lock
-    IsStatement (p.Unlock place lock) = IsLockName (length x.mutexes) lock
+    IsStatement (p.Lock place lock) = IsLockName x.mutexes ks lock
+    IsStatement (p.Unlock place lock) = IsLockName x.mutexes ks lock
 
     pub AreStatements : p.Statements → Type 0
     AreStatements p.no_statement = Unit {0}
@@ -192,7 +200,6 @@ pub record IsFunction (x : p.Program) (g : p.Function) : Type 0 where
 
 pub record IsProgram (x : p.Program) : Type 0 where
   pub shared : AreShared x.mutexes (length x.threads) x.variables
-  pub single : AllByRecursion IsSingle x.mutexes
   pub functions : AllByRecursion (IsFunction x) x.functions
   pub threads : AllByRecursion (λ (t : p.Thread). AreStatements x t.locals t.body) x.threads
 
@@ -228,5 +235,4 @@ module _ (x : f.Flat) (ks : List Kind) where
 
 pub record IsWellFormed (x : f.Flat) : Type 0 where
   pub shared : AreShared x.mutexes (length x.threads) x.variables
-  pub single : AllByRecursion IsSingle x.mutexes
   pub threads : AllByRecursion (λ (t : f.Thread). AreFlatStatements x t.locals t.body) x.threads

@@ -1,11 +1,12 @@
 -- What is made of items without faults is a well formed program.
-use Rattle.std.proofs.Common.{◌≡◌, refl, sym, ◌∙◌, subst, ℕ, zero, suc, ◌+◌, ◌*◌, ◌-◌, ◌<◌, ◌≤◌, List, [], ◌∷◌, ◌++◌, length, map, flat_map}
+use Rattle.std.proofs.Common.{◌≡◌, ap, drop, refl, sym, ◌∙◌, subst, ℕ, zero, suc, ◌+◌, ◌*◌, ◌-◌, ◌<◌, ◌≤◌, List, [], ◌∷◌, ◌++◌, length, map, flat_map}
 use Rattle.std.proofs.Common.{take, replicate, Bool, true, false, not, ◌==◌, ◌||◌, nat_lt, is_some, if◌then◌else◌, Option, Some, None, arith}
 use Rattle.std.specs.Prelude.{ℤ, pos, slice_get}
 use Rattle.std.specs.List.{AllByRecursion}
 use Rattle.std.specs.Option.{option_map}
 use Rattle.std.proofs.lemmas.Bool.Decides.{nat_tests}
-use Rattle.std.proofs.lemmas.List.{length-map, length-append, length-take, length-replicate}
+use Rattle.std.proofs.lemmas.List.{drop-drop, length-map, length-append, length-take, length-replicate}
+use Rattle.std.proofs.lemmas.Option.{none-some}
 use Rattle.ido_base.specs.Layout.{aligned_up, end_from}
 use Rattle.ido_base.specs.declared.limits.TheConstants.{MOST_THREADS, MOST_MUTEXES, MOST_VARIABLE_BYTES, MOST_ELEMENTS}
 use Rattle.ido_ints.specs.declared.kinds.Kind.{Kind}
@@ -14,7 +15,9 @@ use Rattle.ido_ints.specs.Reduction.{reduced}
 use Rattle.ido_ints.proofs.Public.{Holds-zero, Holds-reduced}
 use Rattle.c_tree.specs.declared.rule.Rule.TheVariants as rule
 use Rattle.c_tree.specs.AcceptedTexts.{IsTyped}
-use Rattle.c_tree.specs.declared.language.Language.TheVariants.{Plain}
+use Rattle.c_tree.specs.declared.language.Language.{Language}
+use Rattle.c_tree.specs.declared.language.Language.TheVariants.{Plain, Full}
+use Rattle.c_tree.specs.TextReadings.{IsRead}
 use Rattle.c_tree.specs.Languages.{all_of}
 use Rattle.c_tree.specs.Tokens.{Token}
 use Rattle.ido_base.specs.declared.place.Place.{Place}
@@ -30,11 +33,10 @@ use Rattle.c_tree.specs.Elaboration as made
 use Rattle.c_tree.specs.Elaboration.{typed_program}
 use Rattle.c_tree.specs.Ranges.{mutexes_of}
 use Rattle.c_tree.specs.WellFormed.{elements_in, shape_of, IsSingle, IsSingleAt, IsArrayAt, IsVariable, IsGuard, AreStatements}
-use Rattle.c_tree.specs.WellFormed.{IsExpr, IsReturned, IsFunction, IsProgram}
-use Rattle.c_tree.proofs.Public.{single_there}
+use Rattle.c_tree.specs.WellFormed.{ArePlain, IsExpr, IsReturned, IsFunction, IsProgram}
 use Rattle.c_typer.proofs.LocalKindsGrow.{Into, into_self, into_length, Known, grow_statements, known_parameters}
-use Rattle.c_typer.proofs.WellFormedStatements.{nil_left, nil_right, not_broken, unbroken, SortIn, lock_formed}
-use Rattle.c_typer.proofs.WellFormedStatements.{expr_formed, numeric_formed, known_all, statements_formed}
+use Rattle.c_typer.proofs.WellFormedStatements.{nil_left, nil_right, not_broken, unbroken, IsNamedMutex, MutexIn, SortIn, array_at, equal_counts, lock_formed}
+use Rattle.c_typer.proofs.WellFormedStatements.{expr_formed, numeric_formed, known_all, single_at, statements_formed}
 
 -- ---- Counts
 
@@ -143,33 +145,66 @@ bounds (Some x) h =
 
 -- ---- Items, in a program in which their names stand
 
-module _ (q : p.Program) (gs : List n.Global) (sorts : AllByRecursion (λ (y : n.Global). SortIn q y.sort) gs)
-    (single : AllByRecursion IsSingle q.mutexes) where
-  -- where there are no brackets, one mutex guards all of the variable
-  guard_formed : (x : t.Persistent) (each : Bool) (us : List Token) → x.guard.each ≡ each → g.brackets Plain each us →
-      rules.mutex_faults Plain gs n.no_locals x.guard.mutex x.guard.each ≡ [] → IsGuard q.mutexes (made.variable gs x)
-  guard_formed x true us e d h = absurd d
-  guard_formed x false us e d h =
-      let number = made.mutex_number gs n.no_locals x.guard.mutex in
-      subst (λ (b : Bool). elim (if b then p.Each number else p.By number) as (λ _. Type 0) [
-        | p.By mutex ↦ IsSingleAt q.mutexes mutex
-        | p.Each first ↦ IsArrayAt q.mutexes first × ((made.variable gs x).length ≡ Some (mutexes_of q.mutexes first))
-      ]) (sym e) (single_there q.mutexes number single (lock_formed q gs sorts [] n.no_locals tt x.guard.mutex x.guard.each h))
+module _ (language : Language) (q : p.Program) (gs : List n.Global) (sorts : AllByRecursion (λ (y : n.Global). SortIn q y.sort) gs) where
+  -- ---- What guards a variable
 
-  variable_formed : (x : t.Persistent) (us : List Token) → g.brackets Plain x.guard.each us → rules.item_faults Plain gs (t.PersistentItem x) ≡ [] →
-      IsVariable q.mutexes (made.variable gs x)
-  variable_formed x us d h =
+  -- the mutex of its guard, or the first of them, and how many these are
+  abbrev guarding : t.Persistent → ℕ
+  guarding x = made.mutex_number gs n.no_locals x.guard.mutex
+
+  abbrev counting : t.Persistent → Option ℕ
+  counting x = rules.mutexes_of Plain gs x.guard.mutex
+
+  abbrev IsGuardBy : t.Persistent → Bool → Type 0
+  IsGuardBy x each = elim (if each then p.Each (guarding x) else p.By (guarding x)) as (λ _. Type 0) [
+    | p.By mutex ↦ IsSingleAt q.mutexes mutex
+    | p.Each first ↦ IsArrayAt q.mutexes first × ((made.variable gs x).length ≡ Some (mutexes_of q.mutexes first))
+  ]
+
+  -- there are as many elements as mutexes
+  as_many : (first : ℕ) (count : Option ℕ) (size : t.Length) → MutexIn q.mutexes first count → is_some count ≡ true →
+      rules.count_faults Plain gs count size ≡ [] → Some (length_number size) ≡ Some (mutexes_of q.mutexes first)
+  as_many first None size there many h = absurd (let wrong : false ≡ true = many in cc)
+  as_many first (Some count) size there many h =
+      let same : length_number size ≡ count =
+      equal_counts (length_number size) count (unbroken (not (length_number size == count)) rule.Count size.place h) in
+      ap (λ (m : ℕ). Some m) (same ∙ sym there.1)
+
+  counted : (x : t.Persistent) (size : Option t.Length) → MutexIn q.mutexes (guarding x) (counting x) → is_some (counting x) ≡ true →
+      ◌≡◌ {A = List Fault} (elim size [
+        | None ↦ broken rule.WrongSort x.name.place
+        | Some length ↦ rules.count_faults Plain gs (rules.mutexes_of Plain gs x.guard.mutex) length
+      ]) [] → option_map length_number size ≡ Some (mutexes_of q.mutexes (guarding x))
+  counted x None there many h = absurd (not_broken rule.WrongSort x.name.place h)
+  counted x (Some size) there many h = as_many (guarding x) (counting x) size there many h
+
+  -- where there are no brackets one mutex guards all of the variable; else each of an array one element
+  guard_by : (x : t.Persistent) (each : Bool) → IsNamedMutex q.mutexes (guarding x) (counting x) each →
+      ◌≡◌ {A = List Fault} (if not each then [] else elim x.length [
+        | None ↦ broken rule.WrongSort x.name.place
+        | Some length ↦ rules.count_faults Plain gs (rules.mutexes_of Plain gs x.guard.mutex) length
+      ]) [] → IsGuardBy x each
+  guard_by x false named h = single_at q.mutexes (guarding x) (counting x) named.there named.array
+  guard_by x true named h =
+      (array_at q.mutexes (guarding x) (counting x) named.there named.array, counted x x.length named.there named.array h)
+
+  guard_formed : (x : t.Persistent) → rules.mutex_faults Plain gs n.no_locals x.guard.mutex x.guard.each ≡ [] → rules.each_faults Plain gs x ≡ [] →
+      IsGuard q.mutexes (made.variable gs x)
+  guard_formed x h k = guard_by x x.guard.each (lock_formed language q gs sorts [] n.no_locals tt x.guard.mutex x.guard.each h) k
+
+  variable_formed : (x : t.Persistent) → rules.item_faults Plain gs (t.PersistentItem x) ≡ [] → IsVariable q.mutexes (made.variable gs x)
+  variable_formed x h =
       let a = rules.mutex_faults Plain gs n.no_locals x.guard.mutex x.guard.each in
       let b = rules.each_faults Plain gs x in
       let old = ((a ++ b) ++ rules.length_faults x.length) ++ rules.initialiser_faults x.type_name x.length x.initialiser in
       let first = nil_left ((a ++ b) ++ rules.length_faults x.length) (rules.initialiser_faults x.type_name x.length x.initialiser)
       (nil_left old (rules.type_name_faults Plain gs n.no_locals x.type_name) h) in
       let kind = n.kind_named x.type_name in
-      let guard = nil_left a b (nil_left (a ++ b) (rules.length_faults x.length) first) in
+      let both = nil_left (a ++ b) (rules.length_faults x.length) first in
       let size = bounds x.length (nil_right (a ++ b) (rules.length_faults x.length) first) in
       let count = element_count x.length in
       let zs = map (reduced kind) (made.numbers_of x.initialiser) in record {
-        guarded = guard_formed x x.guard.each us refl d guard;
+        guarded = guard_formed x (nil_left a b both) (nil_right a b both);
         not_empty = subst (λ (m : ℕ). 0 < m) (sym (size_is x.length)) size.not_empty;
         not_too_long = subst (λ (m : ℕ). m ≤ MOST_ELEMENTS) (sym (size_is x.length)) size.not_too_long;
         count = filled_length count zs ∙ sym (size_is x.length);
@@ -177,12 +212,12 @@ module _ (q : p.Program) (gs : List n.Global) (sorts : AllByRecursion (λ (y : n
             (all_zeros kind (count - length zs));
       }
 
-  block_formed : (ks : List Kind) (s : n.Scope) (x : t.Block) (ts : List Token) → g.block Plain x ts → Known ks s.known →
+  block_formed : (ks : List Kind) (s : n.Scope) (x : t.Block) (ts : List Token) → g.block language x ts → Known ks s.known →
       Into (made.statements gs s (made.body_of x)).scope.kinds ks → rules.statements_faults Plain gs s (made.body_of x) ≡ [] →
       AreStatements q ks (made.statements gs s (made.body_of x)).made
-  block_formed ks s (t.Braced opening xs closing) ts d known into h = statements_formed q gs sorts ks s xs d.4.0 d.4.3 known into h
+  block_formed ks s (t.Braced opening xs closing) ts d known into h = statements_formed language q gs sorts ks s xs d.4.0 d.4.3 known into h
 
-  thread_formed : (x : t.Thread) (ts : List Token) → g.block Plain x.block ts → rules.item_faults Plain gs (t.ThreadItem x) ≡ [] →
+  thread_formed : (x : t.Thread) (ts : List Token) → g.block language x.block ts → rules.item_faults Plain gs (t.ThreadItem x) ≡ [] →
       AreStatements q (made.thread gs x).locals (made.thread gs x).body
   thread_formed x ts d h = let ks = (made.statements gs n.no_locals (made.body_of x.block)).scope.kinds in block_formed ks n.no_locals x.block ts d tt
       (into_self ks) h
@@ -190,9 +225,10 @@ module _ (q : p.Program) (gs : List n.Global) (sorts : AllByRecursion (λ (y : n
   -- a value that is returned is an expression without faults, whatever the result's type
   value_formed : (ks : List Kind) (s : n.Scope) (type_name : Option t.TypeName) (place : Place) (v : t.Expression) → Known ks s.known →
       rules.value_faults Plain gs s type_name place (Some v) ≡ [] → IsExpr q.variables ks (made.expr gs s v)
-  value_formed ks s None place v known h = numeric_formed q gs sorts ks s known v h
+  value_formed ks s None place v known h = numeric_formed language q gs sorts ks s known v h
   value_formed ks s (Some type_name) place v known h =
-      expr_formed q gs sorts ks s known v (nil_left (rules.expression_faults Plain gs s v) (rules.given_faults Plain gs s (n.of_type gs type_name) place v) h)
+      expr_formed language q gs sorts ks s known v
+      (nil_left (rules.expression_faults Plain gs s v) (rules.given_faults Plain gs s (n.of_type gs type_name) place v) h)
 
   returned_formed : (ks : List Kind) (s : n.Scope) (f : t.Function) (o : Option t.Return) → Known ks s.known → rules.returned_faults Plain gs s f o ≡ [] →
       IsReturned q ks (made.returned gs s (option_map n.kind_named f.type_name) o)
@@ -211,7 +247,7 @@ module _ (q : p.Program) (gs : List n.Global) (sorts : AllByRecursion (λ (y : n
       by (Some type_name) None k = tt
       by (Some type_name) (Some r) k = go (n.kind_named type_name) (Some type_name) r.value k
 
-  function_formed : (x : t.Function) (ts : List Token) → g.function Plain x ts → rules.item_faults Plain gs (t.FunctionItem x) ≡ [] →
+  function_formed : (x : t.Function) (ts : List Token) → g.function language x ts → rules.item_faults Plain gs (t.FunctionItem x) ≡ [] →
       IsFunction q (made.function gs x)
   function_formed x ts d h =
       let s = made.with_parameters gs n.no_locals x.parameters in
@@ -225,8 +261,8 @@ module _ (q : p.Program) (gs : List n.Global) (sorts : AllByRecursion (λ (y : n
       (nil_left (((p1 ++ p2) ++ p3) ++ rules.return_faults Plain gs x) (rules.result_faults Plain gs x.type_name) h) in
       let h2 = nil_left (p1 ++ p2) p3 h3 in record {
         parameters = omega (arith, into_length s.kinds ks (grow_statements gs s x.body.statements), parameters_count n.no_locals x.parameters);
-        body = statements_formed q gs sorts ks s x.body.statements d.4.4.4.4.4.4.0 d.4.4.4.4.4.4.3 known (into_self ks) (nil_right p1 p2 h2);
-        result = returned_formed ks m.scope x x.body.returned (known_all q gs sorts ks s x.body.statements known (into_self ks))
+        body = statements_formed language q gs sorts ks s x.body.statements d.4.4.4.4.4.4.0 d.4.4.4.4.4.4.3 known (into_self ks) (nil_right p1 p2 h2);
+        result = returned_formed ks m.scope x x.body.returned (known_all language q gs sorts ks s x.body.statements known (into_self ks))
             (nil_right (p1 ++ p2) p3 h3);
       }
     where
@@ -244,17 +280,17 @@ module _ (q : p.Program) (gs : List n.Global) (sorts : AllByRecursion (λ (y : n
     functions : AllByRecursion (IsFunction q) made_of.functions
     threads : AllByRecursion (λ (y : p.Thread). AreStatements q y.locals y.body) made_of.threads
 
-  parts_formed : (xs : List t.Item) (ts : List Token) → all_of (g.item Plain) xs ts → flat_map (rules.item_faults Plain gs) xs ≡ [] →
+  parts_formed : (xs : List t.Item) (ts : List Token) → all_of (g.item language) xs ts → flat_map (rules.item_faults Plain gs) xs ≡ [] →
       Parts (made.program_from gs xs)
   parts_formed [] ts d h = record { variables = tt; functions = tt; threads = tt }
   parts_formed (x ∷ xs) ts d h = add x d.0 d.3 (nil_left (rules.item_faults Plain gs x) (flat_map (rules.item_faults Plain gs) xs) h)
       (parts_formed xs d.1 d.4 (nil_right (rules.item_faults Plain gs x) (flat_map (rules.item_faults Plain gs) xs) h))
     where
-      add : (y : t.Item) (us : List Token) → g.item Plain y us → rules.item_faults Plain gs y ≡ [] → Parts (made.program_from gs xs) →
+      add : (y : t.Item) (us : List Token) → g.item language y us → rules.item_faults Plain gs y ≡ [] → Parts (made.program_from gs xs) →
           Parts (made.with_item gs y (made.program_from gs xs))
       add (t.MutexItem y count) us c k r = record { variables = r.variables; functions = r.functions; threads = r.threads }
       add (t.PersistentItem y) us c k r =
-          record { variables = (variable_formed y c.4.4.4.0 c.4.4.4.3 k, r.variables); functions = r.functions; threads = r.threads }
+          record { variables = (variable_formed y k, r.variables); functions = r.functions; threads = r.threads }
       add (t.ThreadItem y) us c k r = record { variables = r.variables; functions = r.functions; threads = (thread_formed y c.4.1 c.4.4 k, r.threads) }
       add (t.FunctionItem y) us c k r = record { variables = r.variables; functions = (function_formed y us c k, r.functions); threads = r.threads }
 
@@ -262,9 +298,57 @@ module _ (q : p.Program) (gs : List n.Global) (sorts : AllByRecursion (λ (y : n
 
 -- the part stands in the program, after so many of each sort
 record After (q : p.Program) (c : n.Counts) (part : p.Program) : Type 0 where
-  mutexes : c.mutexes + length part.mutexes ≤ length q.mutexes
+  mutexes : drop c.mutexes q.mutexes ≡ part.mutexes
   variables : (k : ℕ) (v : p.Variable) → slice_get part.variables k ≡ Some v → slice_get q.variables (c.variables + k) ≡ Some v
   functions : (k : ℕ) (f : p.Function) → slice_get part.functions k ≡ Some f → slice_get q.functions (c.functions + k) ≡ Some f
+
+-- ---- Where mutexes stand
+
+-- what stands first in what is left of a list
+get_dropped : (ms : List p.Mutex) (k : ℕ) (it : p.Mutex) (rest : List p.Mutex) → drop k ms ≡ it ∷ rest → slice_get ms k ≡ Some it
+get_dropped ms zero it rest e = ap (λ (xs : List p.Mutex). slice_get xs 0) e
+get_dropped [] (suc k) it rest e = absurd (none-some it (ap (λ (xs : List p.Mutex). slice_get xs 0) e))
+get_dropped (m ∷ ms) (suc k) it rest e = get_dropped ms k it rest e
+
+mutexes_there : (ms : List p.Mutex) (first : ℕ) (it : p.Mutex) (size : ℕ) → slice_get ms first ≡ Some it → it.length ≡ Some size → mutexes_of ms first ≡ size
+mutexes_there ms first it size found sized =
+    ap (λ (o : Option p.Mutex). elim o as (λ _. ℕ) [ Some m ↦ elim m.length as (λ _. ℕ) [ Some many ↦ many | None ↦ 0 ] | None ↦ 0 ]) found
+    ∙ ap (λ (o : Option ℕ). elim o as (λ _. ℕ) [ Some many ↦ many | None ↦ 0 ]) sized
+
+copies_taken : (size : ℕ) (it : p.Mutex) (rest : List p.Mutex) → take size (replicate size it ++ rest) ≡ replicate size it
+copies_taken zero it rest = refl
+copies_taken (suc size) it rest = ap (λ (ms : List p.Mutex). it ∷ ms) (copies_taken size it rest)
+
+copies_dropped : (size : ℕ) (it : p.Mutex) (rest : List p.Mutex) → drop size (replicate size it ++ rest) ≡ rest
+copies_dropped zero it rest = refl
+copies_dropped (suc size) it rest = copies_dropped size it rest
+
+first_copy : (size : ℕ) (it : p.Mutex) (rest : List p.Mutex) → 0 < size → (more : List p.Mutex) × (replicate size it ++ rest ≡ it ∷ more)
+first_copy zero it rest some = absurd (omega (arith, some))
+first_copy (suc size) it rest some = (replicate size it ++ rest, refl)
+
+-- a mutex or an array of them, where it is what comes next
+mutex_there : (ms : List p.Mutex) (number : ℕ) (name : t.Name) (count : Option t.Length) (rest : List p.Mutex) → 0 < element_count count →
+    drop number ms ≡ replicate (element_count count) (record { name = name; length = option_map length_number count }) ++ rest →
+    MutexIn ms number (option_map length_number count)
+mutex_there ms number name None rest some e =
+    let it : p.Mutex = record { name = name; length = None } in
+    record { it = it; found = get_dropped ms number it rest e; single = refl }
+mutex_there ms number name (Some count) rest some e =
+    let size : ℕ = length_number count in
+    let it : p.Mutex = record { name = name; length = Some size } in
+    let first = first_copy size it rest some in
+    let found : slice_get ms number ≡ Some it = get_dropped ms number it first.0 (e ∙ first.1) in
+    let sized : mutexes_of ms number ≡ size = mutexes_there ms number it size found refl in
+    let whole : take size (drop number ms) ≡ replicate size it = ap (λ (xs : List p.Mutex). take size xs) e ∙ copies_taken size it rest in (
+      record {
+        it = it;
+        found = found;
+        array = refl;
+        whole = subst (λ (k : ℕ). take k (drop number ms) ≡ replicate k it) (sym sized) whole;
+      },
+      sized,
+    )
 
 some_mapped : {A B : Type 0} (f : A → B) (o : Option A) → is_some (option_map f o) ≡ is_some o
 some_mapped f None = refl
@@ -305,10 +389,16 @@ module _ (q : p.Program) (gs : List n.Global) where
           ((d : n.Counts) → After q d (made.program_from gs xs) → AllByRecursion (λ (z : n.Global). SortIn q z.sort) (n.globals_from d xs)) →
           AllByRecursion (λ (z : n.Global). SortIn q z.sort) (n.globals_from c (y ∷ xs))
       go (t.MutexItem y count) e k rest =
-          let many = mutexes_count gs y count (made.program_from gs xs).mutexes in (
-            omega (arith, e.mutexes, many, (bounds count k).not_empty),
-            rest (n.counted c (t.MutexItem y count))
-                (record { mutexes = omega (arith, e.mutexes, many); variables = e.variables; functions = e.functions }),
+          let it : p.Mutex = record { name = y; length = option_map length_number count } in
+          let later = (made.program_from gs xs).mutexes in
+          let size : ℕ = element_count count in (
+            mutex_there q.mutexes c.mutexes y count later (bounds count k).not_empty e.mutexes,
+            rest (n.counted c (t.MutexItem y count)) (record {
+              mutexes = sym (drop-drop size c.mutexes q.mutexes)
+                  ∙ (ap (λ (ms : List p.Mutex). drop size ms) e.mutexes ∙ copies_dropped size it later);
+              variables = e.variables;
+              functions = e.functions;
+            }),
           )
       go (t.PersistentItem y) e k rest =
           let here : at p.Variable q.variables c.variables (made.variable gs y) = subst (λ (i : ℕ). at p.Variable q.variables i (made.variable gs y))
@@ -360,9 +450,29 @@ single_items gs (x ∷ xs) ts d = single_more gs x d.0 (made.program_from gs xs)
 
 -- ---- The whole text
 
-formed : (xs : List t.Item) (ts : List Token) → all_of (g.item Plain) xs ts → type_faults Plain xs ≡ [] → IsProgram (typed_program xs)
+-- no more mutexes are made than the rule of their number says
+few_mutexes : (xs : List t.Item) → type_faults Plain xs ≡ [] → length (typed_program xs).mutexes ≤ MOST_MUTEXES
 unfolding type_faults typed_program
-formed xs ts d h =
+few_mutexes xs h =
+    let gs = n.globals_of xs in
+    let a = rules.twice_from [] gs in
+    let b = rules.past rule.Threads MOST_THREADS (rules.thread_names xs) in
+    let m = rules.too_many_mutexes MOST_MUTEXES 0 xs in
+    let e = rules.too_many_bytes 0 xs in
+    let f = flat_map (rules.item_faults Plain gs) xs in
+    let h3 = nil_left ((a ++ b) ++ m) e (nil_left (((a ++ b) ++ m) ++ e) f h) in
+    let few : length (made.program_from gs xs).mutexes ≤ MOST_MUTEXES =
+    omega (arith, mutexes_within gs MOST_MUTEXES 0 xs (omega arith) (nil_right (a ++ b) m h3)) in
+    few
+
+-- in the plain language no mutex is in an array
+single_typed : (xs : List t.Item) (ts : List Token) → all_of (g.item Plain) xs ts → AllByRecursion IsSingle (typed_program xs).mutexes
+unfolding typed_program
+single_typed xs ts d = single_items (n.globals_of xs) xs ts d
+
+formed : (language : Language) (xs : List t.Item) (ts : List Token) → all_of (g.item language) xs ts → type_faults Plain xs ≡ [] → IsProgram (typed_program xs)
+unfolding type_faults typed_program
+formed language xs ts d h =
     let gs = n.globals_of xs in
     let q = made.program_from gs xs in
     let a = rules.twice_from [] gs in
@@ -375,28 +485,36 @@ formed xs ts d h =
     let h2 = nil_left (a ++ b) m h3 in
     let items = nil_right (((a ++ b) ++ m) ++ e) f h in
     let whole : After q n.none_yet q = record {
-      mutexes = omega arith;
+      mutexes = refl;
       variables = λ k v l. subst (λ (i : ℕ). slice_get q.variables i ≡ Some v)
           (omega arith) l;
       functions = λ k v l. subst (λ (i : ℕ). slice_get q.functions i ≡ Some v) (omega arith) l;
     } in
     let sorts = sorts_formed q gs n.none_yet xs whole items in
-    let single = single_items gs xs ts d in
-    let parts = parts_formed q gs sorts single xs ts d items in record {
+    let parts = parts_formed language q gs sorts xs ts d items in record {
       shared = record {
         mutexes = omega (arith, mutexes_within gs MOST_MUTEXES 0 xs (omega arith) (nil_right (a ++ b) m h3));
         threads = omega (arith, threads_named gs xs, past_most rule.Threads MOST_THREADS (rules.thread_names xs) (nil_right a b h2));
         variables = parts.variables;
         bytes = ends_within gs 0 xs (omega arith) (nil_right ((a ++ b) ++ m) e h4);
       };
-      single = single;
       functions = parts.functions;
       threads = parts.threads;
     }
 
-spelled_items : (xs : List t.Item) (ts : List Token) → g.program Plain xs ts → all_of (g.item Plain) xs ts
-spelled_items [] ts d = absurd d
-spelled_items (x ∷ xs) ts d = d
+spelled_items : (language : Language) (xs : List t.Item) (ts : List Token) → g.program language xs ts → all_of (g.item language) xs ts
+spelled_items language [] ts d = absurd d
+spelled_items language (x ∷ xs) ts d = d
 
 pub typed_formed : (text : List ℕ) (x : p.Program) → IsTyped Plain text x → IsProgram x
-typed_formed text x h = subst IsProgram (sym h.typed) (formed h.items _ (spelled_items h.items _ h.read.spelled) h.faultless)
+typed_formed text x h = subst IsProgram (sym h.typed) (formed Plain h.items _ (spelled_items Plain h.items _ h.read.spelled) h.faultless)
+
+pub typed_plain : (text : List ℕ) (x : p.Program) → IsTyped Plain text x → ArePlain x.mutexes
+typed_plain text x h =
+    subst (λ (y : p.Program). ArePlain y.mutexes) (sym h.typed) (record {
+      single = single_typed h.items _ (spelled_items Plain h.items _ h.read.spelled);
+      few = few_mutexes h.items h.faultless;
+    })
+
+pub keyed_formed : (text : List ℕ) (xs : List t.Item) → IsRead Full text xs → type_faults Plain xs ≡ [] → IsProgram (typed_program xs)
+keyed_formed text xs read h = formed Full xs _ (spelled_items Full xs _ read.spelled) h

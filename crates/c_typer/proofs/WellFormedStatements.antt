@@ -1,5 +1,5 @@
 -- What is made of statements without faults is well formed.
-use Rattle.std.proofs.Common.{◌≡◌, refl, ◌∙◌, subst, ℕ, ◌<◌, List, [], ◌∷◌, ◌++◌, length, map, find, flat_map, Bool}
+use Rattle.std.proofs.Common.{◌≡◌, refl, ◌∙◌, subst, ℕ, List, [], ◌∷◌, ◌++◌, length, map, find, flat_map, Bool}
 use Rattle.std.proofs.Common.{true, false, not, ◌==◌, is_some, if◌then◌else◌, cond, Option, Some, None, arith}
 use Rattle.std.specs.Prelude.{slice_get}
 use Rattle.std.specs.List.{AllByRecursion}
@@ -11,6 +11,7 @@ use Rattle.ido_base.specs.declared.place.Place.{Place}
 use Rattle.ido_ints.specs.declared.kinds.Kind.{Kind}
 use Rattle.ido_ints.specs.declared.kinds.Kind.TheVariants.{Int}
 use Rattle.c_tree.specs.declared.rule.Rule.TheVariants as rule
+use Rattle.c_tree.specs.declared.language.Language.{Language}
 use Rattle.c_tree.specs.declared.language.Language.TheVariants.{Plain}
 use Rattle.c_tree.specs.Tokens.{Token}
 use Rattle.c_tree.specs.Trees as t
@@ -22,45 +23,58 @@ use Rattle.c_tree.specs.TypeRules as rules
 use Rattle.c_tree.specs.TypeRules.{broken, broken_if}
 use Rattle.c_tree.specs.Elaboration as made
 use Rattle.c_tree.specs.LexicalScan.{Fault}
-use Rattle.c_tree.specs.WellFormed.{IsDeclared, IsExpr, IsPlaced, IsTarget, IsCall, IsResult, IsStatement, AreStatements, AreArms, HasProgramArm}
+use Rattle.c_tree.specs.Ranges.{mutexes_of}
+use Rattle.c_tree.specs.WellFormed.{IsArrayAt, IsSingleAt}
+use Rattle.c_tree.specs.WellFormed.{IsDeclared, IsExpr, IsPlaced, IsTarget, IsCall, IsLockName, IsResult, IsStatement, AreStatements, AreArms, HasProgramArm}
+use Rattle.c_typer.proofs.EmptyFaults.{nil_left, nil_right, not_broken, unbroken}
+use Rattle.c_typer.proofs.PlainReferences.{expr_follows}
 use Rattle.c_typer.proofs.LocalKindsGrow.{Into, into_both, Known, into_declared, grow_statements, grow_inside, grow_arms, grow_otherwise}
-
--- ---- Lists of faults that are empty
-
-pub nil_left : {A : Type 0} (xs ys : List A) → xs ++ ys ≡ [] → xs ≡ []
-nil_left [] ys h = refl
-nil_left (x ∷ xs) ys h = absurd (cc)
-
-pub nil_right : {A : Type 0} (xs ys : List A) → xs ++ ys ≡ [] → ys ≡ []
-nil_right [] ys h = h
-nil_right (x ∷ xs) ys h = absurd (cc)
-
-pub not_broken : (found : _) (place : Place) → broken found place ≡ [] → ⊥
-not_broken found place h = cc
-
-pub unbroken : (c : Bool) (found : _) (place : Place) → broken_if c found place ≡ [] → c ≡ false
-unbroken true found place h = absurd (not_broken found place h)
-unbroken false found place h = refl
 
 -- ---- Blocks of arms, as they are spelled
 
-abbrev Spelled : t.Arms → Type 0
-Spelled t.no_arm = Unit {0}
-Spelled (t.arm_and y body rest) = ((us : List Token) × g.block Plain body us) × Spelled rest
+module _ (language : Language) where
+  abbrev Spelled : t.Arms → Type 0
+  Spelled t.no_arm = Unit {0}
+  Spelled (t.arm_and y body rest) = ((us : List Token) × g.block language body us) × Spelled rest
 
-spelled_more : (ys : t.Arms) (ts : List Token) → g.more_arms_of Plain ys ts → Spelled ys
-spelled_more t.no_arm ts d = tt
-spelled_more (t.arm_and y body rest) ts d = ((d.4.4.4.0, d.4.4.4.3), spelled_more rest d.4.4.4.1 d.4.4.4.4)
+  spelled_more : (ys : t.Arms) (ts : List Token) → g.more_arms_of language ys ts → Spelled ys
+  spelled_more t.no_arm ts d = tt
+  spelled_more (t.arm_and y body rest) ts d = ((d.4.4.4.0, d.4.4.4.3), spelled_more rest d.4.4.4.1 d.4.4.4.4)
 
-spelled_arms : (ys : t.Arms) (ts : List Token) → g.arms_of Plain ys ts → Spelled ys
-spelled_arms t.no_arm ts d = absurd d
-spelled_arms (t.arm_and y body rest) ts d = ((d.4.4.0, d.4.4.3), spelled_more rest d.4.4.1 d.4.4.4)
+  spelled_arms : (ys : t.Arms) (ts : List Token) → g.arms_of language ys ts → Spelled ys
+  spelled_arms t.no_arm ts d = absurd d
+  spelled_arms (t.arm_and y body rest) ts d = ((d.4.4.0, d.4.4.3), spelled_more rest d.4.4.1 d.4.4.4)
 
 -- ---- What a name means in a program
 
+-- a mutex that is in no array, or an array of so many
+abbrev pub MutexIn : List p.Mutex → (number : ℕ) → (count : Option ℕ) → Type 0
+MutexIn ms number None = IsSingleAt ms number
+MutexIn ms number (Some count) = IsArrayAt ms number × (mutexes_of ms number ≡ count)
+
+pub single_at : (ms : List p.Mutex) (number : ℕ) (count : Option ℕ) → MutexIn ms number count → is_some count ≡ false → IsSingleAt ms number
+single_at ms number None there one = there
+single_at ms number (Some count) there one = absurd (let wrong : true ≡ false = one in cc)
+
+pub array_at : (ms : List p.Mutex) (number : ℕ) (count : Option ℕ) → MutexIn ms number count → is_some count ≡ true → IsArrayAt ms number
+array_at ms number None there many = absurd (let wrong : false ≡ true = many in cc)
+array_at ms number (Some count) there many = there.0
+
+-- how many mutexes an array has, where that is what the name means
+abbrev pub count_in : n.Meaning → Option ℕ
+count_in m = elim m [
+  | n.IsGlobal (n.Mutex number count) ↦ count
+  | _ ↦ None
+]
+
+-- what a name of a lock names, which has a key or hasn't: the mutex is there, or all of the array
+pub record IsNamedMutex (ms : List p.Mutex) (number : ℕ) (count : Option ℕ) (keyed : Bool) : Type 0 where
+  pub there : MutexIn ms number count
+  pub array : is_some count ≡ keyed
+
 -- what stands for it is there
 abbrev pub SortIn : p.Program → n.Sort → Type 0
-SortIn x (n.Mutex number count) = number < length x.mutexes
+SortIn x (n.Mutex number count) = MutexIn x.mutexes number count
 SortIn x (n.Variable number type_name length each) = IsDeclared x.variables number (n.kind_named type_name) (is_some length)
 SortIn x (n.Function number gives parameters) = IsCall x.functions number (length parameters) (is_some gives)
 SortIn x n.Thread = Unit {0}
@@ -84,11 +98,11 @@ equal_bools true false h = absurd (cc)
 equal_bools false true h = absurd (cc)
 equal_bools false false h = refl
 
-equal_counts : (i j : ℕ) → not (i == j) ≡ false → i ≡ j
+pub equal_counts : (i j : ℕ) → not (i == j) ≡ false → i ≡ j
 equal_counts i j h = grind (arith, nat_tests)
 
 -- the whole text's names stand in the program, and locals are of these kinds
-module _ (x : p.Program) (gs : List n.Global) (sorts : AllByRecursion (λ (y : n.Global). SortIn x y.sort) gs) (ks : List Kind) where
+module _ (language : Language) (x : p.Program) (gs : List n.Global) (sorts : AllByRecursion (λ (y : n.Global). SortIn x y.sort) gs) (ks : List Kind) where
   meaning_in : (s : n.Scope) (name : List ℕ) → Known ks s.known → MeaningIn x ks (n.meaning gs s name)
   meaning_in s name known = local (find (λ (y : n.Local). n.same_name y.name name) s.known) refl
     where
@@ -360,23 +374,132 @@ module _ (x : p.Program) (gs : List n.Global) (sorts : AllByRecursion (λ (y : n
         go (t.Result c) q = call_formed place c (Some local) (nil_left (rules.call_faults Plain gs s c true)
             (broken_if (not (rules.gives_so Plain gs to (rules.result_of Plain gs s c.function))) rule.WrongSort y.name.place) q) new
 
-    pub lock_formed : (y : t.Name) (keyed : Bool) → rules.mutex_faults Plain gs s y keyed ≡ [] → made.mutex_number gs s y < length x.mutexes
+    -- a mutex, or an array of them where the name has a key
+    pub lock_formed : (y : t.Name) (keyed : Bool) → rules.mutex_faults Plain gs s y keyed ≡ [] →
+        IsNamedMutex x.mutexes (made.mutex_number gs s y) (count_in (n.meaning gs s y.text)) keyed
     lock_formed y keyed h = go (n.meaning gs s y.text) (meaning_in s y.text known) h
       where
         go : (m : n.Meaning) → MeaningIn x ks m → ◌≡◌ {A = List Fault} (elim m [
           | n.IsUnknown ↦ broken rule.Unknown y.place
           | n.IsGlobal (n.Mutex number count) ↦ broken_if (if is_some count then not keyed else keyed) rule.WrongSort y.place
           | _ ↦ broken rule.WrongSort y.place
-        ]) [] → (elim m [
+        ]) [] → IsNamedMutex x.mutexes (elim m [
           | n.IsGlobal (n.Mutex number count) ↦ number
           | _ ↦ 0
-        ]) < length x.mutexes
+        ]) (count_in m) keyed
         go n.IsUnknown k q = absurd (not_broken rule.Unknown y.place q)
         go (n.IsLocal l) k q = absurd (not_broken rule.WrongSort y.place q)
-        go (n.IsGlobal (n.Mutex number count)) k q = k
+        go (n.IsGlobal (n.Mutex number count)) k q =
+            let same = equal_bools (is_some count) keyed (unbroken (if is_some count then not keyed else keyed) rule.WrongSort y.place q) in
+            record { there = k; array = same }
         go (n.IsGlobal (n.Variable number type_name length each)) k q = absurd (not_broken rule.WrongSort y.place q)
         go (n.IsGlobal (n.Function number gives parameters)) k q = absurd (not_broken rule.WrongSort y.place q)
         go (n.IsGlobal n.Thread) k q = absurd (not_broken rule.WrongSort y.place q)
+
+    -- ---- Keys
+
+    -- a name in a key is a local's
+    key_named : (y : t.Name) → rules.use_faults Plain gs s y false ≡ [] → rules.persistent_faults Plain gs s y ≡ [] → IsExpr [] ks (made.named gs s y)
+    key_named y h k = go (n.meaning gs s y.text) (meaning_in s y.text known) h k
+      where
+        go : (m : n.Meaning) → MeaningIn x ks m → ◌≡◌ {A = List Fault} (elim m [
+          | n.IsUnknown ↦ broken rule.Unknown y.place
+          | n.IsLocal l ↦ broken_if false rule.WrongSort y.place
+          | n.IsGlobal (n.Variable number type_name length each) ↦ broken_if (if is_some length then not false else false) rule.WrongSort y.place
+          | _ ↦ broken rule.WrongSort y.place
+        ]) [] → ◌≡◌ {A = List Fault} (elim m [
+          | n.IsGlobal (n.Variable number type_name length each) ↦ broken rule.WrongSort y.place
+          | _ ↦ []
+        ]) [] → IsExpr [] ks (elim m [
+          | n.IsLocal l ↦ e.Local l.number l.kind
+          | n.IsGlobal (n.Variable number type_name length each) ↦ e.Variable y.place number (n.kind_named type_name)
+          | _ ↦ made.int 0
+        ])
+        go n.IsUnknown i q none = absurd (not_broken rule.Unknown y.place q)
+        go (n.IsLocal l) i q none = i
+        go (n.IsGlobal (n.Mutex number count)) i q none = tt
+        go (n.IsGlobal (n.Variable number type_name length each)) i q none = absurd (not_broken rule.WrongSort y.place none)
+        go (n.IsGlobal (n.Function number gives parameters)) i q none = tt
+        go (n.IsGlobal n.Thread) i q none = tt
+
+    -- an element would be one of a persistent variable
+    key_element : (y : t.Name) (place : Place) (index : e.Expr) → rules.persistent_faults Plain gs s y ≡ [] → IsExpr [] ks (made.element gs s y place index)
+    key_element y place index k = go (n.meaning gs s y.text) k
+      where
+        go : (m : n.Meaning) → ◌≡◌ {A = List Fault} (elim m [
+          | n.IsGlobal (n.Variable number type_name length each) ↦ broken rule.WrongSort y.place
+          | _ ↦ []
+        ]) [] → IsExpr [] ks (elim m [
+          | n.IsGlobal (n.Variable number type_name length each) ↦ e.Element y.place number (n.kind_named type_name) place index
+          | _ ↦ made.int 0
+        ])
+        go n.IsUnknown none = tt
+        go (n.IsLocal l) none = tt
+        go (n.IsGlobal (n.Mutex number count)) none = tt
+        go (n.IsGlobal (n.Variable number type_name length each)) none = absurd (not_broken rule.WrongSort y.place none)
+        go (n.IsGlobal (n.Function number gives parameters)) none = tt
+        go (n.IsGlobal n.Thread) none = tt
+
+    key_formed : (y : t.Expression) → rules.expression_faults Plain gs s y ≡ [] → rules.shared_faults Plain gs s y ≡ [] → IsExpr [] ks (made.expr gs s y)
+    key_formed (t.Number place value) h k = tt
+    key_formed (t.Named y) h k = key_named y h k
+    key_formed (t.Element array index) h k =
+        key_element array (made.first_place index) (made.expr gs s index)
+        (nil_left (rules.persistent_faults Plain gs s array) (rules.shared_faults Plain gs s index) k)
+    key_formed (t.Null place) h k = absurd (not_broken rule.WrongSort place h)
+    key_formed (t.Address place array index) h k =
+        let first = broken rule.WrongSort place in
+        let second = rules.array_faults Plain gs s array in
+        let third = rules.expression_faults Plain gs s index in
+        absurd (not_broken rule.WrongSort place
+        (nil_left first second (nil_left (first ++ second) third (nil_left ((first ++ second) ++ third) (rules.number_faults Plain gs s index) h))))
+    key_formed (t.Referent place reference) h k = absurd (not_broken rule.WrongSort place k)
+    key_formed (t.Parenthesised place inner) h k = key_formed inner h k
+    key_formed (t.Unary place operator operand) h k =
+        key_formed operand (nil_left (rules.expression_faults Plain gs s operand) (rules.number_faults Plain gs s operand) h) k
+    key_formed (t.Cast place kind operand) h k =
+        key_formed operand (nil_left (rules.expression_faults Plain gs s operand) (rules.number_faults Plain gs s operand) h) k
+    key_formed (t.Binary operator left right) h k =
+        let first = rules.expression_faults Plain gs s left in
+        let second = rules.expression_faults Plain gs s right in
+        let both = nil_left (first ++ second) (rules.operand_faults Plain gs s operator left right) h in
+        let one = rules.shared_faults Plain gs s left in
+        let other = rules.shared_faults Plain gs s right in
+        (key_formed left (nil_left first second both) (nil_left one other k), key_formed right (nil_right first second both) (nil_right one other k))
+    key_formed (t.Conditional condition chosen otherwise) h k =
+        let first = rules.expression_faults Plain gs s condition in
+        let second = rules.expression_faults Plain gs s chosen in
+        let third = rules.expression_faults Plain gs s otherwise in
+        let all = (first ++ second) ++ third in
+        let told = rules.number_faults Plain gs s condition in
+        let more = rules.number_faults Plain gs s chosen in
+        let each = nil_left all told (nil_left (all ++ told) more (nil_left ((all ++ told) ++ more) (rules.number_faults Plain gs s otherwise) h)) in
+        let both = nil_left (first ++ second) third each in
+        let one = rules.shared_faults Plain gs s condition in
+        let two = rules.shared_faults Plain gs s chosen in
+        let three = rules.shared_faults Plain gs s otherwise in
+        let shared = nil_left (one ++ two) three k in (
+          key_formed condition (nil_left first second both) (nil_left one two shared),
+          key_formed chosen (nil_right first second both) (nil_right one two shared),
+          key_formed otherwise (nil_right (first ++ second) third each) (nil_right (one ++ two) three k),
+        )
+
+    name_formed : (y : t.Name) (key : Option t.Expression) → rules.lock_faults Plain gs s y key ≡ [] → IsLockName x.mutexes ks (made.lock_name gs s y key)
+    name_formed y None h =
+        let named = lock_formed y false (nil_left (rules.mutex_faults Plain gs s y false) [] h) in
+        single_at x.mutexes (made.mutex_number gs s y) (count_in (n.meaning gs s y.text)) named.there named.array
+    name_formed y (Some key) h =
+        let mutex = rules.mutex_faults Plain gs s y true in
+        let reads = rules.expression_faults Plain gs s key in
+        let numeric = rules.numeric_faults Plain gs s key in
+        let shared = rules.shared_faults Plain gs s key in
+        let named = lock_formed y true (nil_left mutex (numeric ++ shared) h) in
+        let keys = nil_right mutex (numeric ++ shared) h in
+        let sound = nil_left reads (rules.number_faults Plain gs s key) (nil_left numeric shared keys) in (
+          array_at x.mutexes (made.mutex_number gs s y) (count_in (n.meaning gs s y.text)) named.there named.array,
+          key_formed key sound (nil_right numeric shared keys),
+          expr_follows gs [] [] s key sound,
+        )
 
   -- ---- Statements
 
@@ -447,12 +570,12 @@ module _ (x : p.Program) (gs : List n.Global) (sorts : AllByRecursion (λ (y : n
   condition_formed place s None known h = tt
   condition_formed place s (Some y) known h = numeric_formed s known y h
 
-  arms_there : (s : n.Scope) (ys : t.Arms) (ts : List Token) → g.arms_of Plain ys ts → HasProgramArm (made.arms_of gs s ys).made
+  arms_there : (s : n.Scope) (ys : t.Arms) (ts : List Token) → g.arms_of language ys ts → HasProgramArm (made.arms_of gs s ys).made
   arms_there s t.no_arm ts d = d
   arms_there s (t.arm_and y body rest) ts d = tt
 
   mutual
-    statement_formed : (s : n.Scope) (y : t.Statement) (ts : List Token) → g.statement Plain y ts → Known ks s.known →
+    statement_formed : (s : n.Scope) (y : t.Statement) (ts : List Token) → g.statement language y ts → Known ks s.known →
         Into (made.statement gs s y).scope.kinds ks →
         rules.statement_faults Plain gs s y ≡ [] → AreStatements x ks (made.statement gs s y).made
     statement_formed s (t.BlockOf y) ts d known into h = inside_formed s y ts d known into h
@@ -476,7 +599,7 @@ module _ (x : p.Program) (gs : List n.Global) (sorts : AllByRecursion (λ (y : n
         let within = into_both s'.kinds (made.otherwise_of gs s' otherwise).scope.kinds ks (grow_otherwise gs s' otherwise) into in (
           (
             arms_there s arms d.0 d.3.1,
-            arms_formed s arms (spelled_arms arms d.0 d.3.1) known within first,
+            arms_formed s arms (spelled_arms language arms d.0 d.3.1) known within first,
             otherwise_formed s' otherwise d.1 d.4
                 (known_arms s arms known) into second,
           ),
@@ -509,18 +632,14 @@ module _ (x : p.Program) (gs : List n.Global) (sorts : AllByRecursion (λ (y : n
         let body_is = inside_formed s1 body d.4.4.4.4.4.4.4.1 block known1 into (nil_right (maybe ++ after) inner h1) in
         let start_is = first_formed place s0 start known within h0 in
         both_formed (made.first_at gs place s0 start).made _ start_is ((condition, both_formed (made.inside gs s1 body).made _ body_is third), tt)
-    statement_formed s (t.Lock place mutex None) ts d known into h =
-        ((lock_formed s known mutex false (nil_left (rules.mutex_faults Plain gs s mutex false) [] h), refl), tt)
-    statement_formed s (t.Lock place mutex (Some key)) ts d known into h = absurd d.4.4.4.3
-    statement_formed s (t.Unlock place mutex None) ts d known into h =
-        ((lock_formed s known mutex false (nil_left (rules.mutex_faults Plain gs s mutex false) [] h), refl), tt)
-    statement_formed s (t.Unlock place mutex (Some key)) ts d known into h = absurd d.4.4.4.3
+    statement_formed s (t.Lock place mutex key) ts d known into h = (name_formed s known mutex key h, tt)
+    statement_formed s (t.Unlock place mutex key) ts d known into h = (name_formed s known mutex key h, tt)
 
-    inside_formed : (s : n.Scope) (y : t.Block) (ts : List Token) → g.block Plain y ts → Known ks s.known → Into (made.inside gs s y).scope.kinds ks →
+    inside_formed : (s : n.Scope) (y : t.Block) (ts : List Token) → g.block language y ts → Known ks s.known → Into (made.inside gs s y).scope.kinds ks →
         rules.block_faults Plain gs s y ≡ [] → AreStatements x ks (made.inside gs s y).made
     inside_formed s (t.Braced opening ys closing) ts d known into h = statements_formed (n.entered s) ys d.4.0 d.4.3 known into h
 
-    pub statements_formed : (s : n.Scope) (ys : t.Statements) (ts : List Token) → g.statements Plain ys ts → Known ks s.known →
+    pub statements_formed : (s : n.Scope) (ys : t.Statements) (ts : List Token) → g.statements language ys ts → Known ks s.known →
         Into (made.statements gs s ys).scope.kinds ks → rules.statements_faults Plain gs s ys ≡ [] → AreStatements x ks (made.statements gs s ys).made
     statements_formed s t.no_statement ts d known into h = tt
     statements_formed s (t.statement_and y ys) ts d known into h =
@@ -531,7 +650,7 @@ module _ (x : p.Program) (gs : List n.Global) (sorts : AllByRecursion (λ (y : n
         both_formed (made.statement gs s y).made (made.statements gs s' ys).made (statement_formed s y d.0 d.3 known within first)
         (statements_formed s' ys d.1 d.4 (known_after s y known within) into second)
 
-    arms_formed : (s : n.Scope) (ys : t.Arms) → Spelled ys → Known ks s.known → Into (made.arms_of gs s ys).scope.kinds ks →
+    arms_formed : (s : n.Scope) (ys : t.Arms) → Spelled language ys → Known ks s.known → Into (made.arms_of gs s ys).scope.kinds ks →
         rules.arms_faults Plain gs s ys ≡ [] →
         AreArms x ks (made.arms_of gs s ys).made
     arms_formed s t.no_arm d known into h = tt
@@ -545,7 +664,7 @@ module _ (x : p.Program) (gs : List n.Global) (sorts : AllByRecursion (λ (y : n
           arms_formed s' rest d.1 (known_inside s body known) into (nil_right both (rules.arms_faults Plain gs s' rest) h),
         )
 
-    otherwise_formed : (s : n.Scope) (y : t.Otherwise) (ts : List Token) → g.otherwise_of Plain y ts → Known ks s.known →
+    otherwise_formed : (s : n.Scope) (y : t.Otherwise) (ts : List Token) → g.otherwise_of language y ts → Known ks s.known →
         Into (made.otherwise_of gs s y).scope.kinds ks → rules.otherwise_faults Plain gs s y ≡ [] → AreStatements x ks (made.otherwise_of gs s y).made
     otherwise_formed s t.Nothing ts d known into h = tt
     otherwise_formed s (t.Else body) ts d known into h = inside_formed s body d.1 d.4 known into h

@@ -1,5 +1,5 @@
 //! Laws of the rules of names and kinds: nothing is computed here.
-ghost use Rattle.c_typer.specs.FormLaws.{TypedIsFormed};
+ghost use Rattle.c_typer.specs.FormLaws.{KeyedIsFormed, TypedIsFormed, TypedIsPlain};
 ghost use Rattle.c_typer.specs.Laws.{OneFirst};
 
 /// At most one of the rules that a tree breaks is broken first, at one place.
@@ -11,4 +11,15 @@ pub fn one_first()
 /// has a number of its kind for each element, and no limit is passed.
 pub fn typed_is_formed()
     ensures { TypedIsFormed }
+{}
+
+/// Of a text of the plain language no mutex is in an array.
+pub fn typed_is_plain()
+    ensures { TypedIsPlain }
+{}
+
+/// A text of the full language that breaks none of the plain one's rules is a well formed program, too: one with keys and arrays of
+/// mutexes, and without references.
+pub fn keyed_is_formed()
+    ensures { KeyedIsFormed }
 {}

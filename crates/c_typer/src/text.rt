@@ -12,7 +12,7 @@ use crate::length::element_count;
 use c_tree::language::Language;
 use c_tree::rule::Rule;
 use c_tree::tree::{Item, Persistent, Tree};
-use ido_base::limits::{MOST_MUTEXES, MOST_THREADS, MOST_VARIABLE_BYTES};
+use ido_base::limits::{MOST_LOCKS, MOST_MUTEXES, MOST_THREADS, MOST_VARIABLE_BYTES};
 
 /// Notes each second declaration of a name.
 pub fn note_second_declarations(globals: &Globals, faults: &mut Faults)
@@ -48,7 +48,7 @@ fn most_mutexes(language: Language) -> u32
 {
     match language {
         Language::Plain => MOST_MUTEXES,
-        Language::Full => 1024,
+        Language::Full => MOST_LOCKS,
     }
 }
 

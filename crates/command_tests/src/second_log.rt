@@ -1,10 +1,12 @@
-//! A program whose threads log in lists, compiled, and its life through a loss of power; and with the first log, beside that.
+//! Programs whose threads log in lists, with keys and arrays of mutexes or without, compiled, and their lives through a loss of power; and with the
+//! first log, beside that.
 ghost use Rattle.std.specs.Prelude.{◌≡◌, ◌≤◌, length, None, IfOk};
 ghost use Rattle.ido_base.specs.declared.limits.TheConstants.{MOST_SOURCE_BYTES};
 ghost use Rattle.c_tree.specs.declared.language.Language.TheVariants.{Full};
 ghost use Rattle.c_tree.specs.Flats.{flat_of};
 ghost use Rattle.c_tree.specs.HoldPrices.{price_fault};
 ghost use Rattle.c_tree.specs.WellFormed.{IsWellFormed};
+ghost use Rattle.lock_discipline.specs.NamedForms.{HasNames, HaveFewNames};
 ghost use Rattle.hart_core.specs.Objects.{IsWithinLimits};
 
 use c_inline::inline::inline;
@@ -12,7 +14,7 @@ use c_inline::laws::flat_is_formed;
 use c_reader::read;
 use c_tree::flat::Flat;
 use c_tree::language::Language;
-use c_typer::laws::typed_is_formed;
+use c_typer::laws::keyed_is_formed;
 use c_typer::type_tree;
 use flat_analysis::analyse;
 use flat_compile::{Translated, translate};
@@ -20,6 +22,8 @@ use ido_base::event::Event;
 use ido_base::limits::MOST_SOURCE_BYTES;
 use ido_base::log::Log;
 use ido_compile::{Compiled, compile};
+use lock_discipline::have_few_names;
+use lock_discipline::laws::few_have_names;
 use run_tracker::life::Life;
 use std::alloc::Global;
 use std::test::Fail;
@@ -39,27 +43,52 @@ const SIXTEEN: &[u8] = b"mutex a; mutex b; mutex c; mutex d; mutex e; mutex f; m
     unlock(a); unlock(b); unlock(c); unlock(d); unlock(e); unlock(f); unlock(g); unlock(h); \
     unlock(i); unlock(j); unlock(k); unlock(l); unlock(m); unlock(n); unlock(o); unlock(p); }";
 
+/// A thread that stores into each element of an array under the element's own lock, whose key it computes.
+const KEYED: &[u8] = b"mutex m[4]; persistent(m[]) int a[4]; thread t { int i = 0; \
+    while (i < 4) { lock(m[i & 3]); a[i & 3] = i + 1; unlock(m[i & 3]); i = i + 1; } }";
+
+/// A thread that changes each element of an array under the element's own lock.
+const EACH: &[u8] = b"mutex m[4]; persistent(m[]) long a[4]; \
+    thread t { for (int i = 0; i < 4; i++) { lock(m[i & 3]); a[i & 3] = a[i & 3] + i; unlock(m[i & 3]); } }";
+
+/// A thread that holds two locks of one array, the greater one first, and gives that back first.
+const CROSSED: &[u8] = b"mutex m[4]; persistent(m[]) int a[4]; thread t { int i = 1; int k = 0; \
+    lock(m[i & 3]); lock(m[k & 3]); a[k & 3] = 1; a[i & 3] = 2; unlock(m[i & 3]); unlock(m[k & 3]); }";
+
 /// Events that a life takes.
 const ROOM: u64 = 10_000;
 
-/// The flat form of a text without arrays of mutexes, which costs no more than it may where what is held has a price.
-fn paid_form(alloc: Global, text: &[u8]) -> Result<Flat, Fail>
+/// The flat form of a text without references, with keys and arrays of mutexes or without, which costs no more than it may where what is held has
+/// a price.
+pub(crate) fn keyed_form(alloc: Global, text: &[u8]) -> Result<Flat, Fail>
     requires { length text.now ≤ MOST_SOURCE_BYTES }
     ensures formed { IfOk result (λ flat. IsWellFormed (flat_of flat)) }
     ensures priced { IfOk result (λ flat. price_fault Full (flat_of flat) ≡ None) }
 {
-    typed_is_formed();
+    keyed_is_formed();
     flat_is_formed();
-    let tree = read(alloc, Language::Plain, text)?;
+    let tree = read(alloc, Language::Full, text)?;
     let program = type_tree(alloc, Language::Plain, tree)?;
     c_ranges::check(alloc, &program)?;
     let flat = inline(alloc, Language::Full, &program)?;
     Ok(flat)
 }
 
+/// The threads of a form have few names of locks, or the test fails.
+pub(crate) fn want_few_names(alloc: Global, flat: &Flat) -> Result<(), Fail>
+    ensures { IfOk result (λ _. HaveFewNames (flat_of flat.now)) }
+{
+    let few = have_few_names(alloc, flat)?;
+    if !few {
+        return Err("many names of locks".into());
+    }
+    Ok(())
+}
+
 /// What a machine runs for a form, where its threads log with lists.
 fn listed(alloc: Global, flat: &Flat) -> Result<Translated, Fail>
     requires formed { IsWellFormed (flat_of flat.now) }
+    requires named { HasNames (flat_of flat.now) }
     requires priced { price_fault Full (flat_of flat.now) ≡ None }
     ensures limits { IfOk result (λ made. IsWithinLimits made.object) }
     ensures marks { IfOk result (λ made. length made.marks.threads.items ≡ length made.object.code.items) }
@@ -75,7 +104,9 @@ fn with_lists(alloc: Global, text: &[u8]) -> Result<Translated, Fail>
     ensures limits { IfOk result (λ made. IsWithinLimits made.object) }
     ensures marks { IfOk result (λ made. length made.marks.threads.items ≡ length made.object.code.items) }
 {
-    let flat = paid_form(alloc, text)?;
+    few_have_names();
+    let flat = keyed_form(alloc, text)?;
+    want_few_names(alloc, &flat)?;
     listed(alloc, &flat)
 }
 
@@ -185,7 +216,7 @@ fn life_of(alloc: Global, log: Log, text: &[u8]) -> Result<Life, Fail>
 }
 
 /// What the life of a text is when power is lost, if it is, and what it comes to.
-fn seen(
+fn run(
     alloc: Global,
     log: Log,
     text: &[u8],
@@ -247,20 +278,89 @@ const ALL_GIVEN: Seen = Seen {
     ended: 1,
 };
 
+/// Power is lost in the first section of a loop over keys, before its store.
+const FIRST_HELD: Seen = Seen {
+    settled: false,
+    word: 0,
+    steps: 3,
+    ended: 0,
+};
+
+/// The first section of the loop is ended, the loop not.
+const FIRST_GIVEN: Seen = Seen {
+    settled: true,
+    word: 1,
+    steps: 6,
+    ended: 1,
+};
+
+/// Each section of the loop is ended; what it does after its last unlock isn't kept.
+const EACH_GIVEN: Seen = Seen {
+    settled: true,
+    word: BOTH,
+    steps: 24,
+    ended: 4,
+};
+
 /// How threads log, a text, after how many fences power is lost, what the life is then, and what it comes to. Recovery takes the locks that are
 /// held, since an unlock of one that isn't is stuck, and goes on at the first store.
-const ROWS: [(Log, &[u8], Option<u64>, Option<Seen>, Seen); 4] = [
+const ROWS: [(Log, &[u8], Option<u64>, Option<Seen>, Seen); 6] = [
     (Log::V1, NESTED, None, None, BOTH_WRITTEN),
     (Log::V2, NESTED, None, None, BOTH_WRITTEN),
     (Log::V2, NESTED, Some(4), Some(TWO_HELD), BOTH_WRITTEN),
     (Log::V2, SIXTEEN, Some(32), Some(ALL_HELD), ALL_GIVEN),
+    (Log::V2, KEYED, None, None, EACH_GIVEN),
+    (Log::V2, KEYED, Some(2), Some(FIRST_HELD), FIRST_GIVEN),
 ];
 
 #[test]
 fn lives(rt: HostRuntime) -> Result<(), Fail> {
     for (log, text, fences, before, after) in ROWS {
-        let found = seen(rt.alloc(), log, text, fences)?;
+        let found = run(rt.alloc(), log, text, fences)?;
         assert_eq!(rt; found, (before, after), "{log:?}, {fences:?}");
     }
+    Ok(())
+}
+
+/// A life of two locks of one array, in which both elements are written.
+const CROSSED_GIVEN: Seen = Seen {
+    settled: true,
+    word: BOTH,
+    steps: 10,
+    ended: 1,
+};
+
+/// Two locks of one array are held at once, and their codes stand beside one another in a boundary: wherever power is lost from the first
+/// lock's point to the last unlock's, the section is ended.
+#[test]
+fn two_keys_at_once(rt: HostRuntime) -> Result<(), Fail> {
+    let (_, whole) = run(rt.alloc(), Log::V2, CROSSED, None)?;
+    assert_eq!(rt; whole, CROSSED_GIVEN);
+    for fences in 2..8 {
+        let (_, after) = run(rt.alloc(), Log::V2, CROSSED, Some(fences))?;
+        assert_eq!(rt; after, CROSSED_GIVEN, "{fences}");
+    }
+    Ok(())
+}
+
+/// What each element has come to is durable, and the steps up to the last unlock are kept: 1 for the declaration, 6 for each of three passes, and 5.
+#[test]
+fn each_under_its_own_lock(rt: HostRuntime) -> Result<(), Fail> {
+    let mut life = life_of(rt.alloc(), Log::V2, EACH)?;
+    step_to_end(&mut life);
+    let numbers = [
+        life.durable_word(0, 0),
+        life.durable_word(0, 1),
+        life.durable_word(0, 2),
+        life.durable_word(0, 3),
+    ];
+    assert_eq!(rt; numbers, [0, 1, 2, 3]);
+    let wanted = Seen {
+        settled: true,
+        word: 0,
+        steps: 24,
+        ended: 4,
+    };
+    assert_eq!(rt; look(&life), wanted);
     Ok(())
 }

@@ -5,8 +5,8 @@ use Rattle.c_tree.specs.Exprs.{LockName}
 use Rattle.std.proofs.Common.{◌++◌, true, false, Option, Some, None, slice_get, slice_index, slice_index_or, Contains}
 use Rattle.std.specs.List.Sorted.{IsStrictlyIncreasing}
 use Rattle.std.proofs.lemmas.Option.{slice_get_within, get_or_from_slice_get}
-use Rattle.thread_code.specs.Plans.{home_of_colour, Plan, Thread, IsThread, IsNodeOf, IsKept, held_names_before, language_of, locks_held_from, names_in}
-use Rattle.thread_code.proofs.Public.{named_some, names_are, numbers_some}
+use Rattle.thread_code.specs.Plans.{home_of_colour, Plan, Thread, IsThread, IsNodeOf, IsKept, language_of, locks_held_from, names_in, set_before}
+use Rattle.thread_code.proofs.Public.{names_are, nothing_held, nothing_named}
 use Rattle.code_runs.specs.CodeTraces.{Trace, Program, MarkedEnvironment, Meets, Mark, Observation}
 use Rattle.node_code.specs.Pieces.{boundary_observations}
 use Rattle.code_runs.specs.ComputingRuns.{LocalConfig, config}
@@ -35,7 +35,7 @@ use Rattle.thread_code.specs.RegistersAtNodes.{Enters, IsAnswered, source_of}
 use Rattle.thread_code.specs.Programs as c
 use Rattle.thread_code.specs.Programs.{IsOn, IsThreadCode, IsCallWithin, IsCalling, boundary_count, mark_of}
 use Rattle.rv64_codegen.proofs.Public.{cost_of, costs, thread_costs, IsStoring, threads_are, chosen_stores, end_is, node_in, node_exists, held_there}
-use Rattle.rv64_codegen.proofs.Public.{held_sets, numbers_plain}
+use Rattle.rv64_codegen.proofs.Public.{held_sets, set_long}
 use Rattle.log_states.proofs.Public.{contains_first}
 use Rattle.thread_runs.proofs.Public.{plans_are_placed as placed}
 use Rattle.crash_simulation.specs.Systems.{System, IsSystem, flat_of, thread_count as threads_of}
@@ -241,7 +241,7 @@ module _ (locked : ChosenAreLocked) (y : System) (s : IsSystem y) (t : Thread) (
   in_form address (c.past_unlock node lock next x own at is some) =
       past_unlock node lock next x (among_of node own) (subst (λ (g : Graph). NodeAt g node x) graph_is at) is
       (some_held 0 (slice_index_or held (next - t.part.first) [])
-      (λ none. numbers_some [] (held_names_before p t next) some (sym (numbers_plain p s.plan t of [] next (after_own node lock next x own at is)) ∙ none)))
+      (λ none. some (nothing_named 0 (names_in p t) (set_before p t next) none)))
 
   lock_in_code : (node : ℕ) → IsNodeOf t node → IsLock (lowered p.flat) node → c.IsResumeAddress p t code.places (code.places.after node)
   lock_in_code node own (locks x lock next at is) = c.past_lock node lock next x own (node_at node x at) is
@@ -254,9 +254,8 @@ module _ (locked : ChosenAreLocked) (y : System) (s : IsSystem y) (t : Thread) (
   in_code address (past_unlock node lock next x among at is some) =
       let own = own_of node among in
       c.past_unlock node lock next x own (node_at node x at) is
-      (named_some [] (held_names_before p t next)
       (λ none. has_locks 0 (slice_index_or held (next - t.part.first) []) some
-      (numbers_plain p s.plan t of [] next (after_own node lock next x own (node_at node x at) is) ∙ none)))
+      (nothing_held 0 (names_in p t) (set_before p t next) (set_long p s.plan t of next (after_own node lock next x own (node_at node x at) is)) none))
 
   -- ---- Boundaries
 
@@ -530,7 +529,7 @@ compiled_code_has_form locked y s minimal fewest =
     let many : threads_of y ≡ length (flat_of y).threads =
     ap (λ (xs : List Part). length xs) (threads_are y.plan s.plan) ∙ length_parts (flat_of y).threads 0 in
     record {
-      single = s.plan.formed.single;
+      single = λ masks. (s.plan.plain (s.log ∙ masks)).single;
       initial = s.initial;
       mutexes = s.mutexes;
       count = s.count ∙ many;

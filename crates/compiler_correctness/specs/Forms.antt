@@ -34,6 +34,7 @@ use Rattle.thread_code.specs.Plans.{home_of_colour, language_of}
 use Rattle.expr_code.specs.declared.home.Home.{Home}
 use Rattle.expr_code.specs.declared.home.Home.TheVariants.{InRegister}
 use Rattle.expr_code.specs.EvaluationCode.{home_of, HomeCarries}
+use Rattle.ido_base.specs.declared.log.Log.TheVariants.{V1}
 
 -- ---- The code of a thread's nodes
 
@@ -169,8 +170,8 @@ pub record HasThreadForm (c : Translation) (colours : Colouring) (thread : ℕ) 
 -- ---- Programs
 
 pub record HasForm (c : Translation) : Type 0 where
-  -- no mutex of the source is in an array
-  pub single : AllByRecursion IsSingle c.flat.mutexes
+  -- where threads log with masks no mutex of the source is in an array
+  pub single : c.runs.log ≡ V1 → AllByRecursion IsSingle c.flat.mutexes
   -- the initial bytes are the source's, and there is a lock for each mutex
   pub initial : AreInitial (map shape_of c.flat.variables) (map initial_numbers c.flat.variables) c.runs.initial
   pub mutexes : c.runs.mutexes ≡ length c.flat.mutexes

@@ -29,7 +29,7 @@ use Rattle.compiler_correctness.specs.Compilation.{HoldsAsThread}
 use Rattle.compiler_correctness.specs.Images.{world_from, image_of, file_of, image_in, Image}
 use Rattle.compiler_correctness.specs.Compilations.{IsCompilation}
 use Rattle.compiler_correctness.specs.Laws.{ImagesAreCrashes}
-use Rattle.deadlock_freedom.specs.Deadlocks.{HaveStopped, StopsAtTheEnd, NoneDeadlocks, NoneDeadlocksResumed}
+use Rattle.deadlock_freedom.specs.Deadlocks.{HasNoArrays, HaveStopped, StopsAtTheEnd, NoneDeadlocks, NoneDeadlocksResumed}
 use Rattle.deadlock_freedom.proofs.HartReplies.{none_there}
 use Rattle.deadlock_freedom.proofs.Holders.{holders_go_on, harts_stay}
 use Rattle.deadlock_freedom.proofs.EnabledHarts.{each_waits, none_least, not_false}
@@ -41,13 +41,14 @@ begins_as_start : (x : f.Flat) (s : State) (earlier : List (List ℕ)) → s ≡
 begins_as_start x s [] is = is
 begins_as_start x s (schedule ∷ rest) is = begins_as_start x (restart x (after_from s schedule)) rest refl
 
-module _ (ascend : LocksAscend) (c : Translation) (is : IsCompilation c) (order : order_fault c.flat ≡ None) (events : List Event) where
+module _ (ascend : LocksAscend) (c : Translation) (is : IsCompilation c) (single : HasNoArrays c) (order : order_fault c.flat ≡ None)
+    (events : List Event) where
   abbrev w : World
   w = world c events
 
   ordered : IsOrdered c.flat
   ordered = record {
-    single = is.form.single;
+    single = single;
     disciplined = λ k d within. (is.form.threads k (get_or c.flat.threads k d) (slice_get-get_or c.flat.threads k d within)).sets.disciplined;
     in_order = order;
   }
@@ -109,10 +110,10 @@ module _ (ascend : LocksAscend) (c : Translation) (is : IsCompilation c) (order 
   stops life runs_is world_is = (forth life runs_is world_is, back life runs_is world_is)
 
 pub none_deadlocks : LocksAscend → NoneDeadlocks
-none_deadlocks ascend c is order events = stops ascend c is order events
+none_deadlocks ascend c is single order events = stops ascend c is single order events
 
 pub none_deadlocks_resumed : LocksAscend → ImagesAreCrashes → NoneDeadlocksResumed
-none_deadlocks_resumed ascend crashes c is order before events =
+none_deadlocks_resumed ascend crashes c is single order before events =
     let same : world c (before ++ Crash ∷ events) ≡ world_from c (image_in c (file_of c (image_of c before))) events =
     sym (ap (λ (x : Image). world_from c x events) (is.in_file before).is_all ∙ (crashes c before events).world_is) in
-    subst (StopsAtTheEnd c) same (stops ascend c is order (before ++ Crash ∷ events))
+    subst (StopsAtTheEnd c) same (stops ascend c is single order (before ++ Crash ∷ events))

@@ -1,3 +1,4 @@
 pub mod Public
 mod Refused
+mod FormNames
 mod LiveKeys

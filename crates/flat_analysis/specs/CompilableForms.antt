@@ -2,12 +2,14 @@
 use Rattle.std.specs.Prelude.{◌≡◌, ℕ, Some, None}
 use Rattle.ido_base.specs.declared.place.Place.{Place}
 use Rattle.c_tree.specs.declared.language.Language.{Language}
+use Rattle.c_tree.specs.declared.language.Language.TheVariants.{Plain}
 use Rattle.c_tree.specs.declared.refusal.SourceError.{SourceError}
 use Rattle.c_tree.specs.declared.refusal.SourceError.TheVariants.{Refused, Memory}
 use Rattle.c_tree.specs.declared.rule.Rule.{Rule}
 use Rattle.c_tree.specs.declared.rule.Rule.TheVariants as rule
 use Rattle.c_tree.specs.Flats.{Flat}
-use Rattle.c_tree.specs.WellFormed.{IsWellFormed}
+use Rattle.c_tree.specs.WellFormed.{ArePlain, IsWellFormed}
+use Rattle.lock_discipline.specs.NamedForms.{HasNames}
 use Rattle.c_tree.specs.LockDiscipline.{Fault, lock_fault}
 use Rattle.c_tree.specs.HoldPrices.{price_fault}
 use Rattle.c_tree.specs.Temporaries.{temporaries_fault}
@@ -17,6 +19,10 @@ use Rattle.flow_graph.specs.Liveness.{HasRoom, IsFirstCrowded}
 -- no check of the language refuses it
 pub record IsAcceptedForm (l : Language) (flat : Flat) : Type 0 where
   pub formed : IsWellFormed flat
+  -- where the language has no arrays of mutexes none is in one
+  pub plain : l ≡ Plain → ArePlain flat.mutexes
+  -- each thread has few names of locks
+  pub named : HasNames flat
   pub disciplined : lock_fault l flat ≡ None
   pub priced : price_fault l flat ≡ None
   pub room : HasRoom (lowered flat)

@@ -1,15 +1,17 @@
 -- What is linked for a plan is within a machine's limits.
-use Rattle.std.proofs.Common.{◌≡◌, ℕ, zero, suc, ◌+◌, ◌-◌, ◌*◌, ◌/◌, ◌<◌, ◌≤◌, List, [], ◌∷◌, length, map, Some, ap, sym, subst, ◌∙◌, arith}
+use Rattle.std.proofs.Common.{◌≡◌, refl, ℕ, zero, suc, ◌+◌, ◌-◌, ◌*◌, ◌/◌, ◌<◌, ◌≤◌, List, [], ◌∷◌, length, map, Some, ap, sym, subst, ◌∙◌, arith}
 use Rattle.std.specs.Prelude.{slice_get, slice_index_or, Vec}
 use Rattle.std.specs.Global.{Global}
 use Rattle.std.proofs.lemmas.List.{length-map}
 use Rattle.std.proofs.lemmas.Option.{none-some, same_Some}
-use Rattle.ido_base.specs.declared.limits.TheConstants.{MOST_CODE_WORDS, MOST_MUTEXES, MOST_VARIABLE_BYTES}
+use Rattle.ido_base.specs.declared.limits.TheConstants.{MOST_CODE_WORDS, MOST_VARIABLE_BYTES}
+use Rattle.ido_base.specs.declared.log.Log.{Log}
+use Rattle.ido_base.specs.declared.log.Log.TheVariants.{V1, V2}
 use Rattle.ido_base.specs.Layout.{end_from}
 use Rattle.c_tree.specs.Flats as f
 use Rattle.c_tree.specs.WellFormed.{shape_of}
 use Rattle.rv64_isa.specs.Programs.{code_base, program_of, slot_of}
-use Rattle.hart_core.specs.Objects.{IsWithinLimits}
+use Rattle.hart_core.specs.Objects.{IsWithinLimits, most_locks}
 use Rattle.flow_graph.specs.declared.graph.Part.{Part}
 use Rattle.flow_graph.specs.Nodes.{Graph}
 use Rattle.flow_graph.specs.Lowering.{part, parts, statements_count, thread_count}
@@ -57,6 +59,11 @@ module _ (s : System) (is : IsSystem s) (n : ℕ) (below : n < y.thread_count s)
       ∙ ap (λ (k : ℕ). length (slice_index_or s.runs.program k [])) (is.codes.number n below) in
       omega (arith, core, after, all, inside, mine)
 
+-- as many locks as the log has room for in a program
+locks_few : (p : Plan) → IsPlan p → (log : Log) → p.log ≡ log → length p.flat.mutexes ≤ most_locks log
+locks_few p plan V1 is = (plan.plain is).few
+locks_few p plan V2 is = plan.formed.shared.mutexes
+
 -- ---- Objects
 
 -- a slot for each word
@@ -67,7 +74,7 @@ as_many_slots (code ∷ codes) zero d below = length-map code.items slot_of
 as_many_slots (code ∷ codes) (suc k) d below = as_many_slots codes k d (omega (arith, below))
 
 module _ {p : Plan} (plan : IsPlan p) (linked_code : LinkedCode p) where
-  open linked_code use {threads, object, marks, coded, few, few_threads, linked, begins, mutexes}
+  open linked_code use {threads, object, marks, coded, few, few_threads, linked, begins, mutexes, logs}
 
   -- as many as the items are of
   pub count : length object.code.items ≡ length threads
@@ -92,7 +99,8 @@ module _ {p : Plan} (plan : IsPlan p) (linked_code : LinkedCode p) where
 
   pub within_limits : IsWithinLimits object
   within_limits =
-      let most : length p.flat.mutexes ≤ MOST_MUTEXES = plan.formed.shared.mutexes in
+      let locks : length p.flat.mutexes ≤ most_locks object.log =
+      subst (λ (l : Log). length p.flat.mutexes ≤ most_locks l) logs (locks_few p plan p.log refl) in
       let end = end_from 0 (map shape_of p.flat.variables) in
       let room : end ≤ MOST_VARIABLE_BYTES = plan.formed.shared.bytes in
       let size : length object.initial.items ≡ (end + 8 - 1) / 8 * 8 = begins.size in
@@ -100,7 +108,7 @@ module _ {p : Plan} (plan : IsPlan p) (linked_code : LinkedCode p) where
         threads = omega (arith, count, few_threads);
         some_words = some_at;
         few_words = few_at;
-        mutexes = omega (arith, mutexes, most);
+        mutexes = subst (λ (n : ℕ). n ≤ most_locks object.log) (sym mutexes) locks;
         bytes = omega (arith, size, room);
         whole_words = omega (arith, size);
       }

@@ -27,12 +27,12 @@ use Rattle.rv64_isa.specs.Executables.{resume_marks}
 use Rattle.rv64_link.specs.LabelledCode.{most_words_of}
 use Rattle.rv64_link.specs.LinkedCode.{AreLinked}
 use Rattle.rv64_link.specs.links.Threads.{items_in}
-use Rattle.c_tree.specs.WellFormed.{IsWellFormed, initial_numbers, shape_of}
+use Rattle.c_tree.specs.WellFormed.{ArePlain, initial_numbers, shape_of}
 use Rattle.memory_layout.specs.Variables.{AreInitial}
 use Rattle.boundary_code.specs.Boundaries.{HaveRoom}
 use Rattle.lock_discipline.specs.Discipline.{WalkIsDiscipline}
 use Rattle.lock_discipline.specs.HeldSetsByStep.{AreAllSetsOf, AreSetsOf, HeldBefore, HoldsFew}
-use Rattle.lock_discipline.proofs.Public.{well_formed_has_names}
+use Rattle.lock_discipline.specs.NamedForms.{HasNames}
 use Rattle.flow_graph.specs.declared.cuts.Cuts.{Cuts}
 use Rattle.flow_graph.specs.Liveness.{IsLive}
 use Rattle.flow_graph.specs.Lowering.{lowered}
@@ -43,6 +43,7 @@ use Rattle.region_cutter.specs.FewestCuts.{AreFewestCuts}
 use Rattle.flow_graph.proofs.Public.{all_at, found_in}
 use Rattle.flat_analysis.specs.declared.analyses.Analysis.{Analysis}
 use Rattle.flat_analysis.specs.Analyses.{IsAnalysis}
+use Rattle.flat_analysis.specs.CompilableForms.{IsAcceptedForm}
 use Rattle.flat_analysis.proofs.Public.{held_keys_are_live}
 use Rattle.thread_code.specs.Plans.{Plan, IsPlan, Thread, IsThread, IsNodeOf, names_in, set_before, language_of}
 use Rattle.thread_code.proofs.Public.{names_are}
@@ -86,7 +87,7 @@ not_above : (n m : ℕ) → nat_lt n m ≡ false → m ≤ n
 not_above n m h = grind arith
 
 -- no set of a form that keeps the rules of the full language holds more than may be held
-module _ (law : WalkIsDiscipline) (x : Flat) (formed : IsWellFormed x) (faultless : lock_fault Full x ≡ None) (sets : List (List Held))
+module _ (law : WalkIsDiscipline) (x : Flat) (named : HasNames x) (faultless : lock_fault Full x ≡ None) (sets : List (List Held))
     (all : AreAllSetsOf x sets) where
   few_in : (thread : ℕ) (row : List Held) → slice_get sets thread ≡ Some row → (step : ℕ) (set : Held) → slice_get row step ≡ Some set →
       count_held set ≤ MOST_HELD
@@ -95,7 +96,7 @@ module _ (law : WalkIsDiscipline) (x : Flat) (formed : IsWellFormed x) (faultles
       let text = found_in x.threads thread low in
       let of : AreSetsOf x text.0 row = all.sets thread text.0 row text.1 at in
       let few : AllByRecursion (HoldsFew Full x) x.threads =
-      recursion_from_All (HoldsFew Full x) x.threads ((law Full x).1 (well_formed_has_names x formed) faultless).1 in
+      recursion_from_All (HoldsFew Full x) x.threads ((law Full x).1 named faultless).1 in
       not_above MOST_HELD (count_held set) (all_at (HoldsFew Full x) x.threads thread text.0 few text.1 step set ((of.exactly step set).0 there))
 
   few_of : (thread step : ℕ) → count_held (slice_index_or (slice_index_or sets thread []) step []) ≤ MOST_HELD
@@ -111,16 +112,17 @@ module _ (law : WalkIsDiscipline) (x : Flat) (formed : IsWellFormed x) (faultles
       (found_or row step [])
 
 -- a bank has room for each set
-room_for : WalkIsDiscipline → (log : Log) (x : Flat) → IsWellFormed x → lock_fault (language_of log) x ≡ None → (sets : List (List Held)) →
-    AreAllSetsOf x sets → (locals : List ℤ) (thread step : ℕ) →
+room_for : WalkIsDiscipline → (log : Log) (x : Flat) → IsAcceptedForm (language_of log) x → (sets : List (List Held)) → AreAllSetsOf x sets →
+    (locals : List ℤ) (thread step : ℕ) →
     HaveRoom log (map (lock_number locals) (held_names (slice_index_or (map (λ (t : f.Thread). lock_names x t) x.threads) thread [])
     (slice_index_or (slice_index_or sets thread []) step [])))
-room_for law V1 x formed faultless sets all locals thread step =
-    of_mask x formed.single (omega (arith, formed.shared.mutexes)) sets all locals thread step
-room_for law V2 x formed faultless sets all locals thread step =
+room_for law V1 x accepted sets all locals thread step =
+    let plain : ArePlain x.mutexes = accepted.plain refl in
+    of_mask x plain.single (omega (arith, plain.few)) sets all locals thread step
+room_for law V2 x accepted sets all locals thread step =
     let set : Held = slice_index_or (slice_index_or sets thread []) step [] in
     let names : List LockName = slice_index_or (map (λ (t : f.Thread). lock_names x t) x.threads) thread [] in
-    let most : count_held set ≤ MOST_HELD = few_of law x formed faultless sets all thread step in
+    let most : count_held set ≤ MOST_HELD = few_of law x accepted.named accepted.disciplined sets all thread step in
     omega (arith, most, few_numbers locals names set)
 
 -- ---- Held keys
@@ -179,9 +181,9 @@ plan_is law log a cuts is chosen places = record {
   keys_live = keys_live log a cuts is;
   registers = is.registers;
   apart = is.apart;
+  plain = λ masks. is.accepted.plain (ap language_of masks);
   priced = is.accepted.priced;
-  room = λ t locals node. room_for law log (flat_of a.flat.now) is.accepted.formed is.accepted.disciplined a.held is.held locals t.number
-      (node - t.part.first);
+  room = λ t locals node. room_for law log (flat_of a.flat.now) is.accepted a.held is.held locals t.number (node - t.part.first);
 }
 
 -- ---- Its code

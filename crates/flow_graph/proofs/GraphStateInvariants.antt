@@ -17,7 +17,7 @@ use Rattle.c_tree.specs.Flats as f
 use Rattle.c_tree.specs.Source as m
 use Rattle.c_tree.specs.Source.{Pending}
 use Rattle.c_tree.specs.LockNames.{lock_names}
-use Rattle.c_tree.specs.WellFormed.{elements_in, IsVariable, IsWellFormed, IsFlatStatement, IsFlatPlaced}
+use Rattle.c_tree.specs.WellFormed.{elements_in, IsSingle, IsVariable, IsWellFormed, IsFlatStatement, IsFlatPlaced}
 use Rattle.c_ranges.specs.RunInvariants.{AreNumbersOf, IsStatementLeft, IsThreadOf, IsStateOf}
 use Rattle.c_ranges.proofs.Public.{Pair, zip_found, begins_so, stays_so}
 use Rattle.flow_graph.specs.declared.graph.Part.{Part}
@@ -339,26 +339,26 @@ module _ (x : f.Flat) (w : IsWellFormed x) (s : FlowState) (good : Good x s) (t 
       LiesInWritten naming node.writes one
   writes_lie_named node one at h = writes_lie_by node node.action one at h
 
-  -- ---- Where one mutex guards each variable
+  -- ---- Where no mutex is in an array
 
-  pub reads_lie_here : (node : Node) (one : Element) → slice_get nodes graph_thread.at ≡ Some node →
+  pub reads_lie_here : AllByRecursion IsSingle x.mutexes → (node : Node) (one : Element) → slice_get nodes graph_thread.at ≡ Some node →
       Contains (reads_of node.action (seen_by s graph_thread)) one → LiesInOne no_names node.reads one
-  reads_lie_here node one at c =
+  reads_lie_here single node one at c =
       let h = reads_lie_named node one at c in
       record {
         location = h.location;
         of = h.of;
-        lies = plain_lies x.mutexes x.variables (lock_names x text) graph_thread.locals h.location one w.single w.shared.variables h.lies;
+        lies = plain_lies x.mutexes x.variables (lock_names x text) graph_thread.locals h.location one single w.shared.variables h.lies;
       }
 
-  pub writes_lie_here : (node : Node) (one : Element) → slice_get nodes graph_thread.at ≡ Some node → write_of node.action (seen_by s graph_thread) ≡ Some one →
-      LiesInWritten no_names node.writes one
-  writes_lie_here node one at c =
+  pub writes_lie_here : AllByRecursion IsSingle x.mutexes → (node : Node) (one : Element) → slice_get nodes graph_thread.at ≡ Some node →
+      write_of node.action (seen_by s graph_thread) ≡ Some one → LiesInWritten no_names node.writes one
+  writes_lie_here single node one at c =
       let h = writes_lie_named node one at c in
       record {
         location = h.location;
         of = h.of;
-        lies = plain_lies x.mutexes x.variables (lock_names x text) graph_thread.locals h.location one w.single w.shared.variables h.lies;
+        lies = plain_lies x.mutexes x.variables (lock_names x text) graph_thread.locals h.location one single w.shared.variables h.lies;
       }
 
   -- ---- The store that is pending after a step

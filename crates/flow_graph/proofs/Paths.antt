@@ -368,14 +368,14 @@ reads_are_right x b s thread steps names w cuts reached named region i j one le 
     right x b s thread steps w cuts (good_reached x s w reached) (record { inside = region; names = names; named = named }) i j one le r q
 
 pub plain_paths : PlainPathsHaveOneNaming
-plain_paths x s t n w reached =
+plain_paths x s t n w single reached =
     let good = good_reached x s w reached in
     record {
       apart = none_apart;
       reads = λ i one r.
           let v = visits x w t n s good i r.visit r.there in
-          reads_lie_here x w r.visit.before v.good t r.visit.graph_thread v.found r.is one (nodes_at x r.visit.graph_thread.at r.is r.at) r.reads;
+          reads_lie_here x w r.visit.before v.good t r.visit.graph_thread v.found single r.is one (nodes_at x r.visit.graph_thread.at r.is r.at) r.reads;
       writes = λ j one r.
           let v = visits x w t n s good j r.visit r.there in
-          writes_lie_here x w r.visit.before v.good t r.visit.graph_thread v.found r.is one (nodes_at x r.visit.graph_thread.at r.is r.at) r.writes;
+          writes_lie_here x w r.visit.before v.good t r.visit.graph_thread v.found single r.is one (nodes_at x r.visit.graph_thread.at r.is r.at) r.writes;
     }

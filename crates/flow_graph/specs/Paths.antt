@@ -7,13 +7,14 @@ use Rattle.c_tree.specs.Exprs as e
 use Rattle.c_tree.specs.Flats as f
 use Rattle.c_tree.specs.Source.{Pending}
 use Rattle.c_tree.specs.LockNames.{lock_names}
-use Rattle.c_tree.specs.WellFormed.{IsWellFormed}
+use Rattle.c_tree.specs.WellFormed.{IsSingle, IsWellFormed}
 use Rattle.flow_graph.specs.HeldKeys.{names_in}
 use Rattle.flow_graph.specs.Nodes.{Action, Eval, Store, Test, Lock, Unlock, End, Node, Graph}
 use Rattle.flow_graph.specs.Lowering.{lowered}
 use Rattle.flow_graph.specs.Liveness.{NodeAt}
 use Rattle.flow_graph.specs.Actions.{Seen, GraphThread, FlowState, element_in, seen_by, graph_start, graph_step, graph_after, graph_runs}
 use Rattle.flow_graph.specs.IdempotentCuts.{Boundaries, IsEdge, IsBoundary, BeginsRegion, AreCuts}
+use Rattle.std.specs.List.{AllByRecursion}
 
 -- ---- Elements that are read and written
 
@@ -197,9 +198,9 @@ pub record HasOneNaming (g : Graph) (path : List Visit) (names : Naming) : Type 
   pub reads : (i : ℕ) (one : Element) (r : ReadsElement g path i one) → LiesInOne names r.is.reads one
   pub writes : (i : ℕ) (one : Element) (w : WritesElement g path i one) → LiesInWritten names w.is.writes one
 
--- where one mutex guards each variable, keys name nothing along a solo path
+-- where no mutex is in an array, keys name nothing along a solo path
 abbrev pub PlainPathsHaveOneNaming : Type 0
-PlainPathsHaveOneNaming = (x : f.Flat) (s : FlowState) (thread steps : ℕ) → IsWellFormed x → IsReachedFlow x s →
+PlainPathsHaveOneNaming = (x : f.Flat) (s : FlowState) (thread steps : ℕ) → IsWellFormed x → AllByRecursion IsSingle x.mutexes → IsReachedFlow x s →
     HasOneNaming (lowered x) (solo_path (lowered x) s thread steps) no_names
 
 -- reads are right, whatever keys name along the path: within a region, what is read and is written then or later was written before

@@ -1,13 +1,20 @@
 -- What a machine can run, and where a program's threads begin.
-use Rattle.std.specs.Prelude.{◌≡◌, ◌%◌, ◌≤◌, length, All}
-use Rattle.ido_base.specs.declared.limits.TheConstants.{MOST_THREADS, MOST_CODE_WORDS, MOST_MUTEXES, MOST_VARIABLE_BYTES}
+use Rattle.std.specs.Prelude.{◌≡◌, ℕ, ◌%◌, ◌≤◌, length, All}
+use Rattle.ido_base.specs.declared.limits.TheConstants.{MOST_THREADS, MOST_CODE_WORDS, MOST_LOCKS, MOST_MUTEXES, MOST_VARIABLE_BYTES}
+use Rattle.ido_base.specs.declared.log.Log.{Log}
+use Rattle.ido_base.specs.declared.log.Log.TheVariants.{V1, V2}
 use Rattle.rv64_isa.specs.declared.object.Object.{Object}
 
--- at most 8 threads of 1 to 65,536 words, 64 mutexes, and 65,536 initial bytes, a multiple of 8
+-- how many locks a machine has at most, where threads log so: as many as a mask has bits, or the arrays of a program may have
+abbrev pub most_locks : Log → ℕ
+most_locks V1 = MOST_MUTEXES
+most_locks V2 = MOST_LOCKS
+
+-- at most 8 threads of 1 to 65,536 words, 64 mutexes or 1,024 by the log, and 65,536 initial bytes, a multiple of 8
 pub record IsWithinLimits (object : Object) : Type 0 where
   pub threads : length object.code.items ≤ MOST_THREADS
   pub some_words : All (λ code. 1 ≤ length code.items) object.code.items
   pub few_words : All (λ code. length code.items ≤ MOST_CODE_WORDS) object.code.items
-  pub mutexes : object.mutexes ≤ MOST_MUTEXES
+  pub mutexes : object.mutexes ≤ most_locks object.log
   pub bytes : length object.initial.items ≤ MOST_VARIABLE_BYTES
   pub whole_words : length object.initial.items % 8 ≡ 0

@@ -4,8 +4,11 @@
 /// Threads of a program at most.
 pub const MOST_THREADS: u32 = 8;
 
-/// Mutexes of a program at most.
+/// Mutexes of a program at most, where none is in an array.
 pub const MOST_MUTEXES: u32 = 64;
+
+/// Mutexes of a program at most, with those of arrays.
+pub const MOST_LOCKS: u32 = 1024;
 
 /// Elements of an array at most.
 pub const MOST_ELEMENTS: u64 = 4096;

@@ -6,7 +6,7 @@ use Rattle.c_tree.specs.AcceptedTexts.{IsFlattened}
 use Rattle.c_tree.specs.Exprs.{Placed}
 use Rattle.c_tree.specs.Flats.{Flat, Statement}
 use Rattle.c_tree.specs.Source.{Thread, start, after_from}
-use Rattle.c_tree.specs.WellFormed.{IsWellFormed}
+use Rattle.c_tree.specs.WellFormed.{ArePlain, IsWellFormed}
 use Rattle.c_ranges.specs.RunInvariants.{IsStateOf, IsElement, IsNext, step_exprs, step_indexes}
 use Rattle.c_ranges.specs.Laws.{IsForeseen}
 use Rattle.flow_graph.specs.Refusals.{IsAccepted}
@@ -14,6 +14,10 @@ use Rattle.flow_graph.specs.Refusals.{IsAccepted}
 -- the flat form of a text is well formed
 abbrev pub FlattenedIsFormed : Type 0
 FlattenedIsFormed = (text : List ℕ) (flat : Flat) → IsFlattened Plain text flat → IsWellFormed flat
+
+-- no mutex of the flat form of a text is in an array
+abbrev pub FlattenedIsPlain : Type 0
+FlattenedIsPlain = (text : List ℕ) (flat : Flat) → IsFlattened Plain text flat → ArePlain flat.mutexes
 
 -- values keep to their kinds in every run
 abbrev pub AcceptedRuns : Type 0

@@ -7,7 +7,7 @@ ghost use Rattle.c_tree.specs.Flats.{flat_of};
 ghost use Rattle.ido_compile.specs.links.FrontEndAnswers.{IsFlatAnswer, IsAnalysisAnswer, IsFrontAnswer};
 
 use crate::error::CompileError;
-use crate::forms::flattened_is_formed;
+use crate::forms::{flattened_is_formed, flattened_is_plain};
 use c_inline::inline::inline;
 use c_reader::read;
 use c_tree::flat::Flat;
@@ -37,6 +37,7 @@ pub fn checked<'a>(alloc: Global, text: &[u8], flat: &'a Flat) -> Result<Analysi
     ensures answer { IsAnalysisAnswer text.now (flat_of flat.now) result }
 {
     flattened_is_formed();
+    flattened_is_plain();
     let analysis = analyse(alloc, Language::Plain, flat)?;
     Ok(analysis)
 }

@@ -113,6 +113,9 @@ module _ (y : System) (s : IsSystem y) (w : World) (stands : Simulates y s w) (f
   abbrev after : World
   after = after_event y.runs.program w Crash
 
+  with_masks : y.plan.log ≡ V1
+  with_masks = stands.machine.log ∙ first
+
   first_after : after.log ≡ V1
   first_after = log_stays y.runs.program w Crash stands.machine.sound ∙ first
 
@@ -274,7 +277,7 @@ module _ (y : System) (s : IsSystem y) (w : World) (stands : Simulates y s w) (f
           let l : LiveLocal = get_or entry.live.items k d in
           local_right l (subst (λ (z : ℕ). IsLiveLocal y.plan t z l) node ((e.found.live l).0 (Contains-get_or entry.live.items k d within))) in
           let right : IsRight (flat_of y).variables logs n bank entry = record {
-            mask = mask_there i.point ∙ (ap mask_with (i.locks ∙ sym (numbers_plain y.plan s.plan t code.of i.graph_thread.locals at i.own))
+            mask = mask_there i.point ∙ (ap mask_with (i.locks ∙ sym (numbers_plain y.plan s.plan t code.of with_masks i.graph_thread.locals at i.own))
                 ∙ (mask_with_held (set_before y.plan t at) ∙ sym (e.found.mask_is ∙ ap (λ (n : ℕ). mask_of (set_before y.plan t n)) node)));
             locals = locals;
             address =

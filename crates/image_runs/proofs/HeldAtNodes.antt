@@ -1,5 +1,5 @@
 -- What a thread of a plan holds at its nodes, and that something is held where it may be resumed.
-use Rattle.std.proofs.Common.{◌≡◌, ◌≢◌, refl, ℕ, zero, suc, ◌-◌, ◌<◌, List, [], ◌∷◌, length, ap, sym, ◌∙◌, subst, arith, Option, Some, None}
+use Rattle.std.proofs.Common.{◌≡◌, ◌≢◌, refl, ℕ, zero, suc, ◌-◌, ◌<◌, List, [], ◌∷◌, length, ap, sym, ◌∙◌, subst, arith, Some}
 use Rattle.std.proofs.Common.{true, false}
 use Rattle.std.specs.Prelude.{slice_get, slice_index_or, ℤ}
 use Rattle.std.specs.List.{AllByRecursion, AllZip}
@@ -12,7 +12,7 @@ use Rattle.c_tree.specs.Exprs as e
 use Rattle.c_tree.specs.Flats as f
 use Rattle.c_tree.specs.LockNames.{Held, holds, none_held, lock_names, number_in, plain_names}
 use Rattle.c_tree.specs.LockDiscipline.{Use, guard_name, is_guarded}
-use Rattle.c_tree.specs.WellFormed.{AreFlatStatements}
+use Rattle.c_tree.specs.WellFormed.{AreFlatStatements, IsSingle}
 use Rattle.c_ranges.specs.RunInvariants.{IsStatementLeft}
 use Rattle.c_tree.proofs.Public.{length-plain_names, names_are_plain}
 use Rattle.source_machine.specs.ElementLocks.{element_lock}
@@ -28,9 +28,8 @@ use Rattle.flow_graph.specs.Lowering.{lowered, threads_nodes}
 use Rattle.flow_graph.specs.Nodes.{Action, Store, Lock, Unlock, Graph, Node}
 use Rattle.flow_graph.proofs.Public.{ActionLeads, At, Locks, Unlocks, agrees, all_at, found_in, nodes_at}
 use Rattle.region_cutter.specs.LocksAtBoundaries.{ChosenAreLocked, StoresLocked}
-use Rattle.thread_code.specs.Plans.{Plan, Thread, IsThread, IsPlan, IsNodeOf, held_names_before, locks_before, locks_held, set_before}
-use Rattle.thread_code.proofs.Public.{named_some, plain_before}
-use Rattle.thread_code.proofs.Public.{has_held}
+use Rattle.thread_code.specs.Plans.{Plan, Thread, IsThread, IsPlan, IsNodeOf, held_names_before, locks_before, locks_held, names_in, set_before}
+use Rattle.thread_code.proofs.Public.{has_held, names_are, nothing_held, plain_before}
 use Rattle.recovered_threads.specs.RecordDescriptions.{Code, ResumesAt, at_chosen, past_lock, past_unlock}
 use Rattle.recovered_threads.proofs.Public.{left_at, standing_at}
 use Rattle.flat_compile.proofs.Public.{node_there}
@@ -58,18 +57,14 @@ module _ (p : Plan) (plan : IsPlan p) (t : Thread) (of : IsThread p t) where
   pub sets : AreSetsOf p.flat of.text table.0
   sets = plan.held.sets t.number of.text table.0 of.of_text table.1
 
-  -- the names of its locks are those of all mutexes
+  -- the names of its locks
   abbrev pub names : List e.LockName
   names = lock_names p.flat of.text
 
-  abbrev pub count : ℕ
-  count = length p.flat.mutexes
-
-  pub plain : names ≡ plain_names count
-  plain = names_are_plain p.flat of.text plan.formed.single
-
-  pub names_long : length names ≡ count
-  names_long = ap (λ (ns : List e.LockName). length ns) plain ∙ length-plain_names count
+  -- those of all mutexes, where none is in an array
+  pub names_long : AllByRecursion IsSingle p.flat.mutexes → length names ≡ length p.flat.mutexes
+  names_long single =
+      ap (λ (ns : List e.LockName). length ns) (names_are_plain p.flat of.text single) ∙ length-plain_names (length p.flat.mutexes)
 
   module _ (node : ℕ) (own : IsNodeOf t node) where
     abbrev step : ℕ
@@ -109,8 +104,11 @@ module _ (p : Plan) (plan : IsPlan p) (t : Thread) (of : IsThread p t) where
     pub keeps : KeepsLeft p.flat names (set_before p t node) stands.0.left
     keeps = subst (λ (h : Held). KeepsLeft p.flat names h stands.0.left) (sym set_is) kept.2
 
-    pub long : length (set_before p t node) ≡ length p.flat.mutexes
-    long = ap (λ (h : Held). length h) set_is ∙ (held_length p.flat of.text step kept.0 before ∙ names_long)
+    named : length (set_before p t node) ≡ length names
+    named = ap (λ (h : Held). length h) set_is ∙ held_length p.flat of.text step kept.0 before
+
+    pub long : AllByRecursion IsSingle p.flat.mutexes → length (set_before p t node) ≡ length p.flat.mutexes
+    long single = named ∙ names_long single
 
     pub left_is : AllByRecursion (IsStatementLeft p.flat of.text.locals) stands.0.left
     left_is =
@@ -178,11 +176,14 @@ module _ (locked : ChosenAreLocked) (p : Plan) (plan : IsPlan p) (code : Code p)
   abbrev t : Thread
   t = code.thread
 
-  pub numbers_plain : (locals : List ℤ) (node : ℕ) → IsNodeOf code.thread node → locks_held (set_before p t node) ≡ locks_before p t locals node
-  numbers_plain locals node own = plain_before p t code.of plan.formed.single locals node (long p plan t code.of node own)
+  pub numbers_plain : AllByRecursion IsSingle p.flat.mutexes → (locals : List ℤ) (node : ℕ) → IsNodeOf code.thread node →
+      locks_held (set_before p t node) ≡ locks_before p t locals node
+  numbers_plain single locals node own = plain_before p t code.of single locals node (long p plan t code.of node own single)
 
   some_names : (node : ℕ) → IsNodeOf code.thread node → locks_held (set_before p t node) ≢ [] → held_names_before p t node ≢ []
-  some_names node own some = named_some [] (held_names_before p t node) (λ none. some (numbers_plain [] node own ∙ none))
+  some_names node own some none =
+      some (nothing_held 0 (names_in p t) (set_before p t node)
+      (named p plan t code.of node own ∙ ap (λ (ns : List e.LockName). length ns) (sym (names_are p t code.of))) none)
 
   -- something is held
   pub resumed_hold : (node address : ℕ) → IsNodeOf code.thread node → ResumesAt p code node address → held_names_before p code.thread node ≢ []
@@ -195,28 +196,28 @@ module _ (locked : ChosenAreLocked) (p : Plan) (plan : IsPlan p) (code : Code p)
   resumed_hold node address own (past_unlock from lock is own_from at unlocks some) = some
 
   -- a guard that is held by its name is held by its number
-  guard_held : (text : f.Thread) (node : ℕ) (own : IsNodeOf code.thread node) (u : Use) (n : ℕ) →
+  guard_held : AllByRecursion IsSingle p.flat.mutexes → (text : f.Thread) (node : ℕ) (own : IsNodeOf code.thread node) (u : Use) (n : ℕ) →
       is_guarded p.flat.variables (lock_names p.flat text) (set_before p t node) u ≡ true →
       holds (set_before p t node) (element_lock p.flat.variables u.variable n) ≡ true
-  guard_held text node own u n g =
+  guard_held single text node own u n g =
       let h = set_before p t node in
       let as_plain : lock_names p.flat text ≡ plain_names (length h) =
-      names_are_plain p.flat text plan.formed.single ∙ ap plain_names (sym (long p plan t code.of node own)) in
-      element_held p.flat.mutexes p.flat.variables h u n plan.formed.single plan.formed.shared.variables
+      names_are_plain p.flat text single ∙ ap plain_names (sym (long p plan t code.of node own single)) in
+      element_held p.flat.mutexes p.flat.variables h u n single plan.formed.shared.variables
       (subst (λ (ns : List e.LockName). is_guarded p.flat.variables ns h u ≡ true) as_plain g)
 
   -- where a store is pending the lock that guards its element is held: no boundary but the chosen one before it leads there
-  pub resumed_store_locked : (node address : ℕ) (own : IsNodeOf code.thread node) → ResumesAt p code node address →
+  pub resumed_store_locked : AllByRecursion IsSingle p.flat.mutexes → (node address : ℕ) (own : IsNodeOf code.thread node) → ResumesAt p code node address →
       (variable : ℕ) (kind : Kind) (next element : ℕ) → (node_is p plan t code.of node own).0.action ≡ Store variable kind next →
       (stands p plan t code.of node own).0.owes ≡ true → holds (set_before p t node) (element_lock p.flat.variables variable element) ≡ true
-  resumed_store_locked node address own (at_chosen chosen) variable kind next element stores owes =
+  resumed_store_locked single node address own (at_chosen chosen) variable kind next element stores owes =
       let s = locked_here p plan t code.of node own locked chosen in
       let same : s.is ≡ (node_is p plan t code.of node own).0 = same_Some _ _ (sym s.at ∙ lowered_is p plan t code.of node own) in
       let one : Store s.used.variable s.kind s.next ≡ Store variable kind next = sym s.stores ∙ (ap (λ (n : Node). n.action) same ∙ stores) in
       let variable_is : s.used.variable ≡ variable = cc one in
       subst (λ (v : ℕ). holds (set_before p t node) (element_lock p.flat.variables v element) ≡ true) variable_is
-      (guard_held s.text node own s.used element s.locked)
-  resumed_store_locked node address own (past_lock from lock is own_from at locks) variable kind next element stores owes =
+      (guard_held single s.text node own s.used element s.locked)
+  resumed_store_locked single node address own (past_lock from lock is own_from at locks) variable kind next element stores owes =
       absurd (true≢false (sym owes ∙ ap (λ (s : Standing). s.owes) (free_after_lock p plan t code.of from lock node is own_from own at locks)))
-  resumed_store_locked node address own (past_unlock from lock is own_from at unlocks some) variable kind next element stores owes =
+  resumed_store_locked single node address own (past_unlock from lock is own_from at unlocks some) variable kind next element stores owes =
       absurd (true≢false (sym owes ∙ free_after_unlock p plan t code.of from lock node is own_from own at unlocks))

@@ -15,7 +15,7 @@ use Rattle.ido_ints.specs.declared.kinds.Kind.{Kind}
 use Rattle.c_tree.specs.Flats as f
 use Rattle.c_tree.specs.Source as m
 use Rattle.c_tree.specs.Source.{Pending}
-use Rattle.c_tree.specs.WellFormed.{shape_of}
+use Rattle.c_tree.specs.WellFormed.{shape_of, IsSingle}
 use Rattle.c_ranges.specs.RunInvariants.{IsThreadOf}
 use Rattle.c_ranges.proofs.Public.{zip_found}
 use Rattle.memory_layout.specs.Roles.{pending_address}
@@ -55,8 +55,9 @@ use Rattle.expr_code.specs.declared.home.Home.{Home}
 use Rattle.expr_code.specs.declared.home.Home.TheVariants.{InRegister}
 use Rattle.expr_code.specs.EvaluationCode.{home_of, HomeCarries}
 use Rattle.ido_ints.specs.TypedNumbers.{typed}
+use Rattle.std.specs.List.{AllByRecursion}
 
-module _ (y : System) (s : IsSystem y) (w : World) (stands : Simulates y s w) where
+module _ (y : System) (s : IsSystem y) (single : AllByRecursion IsSingle (flat_of y).mutexes) (w : World) (stands : Simulates y s w) where
   abbrev ws : List Word
   ws = map word_of (map durable_value w.words)
 
@@ -185,7 +186,7 @@ module _ (y : System) (s : IsSystem y) (w : World) (stands : Simulates y s w) wh
         own = i.own;
         resumes = subst (λ (q : ℕ). ResumesAt y.plan code at (resume_of q)) (sym resumes_own.point) i.resumes;
         locks =
-            let plain = plain_before y.plan t code.of s.plan.formed.single i.graph_thread.locals at (long y.plan s.plan t code.of at i.own) in
+            let plain = plain_before y.plan t code.of single i.graph_thread.locals at (long y.plan s.plan t code.of at i.own single) in
             subst (HasKept y.plan.log ws t.number) (i.locks ∙ sym plain) (resumes_own.kept i.point);
         locals = local_right;
         pending = λ is location there writes. written is there location writes is.action refl;
@@ -215,4 +216,4 @@ module _ (y : System) (s : IsSystem y) (w : World) (stands : Simulates y s w) wh
   }
 
 pub crashes_leave_shape : MachinesResume → CrashesLeaveShape
-crashes_leave_shape machines y s events = has_shape y s (world (translation_of y) events) (machines y s events).is.stands
+crashes_leave_shape machines y s plain events = has_shape y s plain.single (world (translation_of y) events) (machines y s events).is.stands

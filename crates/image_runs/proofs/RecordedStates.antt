@@ -21,7 +21,7 @@ use Rattle.c_tree.specs.Source as m
 use Rattle.c_tree.specs.Programs.{Variable}
 use Rattle.c_tree.specs.Source.{Pending}
 use Rattle.c_tree.specs.LockNames.{Held, holds, lock_names, plain_names}
-use Rattle.c_tree.specs.WellFormed.{elements_in, shape_of}
+use Rattle.c_tree.specs.WellFormed.{elements_in, shape_of, ArePlain}
 use Rattle.c_ranges.specs.RunInvariants.{AreNumbersOf, IsStateOf, IsThreadOf}
 use Rattle.source_machine.specs.Mutexes.{held_by}
 use Rattle.c_tree.specs.Exprs.{LockName}
@@ -240,7 +240,8 @@ module _ (log : Log) (program : List (List Slot)) (locks : ℕ) (words : List �
 
 -- ---- The state
 
-module _ (locked : ChosenAreLocked) (y : System) (s : IsSystem y) (words : List ℕ) (shape : HasShape y.plan s.codes words) where
+module _ (locked : ChosenAreLocked) (y : System) (s : IsSystem y) (plain : ArePlain (flat_of y).mutexes) (words : List ℕ)
+    (shape : HasShape y.plan s.codes words) where
   abbrev x : f.Flat
   x = flat_of y
 
@@ -251,7 +252,7 @@ module _ (locked : ChosenAreLocked) (y : System) (s : IsSystem y) (words : List 
   count = thread_count y
 
   of : (n : ℕ) (below : n < count) → IsSaid y.plan (s.codes.each n below) words
-  of n below = said locked y.plan s.plan (s.codes.each n below) words
+  of n below = said locked y.plan s.plan plain (s.codes.each n below) words
       (subst (λ (k : ℕ). HasLog y.plan.log k ws) (sym (s.codes.number n below)) (shape.logs n below)) (shape.threads n below)
 
   -- ---- Threads
@@ -352,9 +353,9 @@ module _ (locked : ChosenAreLocked) (y : System) (s : IsSystem y) (words : List 
         let o = of n below in
         let code = s.codes.each n below in
         let same : o.thread ≡ z = same_Some _ z (sym (thread_there n below) ∙ here) in
-        let plain : lock_names x code.of.text ≡ plain_names mutexes = names_are_plain x code.of.text s.plan.formed.single in
+        let as_plain : lock_names x code.of.text ≡ plain_names mutexes = names_are_plain x code.of.text plain.single in
         let holding : HoldsNames (lock_names x code.of.text) o.set o.thread.locals holders n =
-        subst (λ (ns : List LockName). HoldsNames ns o.set o.thread.locals holders n) (sym plain)
+        subst (λ (ns : List LockName). HoldsNames ns o.set o.thread.locals holders n) (sym as_plain)
         (subst (λ (h : Held). HoldsNames (plain_names mutexes) h o.thread.locals holders n) (held_is n below)
         (plain_holds mutexes o.thread.locals holders n locks_count)) in
         subst (λ (u : m.Thread). ThreadKeeps x n holders u) same (record {
@@ -457,4 +458,4 @@ module _ (locked : ChosenAreLocked) (y : System) (s : IsSystem y) (words : List 
   )
 
 pub shapes_are_states : ChosenAreLocked → ShapesAreStates
-shapes_are_states locked y s words shape = origin locked y s words shape
+shapes_are_states locked y s plain words shape = origin locked y s plain words shape

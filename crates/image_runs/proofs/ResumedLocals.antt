@@ -1,6 +1,6 @@
 -- A log can keep the registers of locals and the locks before a node.
 use Rattle.std.proofs.Common.{◌≡◌, ℕ, zero, suc, ◌+◌, ◌-◌, ◌<◌, ◌≤◌, ◌^◌, List, [], ◌∷◌, length, get_or, refl, ap, arith, sym, ◌∙◌, subst, true, Some, inl, inr}
-use Rattle.std.specs.Prelude.{Contains, slice_get, slice_index, slice_index_or, ◌==◌, ◌*◌, ℤ}
+use Rattle.std.specs.Prelude.{Contains, slice_get, slice_index, slice_index_or, ℤ}
 use Rattle.boundary_code.specs.Boundaries.{HaveRoom}
 use Rattle.std.specs.List.{list_all}
 use Rattle.std.proofs.lemmas.Bool.{and_parts, cases_lt}
@@ -29,6 +29,7 @@ use Rattle.expr_code.specs.declared.home.Home.{Home}
 use Rattle.expr_code.specs.declared.home.Home.TheVariants.{InRegister}
 use Rattle.expr_code.specs.EvaluationCode.{home_of}
 use Rattle.expr_code.proofs.Public.{same_register}
+use Rattle.c_tree.specs.WellFormed.{ArePlain}
 
 -- ---- Registers that have a slot
 
@@ -65,30 +66,30 @@ module _ (p : Plan) (plan : IsPlan p) (t : Thread) (is : IsThread p t) where
 
   -- ---- Locks before a node
 
-  pub few_set : (node : ℕ) → length (set_before p t node) ≤ 64
-  few_set node =
+  few_set : ArePlain p.flat.mutexes → (node : ℕ) → length (set_before p t node) ≤ 64
+  few_set plain node =
       let table = found_in p.held t.number (let l = slice_get_within p.flat.threads t.number is.text is.of_text in omega (arith, l, plan.held.each_thread)) in
       let of = plan.held.sets t.number is.text table.0 is.of_text table.1 in
       let step = node - t.part.first in
-      let most = plan.formed.shared.mutexes in
+      let most = plain.few in
       subst (λ (sets : List Held). length (slice_index_or sets step []) ≤ 64) (sym (get_or_from_slice_get p.held t.number table.0 [] table.1))
       (elim (cases_lt step (length table.0)) [
         | inl within ↦
             let long = held_length p.flat is.text step (get_or table.0 step [])
             ((of.exactly step (get_or table.0 step [])).0 (slice_get-get_or table.0 step [] within)) in
-            let names = ap (λ (ns : List LockName). length ns) (names_are_plain p.flat is.text plan.formed.single)
+            let names = ap (λ (ns : List LockName). length ns) (names_are_plain p.flat is.text plain.single)
             ∙ length-plain_names (length p.flat.mutexes) in
             omega (arith, long, names, most)
         | inr past ↦ subst (λ (held : Held). length held ≤ 64) (sym (get_or_past table.0 step [] past)) (omega arith)
       ])
 
-  fit : (node lock : ℕ) → Contains (locks_held (set_before p t node)) lock → lock < 2 ^ 64
-  fit node lock c =
+  fit : ArePlain p.flat.mutexes → (node lock : ℕ) → Contains (locks_held (set_before p t node)) lock → lock < 2 ^ 64
+  fit plain node lock c =
       let set : Held = set_before p t node in
       let held : holds set lock ≡ true = sym (has_held set lock) ∙ has_there (locks_held set) lock c in
-      omega (arith, holds_within set lock held, few_set node)
+      omega (arith, holds_within set lock held, few_set plain node)
 
-  pub loggable : (locals : List ℤ) (node : ℕ) → locks_held (set_before p t node) ≡ locks_before p t locals node →
+  pub loggable : ArePlain p.flat.mutexes → (locals : List ℤ) (node : ℕ) → locks_held (set_before p t node) ≡ locks_before p t locals node →
       AreLoggable p.log (locks_held (set_before p t node))
-  loggable locals node plain =
-      (scheme p.log).keeps.room (locks_held (set_before p t node)) (subst (HaveRoom p.log) (sym plain) (plan.room t locals node)) (fit node)
+  loggable few locals node plain =
+      (scheme p.log).keeps.room (locks_held (set_before p t node)) (subst (HaveRoom p.log) (sym plain) (plan.room t locals node)) (fit few node)

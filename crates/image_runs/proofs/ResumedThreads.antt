@@ -20,7 +20,7 @@ use Rattle.c_tree.specs.Source as m
 use Rattle.c_tree.specs.Source.{Pending}
 use Rattle.c_tree.specs.Exprs.{Placed}
 use Rattle.c_tree.specs.LockNames.{Held, holds, none_held, lock_names}
-use Rattle.c_tree.specs.WellFormed.{AreFlatStatements, elements_in, shape_of}
+use Rattle.c_tree.specs.WellFormed.{AreFlatStatements, elements_in, shape_of, ArePlain}
 use Rattle.c_ranges.specs.RunInvariants.{IsStoreInRange, IsThreadOf}
 use Rattle.source_machine.specs.Discipline.{KeepList, KeepsLeft}
 use Rattle.source_machine.specs.ElementLocks.{element_lock}
@@ -119,7 +119,7 @@ pub record IsSaid (p : Plan) (code : Code p) (words : List ℕ) : Type 0 where
   pub describes : (kept : FlowState) → slice_get kept.graph_threads code.thread.number ≡ Some graph_thread →
       holds_none kept.holders code.thread.number ≡ is_empty (locks_held set) → Describes p code kept entry
 
-module _ (locked : ChosenAreLocked) (p : Plan) (plan : IsPlan p) (code : Code p) (words : List ℕ)
+module _ (locked : ChosenAreLocked) (p : Plan) (plan : IsPlan p) (plain : ArePlain p.flat.mutexes) (code : Code p) (words : List ℕ)
     (log : HasLog p.log code.thread.number (map word_of words)) where
   abbrev ws : List Word
   ws = map word_of words
@@ -163,7 +163,7 @@ module _ (locked : ChosenAreLocked) (p : Plan) (plan : IsPlan p) (code : Code p)
       set = free_set;
       long = length-replicate (length x.mutexes) false;
       left = subst (λ (k : ℕ). KeepList x.variables (names p plan t code.of) (none_held k) (m.opened_all code.of.text.body)
-          (none_held (length (names p plan t code.of)))) (names_long p plan t code.of)
+          (none_held (length (names p plan t code.of)))) (names_long p plan t code.of plain.single)
           (keep_opened_all x.variables (names p plan t code.of) (sets p plan t code.of).disciplined);
       pending = λ q some. absurd (none-some q some);
       stored = λ names q some. absurd (none-some q some);
@@ -266,7 +266,7 @@ module _ (locked : ChosenAreLocked) (p : Plan) (plan : IsPlan p) (code : Code p)
     }
 
     module _ (variable : ℕ) (kind : Kind) (next : ℕ) (does : is.action ≡ Store variable kind next) (owing : st.owes ≡ true)
-        (stores : StoresElements x plan.formed.shared.variables plan.formed.single is variable kind) where
+        (stores : StoresElements x plan.formed.shared.variables plain.single is variable kind) where
       at_element : IsElementOf x.variables stores.location (read registers pending_address)
       at_element = g.pending is stores.location here stores.writes
 
@@ -308,7 +308,7 @@ module _ (locked : ChosenAreLocked) (p : Plan) (plan : IsPlan p) (code : Code p)
         owes = sym owing;
         ranged = λ q e. subst (λ (z : Pending). IsStoreInRange x.variables z) (same_Some store q e) ranged;
         guarded = λ q e. subst (λ (z : Pending). holds set (element_lock x.variables z.variable z.element) ≡ true) (same_Some store q e)
-            (resumed_store_locked locked p plan code node _ g.own g.resumes variable kind next store.element does owing);
+            (resumed_store_locked locked p plan code plain.single node _ g.own g.resumes variable kind next store.element does owing);
         stored = λ names q e. subst (λ (z : Pending). IsPendingAt x names node z) (same_Some store q e) (record {
           node = is;
           is = lowered_is p plan t code.of node g.own;
@@ -325,7 +325,7 @@ module _ (locked : ChosenAreLocked) (p : Plan) (plan : IsPlan p) (code : Code p)
             (λ q there. subst (λ (z : Pending). HasPending p z variable kind registers) (same_Some store q (sym e ∙ there)) has);
       }
 
-    owed_by : (a : Action) → is.action ≡ a → ActionLeads (all p plan t code.of) a st → StoresAs x plan.formed.shared.variables plan.formed.single is a → Owed
+    owed_by : (a : Action) → is.action ≡ a → ActionLeads (all p plan t code.of) a st → StoresAs x plan.formed.shared.variables plain.single is a → Owed
     owed_by (Eval target value next) does leads stores =
         nothing_owed (ap (λ (z : Standing). z.owes) leads.is) (λ seen. subst (λ (a : Action). IsPendingIn p a seen registers) (sym does) tt)
     owed_by (Store variable kind next) does leads stores = store_owed variable kind next does (ap (λ (z : Standing). z.owes) leads.is) stores
@@ -340,7 +340,7 @@ module _ (locked : ChosenAreLocked) (p : Plan) (plan : IsPlan p) (code : Code p)
 
     owed : Owed
     owed = owed_by is.action refl (stands p plan t code.of node g.own).2
-        (stores_elements x plan.formed.shared.variables plan.formed.single node is plan.formed.threads
+        (stores_elements x plan.formed.shared.variables plain.single node is plan.formed.threads
         (nodes_at x node is (lowered_is p plan t code.of node g.own)))
 
     -- ---- The threads
@@ -374,10 +374,10 @@ module _ (locked : ChosenAreLocked) (p : Plan) (plan : IsPlan p) (code : Code p)
     own_locks = locks_before p t locals node
 
     plain_here : locks_held (set_before p t node) ≡ own_locks
-    plain_here = numbers_plain locked p plan code locals node g.own
+    plain_here = numbers_plain locked p plan code plain.single locals node g.own
 
     are_loggable : AreLoggable p.log own_locks
-    are_loggable = subst (AreLoggable p.log) plain_here (loggable p plan t code.of locals node plain_here)
+    are_loggable = subst (AreLoggable p.log) plain_here (loggable p plan t code.of plain locals node plain_here)
 
     keeps_locks : HasKept p.log ws n own_locks
     keeps_locks = subst (λ (ls : List ℕ). HasKept p.log ws n ls) plain_here g.locks
@@ -449,7 +449,7 @@ module _ (locked : ChosenAreLocked) (p : Plan) (plan : IsPlan p) (code : Code p)
       };
       formed = formed;
       set = set;
-      long = long p plan t code.of node g.own;
+      long = long p plan t code.of node g.own plain.single;
       left = keeps p plan t code.of node g.own;
       pending = owed.guarded;
       stored = owed.stored;

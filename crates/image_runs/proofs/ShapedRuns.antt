@@ -14,7 +14,7 @@ use Rattle.image_runs.specs.Laws.{AcceptedHaveShape, AcceptedRunOn, ShapesAreSta
 use Rattle.image_runs.specs.StateImages.{image_of_state}
 
 pub shapes_run_on : ShapesAreStates → RecoveredWordsRunOn → ShapesRunOn
-shapes_run_on states run y s image shape = let from = states y s image.words shape in run y s from.0 image from.1
+shapes_run_on states run y s plain image shape = let from = states y s plain image.words shape in run y s from.0 image from.1
 
 -- what readers see of the system
 abbrev seen_as : Flat → Executable → Boundaries → Translation
@@ -29,4 +29,5 @@ pub accepted_run_on : AcceptedHaveShape → ShapesRunOn → AcceptedRunOn
 accepted_run_on have run flat object marks cuts table state kept r is formed =
     let t = r.translated in
     subst (λ (c : Translation). RunsOn c (image_of_state state kept)) (same_translation flat object marks cuts t)
-    (run t.system t.is (image_of_state state kept) (have flat object marks cuts table state r is formed))
+    (run t.system t.is (t.is.plan.plain (t.is.log ∙ (ap (λ (x : Executable). x.log) t.runs ∙ t.log))) (image_of_state state kept)
+    (have flat object marks cuts table state r is formed))

@@ -3,6 +3,7 @@ use Rattle.std.specs.Prelude.{ℕ, List, length, Vec}
 use Rattle.std.specs.Global.{Global}
 use Rattle.ido_base.specs.declared.event.Event.{Event}
 use Rattle.c_tree.specs.Flats.{Flat}
+use Rattle.c_tree.specs.WellFormed.{ArePlain}
 use Rattle.rv64_isa.specs.declared.object.Object.{Object}
 use Rattle.rv64_isa.specs.declared.object.Marks.{Marks}
 use Rattle.rv64_isa.specs.Schedule.{LifeSchedules}
@@ -30,20 +31,24 @@ AcceptedHaveShape = (flat : Flat) (object : Object) (marks : Marks) (cuts : Cuts
     (r : IsResumable flat object marks cuts table) → IsState First (length object.initial.items) (length object.code.items) state →
     IsWellFormedState flat table state → HasShape r.translated.system.plan r.translated.is.codes (state_words state)
 
--- what a crash leaves of a run
+-- what a crash leaves of a run of a program in which no mutex is in an array
 abbrev pub CrashesLeaveShape : Type 0
-CrashesLeaveShape = (y : System) (s : IsSystem y) (events : List Event) → HasShape y.plan s.codes (image_of (translation_of y) events).words
+CrashesLeaveShape = (y : System) (s : IsSystem y) → ArePlain (flat_of y).mutexes → (events : List Event) →
+    HasShape y.plan s.codes (image_of (translation_of y) events).words
 
 -- ---- What they are
 
--- the words are what the records of some state of the source leave, whether a run reaches it or not: an execution may begin there, and harts recover to it
+-- of a program in which no mutex is in an array the words are what the records of some state of the source leave, whether a run reaches it or not: an execution
+-- may begin there, and harts recover to it
 abbrev pub ShapesAreStates : Type 0
-ShapesAreStates = (y : System) (s : IsSystem y) (words : List ℕ) → HasShape y.plan s.codes words → (o : Origin (flat_of y)) × IsRecoveredFrom y s o words
+ShapesAreStates = (y : System) (s : IsSystem y) → ArePlain (flat_of y).mutexes → (words : List ℕ) → HasShape y.plan s.codes words →
+    (o : Origin (flat_of y)) × IsRecoveredFrom y s o words
 
 -- ---- What a machine does that begins with them
 
 abbrev pub ShapesRunOn : Type 0
-ShapesRunOn = (y : System) (s : IsSystem y) (image : Image) → HasShape y.plan s.codes image.words → RunsOn (translation_of y) image
+ShapesRunOn =
+    (y : System) (s : IsSystem y) → ArePlain (flat_of y).mutexes → (image : Image) → HasShape y.plan s.codes image.words → RunsOn (translation_of y) image
 
 -- an image without a fault is run on by the program that it is checked against, whatever its schedules are
 abbrev pub AcceptedRunOn : Type 0

@@ -3,6 +3,7 @@ mod Masks
 mod Bits
 mod Sets
 mod FewHeld
+mod FewNames
 mod FormNames
 mod CheckerCorrectness
 mod PlainSets

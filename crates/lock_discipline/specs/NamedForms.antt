@@ -17,3 +17,11 @@ pub record HasNumbers (x : Flat) (t : Thread) : Type 0 where
 
 abbrev pub HasNames : Flat → Type 0
 HasNames x = AllByRecursion (HasNumbers x) x.threads
+
+-- a set has room for the names of a thread's locks
+abbrev pub HasFewNames : Flat → Thread → Type 0
+HasFewNames x t = length (lock_names x t) ≤ MOST_MUTEXES
+
+-- it has for those of each thread
+abbrev pub HaveFewNames : Flat → Type 0
+HaveFewNames x = AllByRecursion (HasFewNames x) x.threads

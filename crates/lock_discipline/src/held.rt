@@ -5,17 +5,19 @@ ghost use Rattle.c_tree.specs.Flats.{flat_of};
 ghost use Rattle.c_tree.specs.LockNames.{count_held};
 ghost use Rattle.c_tree.specs.LockDiscipline.{lock_fault};
 ghost use Rattle.lock_discipline.specs.Faults.{fault_of};
-ghost use Rattle.lock_discipline.specs.NamedForms.{HasNames};
+ghost use Rattle.lock_discipline.specs.NamedForms.{HasNames, HaveFewNames};
 ghost use Rattle.lock_discipline.specs.Masks.{mask_of};
 ghost use Rattle.lock_discipline.specs.HeldSetsByStep.{AreAllSetsOf};
 
 use crate::error::LockError;
 use crate::set::NameSet;
 use crate::walk::walk_thread;
+use c_tree::expr::LockRef;
 use c_tree::flat::Flat;
 use c_tree::language::Language;
 use c_tree::lock_names::lock_names;
-use std::alloc::Global;
+use ido_base::limits::MOST_MUTEXES;
+use std::alloc::{AllocError, Global};
 use std::marker::Model;
 
 /// The locks that are held before each step of each thread, by its names.
@@ -86,10 +88,31 @@ impl Held {
     }
 }
 
+/// A set has room for so many names.
+fn are_few(names: &[LockRef<'_>]) -> bool
+    ensures { IsTrue result ↔ (length names.now ≤ MOST_MUTEXES) }
+{
+    names.len() <= MOST_MUTEXES as usize
+}
+
+/// Whether a set has room for the names of each thread's locks. A well formed form of which that is so can be checked
+/// (`laws::few_have_names`).
+pub fn have_few_names(alloc: Global, flat: &Flat) -> Result<bool, AllocError>
+    ensures { IfOk result (λ few. IsTrue few ↔ HaveFewNames (flat_of flat.now)) }
+{
+    for thread in &flat.threads {
+        let names = lock_names(alloc, &flat.mutexes, &thread.body)?;
+        if !are_few(&names) {
+            return Ok(false);
+        }
+    }
+    Ok(true)
+}
+
 /// Walks through the threads in order, each from its beginning, to the first fault: a variable that is used while its lock isn't held, a local that is assigned
 /// while the key of a held lock names it, a lock that is taken while it is held or given back while it isn't, one by which more are held than may be in the
 /// language, paths that meet with different locks held, or a thread that ends with one held. Locks go by the names of each thread; of a well formed flat form
-/// every lock that a thread takes has a number, and there are no more than a set holds (`laws::well_formed_has_names`).
+/// without arrays of mutexes every lock that a thread takes has a number, and there are no more than a set holds (`laws::well_formed_has_names`).
 ///
 /// The sets are said by relations of before, statement and after, and not by the walk.
 pub fn check(alloc: Global, language: Language, flat: &Flat) -> Result<Held, LockError<'_>>

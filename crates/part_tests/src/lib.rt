@@ -22,6 +22,8 @@ mod harts;
 #[cfg(test)]
 mod inlinings;
 #[cfg(test)]
+mod keys;
+#[cfg(test)]
 mod lives;
 #[cfg(test)]
 mod locations;

@@ -28,6 +28,24 @@ const OTHER_LENGTH: &[u8] = b"mutex m[2]; persistent(m[]) int a[3];";
 const SHARED_KEY: &[u8] =
     b"mutex n; mutex m[2]; persistent(n) int a; thread t { lock(m[a]); unlock(m[0]); }";
 
+/// A key where the mutex is in no array.
+const KEYED_SINGLE: &[u8] = b"mutex n; thread t { lock(n[0]); unlock(n); }";
+
+/// No key where it is an array.
+const KEYLESS_ARRAY: &[u8] = b"mutex m[2]; thread t { lock(m); unlock(m[0]); }";
+
+/// Brackets where there is one mutex for all elements.
+const EACH_OF_ONE: &[u8] = b"mutex n; persistent(n[]) int a[2];";
+
+/// No brackets where there is one for each.
+const ONE_OF_ARRAY: &[u8] = b"mutex m[2]; persistent(m) int a[2];";
+
+/// Mutexes for the elements of a variable that has none.
+const ONE_ELEMENT: &[u8] = b"mutex m[2]; persistent(m[]) int a;";
+
+/// An array of no mutex.
+const NO_MUTEX: &[u8] = b"mutex m[0];";
+
 /// References that are stored, compared, followed, passed and returned.
 const REFERENCES: &[u8] = b"mutex m; persistent(m) int a[2]; persistent(m) ref(a) h; \
       ref(a) f(ref(a) p) { return p; } \
@@ -48,11 +66,17 @@ const NO_REFERENCE: &[u8] =
 const EACH_REFERRED: &[u8] = b"mutex m[2]; persistent(m[]) int a[2]; thread t { ref(a) p; }";
 
 /// Texts that are read, with the rule that their names and kinds break, and where.
-const REFUSED: [(&[u8], Rule, u32); 8] = [
+const REFUSED: [(&[u8], Rule, u32); 14] = [
     (TOO_MANY, Rule::Mutexes, 15),
     (FAR_TOO_MANY, Rule::Mutexes, 6),
     (OTHER_LENGTH, Rule::Count, 34),
     (SHARED_KEY, Rule::WrongSort, 60),
+    (KEYED_SINGLE, Rule::WrongSort, 25),
+    (KEYLESS_ARRAY, Rule::WrongSort, 28),
+    (EACH_OF_ONE, Rule::WrongSort, 20),
+    (ONE_OF_ARRAY, Rule::WrongSort, 23),
+    (ONE_ELEMENT, Rule::WrongSort, 32),
+    (NO_MUTEX, Rule::Length, 8),
     (OTHER_ARRAY, Rule::WrongSort, 78),
     (NO_NUMBER, Rule::WrongSort, 62),
     (NO_REFERENCE, Rule::WrongSort, 65),
@@ -60,7 +84,7 @@ const REFUSED: [(&[u8], Rule, u32); 8] = [
 ];
 
 /// The program of a text that is read, or why its names and kinds are wrong.
-fn typed(a: Global, text: &[u8]) -> Result<Result<Program, SourceError>, Fail> {
+pub(crate) fn typed(a: Global, text: &[u8]) -> Result<Result<Program, SourceError>, Fail> {
     if text.len() > MOST_SOURCE_BYTES as usize {
         return Err("a text too long".into());
     }
@@ -97,9 +121,6 @@ fn references(rt: HostRuntime) -> Result<(), Fail> {
     let program = typed(rt.alloc(), REFERENCES)??;
     let kind = program.variables.get(1).map(|variable| variable.kind);
     let locals = program.threads.first().map(|thread| thread.locals.len());
-    assert_eq!(rt;
-        (kind, locals),
-        (Some(Kind::UnsignedLong), Some(2))
-    );
+    assert_eq!(rt; (kind, locals), (Some(Kind::UnsignedLong), Some(2)));
     Ok(())
 }

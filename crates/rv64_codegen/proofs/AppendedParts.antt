@@ -1,5 +1,6 @@
 -- What each node does, of the parts that are appended for it.
 use Rattle.std.proofs.Common.{◌≡◌, refl, ℕ, ◌+◌, ◌-◌, ◌*◌, ◌≤◌, List, [], length, ap, subst, arith, Bool, true, false}
+use Rattle.ido_base.specs.declared.limits.TheConstants.{MOST_LOCKS}
 use Rattle.ido_ints.specs.declared.kinds.Kind.{Kind}
 use Rattle.c_tree.specs.Exprs as e
 use Rattle.c_tree.specs.Prices.{key_nodes, nodes_of}
@@ -81,7 +82,7 @@ module _ (x : opened.ThreadPlan) (node : ℕ) where
       subst (λ (b : Action). Known p.flat t.kinds t.part.first t.part.end p.graph.nodes at.is b) at.action_is
       (known_of p t at.own.open_is.plan at.own.open_is.thread node at.is at.own.own at.at)
 
-  few_locks : length (plan_in x).flat.mutexes ≤ 64 → length (plan_in x).flat.mutexes ≤ 1024
+  few_locks : length (plan_in x).flat.mutexes ≤ MOST_LOCKS → length (plan_in x).flat.mutexes ≤ 1024
   few_locks few = omega (arith, few)
 
   pub lock_done : (lock : e.LockName) (next : ℕ) (k : kept.Kept) (numbering : List Instr) (old mid new : List CodeItem) →

@@ -167,9 +167,10 @@ module _ (p : Plan) (t : Thread) (plan : IsPlan p) (th : IsThread p t) (formed :
   numbers_many : (locals : List ℤ) → length (locks_before p t locals node) ≡ length held
   numbers_many locals = length-map held (lock_number locals)
 
-  pub may_keep : (log : Log) (mask : ℕ) → ((locals : List ℤ) → locks_in mask ≡ locks_before p t locals node) → AreNumberCodes log h t.number held codes →
+  pub may_keep : (log : Log) (mask : ℕ) → (log ≡ V1 → (locals : List ℤ) → locks_in mask ≡ locks_before p t locals node) →
+      AreNumberCodes log h t.number held codes →
       (locals : List ℤ) → MayKeep log mask codes (locks_before p t locals node)
-  may_keep V1 mask in_it are locals = sym (in_it locals)
+  may_keep V1 mask in_it are locals = sym (in_it refl locals)
   may_keep V2 mask in_it are locals = numbers_many locals ∙ sym (as_many h are.0 held codes are.3)
 
   pub leave_them : (log : Log) → p.log ≡ log → AreNumberCodes log h t.number held codes → (locals : List ℤ) (x : List ℕ) → MayEnter p t locals node x →

@@ -6,6 +6,7 @@ use Rattle.std.specs.Option.{option_map}
 use Rattle.std.proofs.lemmas.Option.{slice_get_within, get_or_from_slice_get}
 use Rattle.std.proofs.lemmas.List.Sums.{sum_by-cons}
 use Rattle.ido_base.specs.declared.location.Location.{Location}
+use Rattle.ido_base.specs.declared.log.Log.TheVariants.{V1}
 use Rattle.ido_base.specs.declared.limits.TheConstants.{MOST_PRICE, MOST_THREADS}
 use Rattle.c_tree.specs.Exprs as e
 use Rattle.c_tree.specs.Flats as f
@@ -25,8 +26,8 @@ use Rattle.flow_graph.specs.IdempotentCuts.{IsChosen, Writes}
 use Rattle.flow_graph.specs.Liveness.{NodeAt}
 use Rattle.flow_graph.specs.Lowering.{table_of, assign_count, count, statements_count, arms_count, thread_count, thread_nodes, threads_nodes, part, parts}
 use Rattle.flow_graph.proofs.Public.{length-thread_nodes, all_at, found_in, lowered_nodes, lowered_threads, ShapedAs, node_shaped}
-use Rattle.thread_code.specs.Plans.{Plan, Thread, IsPlan, IsThread, IsNodeOf, language_of, locks_before, locks_held, set_before}
-use Rattle.thread_code.proofs.Public.{plain_before}
+use Rattle.thread_code.specs.Plans.{Plan, Thread, IsPlan, IsThread, IsNodeOf, language_of, locks_before, locks_held, names_in, set_before}
+use Rattle.thread_code.proofs.Public.{names_are, plain_before}
 use Rattle.thread_code.specs.Programs.{action_nodes}
 use Rattle.rv64_codegen.proofs.LoweredNodes.{price_of, prices, price_thread, IsLoweredNode, sound_thread, sound_at, part_is, node_of_thread}
 
@@ -246,8 +247,8 @@ module _ (p : Plan) (plan : IsPlan p) where
         or_there (x ∷ xs) zero y g = cc
         or_there (x ∷ xs) (suc k) y g = or_there xs k y g
 
-    -- a set has as many names as there are mutexes
-    set_long : (node : ℕ) → IsNodeOf t node → length (set_before p t node) ≡ length p.flat.mutexes
+    -- a set is as long as the thread's names
+    pub set_long : (node : ℕ) → IsNodeOf t node → length (set_before p t node) ≡ length (names_in p t)
     set_long node own =
         let step = node - t.part.first in
         let there = found_in p.held t.number held_there in
@@ -257,14 +258,21 @@ module _ (p : Plan) (plan : IsPlan p) where
         let one = found_in there.0 step inside in
         let set : set_before p t node ≡ one.0 =
         ap (λ (s : List Held). slice_index_or s step []) is ∙ get_or_from_slice_get there.0 step one.0 [] one.1 in
-        let long : length one.0 ≡ length p.flat.mutexes = held_length p.flat th.text step one.0 ((sets.exactly step one.0).0 one.1)
-        ∙ (ap (λ (ns : List LockName). length ns) (names_are_plain p.flat th.text plan.formed.single) ∙ length-plain_names (length p.flat.mutexes)) in
+        let long : length one.0 ≡ length (names_in p t) = held_length p.flat th.text step one.0 ((sets.exactly step one.0).0 one.1)
+        ∙ ap (λ (ns : List LockName). length ns) (sym (names_are p t th)) in
         ap (λ (h : Held). length h) set ∙ long
 
-    -- no set has more mutexes than a mask has bits
-    pub few_held : (node : ℕ) → IsNodeOf t node → length (set_before p t node) ≤ 64
-    few_held node own = omega (arith, set_long node own, plan.formed.shared.mutexes)
+    module _ (masks : p.log ≡ V1) where
+      -- where threads log with masks a set has a name for each mutex
+      plain_long : (node : ℕ) → IsNodeOf t node → length (set_before p t node) ≡ length p.flat.mutexes
+      plain_long node own =
+          set_long node own ∙ (ap (λ (ns : List LockName). length ns) (names_are p t th ∙ names_are_plain p.flat th.text (plan.plain masks).single)
+          ∙ length-plain_names (length p.flat.mutexes))
 
-    -- where no mutex is in an array, the numbers of the held names are those of their mutexes, whatever numbers locals have
-    pub numbers_plain : (locals : List ℤ) (node : ℕ) → IsNodeOf t node → locks_held (set_before p t node) ≡ locks_before p t locals node
-    numbers_plain locals node own = plain_before p t th plan.formed.single locals node (set_long node own)
+      -- there no set has more mutexes than a mask has bits
+      pub few_held : (node : ℕ) → IsNodeOf t node → length (set_before p t node) ≤ 64
+      few_held node own = omega (arith, plain_long node own, (plan.plain masks).few)
+
+      -- there the numbers of the held names are those of their mutexes, whatever numbers locals have
+      pub numbers_plain : (locals : List ℤ) (node : ℕ) → IsNodeOf t node → locks_held (set_before p t node) ≡ locks_before p t locals node
+      numbers_plain locals node own = plain_before p t th (plan.plain masks).single locals node (plain_long node own)

@@ -9,7 +9,7 @@ use ido_base::log::Log;
 
 /// A compiled program. Calls that need it ask that threads, mutexes, initial bytes and words are within the limits of an object
 /// (`IsWithinLimits`), which is no invariant of this type: at most
-/// 8 threads of 1 to 65,536 words, 64 mutexes, and 65,536 bytes, a multiple of 8.
+/// 8 threads of 1 to 65,536 words, 64 mutexes or 1,024 by the log, and 65,536 bytes, a multiple of 8.
 #[derive(PartialEq, Eq, Drop)]
 pub struct Object {
     /// The code words of each thread. Any word may stand here, also one that is no instruction.

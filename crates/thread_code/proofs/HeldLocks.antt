@@ -97,13 +97,23 @@ plain_before p t of single locals node long =
     let names : names_in p t ≡ plain_names (length set) = names_are p t of ∙ (names_are_plain p.flat of.text single ∙ ap plain_names (sym long)) in
     sym (ap (λ (ns : List LockName). map (lock_number locals) (held_names ns set)) names ∙ plain_numbers locals set)
 
+-- where nothing is held no name is
+pub nothing_named : (at : ℕ) (names : List LockName) (held : Held) → locks_held_from at held ≡ [] → held_names names held ≡ []
+nothing_named at [] held none = refl
+nothing_named at (x ∷ names) [] none = refl
+nothing_named at (x ∷ names) (true ∷ held) none = cc
+nothing_named at (x ∷ names) (false ∷ held) none = nothing_named (at + 1) names held none
+
+-- where no name is held nothing is, since each has a name
+pub nothing_held : (at : ℕ) (names : List LockName) (held : Held) → length held ≡ length names → held_names names held ≡ [] → locks_held_from at held ≡ []
+nothing_held at names [] long none = refl
+nothing_held at [] (b ∷ held) long none = absurd (omega (arith, long))
+nothing_held at (x ∷ names) (true ∷ held) long none = cc
+nothing_held at (x ∷ names) (false ∷ held) long none = nothing_held (at + 1) names held (omega (arith, long)) none
+
 -- each name that is held has a number, and no other
 pub named_some : (ls : List ℤ) (names : List LockName) → map (lock_number ls) names ≢ [] → names ≢ []
 named_some ls names some = λ e. some (ap (λ (ns : List LockName). map (lock_number ls) ns) e)
-
-pub numbers_none : (ls : List ℤ) (names : List LockName) → map (lock_number ls) names ≡ [] → names ≡ []
-numbers_none ls [] none = refl
-numbers_none ls (x ∷ names) none = cc
 
 pub numbers_some : (ls : List ℤ) (names : List LockName) → names ≢ [] → map (lock_number ls) names ≢ []
 numbers_some ls [] some = absurd (some refl)

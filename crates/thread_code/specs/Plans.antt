@@ -6,7 +6,7 @@ use Rattle.ido_base.specs.declared.log.Log.TheVariants.{V1, V2}
 use Rattle.ido_base.specs.Layout.{variable_at}
 use Rattle.ido_ints.specs.declared.kinds.Kind.{Kind}
 use Rattle.c_tree.specs.Flats as f
-use Rattle.c_tree.specs.WellFormed.{shape_of, IsWellFormed}
+use Rattle.c_tree.specs.WellFormed.{shape_of, ArePlain, IsWellFormed}
 use Rattle.c_tree.specs.declared.language.Language.{Language}
 use Rattle.c_tree.specs.declared.language.Language.TheVariants.{Plain, Full}
 use Rattle.c_tree.specs.HoldPrices.{hold_prices, price_fault}
@@ -141,6 +141,8 @@ pub record IsPlan (p : Plan) : Type 0 where
       slice_get (names_in p t) name ≡ Some x → holds (set_before p t node) name ≡ true → Contains (key_locals x) local → IsLive p.graph local node
   pub registers : AreRegisters p.graph p.colours
   pub apart : HasNoClash p.graph p.colours
+  -- where threads log with masks no mutex is in an array
+  pub plain : p.log ≡ V1 → ArePlain p.flat.mutexes
   -- no thread's price is too high
   pub priced : price_fault (language_of p.log) p.flat ≡ None
   -- a bank of the threads' logs has room for the locks that are held before each node

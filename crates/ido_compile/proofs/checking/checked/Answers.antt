@@ -1,7 +1,7 @@
 -- What refuses the flat form refuses the text.
-use Rattle.std.proofs.Common.{◌∙◌, ap, subst}
+use Rattle.std.proofs.Common.{◌≡◌, ◌∙◌, ap, subst}
 use Rattle.c_tree.specs.Flats.{flat_of}
-use Rattle.c_tree.specs.declared.language.Language.TheVariants.{Plain}
+use Rattle.c_tree.specs.declared.language.Language.TheVariants.{Plain, Full}
 use Rattle.c_tree.specs.HoldPrices.{price_fault}
 use Rattle.c_tree.specs.declared.flat.Flat.{Flat}
 use Rattle.flat_analysis.specs.CompilableForms.{IsAcceptedForm}
@@ -17,6 +17,12 @@ returns-in_err-analysis-clause-answer c =
 
 pub analyse-requires-clause-formed : goal.analyse-requires-clause-formed
 analyse-requires-clause-formed c = c.flattened_is_formed.ensures c.args.text.now (flat_of c.args.flat.now) c.requires
+
+pub analyse-requires-clause-plain : goal.analyse-requires-clause-plain
+analyse-requires-clause-plain c = λ is. c.flattened_is_plain.ensures c.args.text.now (flat_of c.args.flat.now) c.requires
+
+pub analyse-requires-clause-named : goal.analyse-requires-clause-named
+analyse-requires-clause-named c = λ is. let wrong : Plain ≡ Full = is in absurd (cc)
 
 pub analyse-requires-clause-priced : goal.analyse-requires-clause-priced
 analyse-requires-clause-priced c = ap (price_fault Plain) c.requires.flattened ∙ c.requires.short

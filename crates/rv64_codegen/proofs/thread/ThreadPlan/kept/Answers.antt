@@ -3,6 +3,7 @@ use Rattle.std.specs.Prelude.{Vec}
 use Rattle.std.specs.Global.{Global}
 use Rattle.std.proofs.lemmas.List.{get_or-map}
 use Rattle.ido_base.specs.Locks.{locks_in}
+use Rattle.ido_base.specs.declared.log.Log.TheVariants.{V1}
 use Rattle.rv64_isa.specs.declared.instr.Instr.{Instr}
 use Rattle.boundary_code.specs.Boundaries.{lists_of}
 use Rattle.node_code.proofs.Public.{lists_long}
@@ -42,9 +43,9 @@ returns c =
     let codes : List (List Instr) = lists_of c.args.numbers.now in
     let are : AreNumberCodes p.log (homes p t) x.number (held_names_before p t node) codes =
     subst (λ (h : Homes). AreNumberCodes p.log h x.number (held_names_before p t node) codes) o.homes c.requires.numbers in
-    let in_it : (locals : List ℤ) → locks_in c.held.result ≡ locks_before p t locals node = λ locals.
-    ap locks_in c.held.ensures ∙ mask_has_held (set_before p t node) (few_held p o.plan t o.thread node own.own)
-    ∙ numbers_plain p o.plan t o.thread locals node own.own in
+    let in_it : p.log ≡ V1 → (locals : List ℤ) → locks_in c.held.result ≡ locks_before p t locals node = λ masks locals.
+    ap locks_in c.held.ensures ∙ mask_has_held (set_before p t node) (few_held p o.plan t o.thread masks node own.own)
+    ∙ numbers_plain p o.plan t o.thread masks locals node own.own in
     record {
       log_is = refl;
       thread_is = refl;
