@@ -8,7 +8,7 @@ use Rattle.c_tree.specs.Flats as f
 use Rattle.c_tree.specs.LockNames.{Held, holds, none_held}
 use Rattle.lock_order.specs.LockOrder.{Progress, OrderFault, Walked, After, Broken, and_then, holds_from, holding, broken, locked}
 use Rattle.lock_order.specs.LockOrder.{walk, walk_all, walk_arms, walk_thread, walk_threads, order_fault}
-use Rattle.lock_order.specs.links.Ascents.{Ascends, AscendAll, AscendArms, mutexes_after, mutexes_after_all}
+use Rattle.lock_order.specs.links.Ascents.{Ascends, AscendAll, AscendArms, IsFreeFrom, mutexes_after, mutexes_after_all}
 
 -- ---- Answers of the walk
 
@@ -32,13 +32,13 @@ unless_after false x p q e = (refl, after_is p q e)
 -- ---- Each part
 
 mutual
-  ascends : (p q : Progress) (x : f.Statement) → walk p x ≡ After q → Ascends mutexes_after p.held x × (q.held ≡ mutexes_after p.held x)
+  ascends : (p q : Progress) (x : f.Statement) → walk p x ≡ After q → Ascends mutexes_after IsFreeFrom p.held x × (q.held ≡ mutexes_after p.held x)
   ascends p q (f.Assign place target value) e = (tt, after_is p q e)
   ascends p q (f.If place arms otherwise) e =
       let b = after_both (walk_arms p arms) (λ after. walk_all after otherwise) q e in
       let first = ascend_arms p b.0 arms b.1 in
       let last = ascend_all b.0 q otherwise b.2 in (
-        (first.0, subst (λ (h : Held). AscendAll mutexes_after h otherwise) first.1 last.0),
+        (first.0, subst (λ (h : Held). AscendAll mutexes_after IsFreeFrom h otherwise) first.1 last.0),
         last.1 ∙ ap (λ (h : Held). mutexes_after_all h otherwise) first.1,
       )
   ascends p q (f.While place condition body) e =
@@ -50,23 +50,24 @@ mutual
   ascends p q (f.Lock place name) e = unless_after (holds_from p.held name.mutex) (broken place name.mutex p) (locked place name.mutex p) q e
   ascends p q (f.Unlock place name) e = (tt, after_is (record p { held = slice_set p.held name.mutex false }) q e)
 
-  ascend_all : (p q : Progress) (x : f.Statements) → walk_all p x ≡ After q → AscendAll mutexes_after p.held x × (q.held ≡ mutexes_after_all p.held x)
+  ascend_all : (p q : Progress) (x : f.Statements) → walk_all p x ≡ After q →
+      AscendAll mutexes_after IsFreeFrom p.held x × (q.held ≡ mutexes_after_all p.held x)
   ascend_all p q f.no_statement e = (tt, after_is p q e)
   ascend_all p q (f.statement_and x rest) e =
       let b = after_both (walk p x) (λ after. walk_all after rest) q e in
       let first = ascends p b.0 x b.1 in
       let last = ascend_all b.0 q rest b.2 in (
-        (first.0, subst (λ (h : Held). AscendAll mutexes_after h rest) first.1 last.0),
+        (first.0, subst (λ (h : Held). AscendAll mutexes_after IsFreeFrom h rest) first.1 last.0),
         last.1 ∙ ap (λ (h : Held). mutexes_after_all h rest) first.1,
       )
 
-  ascend_arms : (p q : Progress) (x : f.Arms) → walk_arms p x ≡ After q → AscendArms mutexes_after p.held x × (q.held ≡ p.held)
+  ascend_arms : (p q : Progress) (x : f.Arms) → walk_arms p x ≡ After q → AscendArms mutexes_after IsFreeFrom p.held x × (q.held ≡ p.held)
   ascend_arms p q f.no_arm e = (tt, after_is p q e)
   ascend_arms p q (f.arm_and condition body rest) e =
       let b = after_both (holding p.held (walk_all p body)) (λ after. walk_arms after rest) q e in
       let r = holding_both p.held (walk_all p body) b.0 b.1 in
       let last = ascend_arms b.0 q rest b.2 in (
-        ((ascend_all p r.0 body r.1).0, subst (λ (h : Held). AscendArms mutexes_after h rest) r.2 last.0),
+        ((ascend_all p r.0 body r.1).0, subst (λ (h : Held). AscendArms mutexes_after IsFreeFrom h rest) r.2 last.0),
         last.1 ∙ r.2,
       )
 
@@ -82,28 +83,29 @@ fault_or w more = elim w [
 ]
 
 by_place : (n : ℕ) (x : f.Thread) (ts : List f.Thread) (p : Progress) → walk_thread n x ≡ After p → (u : ℕ) (t : f.Thread) →
-    slice_get (x ∷ ts) u ≡ Some t → ((k : ℕ) → slice_get ts k ≡ Some t → AscendAll mutexes_after (none_held n) t.body) →
-    AscendAll mutexes_after (none_held n) t.body
+    slice_get (x ∷ ts) u ≡ Some t → ((k : ℕ) → slice_get ts k ≡ Some t → AscendAll mutexes_after IsFreeFrom (none_held n) t.body) →
+    AscendAll mutexes_after IsFreeFrom (none_held n) t.body
 by_place n x ts p walked zero t there others =
     let first = ascend_all (record { held = none_held n; met = [] }) p x.body walked in
-    subst (λ (y : f.Thread). AscendAll mutexes_after (none_held n) y.body) (some_is x t there) first.0
+    subst (λ (y : f.Thread). AscendAll mutexes_after IsFreeFrom (none_held n) y.body) (some_is x t there) first.0
 by_place n x ts p walked (suc k) t there others = others k there
 
 by_walk : (n : ℕ) (x : f.Thread) (ts : List f.Thread) (w : Walked) → walk_thread n x ≡ w → walk_threads n (x ∷ ts) ≡ None → (u : ℕ) (t : f.Thread) →
-    slice_get (x ∷ ts) u ≡ Some t → (walk_threads n ts ≡ None → (k : ℕ) → slice_get ts k ≡ Some t → AscendAll mutexes_after (none_held n) t.body) →
-    AscendAll mutexes_after (none_held n) t.body
+    slice_get (x ∷ ts) u ≡ Some t →
+    (walk_threads n ts ≡ None → (k : ℕ) → slice_get ts k ≡ Some t → AscendAll mutexes_after IsFreeFrom (none_held n) t.body) →
+    AscendAll mutexes_after IsFreeFrom (none_held n) t.body
 by_walk n x ts (Broken y) is e u t there others =
     absurd (let off : Some y ≡ None = sym (ap (λ (w : Walked). fault_or w (walk_threads n ts)) is) ∙ e in cc)
 by_walk n x ts (After p) is e u t there others =
     by_place n x ts p is u t there (others (sym (ap (λ (w : Walked). fault_or w (walk_threads n ts)) is) ∙ e))
 
 threads_ascend : (n : ℕ) (ts : List f.Thread) → walk_threads n ts ≡ None → (u : ℕ) (t : f.Thread) → slice_get ts u ≡ Some t →
-    AscendAll mutexes_after (none_held n) t.body
+    AscendAll mutexes_after IsFreeFrom (none_held n) t.body
 threads_ascend n [] e u t there = absurd (cc)
 threads_ascend n (x ∷ ts) e u t there = by_walk n x ts (walk_thread n x) refl e u t there (λ more k h. threads_ascend n ts more k t h)
 
 pub bodies_ascend : (x : f.Flat) → order_fault x ≡ None → (u : ℕ) (t : f.Thread) → slice_get x.threads u ≡ Some t →
-    AscendAll mutexes_after (none_held (length x.mutexes)) t.body
+    AscendAll mutexes_after IsFreeFrom (none_held (length x.mutexes)) t.body
 unfolding order_fault
 bodies_ascend x e u t there = threads_ascend (length x.mutexes) x.threads e u t there
 

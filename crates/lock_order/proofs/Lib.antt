@@ -1,4 +1,6 @@
 mod Walks
 mod Ascents
+mod NameMutexes
+mod HeldMutexes
 mod Runs
 mod Worked

@@ -6,95 +6,46 @@ use Rattle.std.proofs.lemmas.Bool.{cases_eq}
 use Rattle.std.proofs.lemmas.Option.{slice_get_within, get_or_from_slice_get}
 use Rattle.ido_base.specs.declared.place.Place.{Place}
 use Rattle.c_tree.specs.Exprs as e
-use Rattle.std.specs.List.{AllByRecursion}
 use Rattle.std.proofs.lemmas.List.{length-replicate}
 use Rattle.c_tree.specs.Values.{lock_number}
-use Rattle.c_tree.specs.WellFormed.{IsSingle}
-use Rattle.c_tree.proofs.Public.{length-plain_names, names_are_plain, plain_known, plain_lock}
+use Rattle.c_tree.proofs.Public.{length-plain_names, names_are_plain, number_found, plain_at, plain_lock, same_number}
 use Rattle.c_tree.specs.Programs.{Variable}
 use Rattle.c_tree.specs.Flats as f
 use Rattle.c_tree.specs.Source as m
 use Rattle.c_tree.specs.Source.{source_step, opened, opened_all, tested}
 use Rattle.c_tree.specs.LockDiscipline as l
-use Rattle.c_tree.specs.LockNames.{Held, holds, none_held, number_in, plain_names}
+use Rattle.c_tree.specs.LockNames.{Held, holds, none_held, lock_names, number_in, plain_names}
 use Rattle.c_tree.specs.LockDiscipline.{Keeps, KeepAll, KeepArms, IsDisciplined}
-use Rattle.source_machine.specs.Mutexes.{lock_ahead, first_lock, held_by}
-use Rattle.source_machine.specs.Discipline.{KeepList, StateKeeps}
+use Rattle.source_machine.specs.Mutexes.{lock_ahead, first_lock}
+use Rattle.source_machine.specs.Discipline.{IsOfName, KeepList, StateKeeps}
 use Rattle.source_machine.specs.Laws.{OthersStay}
 use Rattle.source_machine.proofs.Public.{keep_append, keeps_if, keeps_arm, keeps_while, keeps_lock, keep_list_length}
-use Rattle.source_machine.proofs.Public.{holds_within, plain_is_given, held_there, run_keeps, start_keeps, step_found}
-use Rattle.source_machine.proofs.Public.{step_missing, after_by}
-use Rattle.lock_discipline.specs.links.Flow.{held_after, held_after_all}
-use Rattle.lock_discipline.proofs.Public.{boundary_after_is, keeps_length}
-use Rattle.lock_order.specs.LockOrder.{holds_from, order_fault}
-use Rattle.lock_order.specs.links.Ascents.{Ascends, AscendAll, AscendArms, AscendList, mutexes_after, mutexes_after_all}
-use Rattle.lock_order.specs.Laws.{LocksAscend}
-use Rattle.lock_order.proofs.Ascents.{bodies_ascend, held_below}
+use Rattle.source_machine.proofs.Public.{after_by, run_keeps, set_is_one, start_keeps, step_found, step_missing}
+use Rattle.lock_discipline.specs.links.Flow.{held_after}
+use Rattle.lock_discipline.proofs.Public.{boundary_after_is}
+use Rattle.lock_order.specs.LockOrder.{order_fault}
+use Rattle.lock_order.specs.links.Ascents.{AreBelow, Ascends, AscendAll, AscendArms, AscendList, IsFreeFrom, mutexes_after}
+use Rattle.lock_order.specs.Laws.{Ascending, LocksAscend, NamesAscend}
+use Rattle.lock_order.proofs.Ascents.{bodies_ascend}
+use Rattle.lock_order.proofs.HeldMutexes.{covers_none, rise_all, same_mutex}
+use Rattle.lock_order.proofs.NameMutexes.{mutexes_within}
 
 some_is : {X : Type 0} (a b : X) → Some a ≡ Some b → a ≡ b
 some_is a b h = cc
 
-module _ (vs : List Variable) (n : ℕ) where
-  abbrev names : List e.LockName
-  names = plain_names n
-
+module _ (vs : List Variable) (names : List e.LockName) where
   abbrev named_after : Held → f.Statement → Held
   named_after = held_after names
-
-  -- ---- Sets of names are sets of mutexes
-
-  mutual
-    after_same : {h after : Held} {s : f.Statement} → Keeps vs names h s after → length h ≡ n → mutexes_after h s ≡ named_after h s
-    after_same (l.assign place target value g free) long = refl
-    after_same (l.choose place arms otherwise p q) long = after_all_same q long
-    after_same (l.repeat place condition body g p) long = refl
-    after_same (l.again place body condition p g) long = refl
-    after_same (l.lock {h = h} place name free) long =
-        let low : number_in names name < n = omega (arith, slice_get_within h (number_in names name) false free, long) in
-        ap (λ (k : ℕ). slice_set h k true) (sym (plain_known n name low).0)
-    after_same (l.unlock {h = h} place name held) long =
-        let low : number_in names name < n = omega (arith, holds_within h (number_in names name) held, long) in
-        ap (λ (k : ℕ). slice_set h k false) (sym (plain_known n name low).0)
-
-    after_all_same : {h after : Held} {ss : f.Statements} → KeepAll vs names h ss after → length h ≡ n → mutexes_after_all h ss ≡ held_after_all names h ss
-    after_all_same l.no_more long = refl
-    after_all_same (l.then {h = h} {between = between} x rest p q) long =
-        let is : named_after h x ≡ between = boundary_after_is vs names p in
-        ap (λ (z : Held). mutexes_after_all z rest) (after_same p long ∙ is)
-        ∙ (after_all_same q (keeps_length vs names p ∙ long) ∙ ap (λ (z : Held). held_after_all names z rest) (sym is))
-
-  mutual
-    ascends_named : {h after : Held} {s : f.Statement} → Keeps vs names h s after → length h ≡ n → Ascends mutexes_after h s → Ascends named_after h s
-    ascends_named (l.assign place target value g free) long a = tt
-    ascends_named (l.choose place arms otherwise p q) long a = (arms_named p long a.0, all_named q long a.1)
-    ascends_named (l.repeat place condition body g p) long a = all_named p long a
-    ascends_named (l.again place body condition p g) long a = all_named p long a
-    ascends_named (l.lock place name free) long a = a
-    ascends_named (l.unlock place name held) long a = tt
-
-    all_named : {h after : Held} {ss : f.Statements} → KeepAll vs names h ss after → length h ≡ n → AscendAll mutexes_after h ss → AscendAll named_after h ss
-    all_named l.no_more long a = tt
-    all_named (l.then {h = h} {between = between} x rest p q) long a =
-        let is : named_after h x ≡ between = boundary_after_is vs names p in
-        let more : AscendAll mutexes_after between rest = subst (λ (z : Held). AscendAll mutexes_after z rest) (after_same p long ∙ is) a.1 in (
-          ascends_named p long a.0,
-          subst (λ (z : Held). AscendAll named_after z rest) (sym is) (all_named q (keeps_length vs names p ∙ long) more),
-        )
-
-    arms_named : {h after : Held} {arms : f.Arms} → KeepArms vs names h arms after → length h ≡ n → AscendArms mutexes_after h arms →
-        AscendArms named_after h arms
-    arms_named l.no_more_arms long a = tt
-    arms_named (l.arm condition body rest g p q) long a = (all_named p long a.0, arms_named q long a.1)
 
   -- from the one set, the statements in turn keep the discipline and leave the other, and each `lock` is above what is held there
   record Rise (h : Held) (left : List f.Statement) (after : Held) : Type 0 where
     keeps : KeepList vs names h left after
-    ascends : AscendList named_after h left
+    ascends : AscendList named_after (AreBelow names) h left
 
-  ascend_append : (xs ys : List f.Statement) (h between : Held) → KeepList vs names h xs between → AscendList named_after h xs →
-      AscendList named_after between ys →
-      AscendList named_after h (xs ++ ys)
-  ascend_append [] ys h between k a b = subst (λ (z : Held). AscendList named_after z ys) (sym k) b
+  ascend_append : (xs ys : List f.Statement) (h between : Held) → KeepList vs names h xs between → AscendList named_after (AreBelow names) h xs →
+      AscendList named_after (AreBelow names) between ys →
+      AscendList named_after (AreBelow names) h (xs ++ ys)
+  ascend_append [] ys h between k a b = subst (λ (z : Held). AscendList named_after (AreBelow names) z ys) (sym k) b
   ascend_append (x ∷ xs) ys h between k a b = (
     a.0,
     ascend_append xs ys (named_after h x) between (subst (λ (z : Held). KeepList vs names z xs between) (sym (boundary_after_is vs names k.1)) k.2) a.1 b,
@@ -107,7 +58,7 @@ module _ (vs : List Variable) (n : ℕ) where
   }
 
   -- one statement
-  rise_one : (h after : Held) (x : f.Statement) → Keeps vs names h x after → Ascends named_after h x → Rise h (x ∷ []) after
+  rise_one : (h after : Held) (x : f.Statement) → Keeps vs names h x after → Ascends named_after (AreBelow names) h x → Rise h (x ∷ []) after
   rise_one h after x k a = record { keeps = (after, k, refl); ascends = (a, tt) }
 
   rise_rest : (h after : Held) (x : f.Statement) (rest : List f.Statement) → Rise h (x ∷ rest) after →
@@ -115,13 +66,16 @@ module _ (vs : List Variable) (n : ℕ) where
   rise_rest h after x rest r = (
     r.keeps.0,
     r.keeps.1,
-    record { keeps = r.keeps.2; ascends = subst (λ (z : Held). AscendList named_after z rest) (boundary_after_is vs names r.keeps.1) r.ascends.1 },
+    record {
+      keeps = r.keeps.2;
+      ascends = subst (λ (z : Held). AscendList named_after (AreBelow names) z rest) (boundary_after_is vs names r.keeps.1) r.ascends.1;
+    },
   )
 
   -- ---- What a body opens to
 
   mutual
-    opened_rises : {h after : Held} {s : f.Statement} → Keeps vs names h s after → Ascends named_after h s → Rise h (opened s) after
+    opened_rises : {h after : Held} {s : f.Statement} → Keeps vs names h s after → Ascends named_after (AreBelow names) h s → Rise h (opened s) after
     opened_rises (l.assign {h = h} place target value g free) a = rise_one h h (f.Assign place target value) (l.assign place target value g free) a
     opened_rises (l.choose {h = h} {after = after} place arms otherwise p q) a =
         rise_one h after (f.If place arms otherwise) (l.choose place arms otherwise p q) a
@@ -132,16 +86,17 @@ module _ (vs : List Variable) (n : ℕ) where
     opened_rises (l.lock {h = h} place name free) a = rise_one h (slice_set h (number_in names name) true) (f.Lock place name) (l.lock place name free) a
     opened_rises (l.unlock {h = h} place name held) a = rise_one h (slice_set h (number_in names name) false) (f.Unlock place name) (l.unlock place name held) a
 
-    opened_all_rise : {h after : Held} {ss : f.Statements} → KeepAll vs names h ss after → AscendAll named_after h ss → Rise h (opened_all ss) after
+    opened_all_rise : {h after : Held} {ss : f.Statements} → KeepAll vs names h ss after → AscendAll named_after (AreBelow names) h ss →
+        Rise h (opened_all ss) after
     opened_all_rise l.no_more a = record { keeps = refl; ascends = tt }
     opened_all_rise (l.then {h = h} {between = between} {after = after} x rest p q) a =
         rise_append (opened x) (opened_all rest) h between after (opened_rises p a.0)
-        (opened_all_rise q (subst (λ (z : Held). AscendAll named_after z rest) (boundary_after_is vs names p) a.1))
+        (opened_all_rise q (subst (λ (z : Held). AscendAll named_after (AreBelow names) z rest) (boundary_after_is vs names p) a.1))
 
   -- what is left of an `if` whose first condition is tested
   tested_rise : (b : Bool) (place : Place) (body : f.Statements) (arms : f.Arms) (otherwise : f.Statements) (h after : Held) → KeepAll vs names h body after →
-      KeepArms vs names h arms after → KeepAll vs names h otherwise after → AscendAll named_after h body → AscendArms named_after h arms →
-      AscendAll named_after h otherwise →
+      KeepArms vs names h arms after → KeepAll vs names h otherwise after → AscendAll named_after (AreBelow names) h body →
+      AscendArms named_after (AreBelow names) h arms → AscendAll named_after (AreBelow names) h otherwise →
       Rise h (tested b (opened_all body) (f.If place arms otherwise ∷ []) (opened_all otherwise) arms) after
   tested_rise true place body arms otherwise h after p q r a c d = opened_all_rise p a
   tested_rise false place body f.no_arm otherwise h after p q r a c d = opened_all_rise r d
@@ -153,19 +108,19 @@ module _ (vs : List Variable) (n : ℕ) where
 abbrev count : f.Flat → ℕ
 count x = length x.mutexes
 
-module _ (x : f.Flat) where
-  -- what a thread has left
+module _ (x : f.Flat) (names : List e.LockName) where
+  -- what a thread has left, whose locks have these names
   record Left (left : List f.Statement) : Type 0 where
     held : Held
-    rises : Rise x.variables (count x) held left (none_held (count x))
+    rises : Rise x.variables names held left (none_held (length names))
 
-  left_append : (xs ys : List f.Statement) (h between : Held) → Rise x.variables (count x) h xs between →
-      Rise x.variables (count x) between ys (none_held (count x)) → Left (xs ++ ys)
-  left_append xs ys h between a b = record { held = h; rises = rise_append x.variables (count x) xs ys h between (none_held (count x)) a b }
+  left_append : (xs ys : List f.Statement) (h between : Held) → Rise x.variables names h xs between →
+      Rise x.variables names between ys (none_held (length names)) → Left (xs ++ ys)
+  left_append xs ys h between a b = record { held = h; rises = rise_append x.variables names xs ys h between (none_held (length names)) a b }
 
   left_rest : (y : f.Statement) (rest : List f.Statement) → Left (y ∷ rest) → Left rest
   left_rest y rest a =
-      let r = rise_rest x.variables (count x) a.held (none_held (count x)) y rest a.rises in
+      let r = rise_rest x.variables names a.held (none_held (length names)) y rest a.rises in
       record { held = r.0; rises = r.2 }
 
   left_tested : (b : Bool) (place : Place) (condition : e.Placed) (body : f.Statements) (arms : f.Arms) (otherwise : f.Statements)
@@ -173,23 +128,19 @@ module _ (x : f.Flat) where
       Left (tested b (opened_all body) (f.If place arms otherwise ∷ []) (opened_all otherwise) arms ++ rest)
   left_tested b place condition body arms otherwise rest a =
       let first = f.If place (f.arm_and condition body arms) otherwise in
-      let r = rise_rest x.variables (count x) a.held (none_held (count x)) first rest a.rises in
-      let k = keeps_if x.variables (plain_names (count x)) r.1 in
-      let p = keeps_arm x.variables (plain_names (count x)) k.0 in
+      let r = rise_rest x.variables names a.held (none_held (length names)) first rest a.rises in
+      let k = keeps_if x.variables names r.1 in
+      let p = keeps_arm x.variables names k.0 in
       let c = a.rises.ascends.0 in
       left_append (tested b (opened_all body) (f.If place arms otherwise ∷ []) (opened_all otherwise) arms) rest a.held r.0
-      (tested_rise x.variables (count x) b place body arms otherwise a.held r.0 p.1 p.2 k.1 c.0.0 c.0.1 c.1) r.2
+      (tested_rise x.variables names b place body arms otherwise a.held r.0 p.1 p.2 k.1 c.0.0 c.0.1 c.1) r.2
 
   left_again : (b : Bool) (place : Place) (condition : e.Placed) (body : f.Statements) (rest : List f.Statement) →
       Left (f.While place condition body ∷ rest) → Left (cond b (opened_all body ++ (f.While place condition body ∷ rest)) rest)
   left_again true place condition body rest a =
-      let k = keeps_while x.variables (plain_names (count x)) (a.rises.keeps.1) in
-      left_append (opened_all body) (f.While place condition body ∷ rest) a.held a.held (opened_all_rise x.variables (count x) k.1 a.rises.ascends.0) a.rises
+      let k = keeps_while x.variables names (a.rises.keeps.1) in
+      left_append (opened_all body) (f.While place condition body ∷ rest) a.held a.held (opened_all_rise x.variables names k.1 a.rises.ascends.0) a.rises
   left_again false place condition body rest a = left_rest (f.While place condition body) rest a
-
-  -- what each thread has left
-  record ThreadsRise (s : m.State) : Type 0 where
-    each : (number : ℕ) (thread : m.Thread) → slice_get s.threads number ≡ Some thread → Left thread.left
 
   -- a thread that has made a step
   record Made (t : ℕ) (next : m.State) : Type 0 where
@@ -269,18 +220,26 @@ module _ (x : f.Flat) where
     made : m.thread_step s t thread ≡ Some next → Made t next
     made is = by_pending thread.pending is
 
-  own_by : (s next : m.State) (t : ℕ) → ThreadsRise s → source_step s t ≡ Some next → (o : Option m.Thread) → slice_get s.threads t ≡ o → Made t next
-  own_by s next t r is None missing = absurd (let no : None ≡ Some next = sym (step_missing s t missing) ∙ is in cc)
-  own_by s next t r is (Some thread) there = made s t thread there (r.each t thread there) next (sym (step_found s t thread there) ∙ is)
+module _ (x : f.Flat) where
+  -- what each thread has left
+  record ThreadsRise (s : m.State) : Type 0 where
+    each : (number : ℕ) (thread : m.Thread) (text : f.Thread) → slice_get s.threads number ≡ Some thread → slice_get x.threads number ≡ Some text →
+        Left x (lock_names x text) thread.left
+
+  own_by : (s next : m.State) (t : ℕ) (text : f.Thread) → slice_get x.threads t ≡ Some text → ThreadsRise s → source_step s t ≡ Some next →
+      (o : Option m.Thread) → slice_get s.threads t ≡ o → Made x (lock_names x text) t next
+  own_by s next t text its r is None missing = absurd (let no : None ≡ Some next = sym (step_missing s t missing) ∙ is in cc)
+  own_by s next t text its r is (Some thread) there =
+      made x (lock_names x text) s t thread there (r.each t thread text there its) next (sym (step_found s t thread there) ∙ is)
 
   step_rises : OthersStay → (s next : m.State) (t : ℕ) → ThreadsRise s → source_step s t ≡ Some next → ThreadsRise next
   step_rises others s next t r is = record {
-    each = λ u thread there. elim (cases_eq u t) [
+    each = λ u thread text there its. elim (cases_eq u t) [
       | inl same ↦
-          let o = own_by s next t r is (slice_get s.threads t) refl in
+          let o = own_by s next t text (ap (slice_get x.threads) (sym same) ∙ its) r is (slice_get s.threads t) refl in
           let found : Some o.thread ≡ Some thread = sym o.there ∙ ap (slice_get next.threads) (sym same) ∙ there in
-          subst (λ (y : m.Thread). Left y.left) (some_is o.thread thread found) o.left
-      | inr ne ↦ r.each u thread (sym (others s next t u is ne) ∙ there)
+          subst (λ (y : m.Thread). Left x (lock_names x text) y.left) (some_is o.thread thread found) o.left
+      | inr ne ↦ r.each u thread text (sym (others s next t u is ne) ∙ there) its
     ];
   }
 
@@ -299,22 +258,23 @@ module _ (x : f.Flat) where
   map_found (t ∷ ts) zero y h = (t, refl, some_is (m.thread_start t) y h)
   map_found (t ∷ ts) (suc k) y h = map_found ts k y h
 
-  start_rises : AllByRecursion IsSingle x.mutexes → All (IsDisciplined x) x.threads → order_fault x ≡ None → ThreadsRise (m.start x)
-  start_rises single keep order = record {
-    each = λ u thread there.
+  -- a thread at its beginning
+  begun : (t : f.Thread) → IsDisciplined x t → AscendAll mutexes_after IsFreeFrom (none_held (count x)) t.body → Left x (lock_names x t) (opened_all t.body)
+  begun t k a =
+      let names : List e.LockName = lock_names x t in
+      let r = rise_all x.variables names (count x) (mutexes_within x t) (none_held (count x)) k (length-replicate (length names) false)
+      (length-replicate (count x) false) (covers_none names (length names) (count x)) a in
+      record { held = none_held (length names); rises = opened_all_rise x.variables names k r.0 }
+
+  start_rises : All (IsDisciplined x) x.threads → order_fault x ≡ None → ThreadsRise (m.start x)
+  start_rises keep order = record {
+    each = λ u thread text there its.
         let a = map_found x.threads u thread there in
         let k : IsDisciplined x a.0 = subst (IsDisciplined x) (get_or_from_slice_get x.threads u a.0 a.0 a.1)
         (keep u a.0 (slice_get_within x.threads u a.0 a.1)) in
-        let P : List e.LockName → Type 0 = λ ns. KeepAll x.variables ns (none_held (length ns)) a.0.body (none_held (length ns)) in
-        let plain : P (plain_names (count x)) = subst P (names_are_plain x a.0 single) k in
-        let Q : ℕ → Type 0 = λ m. KeepAll x.variables (plain_names (count x)) (none_held m) a.0.body (none_held m) in
-        let kept : Q (count x) = subst Q (length-plain_names (count x)) plain in
-        subst (λ (y : m.Thread). Left y.left) a.2
-        (record {
-          held = none_held (count x);
-          rises = opened_all_rise x.variables (count x) kept
-              (all_named x.variables (count x) kept (length-replicate (count x) false) (bodies_ascend x order u a.0 a.1));
-        });
+        let first : Left x (lock_names x a.0) thread.left =
+        subst (λ (y : m.Thread). Left x (lock_names x a.0) y.left) a.2 (begun a.0 k (bodies_ascend x order u a.0 a.1)) in
+        subst (λ (z : f.Thread). Left x (lock_names x z) thread.left) (some_is a.0 text (sym a.1 ∙ its)) first;
   }
 
 -- ---- A thread at a lock
@@ -327,47 +287,92 @@ pending_none : (o : Option m.Pending) (ls : List ℤ) (left : List f.Statement) 
 pending_none None ls left wanted is = is
 pending_none (Some p) ls left wanted is = absurd (none_some wanted is)
 
-first_above : (vs : List Variable) (n : ℕ) (h after : Held) (ls : List ℤ) (left : List f.Statement) (wanted : ℕ) → length h ≡ n →
-    first_lock ls left ≡ Some wanted → Rise vs n h left after → holds_from h wanted ≡ false
-first_above vs n h after ls [] wanted long is r = absurd (none_some wanted is)
-first_above vs n h after ls (f.Lock place name ∷ rest) wanted long is r =
-    let free = (keeps_lock vs (plain_names n) r.keeps.1).0 in
-    let low : number_in (plain_names n) name < n = omega (arith, slice_get_within h (number_in (plain_names n) name) false free, long) in
-    let number : lock_number ls name ≡ name.mutex = plain_lock ls name (plain_known n name low).1 in
-    subst (λ (k : ℕ). holds_from h k ≡ false) (sym number ∙ some_is (lock_number ls name) wanted is) r.ascends.0
-first_above vs n h after ls (f.Unlock place name ∷ rest) wanted long is r = absurd (none_some wanted is)
-first_above vs n h after ls (f.Assign place target value ∷ rest) wanted long is r = absurd (none_some wanted is)
-first_above vs n h after ls (f.If place arms otherwise ∷ rest) wanted long is r = absurd (none_some wanted is)
-first_above vs n h after ls (f.While place condition body ∷ rest) wanted long is r = absurd (none_some wanted is)
-first_above vs n h after ls (f.Do place body condition ∷ rest) wanted long is r = absurd (none_some wanted is)
+-- the name by which the lock is wanted, and that all that is held is below it
+record Wanting (names : List e.LockName) (h : Held) (ls : List ℤ) (wanted : ℕ) : Type 0 where
+  number : ℕ
+  name : e.LockName
+  there : slice_get names number ≡ Some name
+  is : lock_number ls name ≡ wanted
+  below : AreBelow names h name
 
-module _ (x : f.Flat) (s : m.State) (t wanted held : ℕ) (single : AllByRecursion IsSingle x.mutexes) (keeps : StateKeeps x s) (r : ThreadsRise x s)
+first_below : (vs : List Variable) (names : List e.LockName) (h after : Held) (ls : List ℤ) (left : List f.Statement) (wanted : ℕ) →
+    length h ≡ length names → first_lock ls left ≡ Some wanted → Rise vs names h left after → Wanting names h ls wanted
+first_below vs names h after ls [] wanted long is r = absurd (none_some wanted is)
+first_below vs names h after ls (f.Lock place name ∷ rest) wanted long is r =
+    let free = (keeps_lock vs names r.keeps.1).0 in
+    let low : number_in names name < length names = omega (arith, slice_get_within h (number_in names name) false free, long) in
+    let found = number_found names name low in
+    let mutex : name.mutex ≡ found.name.mutex = same_mutex name found.name found.same in
+    record {
+      number = number_in names name;
+      name = found.name;
+      there = found.there;
+      is = sym (same_number ls name found.name found.same) ∙ some_is (lock_number ls name) wanted is;
+      below = λ k y at held. subst (λ (m : ℕ). y.mutex < m) mutex (r.ascends.0 k y at held);
+    }
+first_below vs names h after ls (f.Unlock place name ∷ rest) wanted long is r = absurd (none_some wanted is)
+first_below vs names h after ls (f.Assign place target value ∷ rest) wanted long is r = absurd (none_some wanted is)
+first_below vs names h after ls (f.If place arms otherwise ∷ rest) wanted long is r = absurd (none_some wanted is)
+first_below vs names h after ls (f.While place condition body ∷ rest) wanted long is r = absurd (none_some wanted is)
+first_below vs names h after ls (f.Do place body condition ∷ rest) wanted long is r = absurd (none_some wanted is)
+
+module _ (x : f.Flat) (s : m.State) (t wanted held : ℕ) (keeps : StateKeeps x s) (r : ThreadsRise x s)
     (owns : slice_get s.holders held ≡ Some (Some t)) where
   by_thread : (o : Option m.Thread) → slice_get s.threads t ≡ o →
-      (let r : Option ℕ = elim o [ Some found ↦ lock_ahead found | None ↦ None ] in r) ≡ Some wanted → held < wanted
+      (let r : Option ℕ = elim o [ Some found ↦ lock_ahead found | None ↦ None ] in r) ≡ Some wanted → Ascending x s t wanted held
   by_thread None there is = absurd (none_some wanted is)
   by_thread (Some thread) there is =
-      let a = r.each t thread there in
       let own = keeps.each t thread there in
-      let P : List e.LockName → Type 0 = λ ns. KeepList x.variables ns a.held thread.left (none_held (length ns)) in
-      let Q : ℕ → Type 0 = λ m. KeepList x.variables (plain_names (count x)) a.held thread.left (none_held m) in
-      let kept : P (plain_names (count x)) = subst Q (sym (length-plain_names (count x))) a.rises.keeps in
-      let same : a.held ≡ held_by t s.holders = (plain_is_given x s t own.text thread a.held single keeps own.its there).0
-      (subst P (sym (names_are_plain x own.text single)) kept) in
-      let long : length a.held ≡ count x = keep_list_length x.variables (plain_names (count x)) thread.left a.held (none_held (count x)) a.rises.keeps
-      ∙ length-replicate (count x) false in
-      let above : holds_from a.held wanted ≡ false = first_above x.variables (count x) a.held (none_held (count x)) thread.locals thread.left wanted long
+      let names : List e.LockName = lock_names x own.text in
+      let a = r.each t thread own.text there own.its in
+      let same : a.held ≡ own.set = set_is_one x.variables names thread.left a.held own.set (none_held (length names)) a.rises.keeps own.left in
+      let long : length a.held ≡ length names =
+      keep_list_length x.variables names thread.left a.held (none_held (length names)) a.rises.keeps ∙ length-replicate (length names) false in
+      let want = first_below x.variables names a.held (none_held (length names)) thread.locals thread.left wanted long
       (pending_none thread.pending thread.locals thread.left wanted is) a.rises in
-      let has : holds a.held held ≡ true = ap (λ (h : Held). holds h held) same ∙ held_there t s.holders held owns in
-      held_below a.held wanted held above has
+      let mine : IsOfName names own.set thread.locals held = own.held.only held owns in
+      record {
+        thread = thread;
+        there = there;
+        text = own.text;
+        its = own.its;
+        want_number = want.number;
+        want = want.name;
+        want_there = want.there;
+        want_is = want.is;
+        own_number = mine.number;
+        own = mine.name;
+        own_there = mine.there;
+        own_is = mine.is;
+        below = want.below mine.number mine.name mine.there (ap (λ (h : Held). holds h mine.number) same ∙ mine.held);
+      }
 
-pub locks_ascend : OthersStay → LocksAscend
-locks_ascend others x s t wanted held o reached stands owns =
+pub names_ascend : OthersStay → NamesAscend
+names_ascend others x s thread wanted held disciplined order reached stands owns =
     let begins : m.State = record (m.start x) { variables = reached.variables } in
-    let first = start_keeps x o.disciplined in
+    let first = start_keeps x disciplined in
     let keeps : StateKeeps x s =
     subst (StateKeeps x) (sym reached.is) (run_keeps x begins reached.schedule (record { locks = first.locks; each = first.each })) in
     let rises : ThreadsRise x s =
-    subst (ThreadsRise x) (sym reached.is)
-    (run_rises x others begins reached.schedule (record { each = (start_rises x o.single o.disciplined o.in_order).each })) in
-    by_thread x s t wanted held o.single keeps rises owns (slice_get s.threads t) refl stands
+    subst (ThreadsRise x) (sym reached.is) (run_rises x others begins reached.schedule (record { each = (start_rises x disciplined order).each })) in
+    by_thread x s thread wanted held keeps rises owns (slice_get s.threads thread) refl stands
+
+-- ---- Where no mutex is in an array
+
+-- a name's lock is its mutex
+plain_is : (n : ℕ) (ls : List ℤ) (number : ℕ) (y : e.LockName) → slice_get (plain_names n) number ≡ Some y → lock_number ls y ≡ y.mutex
+plain_is n ls number y there =
+    let low : number < n = omega (arith, slice_get_within (plain_names n) number y there, length-plain_names n) in
+    let named : e.LockName = record { mutex = number; key = None } in
+    let same : named ≡ y = some_is named y (sym (plain_at n number low) ∙ there) in
+    plain_lock ls y (sym (ap (λ (z : e.LockName). z.key) same))
+
+pub locks_ascend : OthersStay → LocksAscend
+locks_ascend others x s thread wanted held o reached stands owns =
+    let a = names_ascend others x s thread wanted held o.disciplined o.in_order reached stands owns in
+    let plain : lock_names x a.text ≡ plain_names (count x) = names_are_plain x a.text o.single in
+    let at : (number : ℕ) (y : e.LockName) → slice_get (lock_names x a.text) number ≡ Some y → lock_number a.thread.locals y ≡ y.mutex =
+    λ number y there. plain_is (count x) a.thread.locals number y (ap (λ (ns : List e.LockName). slice_get ns number) (sym plain) ∙ there) in
+    let mine : held ≡ a.own.mutex = sym a.own_is ∙ at a.own_number a.own a.own_there in
+    let other : wanted ≡ a.want.mutex = sym a.want_is ∙ at a.want_number a.want a.want_there in
+    omega (arith, mine, other, a.below)

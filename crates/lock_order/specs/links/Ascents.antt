@@ -1,7 +1,8 @@
 -- That each `lock` of a part is above what is held there.
-use Rattle.std.specs.Prelude.{◌≡◌, List, [], ◌∷◌, true, false, slice_set}
+use Rattle.std.specs.Prelude.{◌≡◌, ◌<◌, ℕ, List, [], ◌∷◌, Some, true, false, slice_get, slice_set}
+use Rattle.c_tree.specs.Exprs.{LockName}
 use Rattle.c_tree.specs.Flats as f
-use Rattle.c_tree.specs.LockNames.{Held}
+use Rattle.c_tree.specs.LockNames.{Held, holds}
 use Rattle.lock_order.specs.LockOrder.{holds_from}
 
 -- the set of mutexes, by their numbers, after a part
@@ -18,15 +19,23 @@ abbrev mutual
   mutexes_after_all h f.no_statement = h
   mutexes_after_all h (f.statement_and x rest) = mutexes_after_all (mutexes_after h x) rest
 
--- where a part leaves these sets
-module _ (after : Held → f.Statement → Held) where
+-- of a set of mutexes: that of the name, or the first of its array, isn't in it, nor is a later one
+abbrev pub IsFreeFrom : Held → LockName → Type 0
+IsFreeFrom h x = holds_from h x.mutex ≡ false
+
+-- of a set of names: the mutex of each is before that of the name
+abbrev pub AreBelow : List LockName → Held → LockName → Type 0
+AreBelow names h x = (number : ℕ) (y : LockName) → slice_get names number ≡ Some y → holds h number ≡ true → y.mutex < x.mutex
+
+-- where a part leaves these sets, and a name may be locked from these
+module _ (after : Held → f.Statement → Held) (above : Held → LockName → Type 0) where
   abbrev mutual
     pub Ascends : Held → f.Statement → Type 0
     Ascends h (f.Assign place target value) = Unit {0}
     Ascends h (f.If place arms otherwise) = AscendArms h arms × AscendAll h otherwise
     Ascends h (f.While place condition body) = AscendAll h body
     Ascends h (f.Do place body condition) = AscendAll h body
-    Ascends h (f.Lock place name) = holds_from h name.mutex ≡ false
+    Ascends h (f.Lock place name) = above h name
     Ascends h (f.Unlock place name) = Unit {0}
 
     pub AscendAll : Held → f.Statements → Type 0
