@@ -2,7 +2,6 @@
 use Rattle.std.proofs.Common.{◌≡◌, ℕ, ◌+◌, List, [], ◌∷◌, min, Option, Some, None, refl, ap, ◌∙◌, arith}
 use Rattle.std.specs.Prelude.{Contains, slice_get}
 use Rattle.std.proofs.lemmas.List.Elements.{Contains-append_left, Contains-append_right}
-use Rattle.ido_ints.specs.declared.kinds.Kind.{Kind}
 use Rattle.c_tree.specs.Exprs as e
 use Rattle.c_tree.specs.Programs as p
 use Rattle.c_tree.specs.Flats as f
@@ -80,53 +79,53 @@ module _ (w : Weights) (call : ℕ) (fs : List p.Function) (F G : ℕ → ℕ) w
 
 -- bodies that are the same
 module _ (fs : List p.Function) (F G : i.Bodies) where
-  same_called : (place name : _) (n : ℕ) (ks : List Kind) (function : ℕ) (arguments : List _) (result : Option _) → F function ks ≡ G function ks →
+  same_called : (place name : _) (n : ℕ) (ks : i.Locals) (function : ℕ) (arguments : List _) (result : Option _) → F function ks ≡ G function ks →
       i.statement fs F n ks (p.Call place name function arguments result) ≡ i.statement fs G n ks (p.Call place name function arguments result)
   same_called place name n ks function arguments result h = at (slice_get fs function)
     where
       at : (o : Option p.Function) → ◌≡◌ {A = i.Made f.Statements}
-          (elim o [ Some x ↦ i.called fs F place n ks x (F function ks) arguments result | None ↦ record { made = f.no_statement; kinds = ks } ])
-          (elim o [ Some x ↦ i.called fs G place n ks x (G function ks) arguments result | None ↦ record { made = f.no_statement; kinds = ks } ])
+          (elim o [ Some x ↦ i.called fs F place n ks x (F function ks) arguments result | None ↦ record { made = f.no_statement; locals = ks } ])
+          (elim o [ Some x ↦ i.called fs G place n ks x (G function ks) arguments result | None ↦ record { made = f.no_statement; locals = ks } ])
       at (Some x) = ap (λ (b : i.Made f.Statements). i.called fs F place n ks x b arguments result) h
       at None = refl
 
   mutual
-    pub same_statement : (n : ℕ) (ks : List Kind) (x : p.Statement) →
-        ((c : i.Call) (js : List Kind) → Contains (i.statement_calls x) c → F c.function js ≡ G c.function js) →
+    pub same_statement : (n : ℕ) (ks : i.Locals) (x : p.Statement) →
+        ((c : i.Call) (js : i.Locals) → Contains (i.statement_calls x) c → F c.function js ≡ G c.function js) →
         i.statement fs F n ks x ≡ i.statement fs G n ks x
     same_statement n ks (p.Assign place target value) h = refl
     same_statement n ks (p.Call place name function arguments result) h =
         same_called place name n ks function arguments result (h (record { place = name; function = function }) ks (alone _))
     same_statement n ks (p.If place arms otherwise) h =
         let a = same_arms n ks arms (λ c js k. h c js (Contains-append_left _ _ c k)) in
-        let o = same_statements n (i.arms_of fs G n ks arms).kinds otherwise (λ c js k. h c js (Contains-append_right (i.arms_calls arms) _ c k)) in
-        ap (λ (a : i.Made f.Arms). let o = i.statements fs F n a.kinds otherwise in record { made = i.one (f.If place a.made o.made); kinds = o.kinds }) a
-        ∙ ap (λ (o : i.Made f.Statements). record { made = i.one (f.If place (i.arms_of fs G n ks arms).made o.made); kinds = o.kinds }) o
+        let o = same_statements n (i.arms_of fs G n ks arms).locals otherwise (λ c js k. h c js (Contains-append_right (i.arms_calls arms) _ c k)) in
+        ap (λ (a : i.Made f.Arms). let o = i.statements fs F n a.locals otherwise in record { made = i.one (f.If place a.made o.made); locals = o.locals }) a
+        ∙ ap (λ (o : i.Made f.Statements). record { made = i.one (f.If place (i.arms_of fs G n ks arms).made o.made); locals = o.locals }) o
     same_statement n ks (p.While place condition body) h =
-        ap (λ (m : i.Made f.Statements). record { made = i.one (f.While place (i.shifted_placed n condition) m.made); kinds = m.kinds })
+        ap (λ (m : i.Made f.Statements). record { made = i.one (f.While place (i.shifted_placed n condition) m.made); locals = m.locals })
         (same_statements n ks body h)
     same_statement n ks (p.Do place body condition) h =
-        ap (λ (m : i.Made f.Statements). record { made = i.one (f.Do place m.made (i.shifted_placed n condition)); kinds = m.kinds })
+        ap (λ (m : i.Made f.Statements). record { made = i.one (f.Do place m.made (i.shifted_placed n condition)); locals = m.locals })
         (same_statements n ks body h)
     same_statement n ks (p.Lock place name) h = refl
     same_statement n ks (p.Unlock place name) h = refl
 
-    pub same_statements : (n : ℕ) (ks : List Kind) (xs : p.Statements) →
-        ((c : i.Call) (js : List Kind) → Contains (i.statements_calls xs) c → F c.function js ≡ G c.function js) →
+    pub same_statements : (n : ℕ) (ks : i.Locals) (xs : p.Statements) →
+        ((c : i.Call) (js : i.Locals) → Contains (i.statements_calls xs) c → F c.function js ≡ G c.function js) →
         i.statements fs F n ks xs ≡ i.statements fs G n ks xs
     same_statements n ks p.no_statement h = refl
     same_statements n ks (p.statement_and x rest) h =
         let m = same_statement n ks x (λ c js k. h c js (Contains-append_left _ _ c k)) in
-        let r = same_statements n (i.statement fs G n ks x).kinds rest (λ c js k. h c js (Contains-append_right (i.statement_calls x) _ c k)) in
-        ap (λ (m : i.Made f.Statements). let r = i.statements fs F n m.kinds rest in record { made = i.statements_and m.made r.made; kinds = r.kinds }) m
-        ∙ ap (λ (r : i.Made f.Statements). record { made = i.statements_and (i.statement fs G n ks x).made r.made; kinds = r.kinds }) r
+        let r = same_statements n (i.statement fs G n ks x).locals rest (λ c js k. h c js (Contains-append_right (i.statement_calls x) _ c k)) in
+        ap (λ (m : i.Made f.Statements). let r = i.statements fs F n m.locals rest in record { made = i.statements_and m.made r.made; locals = r.locals }) m
+        ∙ ap (λ (r : i.Made f.Statements). record { made = i.statements_and (i.statement fs G n ks x).made r.made; locals = r.locals }) r
 
-    pub same_arms : (n : ℕ) (ks : List Kind) (xs : p.Arms) →
-        ((c : i.Call) (js : List Kind) → Contains (i.arms_calls xs) c → F c.function js ≡ G c.function js) → i.arms_of fs F n ks xs ≡ i.arms_of fs G n ks xs
+    pub same_arms : (n : ℕ) (ks : i.Locals) (xs : p.Arms) →
+        ((c : i.Call) (js : i.Locals) → Contains (i.arms_calls xs) c → F c.function js ≡ G c.function js) → i.arms_of fs F n ks xs ≡ i.arms_of fs G n ks xs
     same_arms n ks p.no_arm h = refl
     same_arms n ks (p.arm_and condition body rest) h =
         let m = same_statements n ks body (λ c js k. h c js (Contains-append_left _ _ c k)) in
-        let r = same_arms n (i.statements fs G n ks body).kinds rest (λ c js k. h c js (Contains-append_right (i.statements_calls body) _ c k)) in
-        ap (λ (m : i.Made f.Statements). let r = i.arms_of fs F n m.kinds rest in
-        record { made = f.arm_and (i.shifted_placed n condition) m.made r.made; kinds = r.kinds }) m
-        ∙ ap (λ (r : i.Made f.Arms). record { made = f.arm_and (i.shifted_placed n condition) (i.statements fs G n ks body).made r.made; kinds = r.kinds }) r
+        let r = same_arms n (i.statements fs G n ks body).locals rest (λ c js k. h c js (Contains-append_right (i.statements_calls body) _ c k)) in
+        ap (λ (m : i.Made f.Statements). let r = i.arms_of fs F n m.locals rest in
+        record { made = f.arm_and (i.shifted_placed n condition) m.made r.made; locals = r.locals }) m
+        ∙ ap (λ (r : i.Made f.Arms). record { made = f.arm_and (i.shifted_placed n condition) (i.statements fs G n ks body).made r.made; locals = r.locals }) r

@@ -1,12 +1,11 @@
 -- Where no call leads back, calls are no deeper than there are functions.
-use Rattle.std.proofs.Common.{◌≡◌, ℕ, zero, suc, ◌+◌, ◌<◌, ◌≤◌, List, [], ◌∷◌, ◌++◌, length, eqb, Some, sym, ◌∙◌, subst, arith, ⊎_elim}
+use Rattle.std.proofs.Common.{◌≡◌, ℕ, zero, suc, ◌+◌, ◌<◌, ◌≤◌, List, [], ◌∷◌, length, eqb, Some, sym, ◌∙◌, subst, arith, ⊎_elim}
 use Rattle.std.specs.Prelude.{Contains, slice_get}
 use Rattle.std.specs.List.{IsDistinct}
 use Rattle.std.proofs.lemmas.Bool.{cases_lt}
 use Rattle.std.proofs.lemmas.Map.Steps.{length-le_from_distinct_below}
 use Rattle.std.proofs.lemmas.Map.Keys.{IsDistinct-cons}
 use Rattle.std.proofs.lemmas.Option.{slice_get_within}
-use Rattle.ido_ints.specs.declared.kinds.Kind.{Kind}
 use Rattle.c_tree.specs.Programs as p
 use Rattle.c_tree.specs.Inlining as i
 use Rattle.c_tree.specs.AcceptedTexts.{HasNoBack}
@@ -37,7 +36,7 @@ module _ (fs : List p.Function) (none : (c : i.Call) → ¬ (i.LeadsBack fs c)) 
       (λ h k. subst (λ (x : ℕ). i.CallsReach fs g x) (only g h k) i.there)
       (omega arith)
 
-pub deeper : (x : p.Program) (deep function : ℕ) (ks : List Kind) → HasNoBack x → length x.functions ≤ deep →
+pub deeper : (x : p.Program) (deep function : ℕ) (ks : i.Locals) → HasNoBack x → length x.functions ≤ deep →
     i.bodies_of x.functions deep function ks ≡ i.bodies_of x.functions (length x.functions) function ks
 deeper x deep g ks none le =
     let fs = x.functions in
@@ -46,9 +45,9 @@ deeper x deep g ks none le =
     (λ past. bodies_past fs deep g ks past ∙ sym (bodies_past fs (length fs) g ks past))
     (cases_lt g (length fs))
 
-pub whole_bodies : (x : p.Program) (function : ℕ) (g : p.Function) (ks : List Kind) → HasNoBack x → slice_get x.functions function ≡ Some g →
-    i.bodies_of x.functions (length x.functions) function ks ≡ i.statements x.functions (i.bodies_of x.functions (length x.functions)) (length ks)
-    (ks ++ g.locals) g.body
+pub whole_bodies : (x : p.Program) (function : ℕ) (g : p.Function) (ks : i.Locals) → HasNoBack x → slice_get x.functions function ≡ Some g →
+    i.bodies_of x.functions (length x.functions) function ks ≡ i.statements x.functions (i.bodies_of x.functions (length x.functions)) (length ks.kinds)
+    (i.joined ks (i.locals g.locals g.refers)) g.body
 whole_bodies x function g ks none is =
     let fs = x.functions in
     fixed_bodies fs (length fs) function ks g (omega arith) (low_all fs none function (slice_get_within fs function g is)) is

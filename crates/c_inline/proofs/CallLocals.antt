@@ -1,6 +1,6 @@
 -- Which locals the statements that a call becomes name.
-use Rattle.std.proofs.Common.{◌≡◌, ◌⊎◌, ℕ, zero, suc, ◌+◌, ◌<◌, ◌≤◌, List, [], ◌∷◌, ◌++◌, length, map, Option, Some, None}
-use Rattle.std.proofs.Common.{refl, sym, ap, ◌∙◌, subst, arith, inl, inr, ⊎_elim, append_assoc, append-nil, length-append}
+use Rattle.std.proofs.Common.{◌≡◌, ◌⊎◌, ℕ, zero, suc, ◌+◌, ◌<◌, ◌≤◌, List, [], ◌∷◌, length, map, Option, Some, None}
+use Rattle.std.proofs.Common.{refl, sym, ap, ap₂, ◌∙◌, subst, arith, inl, inr, ⊎_elim, append_assoc, append-nil, length-append}
 use Rattle.std.specs.Prelude.{Contains, slice_get}
 use Rattle.std.specs.Option.{option_map}
 use Rattle.std.proofs.lemmas.Option.{slice_get_within}
@@ -109,12 +109,14 @@ length-map g [] = refl
 length-map g (x ∷ xs) = ap suc (length-map g xs)
 
 -- a local that a call names is a parameter, or the body or the result names it, or it was passed
-module _ (fs : List p.Function) (F : i.Bodies) (by : ℕ) (ks : List Kind) (x : Site) (g : p.Function) where
+module _ (fs : List p.Function) (F : i.Bodies) (by : ℕ) (ks : i.Locals) (x : Site) (g : p.Function) where
   abbrev made : i.Made f.Statements
   made = i.called fs F x.place by ks g (F x.function ks) x.arguments x.result
 
   abbrev IsOwn : Use → (local : ℕ) → Type 0
-  IsOwn u l = ((length ks ≤ l) × (l < length ks + length x.arguments)) ⊎ StatementsUse u (F x.function ks).made l ⊎ From (length ks) l (ReturnedUses u g.result)
+  IsOwn u l =
+      ((length ks.kinds ≤ l) × (l < length ks.kinds + length x.arguments)) ⊎ StatementsUse u (F x.function ks).made l
+      ⊎ From (length ks.kinds) l (ReturnedUses u g.result)
 
   called_uses : (u : Use) (l : ℕ) → StatementsUse u made.made l → IsOwn u l ⊎ IsPassed u by x l
   called_uses u l h =
@@ -123,12 +125,12 @@ module _ (fs : List p.Function) (F : i.Bodies) (by : ℕ) (ks : List Kind) (x : 
       let target = option_map (i.shifted_target by) x.result in
       ⊎_elim
       (λ a. ⊎_elim (λ k. let low = k.0 in let high = k.1 in inl (inl (low, omega (arith, high, same)))) (λ k. inr (inl k))
-      (passed_uses u x.place (length ks) g.locals arguments l a))
+      (passed_uses u x.place (length ks.kinds) g.locals arguments l a))
       (λ b. ⊎_elim (λ c. inl (inr (inl c)))
-      (λ d. ⊎_elim (λ v. inl (inr (inr v))) (λ t. inr (inr t)) (assigned_uses u x.place (length ks) g.result target l d))
-      (and_uses u (F x.function ks).made (i.assigned x.place (length ks) g.result target) l b))
-      (and_uses u (i.passed x.place (length ks) g.locals arguments)
-      (i.statements_and (F x.function ks).made (i.assigned x.place (length ks) g.result target)) l h)
+      (λ d. ⊎_elim (λ v. inl (inr (inr v))) (λ t. inr (inr t)) (assigned_uses u x.place (length ks.kinds) g.result target l d))
+      (and_uses u (F x.function ks).made (i.assigned x.place (length ks.kinds) g.result target) l b))
+      (and_uses u (i.passed x.place (length ks.kinds) g.locals arguments)
+      (i.statements_and (F x.function ks).made (i.assigned x.place (length ks.kinds) g.result target)) l h)
 
   -- what is passed was there
   passed_from : (u : Use) (l : ℕ) → IsPassed u by x l → From by l (λ k. ListUses u x.arguments k ⊎ ResultUses u x.result k)
@@ -137,81 +139,85 @@ module _ (fs : List p.Function) (F : i.Bodies) (by : ℕ) (ks : List Kind) (x : 
       ⊎_elim (λ a. from_more by l (ListUses u x.arguments) Q (λ k. inl) (list_shifted u by x.arguments l a))
       (λ b. from_more by l (ResultUses u x.result) Q (λ k. inr) (result_shifted u by x.result l b)) h
 
--- ---- Kinds
+-- ---- Locals that there are after a call
 
-abbrev Grown : List Kind → List Kind → Type 0
-Grown ks js = (more : List Kind) × (js ≡ ks ++ more)
+abbrev pub Grown : i.Locals → i.Locals → Type 0
+Grown ks js = (more : i.Locals) × (js ≡ i.joined ks more)
 
-same_kinds : (ks : List Kind) → Grown ks ks
-same_kinds ks = ([], sym (append-nil ks))
+same_locals : (ks : i.Locals) → Grown ks ks
+same_locals ks = (i.locals [] [], ap₂ i.locals (sym (append-nil ks.kinds)) (sym (append-nil ks.refers)))
 
-grown_on : (ks js ls : List Kind) → Grown ks js → Grown js ls → Grown ks ls
-grown_on ks js ls a b = (a.0 ++ b.0, b.1 ∙ ap (λ xs. xs ++ b.0) a.1 ∙ append_assoc ks a.0 b.0)
+grown_on : (ks js ls : i.Locals) → Grown ks js → Grown js ls → Grown ks ls
+grown_on ks js ls a b = (
+  i.joined a.0 b.0,
+  b.1 ∙ ap (λ (x : i.Locals). i.joined x b.0) a.1
+      ∙ ap₂ i.locals (append_assoc ks.kinds a.0.kinds b.0.kinds) (append_assoc ks.refers a.0.refers b.0.refers),
+)
 
-following_grown : (m : f.Statements) (ks js : List Kind) → Grown ks js → Grown ks (i.kinds_after m ks js)
-following_grown f.no_statement ks js h = same_kinds ks
+following_grown : (m : f.Statements) (ks js : i.Locals) → Grown ks js → Grown ks (i.locals_after m ks js)
+following_grown f.no_statement ks js h = same_locals ks
 following_grown (f.statement_and x m) ks js h = h
 
-longer : (ks js : List Kind) → Grown ks js → length ks ≤ length js
-longer ks js h = let a = ap length h.1 in let b = length-append ks h.0 in omega (arith, a, b)
+pub longer : (ks js : i.Locals) → Grown ks js → length ks.kinds ≤ length js.kinds
+longer ks js h = let a = ap (λ (x : i.Locals). length x.kinds) h.1 in let b = length-append ks.kinds h.0.kinds in omega (arith, a, b)
 
--- the kinds after a call of which something is left
-used_kinds : (u : Use) (m : f.Statements) (before after : List Kind) (l : ℕ) → StatementsUse u m l → i.kinds_after m before after ≡ after
-used_kinds u f.no_statement before after l h = absurd h
-used_kinds u (f.statement_and x m) before after l h = refl
+-- the locals after a call of which something is left
+used_locals : (u : Use) (m : f.Statements) (before after : i.Locals) (l : ℕ) → StatementsUse u m l → i.locals_after m before after ≡ after
+used_locals u f.no_statement before after l h = absurd h
+used_locals u (f.statement_and x m) before after l h = refl
 
 module _ (fs : List p.Function) (F : i.Bodies) where
-  abbrev called_by : (by : ℕ) → List Kind → Site → Option p.Function → i.Made f.Statements
+  abbrev called_by : (by : ℕ) → i.Locals → Site → Option p.Function → i.Made f.Statements
   called_by by ks x o = elim o [
     | Some g ↦ i.called fs F x.place by ks g (F x.function ks) x.arguments x.result
-    | None ↦ record { made = f.no_statement; kinds = ks }
+    | None ↦ record { made = f.no_statement; locals = ks }
   ]
 
-  module _ (grow : (g : ℕ) (js : List Kind) → Grown js (F g js).kinds) where
-    call_grown : (by : ℕ) (ks : List Kind) (x : Site) (o : Option p.Function) → Grown ks (called_by by ks x o).kinds
-    call_grown by ks x None = same_kinds ks
-    call_grown by ks x (Some g) = following_grown (made fs F by ks x g).made ks (F x.function ks).kinds (grow x.function ks)
+  module _ (grow : (g : ℕ) (js : i.Locals) → Grown js (F g js).locals) where
+    call_grown : (by : ℕ) (ks : i.Locals) (x : Site) (o : Option p.Function) → Grown ks (called_by by ks x o).locals
+    call_grown by ks x None = same_locals ks
+    call_grown by ks x (Some g) = following_grown (made fs F by ks x g).made ks (F x.function ks).locals (grow x.function ks)
 
     mutual
-      grown_statement : (by : ℕ) (ks : List Kind) (x : p.Statement) → Grown ks (i.statement fs F by ks x).kinds
-      grown_statement by ks (p.Assign place target value) = same_kinds ks
+      pub grown_statement : (by : ℕ) (ks : i.Locals) (x : p.Statement) → Grown ks (i.statement fs F by ks x).locals
+      grown_statement by ks (p.Assign place target value) = same_locals ks
       grown_statement by ks (p.Call place name function arguments result) =
           call_grown by ks (record { place = place; name = name; function = function; arguments = arguments; result = result }) (slice_get fs function)
       grown_statement by ks (p.If place arms otherwise) =
-          grown_on ks (i.arms_of fs F by ks arms).kinds _ (grown_arms by ks arms) (grown_statements by (i.arms_of fs F by ks arms).kinds otherwise)
+          grown_on ks (i.arms_of fs F by ks arms).locals _ (grown_arms by ks arms) (grown_statements by (i.arms_of fs F by ks arms).locals otherwise)
       grown_statement by ks (p.While place condition body) = grown_statements by ks body
       grown_statement by ks (p.Do place body condition) = grown_statements by ks body
-      grown_statement by ks (p.Lock place name) = same_kinds ks
-      grown_statement by ks (p.Unlock place name) = same_kinds ks
+      grown_statement by ks (p.Lock place name) = same_locals ks
+      grown_statement by ks (p.Unlock place name) = same_locals ks
 
-      grown_statements : (by : ℕ) (ks : List Kind) (xs : p.Statements) → Grown ks (i.statements fs F by ks xs).kinds
-      grown_statements by ks p.no_statement = same_kinds ks
+      pub grown_statements : (by : ℕ) (ks : i.Locals) (xs : p.Statements) → Grown ks (i.statements fs F by ks xs).locals
+      grown_statements by ks p.no_statement = same_locals ks
       grown_statements by ks (p.statement_and x rest) =
-          grown_on ks (i.statement fs F by ks x).kinds _ (grown_statement by ks x) (grown_statements by (i.statement fs F by ks x).kinds rest)
+          grown_on ks (i.statement fs F by ks x).locals _ (grown_statement by ks x) (grown_statements by (i.statement fs F by ks x).locals rest)
 
-      grown_arms : (by : ℕ) (ks : List Kind) (xs : p.Arms) → Grown ks (i.arms_of fs F by ks xs).kinds
-      grown_arms by ks p.no_arm = same_kinds ks
+      pub grown_arms : (by : ℕ) (ks : i.Locals) (xs : p.Arms) → Grown ks (i.arms_of fs F by ks xs).locals
+      grown_arms by ks p.no_arm = same_locals ks
       grown_arms by ks (p.arm_and condition body rest) =
-          grown_on ks (i.statements fs F by ks body).kinds _ (grown_statements by ks body) (grown_arms by (i.statements fs F by ks body).kinds rest)
+          grown_on ks (i.statements fs F by ks body).locals _ (grown_statements by ks body) (grown_arms by (i.statements fs F by ks body).locals rest)
 
     -- ---- No lower than where they begin
-    module _ (lower : (g : ℕ) (js : List Kind) (u : Use) (l : ℕ) → StatementsUse u (F g js).made l → length js ≤ l) where
+    module _ (lower : (g : ℕ) (js : i.Locals) (u : Use) (l : ℕ) → StatementsUse u (F g js).made l → length js.kinds ≤ l) where
       from_least : (by m l : ℕ) (P : ℕ → Type 0) → m ≤ by → From by l P → m ≤ l
       from_least by m l P le h = let is = h.1 in omega (arith, le, is)
 
-      call_least : (by : ℕ) (ks : List Kind) (x : Site) (o : Option p.Function) (m : ℕ) → m ≤ by → m ≤ length ks → (u : Use) (l : ℕ) → StatementsUse u
+      call_least : (by : ℕ) (ks : i.Locals) (x : Site) (o : Option p.Function) (m : ℕ) → m ≤ by → m ≤ length ks.kinds → (u : Use) (l : ℕ) → StatementsUse u
           (called_by by ks x o).made l → m ≤ l
       call_least by ks x None m a b u l h = absurd h
       call_least by ks x (Some g) m a b u l h =
           ⊎_elim
           (λ own. ⊎_elim (λ k. let low = k.0 in omega (arith, low, b))
           (λ k. ⊎_elim (λ c. let low = lower x.function ks u l c in omega (arith, low, b))
-          (λ r. from_least (length ks) m l (ReturnedUses u g.result) b r) k) own)
+          (λ r. from_least (length ks.kinds) m l (ReturnedUses u g.result) b r) k) own)
           (λ passed. from_least by m l _ a (passed_from fs F by ks x g u l passed))
           (called_uses fs F by ks x g u l h)
 
       mutual
-        least_statement : (by : ℕ) (ks : List Kind) (x : p.Statement) (m : ℕ) → m ≤ by → m ≤ length ks → (u : Use) (l : ℕ) → StatementsUse u
+        least_statement : (by : ℕ) (ks : i.Locals) (x : p.Statement) (m : ℕ) → m ≤ by → m ≤ length ks.kinds → (u : Use) (l : ℕ) → StatementsUse u
             (i.statement fs F by ks x).made l → m ≤ l
         least_statement by ks (p.Assign place target value) m a b u l h =
             ⊎_elim (λ k. ⊎_elim (λ t. from_least by m l (TargetUses u target) a (target_shifted u by target l t))
@@ -220,9 +226,9 @@ module _ (fs : List p.Function) (F : i.Bodies) where
             call_least by ks (record { place = place; name = name; function = function; arguments = arguments; result = result })
             (slice_get fs function) m a b u l h
         least_statement by ks (p.If place arms otherwise) m a b u l h =
-            let more = longer ks (i.arms_of fs F by ks arms).kinds (grown_arms by ks arms) in
+            let more = longer ks (i.arms_of fs F by ks arms).locals (grown_arms by ks arms) in
             ⊎_elim (λ k. ⊎_elim (λ x. least_arms by ks arms m a b u l x)
-            (λ y. least_statements by (i.arms_of fs F by ks arms).kinds otherwise m a (omega (arith, b, more)) u l y) k) (λ k. absurd k) h
+            (λ y. least_statements by (i.arms_of fs F by ks arms).locals otherwise m a (omega (arith, b, more)) u l y) k) (λ k. absurd k) h
         least_statement by ks (p.While place condition body) m a b u l h =
             ⊎_elim (λ k. ⊎_elim (λ x. from_least by m l (Uses u condition.expr) a (uses_shifted u by condition.expr l x))
             (λ y. least_statements by ks body m a b u l y) k) (λ k. absurd k) h
@@ -234,55 +240,62 @@ module _ (fs : List p.Function) (F : i.Bodies) where
         least_statement by ks (p.Unlock place name) m a b u l h =
             ⊎_elim (λ k. from_least by m l (KeyUses u name.key) a (key_shifted u by name.key l k)) (λ k. absurd k) h
 
-        least_statements : (by : ℕ) (ks : List Kind) (xs : p.Statements) (m : ℕ) → m ≤ by → m ≤ length ks → (u : Use) (l : ℕ) → StatementsUse u
+        least_statements : (by : ℕ) (ks : i.Locals) (xs : p.Statements) (m : ℕ) → m ≤ by → m ≤ length ks.kinds → (u : Use) (l : ℕ) → StatementsUse u
             (i.statements fs F by ks xs).made l → m ≤ l
         least_statements by ks p.no_statement m a b u l h = absurd h
         least_statements by ks (p.statement_and x rest) m a b u l h =
             let first = i.statement fs F by ks x in
-            let more = longer ks first.kinds (grown_statement by ks x) in
-            ⊎_elim (λ k. least_statement by ks x m a b u l k) (λ k. least_statements by first.kinds rest m a (omega (arith, b, more)) u l k)
-            (and_uses u first.made (i.statements fs F by first.kinds rest).made l h)
+            let more = longer ks first.locals (grown_statement by ks x) in
+            ⊎_elim (λ k. least_statement by ks x m a b u l k) (λ k. least_statements by first.locals rest m a (omega (arith, b, more)) u l k)
+            (and_uses u first.made (i.statements fs F by first.locals rest).made l h)
 
-        least_arms : (by : ℕ) (ks : List Kind) (xs : p.Arms) (m : ℕ) → m ≤ by → m ≤ length ks → (u : Use) (l : ℕ) → ArmsUse u
+        least_arms : (by : ℕ) (ks : i.Locals) (xs : p.Arms) (m : ℕ) → m ≤ by → m ≤ length ks.kinds → (u : Use) (l : ℕ) → ArmsUse u
             (i.arms_of fs F by ks xs).made l → m ≤ l
         least_arms by ks p.no_arm m a b u l h = absurd h
         least_arms by ks (p.arm_and condition body rest) m a b u l h =
             let first = i.statements fs F by ks body in
-            let more = longer ks first.kinds (grown_statements by ks body) in
+            let more = longer ks first.locals (grown_statements by ks body) in
             ⊎_elim (λ k. from_least by m l (Uses u condition.expr) a (uses_shifted u by condition.expr l k))
-            (λ k. ⊎_elim (λ y. least_statements by ks body m a b u l y) (λ z. least_arms by first.kinds rest m a (omega (arith, b, more)) u l z) k) h
+            (λ k. ⊎_elim (λ y. least_statements by ks body m a b u l y) (λ z. least_arms by first.locals rest m a (omega (arith, b, more)) u l z) k) h
 
 -- the body of a function, where what it calls is made so
-abbrev body_by : List p.Function → i.Bodies → List Kind → Option p.Function → i.Made f.Statements
-body_by fs F js o = elim o [ Some x ↦ i.statements fs F (length js) (js ++ x.locals) x.body | None ↦ record { made = f.no_statement; kinds = js } ]
+abbrev body_by : List p.Function → i.Bodies → i.Locals → Option p.Function → i.Made f.Statements
+body_by fs F js o =
+    elim o [
+      | Some x ↦ i.statements fs F (length js.kinds) (i.joined js (i.locals x.locals x.refers)) x.body
+      | None ↦ record { made = f.no_statement; locals = js }
+    ]
 
-module _ (fs : List p.Function) (F : i.Bodies) (grow : (g : ℕ) (js : List Kind) → Grown js (F g js).kinds) (js : List Kind) where
-  grown_body : (o : Option p.Function) → Grown js (body_by fs F js o).kinds
-  grown_body None = same_kinds js
-  grown_body (Some x) = grown_on js (js ++ x.locals) _ (x.locals, refl) (grown_statements fs F grow (length js) (js ++ x.locals) x.body)
+module _ (fs : List p.Function) (F : i.Bodies) (grow : (g : ℕ) (js : i.Locals) → Grown js (F g js).locals) (js : i.Locals) where
+  grown_body : (o : Option p.Function) → Grown js (body_by fs F js o).locals
+  grown_body None = same_locals js
+  grown_body (Some x) =
+      grown_on js (i.joined js (i.locals x.locals x.refers)) _ (i.locals x.locals x.refers, refl)
+      (grown_statements fs F grow (length js.kinds) (i.joined js (i.locals x.locals x.refers)) x.body)
 
-  least_body : ((g : ℕ) (ks : List Kind) (u : Use) (l : ℕ) → StatementsUse u (F g ks).made l → length ks ≤ l) → (o : Option p.Function) (u : Use)
-      (l : ℕ) → StatementsUse u (body_by fs F js o).made l → length js ≤ l
+  least_body : ((g : ℕ) (ks : i.Locals) (u : Use) (l : ℕ) → StatementsUse u (F g ks).made l → length ks.kinds ≤ l) → (o : Option p.Function) (u : Use)
+      (l : ℕ) → StatementsUse u (body_by fs F js o).made l → length js.kinds ≤ l
   least_body lower None u l h = absurd h
   least_body lower (Some x) u l h =
-      least_statements fs F grow lower (length js) (js ++ x.locals) x.body (length js) (omega arith) (longer js (js ++ x.locals) (x.locals, refl)) u l h
+      least_statements fs F grow lower (length js.kinds) (i.joined js (i.locals x.locals x.refers)) x.body (length js.kinds) (omega arith)
+      (longer js (i.joined js (i.locals x.locals x.refers)) (i.locals x.locals x.refers, refl)) u l h
 
 module _ (fs : List p.Function) where
-  grown_bodies : (deep g : ℕ) (js : List Kind) → Grown js (bodies_of fs deep g js).kinds
-  grown_bodies zero g js = same_kinds js
+  pub grown_bodies : (deep g : ℕ) (js : i.Locals) → Grown js (bodies_of fs deep g js).locals
+  grown_bodies zero g js = same_locals js
   grown_bodies (suc deep) g js = grown_body fs (bodies_of fs deep) (grown_bodies deep) js (slice_get fs g)
 
-  least_bodies : (deep g : ℕ) (js : List Kind) (u : Use) (l : ℕ) → StatementsUse u (bodies_of fs deep g js).made l → length js ≤ l
+  least_bodies : (deep g : ℕ) (js : i.Locals) (u : Use) (l : ℕ) → StatementsUse u (bodies_of fs deep g js).made l → length js.kinds ≤ l
   least_bodies zero g js u l h = absurd h
   least_bodies (suc deep) g js u l h = least_body fs (bodies_of fs deep) (grown_bodies deep) js (least_bodies deep) (slice_get fs g) u l h
 
-pub kinds_grow : (fs : List p.Function) (deep by : ℕ) (ks : List Kind) (xs : p.Statements) → (more : List Kind) ×
-    ((i.statements fs (bodies_of fs deep) by ks xs).kinds ≡ ks ++ more)
-kinds_grow fs deep by ks xs = grown_statements fs (bodies_of fs deep) (grown_bodies fs deep) by ks xs
+pub locals_grow : (fs : List p.Function) (deep by : ℕ) (ks : i.Locals) (xs : p.Statements) → (more : i.Locals) ×
+    ((i.statements fs (bodies_of fs deep) by ks xs).locals ≡ i.joined ks more)
+locals_grow fs deep by ks xs = grown_statements fs (bodies_of fs deep) (grown_bodies fs deep) by ks xs
 
-module _ (fs : List p.Function) (deep by : ℕ) (ks : List Kind) (x : Site) (u : Use) (local : ℕ) where
+module _ (fs : List p.Function) (deep by : ℕ) (ks : i.Locals) (x : Site) (u : Use) (local : ℕ) where
   not_shared_by : (o : Option p.Function) → StatementsUse u (called_by fs (bodies_of fs deep) by ks x o).made local →
-      (length ks ≤ local) ⊎ IsPassed u by x local
+      (length ks.kinds ≤ local) ⊎ IsPassed u by x local
   not_shared_by None h = absurd h
   not_shared_by (Some g) h =
       ⊎_elim
@@ -290,15 +303,15 @@ module _ (fs : List p.Function) (deep by : ℕ) (ks : List Kind) (x : Site) (u :
       (λ passed. inr passed)
       (called_uses fs (bodies_of fs deep) by ks x g u local h)
 
-  pub not_shared : StatementsUse u (call_made fs deep by ks x).made local → (length ks ≤ local) ⊎ IsPassed u by x local
+  pub not_shared : StatementsUse u (call_made fs deep by ks x).made local → (length ks.kinds ≤ local) ⊎ IsPassed u by x local
   not_shared h = not_shared_by (slice_get fs x.function) h
 
--- ---- No higher than the kinds after a call
+-- ---- No higher than the locals after a call
 
--- where calls are known to end, their bodies stay below the kinds after them
-record IsRoomy (F : i.Bodies) (g : ℕ) (js : List Kind) (x : p.Function) : Type 0 where
-  room : length js + length x.locals ≤ length (F g js).kinds
-  below : (u : Use) (l : ℕ) → StatementsUse u (F g js).made l → l < length (F g js).kinds
+-- where calls are known to end, their bodies stay below the locals after them
+record IsRoomy (F : i.Bodies) (g : ℕ) (js : i.Locals) (x : p.Function) : Type 0 where
+  room : length js.kinds + length x.locals ≤ length (F g js).locals.kinds
+  below : (u : Use) (l : ℕ) → StatementsUse u (F g js).made l → l < length (F g js).locals.kinds
 
 from_below : (by count m l : ℕ) (P : ℕ → Type 0) → by + count ≤ m → ((k : ℕ) → P k → k < count) → From by l P → l < m
 from_below by count m l P le h x = let is = x.1 in let low = h x.0 x.2 in omega (arith, le, is, low)
@@ -319,28 +332,29 @@ returned_below : (count : ℕ) (x : Option p.Returned) → IsReturnedBelow count
 returned_below count None h u k y = absurd y
 returned_below count (Some x) h u k y = uses_below count (e.Converted x.kind x.value.expr) h u k y
 
-module _ (fs : List p.Function) (F : i.Bodies) (scoped : AreFunctionsScoped fs) (grow : (g : ℕ) (js : List Kind) → Grown js (F g js).kinds)
-    (Good : ℕ → Type 0) (roomy : (g : ℕ) (js : List Kind) (x : p.Function) → Good g → slice_get fs g ≡ Some x → IsRoomy F g js x) where
-  -- what is the call's own is below the kinds after it
-  own_below : (by : ℕ) (ks : List Kind) (x : Site) (g : p.Function) → slice_get fs x.function ≡ Some g → (length x.arguments ≤ length g.locals) →
+module _ (fs : List p.Function) (F : i.Bodies) (scoped : AreFunctionsScoped fs) (grow : (g : ℕ) (js : i.Locals) → Grown js (F g js).locals)
+    (Good : ℕ → Type 0) (roomy : (g : ℕ) (js : i.Locals) (x : p.Function) → Good g → slice_get fs g ≡ Some x → IsRoomy F g js x) where
+  -- what is the call's own is below the locals after it
+  own_below : (by : ℕ) (ks : i.Locals) (x : Site) (g : p.Function) → slice_get fs x.function ≡ Some g → (length x.arguments ≤ length g.locals) →
       Good x.function →
-      (u : Use) (l : ℕ) → IsOwn fs F by ks x g u l → l < length (F x.function ks).kinds
+      (u : Use) (l : ℕ) → IsOwn fs F by ks x g u l → l < length (F x.function ks).locals.kinds
   own_below by ks x g is few good u l own =
       let r = roomy x.function ks g good is in
       let room = r.room in
       ⊎_elim (λ k. let high = k.1 in omega (arith, high, few, room))
       (λ k. ⊎_elim (λ c. r.below u l c)
-      (λ d. from_below (length ks) (length g.locals) _ l (ReturnedUses u g.result) room
+      (λ d. from_below (length ks.kinds) (length g.locals) _ l (ReturnedUses u g.result) room
       (returned_below (length g.locals) g.result (scoped x.function g is).result u) d) k) own
 
   module _ (count : ℕ) where
-    call_below : (by : ℕ) (ks : List Kind) (x : Site) (o : Option p.Function) → slice_get fs x.function ≡ o → IsScoped fs count
+    call_below : (by : ℕ) (ks : i.Locals) (x : Site) (o : Option p.Function) → slice_get fs x.function ≡ o → IsScoped fs count
         (p.Call x.place x.name x.function x.arguments x.result) → (x.function < length fs → Good x.function) →
-        (m : ℕ) → by + count ≤ m → length (called_by fs F by ks x o).kinds ≤ m → (u : Use) (l : ℕ) → StatementsUse u (called_by fs F by ks x o).made l → l < m
+        (m : ℕ) → by + count ≤ m → length (called_by fs F by ks x o).locals.kinds ≤ m → (u : Use) (l : ℕ) →
+        StatementsUse u (called_by fs F by ks x o).made l → l < m
     call_below by ks x None is s good m a b u l h = absurd h
     call_below by ks x (Some g) is s good m a b u l h =
-        let last : length (F x.function ks).kinds ≤ m = subst (λ (js : List Kind). length js ≤ m)
-        (used_kinds u (made fs F by ks x g).made ks (F x.function ks).kinds l h) b in
+        let last : length (F x.function ks).locals.kinds ≤ m = subst (λ (js : i.Locals). length js.kinds ≤ m)
+        (used_locals u (made fs F by ks x g).made ks (F x.function ks).locals l h) b in
         ⊎_elim
         (λ own. let low = own_below by ks x g is (s.0 g is) (good (slice_get_within fs x.function g is)) u l own in omega (arith, low, last))
         (λ passed. from_below by count m l _ a
@@ -352,8 +366,9 @@ module _ (fs : List p.Function) (F : i.Bodies) (scoped : AreFunctionsScoped fs) 
     AllGood cs = (c : i.Call) → Contains cs c → c.function < length fs → Good c.function
 
     mutual
-      below_statement : (by : ℕ) (ks : List Kind) (x : p.Statement) → IsScoped fs count x → AllGood (i.statement_calls x) →
-          (m : ℕ) → by + count ≤ m → length (i.statement fs F by ks x).kinds ≤ m → (u : Use) (l : ℕ) → StatementsUse u (i.statement fs F by ks x).made l → l < m
+      below_statement : (by : ℕ) (ks : i.Locals) (x : p.Statement) → IsScoped fs count x → AllGood (i.statement_calls x) →
+          (m : ℕ) → by + count ≤ m → length (i.statement fs F by ks x).locals.kinds ≤ m → (u : Use) (l : ℕ) →
+          StatementsUse u (i.statement fs F by ks x).made l → l < m
       below_statement by ks (p.Assign place target value) s good m a b u l h =
           ⊎_elim (λ k. ⊎_elim (λ t. from_below by count m l (TargetUses u target) a (s.0 u) (target_shifted u by target l t))
           (λ v. from_below by count m l (Uses u value.expr) a (uses_below count value.expr s.1 u) (uses_shifted u by value.expr l v)) k) (λ k. absurd k) h
@@ -362,9 +377,9 @@ module _ (fs : List p.Function) (F : i.Bodies) (scoped : AreFunctionsScoped fs) 
           (slice_get fs function) refl s (good (record { place = name; function = function }) (alone _)) m a b u l h
       below_statement by ks (p.If place arms otherwise) s good m a b u l h =
           let first = i.arms_of fs F by ks arms in
-          let more = longer first.kinds (i.statements fs F by first.kinds otherwise).kinds (grown_statements fs F grow by first.kinds otherwise) in
+          let more = longer first.locals (i.statements fs F by first.locals otherwise).locals (grown_statements fs F grow by first.locals otherwise) in
           ⊎_elim (λ k. ⊎_elim (λ x. below_arms by ks arms s.0 (λ c y. good c (Contains-append_left _ _ c y)) m a (omega (arith, b, more)) u l x)
-          (λ y. below_statements by first.kinds otherwise s.1 (λ c z. good c (Contains-append_right (i.arms_calls arms) _ c z)) m a b u l y) k)
+          (λ y. below_statements by first.locals otherwise s.1 (λ c z. good c (Contains-append_right (i.arms_calls arms) _ c z)) m a b u l y) k)
           (λ k. absurd k) h
       below_statement by ks (p.While place condition body) s good m a b u l h =
           ⊎_elim (λ k. ⊎_elim (λ x. from_below by count m l (Uses u condition.expr) a (uses_below count condition.expr s.0 u)
@@ -378,54 +393,58 @@ module _ (fs : List p.Function) (F : i.Bodies) (scoped : AreFunctionsScoped fs) 
       below_statement by ks (p.Unlock place name) s good m a b u l h =
           ⊎_elim (λ k. from_below by count m l (KeyUses u name.key) a (key_below count name.key s u) (key_shifted u by name.key l k)) (λ k. absurd k) h
 
-      below_statements : (by : ℕ) (ks : List Kind) (xs : p.Statements) → AreScoped fs count xs → AllGood (i.statements_calls xs) →
-          (m : ℕ) → by + count ≤ m → length (i.statements fs F by ks xs).kinds ≤ m → (u : Use) (l : ℕ) → StatementsUse u
+      below_statements : (by : ℕ) (ks : i.Locals) (xs : p.Statements) → AreScoped fs count xs → AllGood (i.statements_calls xs) →
+          (m : ℕ) → by + count ≤ m → length (i.statements fs F by ks xs).locals.kinds ≤ m → (u : Use) (l : ℕ) → StatementsUse u
           (i.statements fs F by ks xs).made l → l < m
       below_statements by ks p.no_statement s good m a b u l h = absurd h
       below_statements by ks (p.statement_and x rest) s good m a b u l h =
           let first = i.statement fs F by ks x in
-          let more = longer first.kinds (i.statements fs F by first.kinds rest).kinds (grown_statements fs F grow by first.kinds rest) in
+          let more = longer first.locals (i.statements fs F by first.locals rest).locals (grown_statements fs F grow by first.locals rest) in
           ⊎_elim (λ k. below_statement by ks x s.0 (λ c y. good c (Contains-append_left _ _ c y)) m a (omega (arith, b, more)) u l k)
-          (λ k. below_statements by first.kinds rest s.1 (λ c z. good c (Contains-append_right (i.statement_calls x) _ c z)) m a b u l k)
-          (and_uses u first.made (i.statements fs F by first.kinds rest).made l h)
+          (λ k. below_statements by first.locals rest s.1 (λ c z. good c (Contains-append_right (i.statement_calls x) _ c z)) m a b u l k)
+          (and_uses u first.made (i.statements fs F by first.locals rest).made l h)
 
-      below_arms : (by : ℕ) (ks : List Kind) (xs : p.Arms) → AreScopedArms fs count xs → AllGood (i.arms_calls xs) →
-          (m : ℕ) → by + count ≤ m → length (i.arms_of fs F by ks xs).kinds ≤ m → (u : Use) (l : ℕ) → ArmsUse u (i.arms_of fs F by ks xs).made l → l < m
+      below_arms : (by : ℕ) (ks : i.Locals) (xs : p.Arms) → AreScopedArms fs count xs → AllGood (i.arms_calls xs) →
+          (m : ℕ) → by + count ≤ m → length (i.arms_of fs F by ks xs).locals.kinds ≤ m → (u : Use) (l : ℕ) → ArmsUse u (i.arms_of fs F by ks xs).made l → l < m
       below_arms by ks p.no_arm s good m a b u l h = absurd h
       below_arms by ks (p.arm_and condition body rest) s good m a b u l h =
           let first = i.statements fs F by ks body in
-          let more = longer first.kinds (i.arms_of fs F by first.kinds rest).kinds (grown_arms fs F grow by first.kinds rest) in
+          let more = longer first.locals (i.arms_of fs F by first.locals rest).locals (grown_arms fs F grow by first.locals rest) in
           ⊎_elim (λ k. from_below by count m l (Uses u condition.expr) a (uses_below count condition.expr s.0 u) (uses_shifted u by condition.expr l k))
           (λ k. ⊎_elim (λ y. below_statements by ks body s.1 (λ c z. good c (Contains-append_left _ _ c z)) m a (omega (arith, b, more)) u l y)
-          (λ z. below_arms by first.kinds rest s.2 (λ c y. good c (Contains-append_right (i.statements_calls body) _ c y)) m a b u l z) k) h
+          (λ z. below_arms by first.locals rest s.2 (λ c y. good c (Contains-append_right (i.statements_calls body) _ c y)) m a b u l z) k) h
 
 module _ (fs : List p.Function) (scoped : AreFunctionsScoped fs) where
-  roomy_body : (F : i.Bodies) (js : List Kind) (x : p.Function) (made : i.Made f.Statements) → made ≡ body_by fs F js (Some x) → Grown (js ++ x.locals)
-      (body_by fs F js (Some x)).kinds →
-      ((u : Use) (l : ℕ) → StatementsUse u (body_by fs F js (Some x)).made l → l < length (body_by fs F js (Some x)).kinds) → (g : ℕ) → IsRoomy
+  roomy_body : (F : i.Bodies) (js : i.Locals) (x : p.Function) (made : i.Made f.Statements) → made ≡ body_by fs F js (Some x) →
+      Grown (i.joined js (i.locals x.locals x.refers))
+      (body_by fs F js (Some x)).locals →
+      ((u : Use) (l : ℕ) → StatementsUse u (body_by fs F js (Some x)).made l → l < length (body_by fs F js (Some x)).locals.kinds) → (g : ℕ) → IsRoomy
       (λ k ks. made) g js x
   roomy_body F js x made is grown below g =
       subst (λ (m : i.Made f.Statements). IsRoomy (λ k ks. m) g js x) (sym is)
       (record {
-        room = (let a = longer (js ++ x.locals) (body_by fs F js (Some x)).kinds grown in let b = length-append js x.locals in omega
+        room =
+            (let a = longer (i.joined js (i.locals x.locals x.refers)) (body_by fs F js (Some x)).locals grown in let b = length-append js.kinds x.locals in
+            omega
             (arith, a, b));
         below = below;
       })
 
-  roomy_bodies : (deep g : ℕ) (js : List Kind) (x : p.Function) → Low fs deep g → slice_get fs g ≡ Some x → IsRoomy (bodies_of fs deep) g js x
+  roomy_bodies : (deep g : ℕ) (js : i.Locals) (x : p.Function) → Low fs deep g → slice_get fs g ≡ Some x → IsRoomy (bodies_of fs deep) g js x
   roomy_bodies zero g js x low is = absurd low
   roomy_bodies (suc deep) g js x low is =
       let F = bodies_of fs deep in
       let grow = grown_bodies fs deep in
-      let within = length-append js x.locals in
-      let grown = grown_statements fs F grow (length js) (js ++ x.locals) x.body in
-      let long = longer (js ++ x.locals) (body_by fs F js (Some x)).kinds grown in
+      let within = length-append js.kinds x.locals in
+      let grown = grown_statements fs F grow (length js.kinds) (i.joined js (i.locals x.locals x.refers)) x.body in
+      let long = longer (i.joined js (i.locals x.locals x.refers)) (body_by fs F js (Some x)).locals grown in
       let r = roomy_body F js x (bodies_of fs (suc deep) g js) (ap (body_by fs F js) is) grown
-      (λ u l h. below_statements fs F scoped grow (Low fs deep) (roomy_bodies deep) (length x.locals) (length js) (js ++ x.locals) x.body (scoped g x is).body
+      (λ u l h. below_statements fs F scoped grow (Low fs deep) (roomy_bodies deep) (length x.locals) (length js.kinds)
+      (i.joined js (i.locals x.locals x.refers)) x.body (scoped g x is).body
       (λ c k. low c (subst (λ cs. Contains cs c) (sym (calls_of_some fs g x is)) k)) _ (omega (arith, within, long)) (omega arith) u l h) g in
       record { room = r.room; below = r.below }
 
-module _ (program : p.Program) (by : ℕ) (ks : List Kind) (x : Site) (u : Use) (local : ℕ) (ends : HasNoBack program)
+module _ (program : p.Program) (by : ℕ) (ks : i.Locals) (x : Site) (u : Use) (local : ℕ) (ends : HasNoBack program)
     (scoped : AreFunctionsScoped program.functions) (takes : TakesArguments program.functions x.function (length x.arguments)) where
   abbrev functions : List p.Function
   functions = program.functions
@@ -434,12 +453,12 @@ module _ (program : p.Program) (by : ℕ) (ks : List Kind) (x : Site) (u : Use) 
   bodies = bodies_of functions (length functions)
 
   new_by : (o : Option p.Function) → slice_get functions x.function ≡ o → StatementsUse u (called_by functions bodies by ks x o).made local → IsNew ks
-      (called_by functions bodies by ks x o).kinds local ⊎ IsPassed u by x local
+      (called_by functions bodies by ks x o).locals local ⊎ IsPassed u by x local
   new_by None is h = absurd h
   new_by (Some g) is h =
       let low : Low functions (length functions) x.function = low_all functions ends x.function (slice_get_within functions x.function g is) in
-      let same : length (called_by functions bodies by ks x (Some g)).kinds ≡ length (bodies x.function ks).kinds = ap length
-      (used_kinds u (made functions bodies by ks x g).made ks (bodies x.function ks).kinds local h) in
+      let same : length (called_by functions bodies by ks x (Some g)).locals.kinds ≡ length (bodies x.function ks).locals.kinds = ap
+      (λ (z : i.Locals). length z.kinds) (used_locals u (made functions bodies by ks x g).made ks (bodies x.function ks).locals local h) in
       ⊎_elim
       (λ own. let high = own_below functions bodies scoped (grown_bodies functions (length functions)) (Low functions (length functions))
       (roomy_bodies functions scoped (length functions)) by ks x g is (takes g is) low u local own in
@@ -453,5 +472,5 @@ module _ (program : p.Program) (by : ℕ) (ks : List Kind) (x : Site) (u : Use) 
       (called_uses functions bodies by ks x g u local h)
 
   pub new_locals : StatementsUse u (call_made functions (length functions) by ks x).made local → IsNew ks
-      (call_made functions (length functions) by ks x).kinds local ⊎ IsPassed u by x local
+      (call_made functions (length functions) by ks x).locals local ⊎ IsPassed u by x local
   new_locals h = new_by (slice_get functions x.function) refl h

@@ -6,7 +6,6 @@ use Rattle.std.specs.Option.{option_map}
 use Rattle.std.proofs.lemmas.Bool.{cases_eq}
 use Rattle.std.proofs.lemmas.Option.{slice_get_within}
 use Rattle.ido_base.specs.declared.place.Place.{Place}
-use Rattle.ido_ints.specs.declared.kinds.Kind.{Kind}
 use Rattle.c_tree.specs.Exprs as e
 use Rattle.c_tree.specs.Flats as f
 use Rattle.c_tree.specs.Programs as p
@@ -287,10 +286,10 @@ none_assigned : (xs : List e.Placed) (l : ℕ) → ListUses assigned xs l → �
 none_assigned [] l h = h
 none_assigned (x ∷ xs) l h = ⊎_elim (λ a. a) (λ b. none_assigned xs l b) h
 
-pub callers_kept : (fs : List p.Function) (deep by : ℕ) (ks : List Kind) (x : Site) (s : m.State) (schedule : List ℕ) (thread local : ℕ)
+pub callers_kept : (fs : List p.Function) (deep by : ℕ) (ks : i.Locals) (x : Site) (s : m.State) (schedule : List ℕ) (thread local : ℕ)
     (rest : List f.Statement) →
     left_of s thread ≡ m.opened_all (call_made fs deep by ks x).made ++ rest → IsBefore s schedule thread rest →
-    local < length ks → ¬ (ResultUses assigned (option_map (i.shifted_target by) x.result) local) → IsKept s (m.after_from s schedule) thread local rest
+    local < length ks.kinds → ¬ (ResultUses assigned (option_map (i.shifted_target by) x.result) local) → IsKept s (m.after_from s schedule) thread local rest
 callers_kept fs deep by ks x s schedule thread local rest h before below apart =
     unassigned_kept s schedule thread local (m.opened_all (call_made fs deep by ks x).made) rest h before
     (λ uses. ⊎_elim (λ above. omega (arith, above, below)) (λ passed. ⊎_elim (λ a. none_assigned (map (i.shifted_placed by) x.arguments) local a) apart passed)

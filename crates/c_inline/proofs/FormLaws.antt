@@ -9,6 +9,7 @@ use Rattle.std.proofs.lemmas.List.Elements.{Contains-append_left, Contains-appen
 use Rattle.std.proofs.lemmas.Option.{none-some, same_Some, slice_get_within}
 use Rattle.ido_base.specs.declared.place.Place.{Place}
 use Rattle.ido_ints.specs.declared.kinds.Kind.{Kind}
+use Rattle.ido_ints.specs.declared.kinds.Kind.TheVariants.{UnsignedLong}
 use Rattle.ido_ints.specs.Operators.{unary_kind, binary_kind}
 use Rattle.c_tree.specs.AcceptedTexts.{HasNoBack}
 use Rattle.c_tree.specs.Exprs as e
@@ -16,6 +17,7 @@ use Rattle.c_tree.specs.Programs as p
 use Rattle.c_tree.specs.Flats as f
 use Rattle.c_tree.specs.Inlining as i
 use Rattle.c_tree.specs.Inlining.{shifted, shifted_placed, shifted_target}
+use Rattle.c_tree.specs.NullReferences.{program_nulls}
 use Rattle.c_tree.specs.Ranges as r
 use Rattle.c_tree.specs.Ranges.{Index, Interval, AllFit, index_fits, range_of, lies_in, interval, elements_of, mutexes_of}
 use Rattle.c_tree.specs.Elaboration.{kind_of}
@@ -27,54 +29,15 @@ use Rattle.c_inline.proofs.CallDepth.{low_all}
 use Rattle.c_inline.proofs.WeightsByDepth.{calls_of_some}
 use Rattle.c_inline.proofs.InliningAnswers.{flat_is}
 use Rattle.c_inline.proofs.CallCongruence.{alone}
+use Rattle.c_inline.proofs.FlatReferences.{flat_referring, flat_unreferring, follows_shifted}
+use Rattle.c_inline.proofs.LocalsFrom.{At, Into, all_at, at_append, at_into, at_self, into_append, into_both, into_self}
 
 -- ---- Lists
-
-all_at : {A : Type 0} (P : A → Type 0) (xs : List A) (k : ℕ) (x : A) → AllByRecursion P xs → slice_get xs k ≡ Some x → P x
-all_at P [] k x h g = absurd (none-some x g)
-all_at P (y ∷ ys) zero x h g = subst P (same_Some y x g) h.0
-all_at P (y ∷ ys) (suc k) x h g = all_at P ys k x h.1 g
 
 in_flat_map : {A B : Type 0} (g : A → List B) (xs : List A) (k : ℕ) (x : A) (y : B) → slice_get xs k ≡ Some x → Contains (g x) y → Contains (flat_map g xs) y
 in_flat_map g [] k x y h c = absurd (none-some x h)
 in_flat_map g (z ∷ zs) zero x y h c = Contains-append_left (g z) (flat_map g zs) y (subst (λ w. Contains (g w) y) (sym (same_Some z x h)) c)
 in_flat_map g (z ∷ zs) (suc k) x y h c = Contains-append_right (g z) (flat_map g zs) y (in_flat_map g zs k x y h c)
-
-get_left : {A : Type 0} (xs ys : List A) (k : ℕ) (x : A) → slice_get xs k ≡ Some x → slice_get (xs ++ ys) k ≡ Some x
-get_left [] ys k x h = absurd (none-some x h)
-get_left (z ∷ xs) ys zero x h = h
-get_left (z ∷ xs) ys (suc k) x h = get_left xs ys k x h
-
-get_right : {A : Type 0} (xs ys : List A) (k : ℕ) (x : A) → slice_get ys k ≡ Some x → slice_get (xs ++ ys) (length xs + k) ≡ Some x
-get_right [] ys k x h = let e : k ≡ 0 + k = omega arith in subst (λ (j : ℕ). slice_get ys j ≡ Some x) e h
-get_right (z ∷ xs) ys k x h = let e : suc (length xs + k) ≡ suc (length xs) + k = omega arith in subst (λ (j : ℕ). slice_get (z ∷ (xs ++ ys)) j ≡ Some x) e
-    (get_right xs ys k x h)
-
--- ---- Locals that stand from a number on
-
-abbrev At : (by : ℕ) → List Kind → List Kind → Type 0
-At n js ks = (k : ℕ) (kind : Kind) → slice_get js k ≡ Some kind → slice_get ks (n + k) ≡ Some kind
-
-abbrev Into : List Kind → List Kind → Type 0
-Into js ks = (k : ℕ) (kind : Kind) → slice_get js k ≡ Some kind → slice_get ks k ≡ Some kind
-
-into_self : (ks : List Kind) → Into ks ks
-into_self ks = λ k kind h. h
-
-into_both : (is js ks : List Kind) → Into is js → Into js ks → Into is ks
-into_both is js ks h g = λ k kind e. g k kind (h k kind e)
-
-at_into : (n : ℕ) (is js ks : List Kind) → At n is js → Into js ks → At n is ks
-at_into n is js ks h g = λ k kind e. g (n + k) kind (h k kind e)
-
-into_append : (ks more : List Kind) → Into ks (ks ++ more)
-into_append ks more = λ k kind h. get_left ks more k kind h
-
-at_append : (ks more : List Kind) → At (length ks) more (ks ++ more)
-at_append ks more = λ k kind h. get_right ks more k kind h
-
-at_self : (ks : List Kind) → At 0 ks ks
-at_self ks = λ k kind h. subst (λ (j : ℕ). slice_get ks j ≡ Some kind) (omega arith) h
 
 -- ---- Expressions renumbered
 
@@ -165,8 +128,8 @@ module _ (vs : List p.Variable) (ms : List p.Mutex) where
       expr_shifted (e.Local local kind) h = at local kind h
       expr_shifted (e.Variable place variable kind) h = h
       expr_shifted (e.Element place variable kind index_place index) h = (h.0, expr_shifted index h.1)
-      expr_shifted (e.Address variable index_place index) h = absurd h
-      expr_shifted (e.Referent place last local) h = absurd h
+      expr_shifted (e.Address variable index_place index) h = (h.0, expr_shifted index h.1)
+      expr_shifted (e.Referent place last local) h = at local UnsignedLong h
       expr_shifted (e.Unary operator operand) h = expr_shifted operand h
       expr_shifted (e.Cast kind operand) h = expr_shifted operand h
       expr_shifted (e.Converted kind operand) h = expr_shifted operand h
@@ -189,13 +152,13 @@ module _ (x : p.Program) (prog : IsProgram x) (fit : AllFit x) where
   z = record { mutexes = x.mutexes; variables = x.variables; threads = [] }
 
   -- what is made in front of these locals has these after it, and is well formed wherever they stand
-  record Good (ks : List Kind) (m : i.Made f.Statements) : Type 0 where
-    grows : Into ks m.kinds
-    formed : (final : List Kind) → Into m.kinds final → AreFlatStatements z final m.made
+  record Good (ks : i.Locals) (m : i.Made f.Statements) : Type 0 where
+    grows : Into ks.kinds m.locals.kinds
+    formed : (final : List Kind) → Into m.locals.kinds final → AreFlatStatements z final m.made
 
-  record GoodArms (ks : List Kind) (m : i.Made f.Arms) : Type 0 where
-    grows : Into ks m.kinds
-    formed : (final : List Kind) → Into m.kinds final → AreFlatArms z final m.made
+  record GoodArms (ks : i.Locals) (m : i.Made f.Arms) : Type 0 where
+    grows : Into ks.kinds m.locals.kinds
+    formed : (final : List Kind) → Into m.locals.kinds final → AreFlatArms z final m.made
 
   both_formed : (final : List Kind) (xs ys : f.Statements) → AreFlatStatements z final xs → AreFlatStatements z final ys →
       AreFlatStatements z final (i.statements_and xs ys)
@@ -211,6 +174,7 @@ module _ (x : p.Program) (prog : IsProgram x) (fit : AllFit x) where
   name_formed n js ks at mutex (Some key) h k = record {
     array = h.0;
     reads = expr_shifted [] x.mutexes n js ks at key.expr h.1;
+    follows = follows_shifted [] n [] [] (λ k o e. absurd (none-some o e)) key.expr h.2;
     fits = ap (λ (j : Interval). lies_in j (interval (pos 0) (pos (mutexes_of x.mutexes mutex) -ℤ pos 1))) (range_same n key.expr)
         ∙ head_in x.variables x.mutexes _ (r.placed_indexes key) k;
   }
@@ -252,9 +216,10 @@ module _ (x : p.Program) (prog : IsProgram x) (fit : AllFit x) where
   assigned_formed place m js final (Some y) (Some w) at h k t =
       ((t w refl, (expr_shifted x.variables x.mutexes m js final at y.value.expr h, fits_shifted x.variables x.mutexes m y.value.expr k)), tt)
 
-  good_call : (made : f.Statements) (ks after : List Kind) → Into ks after → ((final : List Kind) → Into after final → AreFlatStatements z final made) →
-      Good ks (record { made = made; kinds = i.kinds_after made ks after })
-  good_call f.no_statement ks after grows formed = record { grows = into_self ks; formed = λ final into. tt }
+  good_call : (made : f.Statements) (ks after : i.Locals) → Into ks.kinds after.kinds →
+      ((final : List Kind) → Into after.kinds final → AreFlatStatements z final made) →
+      Good ks (record { made = made; locals = i.locals_after made ks after })
+  good_call f.no_statement ks after grows formed = record { grows = into_self ks.kinds; formed = λ final into. tt }
   good_call (f.statement_and y rest) ks after grows formed = record { grows = grows; formed = formed }
 
   result_formed : (n : ℕ) (js ks : List Kind) → At n js ks → (o : Option e.Lvalue) → IsResult x js o → AllIn x.variables x.mutexes (r.result_indexes o) →
@@ -263,12 +228,12 @@ module _ (x : p.Program) (prog : IsProgram x) (fit : AllFit x) where
   result_formed n js ks at (Some w) h k y g = subst (IsFlatTarget z ks) (same_Some (shifted_target n w) y g) (target_formed n js ks at w h k)
 
   -- what a function's body becomes, with its locals after these
-  record IsBody (bodies : i.Bodies) (function : ℕ) (callee : p.Function) (ks : List Kind) : Type 0 where
+  record IsBody (bodies : i.Bodies) (function : ℕ) (callee : p.Function) (ks : i.Locals) : Type 0 where
     good : Good ks (bodies function ks)
-    locals : At (length ks) callee.locals (bodies function ks).kinds
+    locals : At (length ks.kinds) callee.locals (bodies function ks).locals.kinds
 
   abbrev AreBodies : i.Bodies → ℕ → Type 0
-  AreBodies bodies function = (callee : p.Function) (ks : List Kind) → slice_get fs function ≡ Some callee → IsBody bodies function callee ks
+  AreBodies bodies function = (callee : p.Function) (ks : i.Locals) → slice_get fs function ≡ Some callee → IsBody bodies function callee ks
 
   -- the indexes of a function fit
   function_fits : (g : ℕ) (callee : p.Function) → slice_get fs g ≡ Some callee →
@@ -288,15 +253,15 @@ module _ (x : p.Program) (prog : IsProgram x) (fit : AllFit x) where
     second_called cs ds h = λ c k. h c (Contains-append_right cs ds c k)
 
     module _ (n : ℕ) (js : List Kind) where
-      abbrev made_call : (ks : List Kind) (place : Place) (function : ℕ) (arguments : List e.Placed) (result : Option e.Lvalue) → Option p.Function →
+      abbrev made_call : (ks : i.Locals) (place : Place) (function : ℕ) (arguments : List e.Placed) (result : Option e.Lvalue) → Option p.Function →
           i.Made f.Statements
       made_call ks place function arguments result o = elim o [
         | Some y ↦ i.called fs bodies place n ks y (bodies function ks) arguments result
-        | None ↦ record { made = f.no_statement; kinds = ks }
+        | None ↦ record { made = f.no_statement; locals = ks }
       ]
 
-      called_formed : (ks : List Kind) (place : Place) (function : ℕ) (callee : p.Function) (arguments : List e.Placed) (result : Option e.Lvalue) →
-          At n js ks → slice_get fs function ≡ Some callee → length arguments ≡ callee.parameters → IsBody bodies function callee ks →
+      called_formed : (ks : i.Locals) (place : Place) (function : ℕ) (callee : p.Function) (arguments : List e.Placed) (result : Option e.Lvalue) →
+          At n js ks.kinds → slice_get fs function ≡ Some callee → length arguments ≡ callee.parameters → IsBody bodies function callee ks →
           AllByRecursion (IsPlaced x.variables js) arguments → AllIn x.variables x.mutexes (flat_map r.placed_indexes arguments) → IsResult x js result →
           AllIn x.variables x.mutexes (r.result_indexes result) →
           Good ks (i.called fs bodies place n ks callee (bodies function ks) arguments result)
@@ -304,29 +269,29 @@ module _ (x : p.Program) (prog : IsProgram x) (fit : AllFit x) where
           let b = bodies function ks in
           let own = all_at (IsFunction x) fs function callee prog.functions found in
           let inside = function_fits function callee found in
-          good_call _ ks b.kinds body.good.grows
+          good_call _ ks b.locals body.good.grows
           (λ final into.
-          let seen = at_into n js ks final at (into_both ks b.kinds final body.good.grows into) in
-          let fresh = at_into (length ks) callee.locals b.kinds final body.locals into in
-          let passed = passed_formed place (length ks) callee.locals final (map (shifted_placed n) arguments) fresh
+          let seen = at_into n js ks.kinds final at (into_both ks.kinds b.locals.kinds final body.good.grows into) in
+          let fresh = at_into (length ks.kinds) callee.locals b.locals.kinds final body.locals into in
+          let passed = passed_formed place (length ks.kinds) callee.locals final (map (shifted_placed n) arguments) fresh
           (omega (arith, length-map arguments (shifted_placed n), own.parameters, count)) (all_placed n js final seen arguments a ai) in
-          let given = assigned_formed place (length ks) callee.locals final callee.result (option_map (shifted_target n) result) fresh own.result
+          let given = assigned_formed place (length ks.kinds) callee.locals final callee.result (option_map (shifted_target n) result) fresh own.result
           (second_in x.variables x.mutexes (r.statements_indexes callee.body) (r.returned_indexes callee.result) inside)
           (result_formed n js final seen result t ti) in
-          both_formed final (i.passed place (length ks) callee.locals (map (shifted_placed n) arguments)) _ passed
+          both_formed final (i.passed place (length ks.kinds) callee.locals (map (shifted_placed n) arguments)) _ passed
           (both_formed final b.made _ (body.good.formed final into) given))
 
-      arms_there : (ks : List Kind) (ys : p.Arms) → HasProgramArm ys → HasArm (i.arms_of fs bodies n ks ys).made
+      arms_there : (ks : i.Locals) (ys : p.Arms) → HasProgramArm ys → HasArm (i.arms_of fs bodies n ks ys).made
       arms_there ks p.no_arm h = h
       arms_there ks (p.arm_and condition body rest) h = tt
 
       mutual
-        statement_formed : (ks : List Kind) (y : p.Statement) → At n js ks → IsStatement x js y → AllIn x.variables x.mutexes (r.statement_indexes y) →
+        statement_formed : (ks : i.Locals) (y : p.Statement) → At n js ks.kinds → IsStatement x js y → AllIn x.variables x.mutexes (r.statement_indexes y) →
             Called (i.statement_calls y) → Good ks (i.statement fs bodies n ks y)
         statement_formed ks (p.Assign place target value) at h k c = record {
-          grows = into_self ks;
+          grows = into_self ks.kinds;
           formed = λ final into.
-              let seen = at_into n js ks final at into in (
+              let seen = at_into n js ks.kinds final at into in (
                 ((
                   target_formed n js final seen target h.0 (first_in x.variables x.mutexes (r.target_indexes target)
                       (r.placed_indexes value) k),
@@ -346,21 +311,21 @@ module _ (x : p.Program) (prog : IsProgram x) (fit : AllFit x) where
         statement_formed ks (p.If place arms otherwise) at h k c =
             let a = arms_formed ks arms at h.1 (first_in x.variables x.mutexes (r.arms_indexes arms) (r.statements_indexes otherwise) k)
             (first_called (i.arms_calls arms) (i.statements_calls otherwise) c) in
-            let mid = (i.arms_of fs bodies n ks arms).kinds in
-            let o = statements_formed mid otherwise (at_into n js ks mid at a.grows) h.2
+            let mid = (i.arms_of fs bodies n ks arms).locals in
+            let o = statements_formed mid otherwise (at_into n js ks.kinds mid.kinds at a.grows) h.2
             (second_in x.variables x.mutexes (r.arms_indexes arms) (r.statements_indexes otherwise) k)
             (second_called (i.arms_calls arms) (i.statements_calls otherwise) c) in
-            let end = (i.statements fs bodies n mid otherwise).kinds in record {
-              grows = into_both ks mid end a.grows o.grows;
-              formed = λ final into. ((arms_there ks arms h.0, a.formed final (into_both mid end final o.grows into), o.formed final into), tt);
+            let end = (i.statements fs bodies n mid otherwise).locals in record {
+              grows = into_both ks.kinds mid.kinds end.kinds a.grows o.grows;
+              formed = λ final into. ((arms_there ks arms h.0, a.formed final (into_both mid.kinds end.kinds final o.grows into), o.formed final into), tt);
             }
         statement_formed ks (p.While place condition body) at h k c =
             let m = statements_formed ks body at h.1 (second_in x.variables x.mutexes (r.placed_indexes condition) (r.statements_indexes body) k) c in
-            let ms = (i.statements fs bodies n ks body).kinds in record {
+            let ms = (i.statements fs bodies n ks body).locals in record {
               grows = m.grows;
               formed = λ final into. (
                 (
-                  placed_formed n js final (at_into n js ks final at (into_both ks ms final m.grows into)) condition h.0
+                  placed_formed n js final (at_into n js ks.kinds final at (into_both ks.kinds ms.kinds final m.grows into)) condition h.0
                       (first_in x.variables x.mutexes (r.placed_indexes condition) (r.statements_indexes body) k),
                   m.formed final into,
                 ),
@@ -369,55 +334,62 @@ module _ (x : p.Program) (prog : IsProgram x) (fit : AllFit x) where
             }
         statement_formed ks (p.Do place body condition) at h k c =
             let m = statements_formed ks body at h.0 (first_in x.variables x.mutexes (r.statements_indexes body) (r.placed_indexes condition) k) c in
-            let ms = (i.statements fs bodies n ks body).kinds in record {
+            let ms = (i.statements fs bodies n ks body).locals in record {
               grows = m.grows;
               formed = λ final into. (
                 (
                   m.formed final into,
-                  placed_formed n js final (at_into n js ks final at (into_both ks ms final m.grows into)) condition h.1
+                  placed_formed n js final (at_into n js ks.kinds final at (into_both ks.kinds ms.kinds final m.grows into)) condition h.1
                       (second_in x.variables x.mutexes (r.statements_indexes body) (r.placed_indexes condition) k),
                 ),
                 tt,
               );
             }
         statement_formed ks (p.Lock place name) at h k c =
-            record { grows = into_self ks; formed = λ final into. (name_formed n js final (at_into n js ks final at into) name.mutex name.key h k, tt) }
+            record {
+              grows = into_self ks.kinds;
+              formed = λ final into. (name_formed n js final (at_into n js ks.kinds final at into) name.mutex name.key h k, tt);
+            }
         statement_formed ks (p.Unlock place name) at h k c =
-            record { grows = into_self ks; formed = λ final into. (name_formed n js final (at_into n js ks final at into) name.mutex name.key h k, tt) }
+            record {
+              grows = into_self ks.kinds;
+              formed = λ final into. (name_formed n js final (at_into n js ks.kinds final at into) name.mutex name.key h k, tt);
+            }
 
-        statements_formed : (ks : List Kind) (ys : p.Statements) → At n js ks → AreStatements x js ys → AllIn x.variables x.mutexes (r.statements_indexes ys) →
+        statements_formed : (ks : i.Locals) (ys : p.Statements) → At n js ks.kinds → AreStatements x js ys →
+            AllIn x.variables x.mutexes (r.statements_indexes ys) →
             Called (i.statements_calls ys) → Good ks (i.statements fs bodies n ks ys)
-        statements_formed ks p.no_statement at h k c = record { grows = into_self ks; formed = λ final into. tt }
+        statements_formed ks p.no_statement at h k c = record { grows = into_self ks.kinds; formed = λ final into. tt }
         statements_formed ks (p.statement_and y rest) at h k c =
             let m = statement_formed ks y at h.0 (first_in x.variables x.mutexes (r.statement_indexes y) (r.statements_indexes rest) k)
             (first_called (i.statement_calls y) (i.statements_calls rest) c) in
-            let ms = (i.statement fs bodies n ks y).kinds in
-            let o = statements_formed ms rest (at_into n js ks ms at m.grows) h.1
+            let ms = (i.statement fs bodies n ks y).locals in
+            let o = statements_formed ms rest (at_into n js ks.kinds ms.kinds at m.grows) h.1
             (second_in x.variables x.mutexes (r.statement_indexes y) (r.statements_indexes rest) k)
             (second_called (i.statement_calls y) (i.statements_calls rest) c) in
-            let os = (i.statements fs bodies n ms rest).kinds in record {
-              grows = into_both ks ms os m.grows o.grows;
+            let os = (i.statements fs bodies n ms rest).locals in record {
+              grows = into_both ks.kinds ms.kinds os.kinds m.grows o.grows;
               formed = λ final into. both_formed final (i.statement fs bodies n ks y).made (i.statements fs bodies n ms rest).made
-                  (m.formed final (into_both ms os final o.grows into)) (o.formed final into);
+                  (m.formed final (into_both ms.kinds os.kinds final o.grows into)) (o.formed final into);
             }
 
-        arms_formed : (ks : List Kind) (ys : p.Arms) → At n js ks → AreArms x js ys → AllIn x.variables x.mutexes (r.arms_indexes ys) →
+        arms_formed : (ks : i.Locals) (ys : p.Arms) → At n js ks.kinds → AreArms x js ys → AllIn x.variables x.mutexes (r.arms_indexes ys) →
             Called (i.arms_calls ys) →
             GoodArms ks (i.arms_of fs bodies n ks ys)
-        arms_formed ks p.no_arm at h k c = record { grows = into_self ks; formed = λ final into. tt }
+        arms_formed ks p.no_arm at h k c = record { grows = into_self ks.kinds; formed = λ final into. tt }
         arms_formed ks (p.arm_and condition body rest) at h k c =
             let both = r.placed_indexes condition ++ r.statements_indexes body in
             let first = first_in x.variables x.mutexes both (r.arms_indexes rest) k in
             let m = statements_formed ks body at h.1 (second_in x.variables x.mutexes (r.placed_indexes condition) (r.statements_indexes body) first)
             (first_called (i.statements_calls body) (i.arms_calls rest) c) in
-            let ms = (i.statements fs bodies n ks body).kinds in
-            let o = arms_formed ms rest (at_into n js ks ms at m.grows) h.2 (second_in x.variables x.mutexes both (r.arms_indexes rest) k)
+            let ms = (i.statements fs bodies n ks body).locals in
+            let o = arms_formed ms rest (at_into n js ks.kinds ms.kinds at m.grows) h.2 (second_in x.variables x.mutexes both (r.arms_indexes rest) k)
             (second_called (i.statements_calls body) (i.arms_calls rest) c) in
-            let os = (i.arms_of fs bodies n ms rest).kinds in record {
-              grows = into_both ks ms os m.grows o.grows;
+            let os = (i.arms_of fs bodies n ms rest).locals in record {
+              grows = into_both ks.kinds ms.kinds os.kinds m.grows o.grows;
               formed = λ final into.
-                  let last = into_both ms os final o.grows into in
-                  let seen = at_into n js ks final at (into_both ks ms final m.grows last) in (
+                  let last = into_both ms.kinds os.kinds final o.grows into in
+                  let seen = at_into n js ks.kinds final at (into_both ks.kinds ms.kinds final m.grows last) in (
                     placed_formed n js final seen condition h.0
                         (first_in x.variables x.mutexes (r.placed_indexes condition) (r.statements_indexes body) first),
                     m.formed final last,
@@ -427,10 +399,10 @@ module _ (x : p.Program) (prog : IsProgram x) (fit : AllFit x) where
 
   -- ---- Bodies
 
-  abbrev body_by : (ks : List Kind) → i.Bodies → Option p.Function → i.Made f.Statements
+  abbrev body_by : (ks : i.Locals) → i.Bodies → Option p.Function → i.Made f.Statements
   body_by ks bodies o = elim o [
-    | Some y ↦ i.statements fs bodies (length ks) (ks ++ y.locals) y.body
-    | None ↦ record { made = f.no_statement; kinds = ks }
+    | Some y ↦ i.statements fs bodies (length ks.kinds) (i.joined ks (i.locals y.locals y.refers)) y.body
+    | None ↦ record { made = f.no_statement; locals = ks }
   ]
 
   bodies_formed : (d g : ℕ) → Low fs d g → AreBodies (i.bodies_of fs d) g
@@ -440,14 +412,19 @@ module _ (x : p.Program) (prog : IsProgram x) (fit : AllFit x) where
       let deeper : Called (i.bodies_of fs d) (i.statements_calls callee.body) = λ c k l. bodies_formed d c.function
       (low c (subst (λ (cs : List i.Call). Contains cs c) (sym (calls_of_some fs g callee found)) k) l) in
       let inside = first_in x.variables x.mutexes (r.statements_indexes callee.body) (r.returned_indexes callee.result) (function_fits g callee found) in
-      let made = statements_formed (i.bodies_of fs d) (length ks) callee.locals (ks ++ callee.locals) callee.body
-      (at_append ks callee.locals) own.body inside deeper in
-      let m = i.statements fs (i.bodies_of fs d) (length ks) (ks ++ callee.locals) callee.body in
-      let good : Good ks m = record { grows = into_both ks (ks ++ callee.locals) m.kinds (into_append ks callee.locals) made.grows; formed = made.formed } in
+      let own_locals = i.locals callee.locals callee.refers in
+      let js = i.joined ks own_locals in
+      let made = statements_formed (i.bodies_of fs d) (length ks.kinds) callee.locals js callee.body
+      (at_append ks.kinds callee.locals) own.body inside deeper in
+      let m = i.statements fs (i.bodies_of fs d) (length ks.kinds) js callee.body in
+      let good : Good ks m = record {
+        grows = into_both ks.kinds js.kinds m.locals.kinds (into_append ks.kinds callee.locals) made.grows;
+        formed = made.formed;
+      } in
       let is : m ≡ i.bodies_of fs (suc d) g ks = ap (body_by ks (i.bodies_of fs d)) (sym found) in record {
         good = subst (Good ks) is good;
-        locals = subst (λ (w : i.Made f.Statements). At (length ks) callee.locals w.kinds) is
-            (at_into (length ks) callee.locals (ks ++ callee.locals) m.kinds (at_append ks callee.locals) made.grows);
+        locals = subst (λ (w : i.Made f.Statements). At (length ks.kinds) callee.locals w.locals.kinds) is
+            (at_into (length ks.kinds) callee.locals js.kinds m.locals.kinds (at_append ks.kinds callee.locals) made.grows);
       }
 
   -- ---- Threads
@@ -457,9 +434,10 @@ module _ (x : p.Program) (prog : IsProgram x) (fit : AllFit x) where
         AreFlatStatements z (i.flat_thread fs t).locals (i.flat_thread fs t).body
     thread_formed t h k =
         let bodies = i.bodies_of fs (length fs) in
-        let made = statements_formed bodies 0 t.locals t.locals t.body (at_self t.locals) h k
+        let made = statements_formed bodies 0 t.locals (i.locals t.locals t.refers) t.body (at_self t.locals) h k
         (λ c m l. bodies_formed (length fs) c.function (low_all fs none c.function l)) in
-        made.formed (i.statements fs bodies 0 t.locals t.body).kinds (into_self (i.statements fs bodies 0 t.locals t.body).kinds)
+        let all = (i.statements fs bodies 0 (i.locals t.locals t.refers) t.body).locals in
+        made.formed all.kinds (into_self all.kinds)
 
     threads_formed : (ts : List p.Thread) → AllByRecursion (λ (t : p.Thread). AreStatements x t.locals t.body) ts →
         AllIn x.variables x.mutexes (flat_map (λ (t : p.Thread). r.statements_indexes t.body) ts) →
@@ -470,8 +448,8 @@ module _ (x : p.Program) (prog : IsProgram x) (fit : AllFit x) where
       threads_formed ts h.1 (second_in x.variables x.mutexes (r.statements_indexes t.body) (flat_map (λ (u : p.Thread). r.statements_indexes u.body) ts) k),
     )
 
-pub flat_formed : (x : p.Program) → IsProgram x → AllFit x → HasNoBack x → IsWellFormed (i.flat_form x)
-flat_formed x prog fit none =
+pub flat_formed : (x : p.Program) → IsProgram x → AllFit x → program_nulls x ≡ [] → HasNoBack x → IsWellFormed (i.flat_form x)
+flat_formed x prog fit never none =
     let threads = second_in x.variables x.mutexes (flat_map (λ (y : p.Function). r.statements_indexes y.body ++ r.returned_indexes y.result) x.functions)
     (flat_map (λ (t : p.Thread). r.statements_indexes t.body) x.threads) fit in
     let flat : f.Flat = record { mutexes = x.mutexes; variables = x.variables; threads = map (i.flat_thread x.functions) x.threads } in
@@ -483,6 +461,8 @@ flat_formed x prog fit none =
         bytes = prog.shared.bytes;
       };
       threads = threads_formed x prog fit none x.threads prog.threads threads;
+      referring = flat_referring x prog none never;
+      unreferring = flat_unreferring x prog;
     } in
     subst IsWellFormed (sym (flat_is x)) made
 

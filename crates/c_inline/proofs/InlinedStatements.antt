@@ -46,20 +46,23 @@ pub pushed : (xs : List flat.Statement) (x : flat.Statement) (more : f.Statement
 pushed [] x more = refl
 pushed (y ∷ xs) x more = ap (f.statement_and (f.statement_of y)) (pushed xs x more)
 
-pub then_after : (made made' : f.Statements) (s t : i.Made f.Statements) (K : List Kind → i.Made f.Statements) → after made s ≡ after made' t →
+pub then_after : (made made' : f.Statements) (s t : i.Made f.Statements) (K : i.Locals → i.Made f.Statements) → after made s ≡ after made' t →
     after made (in_turn s K) ≡ after made' (in_turn t K)
 then_after made made' s t K h =
     let a : i.statements_and made s.made ≡ i.statements_and made' t.made = ap (λ (m : i.Made f.Statements). m.made) h in
-    let b : s.kinds ≡ t.kinds = ap (λ (m : i.Made f.Statements). m.kinds) h in
-    ap (λ (x : f.Statements). let m : i.Made f.Statements = record { made = x; kinds = (K s.kinds).kinds } in m) (sym (and_assoc made s.made (K s.kinds).made))
-    ∙ ap₂ (λ (x : f.Statements) (k : List Kind). let m : i.Made f.Statements = record { made = i.statements_and x (K k).made; kinds = (K k).kinds } in m) a b
-    ∙ ap (λ (x : f.Statements). let m : i.Made f.Statements = record { made = x; kinds = (K t.kinds).kinds } in m) (and_assoc made' t.made (K t.kinds).made)
+    let b : s.locals ≡ t.locals = ap (λ (m : i.Made f.Statements). m.locals) h in
+    ap (λ (x : f.Statements). let m : i.Made f.Statements = record { made = x; locals = (K s.locals).locals } in m)
+    (sym (and_assoc made s.made (K s.locals).made))
+    ∙ ap₂ (λ (x : f.Statements) (k : i.Locals). let m : i.Made f.Statements = record { made = i.statements_and x (K k).made; locals = (K k).locals } in m) a b
+    ∙ ap (λ (x : f.Statements). let m : i.Made f.Statements = record { made = x; locals = (K t.locals).locals } in m) (and_assoc made' t.made (K t.locals).made)
 
-then_done : (made made' : f.Statements) (s : i.Made f.Statements) (ks : List Kind) (K : List Kind → i.Made f.Statements) →
-    after made s ≡ record { made = made'; kinds = ks } → after made (in_turn s K) ≡ after made' (K ks)
+then_done : (made made' : f.Statements) (s : i.Made f.Statements) (ks : i.Locals) (K : i.Locals → i.Made f.Statements) →
+    after made s ≡ record { made = made'; locals = ks } → after made (in_turn s K) ≡ after made' (K ks)
 then_done made made' s ks K h =
-    ap (λ (x : f.Statements). let m : i.Made f.Statements = record { made = x; kinds = (K s.kinds).kinds } in m) (sym (and_assoc made s.made (K s.kinds).made))
-    ∙ ap (λ (t : i.Made f.Statements). let m : i.Made f.Statements = record { made = i.statements_and t.made (K t.kinds).made; kinds = (K t.kinds).kinds } in
+    ap (λ (x : f.Statements). let m : i.Made f.Statements = record { made = x; locals = (K s.locals).locals } in m)
+    (sym (and_assoc made s.made (K s.locals).made))
+    ∙ ap (λ (t : i.Made f.Statements). let m : i.Made f.Statements =
+    record { made = i.statements_and t.made (K t.locals).made; locals = (K t.locals).locals } in
     m) h
 
 pub following_pushed : (xs : List flat.Statement) (x : flat.Statement) →
@@ -109,7 +112,7 @@ arms_and f.no_arm more = more
 arms_and (f.arm_and condition body rest) more = f.arm_and condition body (arms_and rest more)
 
 abbrev pub after_arms : f.Arms → i.Made f.Arms → i.Made f.Arms
-after_arms made more = record { made = arms_and made more.made; kinds = more.kinds }
+after_arms made more = record { made = arms_and made more.made; locals = more.locals }
 
 pub arms_none : (a : f.Arms) → arms_and a f.no_arm ≡ a
 arms_none f.no_arm = refl
@@ -122,74 +125,75 @@ pushed_arm (y ∷ xs) x more = ap (f.arm_and (e.placed_of y.condition) (f.statem
 
 -- ---- Statements
 
-module _ (fs : List p.Function) (B : i.Bodies) (n : ℕ) (ks js : List Kind) (xs made : List flat.Statement) (place : Place) where
+module _ (fs : List p.Function) (B : i.Bodies) (n : ℕ) (ks js : i.Locals) (xs made : List flat.Statement) (place : Place) where
   pub one_made : (x : flat.Statement) (s : f.Statement) (m : i.Made f.Statements) → made ≡ xs ++ x ∷ [] → f.statement_of x ≡ s →
-      m ≡ record { made = i.one s; kinds = js } →
-      after (f.statements_of xs) m ≡ after (f.statements_of made) (record { made = f.no_statement; kinds = js })
+      m ≡ record { made = i.one s; locals = js } →
+      after (f.statements_of xs) m ≡ after (f.statements_of made) (record { made = f.no_statement; locals = js })
   one_made x s m h e k =
       ap (after (f.statements_of xs)) k
-      ∙ ap (λ (y : f.Statement). let r : i.Made f.Statements = record { made = i.statements_and (f.statements_of xs) (i.one y); kinds = js } in r) (sym e)
-      ∙ ap (λ (y : f.Statements). let r : i.Made f.Statements = record { made = y; kinds = js } in r) (sym (pushed xs x f.no_statement))
-      ∙ ap (λ (ys : List flat.Statement). after (f.statements_of ys) (let r : i.Made f.Statements = record { made = f.no_statement; kinds = js } in r)) (sym h)
+      ∙ ap (λ (y : f.Statement). let r : i.Made f.Statements = record { made = i.statements_and (f.statements_of xs) (i.one y); locals = js } in r) (sym e)
+      ∙ ap (λ (y : f.Statements). let r : i.Made f.Statements = record { made = y; locals = js } in r) (sym (pushed xs x f.no_statement))
+      ∙ ap (λ (ys : List flat.Statement). after (f.statements_of ys) (let r : i.Made f.Statements = record { made = f.no_statement; locals = js } in r)) (sym h)
 
   module _ (condition : placed.Placed) (given : placed.Placed) (row : Vec flat.Statement Global) (body : p.Statements)
       (test : e.placed_of condition ≡ i.shifted_placed n (e.placed_of given))
-      (inner : i.statements fs B n ks body ≡ record { made = f.statements_of row.items; kinds = js }) where
+      (inner : i.statements fs B n ks body ≡ record { made = f.statements_of row.items; locals = js }) where
     pub while_made : (x : p.Statement) → x ≡ p.While place (e.placed_of given) body → made ≡ xs ++ flat.While place condition row ∷ [] →
-        after (f.statements_of xs) (i.statement fs B n ks x) ≡ after (f.statements_of made) (record { made = f.no_statement; kinds = js })
+        after (f.statements_of xs) (i.statement fs B n ks x) ≡ after (f.statements_of made) (record { made = f.no_statement; locals = js })
     while_made x view h =
         one_made (flat.While place condition row) (f.While place (i.shifted_placed n (e.placed_of given)) (f.statements_of row.items))
         (i.statement fs B n ks x) h
         (of_while place condition row ∙ ap (λ (y : e.Placed). f.While place y (f.statements_of row.items)) test)
         (ap (i.statement fs B n ks) view ∙ ap
         (λ (m : i.Made f.Statements). let r : i.Made f.Statements =
-        record { made = i.one (f.While place (i.shifted_placed n (e.placed_of given)) m.made); kinds = m.kinds } in r) inner)
+        record { made = i.one (f.While place (i.shifted_placed n (e.placed_of given)) m.made); locals = m.locals } in r) inner)
 
     pub do_made : (x : p.Statement) → x ≡ p.Do place body (e.placed_of given) → made ≡ xs ++ flat.Do place row condition ∷ [] →
-        after (f.statements_of xs) (i.statement fs B n ks x) ≡ after (f.statements_of made) (record { made = f.no_statement; kinds = js })
+        after (f.statements_of xs) (i.statement fs B n ks x) ≡ after (f.statements_of made) (record { made = f.no_statement; locals = js })
     do_made x view h =
         one_made (flat.Do place row condition) (f.Do place (f.statements_of row.items) (i.shifted_placed n (e.placed_of given))) (i.statement fs B n ks x) h
         (of_do place row condition ∙ ap (λ (y : e.Placed). f.Do place (f.statements_of row.items) y) test)
         (ap (i.statement fs B n ks) view ∙ ap
         (λ (m : i.Made f.Statements). let r : i.Made f.Statements =
-        record { made = i.one (f.Do place m.made (i.shifted_placed n (e.placed_of given))); kinds = m.kinds } in r) inner)
+        record { made = i.one (f.Do place m.made (i.shifted_placed n (e.placed_of given))); locals = m.locals } in r) inner)
 
-  pub if_made : (x : p.Statement) (tests : Vec arm.Arm Global) (row : Vec flat.Statement Global) (arms : p.Arms) (otherwise : p.Statements) (hs : List Kind) →
+  pub if_made : (x : p.Statement) (tests : Vec arm.Arm Global) (row : Vec flat.Statement Global) (arms : p.Arms) (otherwise : p.Statements) (hs : i.Locals) →
       x ≡ p.If place arms otherwise → made ≡ xs ++ flat.If place tests row ∷ [] →
-      i.arms_of fs B n ks arms ≡ record { made = f.arms_list_of tests.items; kinds = hs } →
-      i.statements fs B n hs otherwise ≡ record { made = f.statements_of row.items; kinds = js } →
-      after (f.statements_of xs) (i.statement fs B n ks x) ≡ after (f.statements_of made) (record { made = f.no_statement; kinds = js })
+      i.arms_of fs B n ks arms ≡ record { made = f.arms_list_of tests.items; locals = hs } →
+      i.statements fs B n hs otherwise ≡ record { made = f.statements_of row.items; locals = js } →
+      after (f.statements_of xs) (i.statement fs B n ks x) ≡ after (f.statements_of made) (record { made = f.no_statement; locals = js })
   if_made x tests row arms otherwise hs view h a o =
       one_made (flat.If place tests row) (f.If place (f.arms_list_of tests.items) (f.statements_of row.items)) (i.statement fs B n ks x) h
       (of_if place tests row)
       (ap (i.statement fs B n ks) view
       ∙ ap (λ (m : i.Made f.Arms). let r : i.Made f.Statements =
-      record { made = i.one (f.If place m.made (i.statements fs B n m.kinds otherwise).made); kinds = (i.statements fs B n m.kinds otherwise).kinds } in r) a
+      record { made = i.one (f.If place m.made (i.statements fs B n m.locals otherwise).made); locals = (i.statements fs B n m.locals otherwise).locals } in
+      r) a
       ∙ ap (λ (m : i.Made f.Statements). let r : i.Made f.Statements =
-      record { made = i.one (f.If place (f.arms_list_of tests.items) m.made); kinds = m.kinds } in r) o)
+      record { made = i.one (f.If place (f.arms_list_of tests.items) m.made); locals = m.locals } in r) o)
 
   pub assign_made : (x : p.Statement) (to given : targets.Lvalue) (value from : placed.Placed) → x ≡ p.Assign place (e.lvalue_of given) (e.placed_of from) →
       made ≡ xs ++ flat.Assign place to value ∷ [] → js ≡ ks →
       e.lvalue_of to ≡ i.shifted_target n (e.lvalue_of given) → e.placed_of value ≡ i.shifted_placed n (e.placed_of from) →
-      after (f.statements_of xs) (i.statement fs B n ks x) ≡ after (f.statements_of made) (record { made = f.no_statement; kinds = js })
+      after (f.statements_of xs) (i.statement fs B n ks x) ≡ after (f.statements_of made) (record { made = f.no_statement; locals = js })
   assign_made x to given value from view h k t u =
       one_made (flat.Assign place to value) (f.Assign place (i.shifted_target n (e.lvalue_of given)) (i.shifted_placed n (e.placed_of from)))
       (i.statement fs B n ks x) h
       (ap₂ (f.Assign place) t u)
       (ap (i.statement fs B n ks) view ∙ ap
-      (λ (hs : List Kind). let r : i.Made f.Statements =
-      record { made = i.one (f.Assign place (i.shifted_target n (e.lvalue_of given)) (i.shifted_placed n (e.placed_of from))); kinds = hs } in r) (sym k))
+      (λ (hs : i.Locals). let r : i.Made f.Statements =
+      record { made = i.one (f.Assign place (i.shifted_target n (e.lvalue_of given)) (i.shifted_placed n (e.placed_of from))); locals = hs } in r) (sym k))
 
-pub made_alone : (old new : f.Statements) (m : i.Made f.Statements) (ks : List Kind) → after old m ≡ after new (record { made = f.no_statement; kinds = ks }) →
-    after old m ≡ record { made = new; kinds = ks }
-made_alone old new m ks h = h ∙ ap (λ (y : f.Statements). let r : i.Made f.Statements = record { made = y; kinds = ks } in r) (and_none new)
+pub made_alone : (old new : f.Statements) (m : i.Made f.Statements) (ks : i.Locals) → after old m ≡ after new (record { made = f.no_statement; locals = ks }) →
+    after old m ≡ record { made = new; locals = ks }
+made_alone old new m ks h = h ∙ ap (λ (y : f.Statements). let r : i.Made f.Statements = record { made = y; locals = ks } in r) (and_none new)
 
 -- one of several statements
 module _ (fs : List p.Function) (B : i.Bodies) (n : ℕ) (xs : List Statement) (j : ℕ) (x : Statement) (within : j < length xs) (is : x ≡ get_or xs j x) where
   next_of : drop j xs ≡ x ∷ drop (j + 1) xs
   next_of = drop_more xs j x within ∙ ap (λ (y : Statement). y ∷ drop (j + 1) xs) (sym is)
 
-  pub statement_step : (ks js : List Kind) (old new : f.Statements) → after old (i.statement fs B n ks (p.statement_of x)) ≡ record { made = new; kinds = js } →
+  pub statement_step : (ks js : i.Locals) (old new : f.Statements) → after old (i.statement fs B n ks (p.statement_of x)) ≡ record { made = new; locals = js } →
       after old (i.statements fs B n ks (p.statements_of (drop j xs))) ≡ after new (i.statements fs B n js (p.statements_of (drop (j + 1) xs)))
   statement_step ks js old new h =
       ap (λ (ys : List Statement). after old (i.statements fs B n ks (p.statements_of ys))) next_of
@@ -199,20 +203,20 @@ module _ (fs : List p.Function) (B : i.Bodies) (n : ℕ) (xs : List Statement) (
       ≡ v.statement_weight v.size 2 fs (function_work fs) (p.statement_of x) + statements_work fs (p.statements_of (drop (j + 1) xs))
   statement_left = ap (λ (ys : List Statement). statements_work fs (p.statements_of ys)) next_of
 
-pub statements_all : (fs : List p.Function) (B : i.Bodies) (n : ℕ) (xs : List Statement) (j : ℕ) (ks : List Kind) (made : f.Statements) → length xs ≤ j →
-    after made (i.statements fs B n ks (p.statements_of (drop j xs))) ≡ record { made = made; kinds = ks }
+pub statements_all : (fs : List p.Function) (B : i.Bodies) (n : ℕ) (xs : List Statement) (j : ℕ) (ks : i.Locals) (made : f.Statements) → length xs ≤ j →
+    after made (i.statements fs B n ks (p.statements_of (drop j xs))) ≡ record { made = made; locals = ks }
 statements_all fs B n xs j ks made le =
     ap (λ (ys : List Statement). after made (i.statements fs B n ks (p.statements_of ys))) (drop_all j xs le)
-    ∙ ap (λ (y : f.Statements). let r : i.Made f.Statements = record { made = y; kinds = ks } in r) (and_none made)
+    ∙ ap (λ (y : f.Statements). let r : i.Made f.Statements = record { made = y; locals = ks } in r) (and_none made)
 
 -- one of several conditions
 module _ (fs : List p.Function) (B : i.Bodies) (n : ℕ) (xs : List from.Arm) (j : ℕ) (x : from.Arm) (within : j < length xs) (is : x ≡ get_or xs j x) where
   next_arm : drop j xs ≡ x ∷ drop (j + 1) xs
   next_arm = drop_more xs j x within ∙ ap (λ (y : from.Arm). y ∷ drop (j + 1) xs) (sym is)
 
-  pub arm_made : (ks js : List Kind) (ys made : List arm.Arm) (a : arm.Arm) → made ≡ ys ++ a ∷ [] →
+  pub arm_made : (ks js : i.Locals) (ys made : List arm.Arm) (a : arm.Arm) → made ≡ ys ++ a ∷ [] →
       e.placed_of a.condition ≡ i.shifted_placed n (e.placed_of x.condition) →
-      i.statements fs B n ks (p.statements_of x.body.items) ≡ record { made = f.statements_of a.body.items; kinds = js } →
+      i.statements fs B n ks (p.statements_of x.body.items) ≡ record { made = f.statements_of a.body.items; locals = js } →
       after_arms (f.arms_list_of ys) (i.arms_of fs B n ks (p.arms_list_of (drop j xs)))
       ≡ after_arms (f.arms_list_of made) (i.arms_of fs B n js (p.arms_list_of (drop (j + 1) xs)))
   arm_made ks js ys made a h test inner =
@@ -221,35 +225,35 @@ module _ (fs : List p.Function) (B : i.Bodies) (n : ℕ) (xs : List from.Arm) (j
       ap (λ (zs : List from.Arm). after_arms (f.arms_list_of ys) (i.arms_of fs B n ks (p.arms_list_of zs))) next_arm
       ∙ ap (λ (m : i.Made f.Statements). let t : i.Made f.Arms =
       record {
-        made = arms_and (f.arms_list_of ys) (f.arm_and (i.shifted_placed n (e.placed_of x.condition)) m.made (i.arms_of fs B n m.kinds rest).made);
-        kinds = (i.arms_of fs B n m.kinds rest).kinds;
+        made = arms_and (f.arms_list_of ys) (f.arm_and (i.shifted_placed n (e.placed_of x.condition)) m.made (i.arms_of fs B n m.locals rest).made);
+        locals = (i.arms_of fs B n m.locals rest).locals;
       } in t) inner
       ∙ ap (λ (y : e.Placed). let t : i.Made f.Arms =
-      record { made = arms_and (f.arms_list_of ys) (f.arm_and y (f.statements_of a.body.items) r.made); kinds = r.kinds } in t) (sym test)
-      ∙ ap (λ (y : f.Arms). let t : i.Made f.Arms = record { made = y; kinds = r.kinds } in t) (sym (pushed_arm ys a r.made))
+      record { made = arms_and (f.arms_list_of ys) (f.arm_and y (f.statements_of a.body.items) r.made); locals = r.locals } in t) (sym test)
+      ∙ ap (λ (y : f.Arms). let t : i.Made f.Arms = record { made = y; locals = r.locals } in t) (sym (pushed_arm ys a r.made))
       ∙ ap (λ (zs : List arm.Arm). after_arms (f.arms_list_of zs) r) (sym h)
 
   pub arm_left : v.arms_weight v.size 2 fs (function_work fs) (p.arms_list_of (drop j xs))
       ≡ 1 + statements_work fs (p.statements_of x.body.items) + v.arms_weight v.size 2 fs (function_work fs) (p.arms_list_of (drop (j + 1) xs))
   arm_left = let h = ap (λ (ys : List from.Arm). v.arms_weight v.size 2 fs (function_work fs) (p.arms_list_of ys)) next_arm in omega (arith, h)
 
-pub arms_all : (fs : List p.Function) (B : i.Bodies) (n : ℕ) (xs : List from.Arm) (j : ℕ) (ks : List Kind) (made : f.Arms) → length xs ≤ j →
-    after_arms made (i.arms_of fs B n ks (p.arms_list_of (drop j xs))) ≡ record { made = made; kinds = ks }
+pub arms_all : (fs : List p.Function) (B : i.Bodies) (n : ℕ) (xs : List from.Arm) (j : ℕ) (ks : i.Locals) (made : f.Arms) → length xs ≤ j →
+    after_arms made (i.arms_of fs B n ks (p.arms_list_of (drop j xs))) ≡ record { made = made; locals = ks }
 arms_all fs B n xs j ks made le =
     ap (λ (ys : List from.Arm). after_arms made (i.arms_of fs B n ks (p.arms_list_of ys))) (drop_all j xs le)
-    ∙ ap (λ (y : f.Arms). let r : i.Made f.Arms = record { made = y; kinds = ks } in r) (arms_none made)
+    ∙ ap (λ (y : f.Arms). let r : i.Made f.Arms = record { made = y; locals = ks } in r) (arms_none made)
 
 -- ---- Bodies that have been begun, the last one first
 
-turn_assoc : (s : i.Made f.Statements) (K L : List Kind → i.Made f.Statements) → in_turn (in_turn s K) L ≡ in_turn s (λ ks. in_turn (K ks) L)
+turn_assoc : (s : i.Made f.Statements) (K L : i.Locals → i.Made f.Statements) → in_turn (in_turn s K) L ≡ in_turn s (λ ks. in_turn (K ks) L)
 turn_assoc s K L =
-    ap (λ (x : f.Statements). let r : i.Made f.Statements = record { made = x; kinds = (L (K s.kinds).kinds).kinds } in r)
-    (and_assoc s.made (K s.kinds).made (L (K s.kinds).kinds).made)
+    ap (λ (x : f.Statements). let r : i.Made f.Statements = record { made = x; locals = (L (K s.locals).locals).locals } in r)
+    (and_assoc s.made (K s.locals).made (L (K s.locals).locals).made)
 
-all_made_more : (functions : List Function) (bs : List Begun) (b : Begun) (ks : List Kind) →
+all_made_more : (functions : List Function) (bs : List Begun) (b : Begun) (ks : i.Locals) →
     all_made functions (bs ++ b ∷ []) ks ≡ in_turn (begun_made functions b ks) (all_made functions bs)
 all_made_more functions [] b ks =
-    ap (λ (x : f.Statements). let r : i.Made f.Statements = record { made = x; kinds = (begun_made functions b ks).kinds } in r)
+    ap (λ (x : f.Statements). let r : i.Made f.Statements = record { made = x; locals = (begun_made functions b ks).locals } in r)
     (sym (and_none (begun_made functions b ks).made))
 all_made_more functions (a ∷ bs) b ks =
     ap (λ (m : i.Made f.Statements). in_turn m (begun_made functions a)) (all_made_more functions bs b ks)
@@ -267,7 +271,7 @@ module _ (functions : List Function) where
   fs : List p.Function
   fs = map p.function_of functions
 
-  any_made : (bs : List Begun) (b : Option Begun) (ks : List Kind) →
+  any_made : (bs : List Begun) (b : Option Begun) (ks : i.Locals) →
       all_made functions (and_any bs b) ks ≡ in_turn (begun_if_any functions b ks) (all_made functions bs)
   any_made bs (Some b) ks = all_made_more functions bs b ks
   any_made bs None ks = refl
@@ -291,21 +295,22 @@ module _ (functions : List Function) where
   taken_none b y h le = (ap (drop b.done) (body_is functions b.function y h) ∙ drop_all b.done y.body.items le, refl)
 
   -- a body of which a statement is taken
-  taken_made : (b b' : Begun) (x : Statement) (ks : List Kind) → IsTaken functions b (Some x) b' →
+  taken_made : (b b' : Begun) (x : Statement) (ks : i.Locals) → IsTaken functions b (Some x) b' →
       begun_made functions b ks ≡ in_turn (i.statement (map p.function_of functions) (whole (map p.function_of functions)) b.by ks (p.statement_of x))
       (begun_made functions b')
   taken_made b b' x ks taken =
       let B = whole (map p.function_of functions) in
       let made : ℕ → f.Statements → List Statement → i.Made f.Statements = λ n o xs. let m =
-      i.statements (map p.function_of functions) B n ks (p.statements_of xs) in record { made = i.statements_and m.made o; kinds = m.kinds } in
+      i.statements (map p.function_of functions) B n ks (p.statements_of xs) in record { made = i.statements_and m.made o; locals = m.locals } in
       let s = i.statement (map p.function_of functions) B b.by ks (p.statement_of x) in
       let a : begun_made functions b ks ≡ made b.by (following_of b.following) (x ∷ rest_of functions b') = ap (made b.by (following_of b.following)) taken.0 in
-      let r = i.statements (map p.function_of functions) B b.by s.kinds (p.statements_of (rest_of functions b')) in
+      let r = i.statements (map p.function_of functions) B b.by s.locals (p.statements_of (rest_of functions b')) in
       a
-      ∙ ap (λ (y : f.Statements). let m : i.Made f.Statements = record { made = y; kinds = r.kinds } in m) (and_assoc s.made r.made (following_of b.following))
+      ∙ ap (λ (y : f.Statements). let m : i.Made f.Statements = record { made = y; locals = r.locals } in m)
+      (and_assoc s.made r.made (following_of b.following))
       ∙ ap₂ (λ (n : ℕ) (o : Option flat.Statement).
-      let m = i.statements (map p.function_of functions) B n s.kinds (p.statements_of (rest_of functions b')) in
-      let t : i.Made f.Statements = record { made = i.statements_and s.made (i.statements_and m.made (following_of o)); kinds = m.kinds } in t)
+      let m = i.statements (map p.function_of functions) B n s.locals (p.statements_of (rest_of functions b')) in
+      let t : i.Made f.Statements = record { made = i.statements_and s.made (i.statements_and m.made (following_of o)); locals = m.locals } in t)
       (sym taken.1) (sym taken.2)
 
   taken_work : (b b' : Begun) (x : Statement) → IsTaken functions b (Some x) b' →
@@ -318,7 +323,7 @@ module _ (functions : List Function) where
   -- the next statement of a body is taken, and what is left of the body waits, before a body that the statement begins
   module _ (bs bs' : List Begun) (b b' : Begun) (inner : Option Begun) (x : Statement) (taken : IsTaken functions b (Some x) b')
       (waits : bs' ≡ and_any (bs ++ b' ∷ []) inner) where
-    pub step_made : (ks ks' : List Kind) (old new : f.Statements) →
+    pub step_made : (ks ks' : i.Locals) (old new : f.Statements) →
         after old (i.statement (map p.function_of functions) (whole (map p.function_of functions)) b'.by ks (p.statement_of x))
         ≡ after new (begun_if_any functions inner ks') →
         after old (all_made functions (bs ++ b ∷ []) ks) ≡ after new (all_made functions bs' ks')
@@ -330,8 +335,8 @@ module _ (functions : List Function) where
         ∙ turn_assoc (s b.by) (begun_made functions b') (all_made functions bs))
         ∙ then_after old new (s b.by) (begun_if_any functions inner ks') (λ js. in_turn (begun_made functions b' js) (all_made functions bs)) k
         ∙ ap (after new) (ap (λ (m : i.Made f.Statements). let r : i.Made f.Statements =
-        record { made = i.statements_and (begun_if_any functions inner ks').made m.made; kinds = m.kinds } in r)
-        (sym (all_made_more functions bs b' (begun_if_any functions inner ks').kinds)) ∙ sym (any_made (bs ++ b' ∷ []) inner ks')
+        record { made = i.statements_and (begun_if_any functions inner ks').made m.made; locals = m.locals } in r)
+        (sym (all_made_more functions bs b' (begun_if_any functions inner ks').locals)) ∙ sym (any_made (bs ++ b' ∷ []) inner ks')
         ∙ ap (λ (l : List Begun). all_made functions l ks') (sym waits))
 
     pub step_work : work_if_any functions inner
@@ -341,18 +346,18 @@ module _ (functions : List Function) where
         let a = ap (all_work functions) waits in
         omega (arith, a, h, any_work (bs ++ b' ∷ []) inner, all_work_more functions bs b', all_work_more functions bs b, taken_work b b' x taken)
 
-  module _ (bs : List Begun) (b : Begun) (ks : List Kind) (old new : f.Statements) (taken : rest_of functions b ≡ []) where
+  module _ (bs : List Begun) (b : Begun) (ks : i.Locals) (old new : f.Statements) (taken : rest_of functions b ≡ []) where
     pub done_made : new ≡ i.statements_and old (following_of b.following) →
         after old (all_made functions (bs ++ b ∷ []) ks) ≡ after new (all_made functions bs ks)
     done_made h =
         let B = whole (map p.function_of functions) in
         let made : List Statement → i.Made f.Statements = λ xs. let m = i.statements (map p.function_of functions) B b.by ks (p.statements_of xs) in
-        record { made = i.statements_and m.made (following_of b.following); kinds = m.kinds } in
+        record { made = i.statements_and m.made (following_of b.following); locals = m.locals } in
         let r = all_made functions bs ks in
         ap (after old) (all_made_more functions bs b ks ∙ ap (λ (xs : List Statement). in_turn (made xs) (all_made functions bs)) taken)
-        ∙ ap (λ (y : f.Statements). let m : i.Made f.Statements = record { made = y; kinds = r.kinds } in m)
+        ∙ ap (λ (y : f.Statements). let m : i.Made f.Statements = record { made = y; locals = r.locals } in m)
         (sym (and_assoc old (following_of b.following) r.made))
-        ∙ ap (λ (y : f.Statements). let m : i.Made f.Statements = record { made = i.statements_and y r.made; kinds = r.kinds } in m) (sym h)
+        ∙ ap (λ (y : f.Statements). let m : i.Made f.Statements = record { made = i.statements_and y r.made; locals = r.locals } in m) (sym h)
 
     pub done_work : all_work functions bs < all_work functions (bs ++ b ∷ [])
     done_work = omega (arith, all_work_more functions bs b)
@@ -375,9 +380,9 @@ made_none (f.statement_and (f.Do place body condition) rest) h = absurd (omega (
 made_none (f.statement_and (f.Lock place name) rest) h = absurd (omega (arith, h))
 made_none (f.statement_and (f.Unlock place name) rest) h = absurd (omega (arith, h))
 
-kinds_kept : (m : f.Statements) (a b : List Kind) → (made_statements v.size m ≡ 0 → ⊥) → i.kinds_after m a b ≡ b
-kinds_kept f.no_statement a b h = absurd (h refl)
-kinds_kept (f.statement_and x m) a b h = refl
+locals_kept : (m : f.Statements) (a b : i.Locals) → (made_statements v.size m ≡ 0 → ⊥) → i.locals_after m a b ≡ b
+locals_kept f.no_statement a b h = absurd (h refl)
+locals_kept (f.statement_and x m) a b h = refl
 
 module _ (fs : List p.Function) (sizes : List (Option ℕ)) (sized : AreSized fs sizes) where
   all_known : (g : ℕ) → IsUnknown sizes g → ⊥
@@ -389,7 +394,7 @@ module _ (fs : List p.Function) (sizes : List (Option ℕ)) (sized : AreSized fs
   pub low_all : (g : ℕ) → g < length fs → Low fs (length fs) g
   low_all g l = let k = sized.known g l in low_more fs _ (length fs) g (found_most v.size fs sizes sized.right) (sized.right.low g k.0 k.1)
 
-  module _ (n : ℕ) (ks : List Kind) (site : Site) where
+  module _ (n : ℕ) (ks : i.Locals) (site : Site) where
     open site use {place, name, function as g, arguments, result as target}
 
     weighs : min (v.called_weight v.size 0 fs (v.known_weight sizes) g arguments target) (2 ^ 64 - 1)
@@ -403,65 +408,65 @@ module _ (fs : List p.Function) (sizes : List (Option ℕ)) (sized : AreSized fs
 
     -- nothing is left of the call
     pub call_none : min (v.called_weight v.size 0 fs (v.known_weight sizes) g arguments target) (2 ^ 64 - 1) ≡ 0 →
-        call_made fs (length fs) n ks site ≡ record { made = f.no_statement; kinds = ks }
+        call_made fs (length fs) n ks site ≡ record { made = f.no_statement; locals = ks }
     call_none h = at (slice_get fs g) (made_none _ (omega (arith, weighs, h)))
       where
         at : (o : Option p.Function) →
             (elim o as (λ _. i.Made f.Statements) [
               | Some x ↦ i.called fs (whole fs) place n ks x (whole fs g ks) arguments target
-              | None ↦ record { made = f.no_statement; kinds = ks }
+              | None ↦ record { made = f.no_statement; locals = ks }
             ]).made ≡ f.no_statement →
             ◌≡◌ {A = i.Made f.Statements}
             (elim o as (λ _. i.Made f.Statements) [
               | Some x ↦ i.called fs (whole fs) place n ks x (whole fs g ks) arguments target
-              | None ↦ record { made = f.no_statement; kinds = ks }
-            ]) (record { made = f.no_statement; kinds = ks })
-        at (Some x) e = ap (λ (m : f.Statements). let r : i.Made f.Statements = record { made = m; kinds = i.kinds_after m ks (whole fs g ks).kinds } in r) e
+              | None ↦ record { made = f.no_statement; locals = ks }
+            ]) (record { made = f.no_statement; locals = ks })
+        at (Some x) e = ap (λ (m : f.Statements). let r : i.Made f.Statements = record { made = m; locals = i.locals_after m ks (whole fs g ks).locals } in r) e
         at None e = refl
 
-    pub call_past : length fs ≤ g → call_made fs (length fs) n ks site ≡ record { made = f.no_statement; kinds = ks }
+    pub call_past : length fs ≤ g → call_made fs (length fs) n ks site ≡ record { made = f.no_statement; locals = ks }
     call_past le =
         ap (λ (o : Option p.Function). elim o as (λ _. i.Made f.Statements) [
           | Some x ↦ i.called fs (whole fs) place n ks x (whole fs g ks) arguments target
-          | None ↦ record { made = f.no_statement; kinds = ks }
+          | None ↦ record { made = f.no_statement; locals = ks }
         ]) (slice_get_past fs g le)
 
     -- what is made of a call: its parameters, its body and its result
     pub call_some : (x : p.Function) → slice_get fs g ≡ Some x →
         (min (v.called_weight v.size 0 fs (v.known_weight sizes) g arguments target) (2 ^ 64 - 1) ≡ 0 → ⊥) →
         call_made fs (length fs) n ks site
-        ≡ (let m = i.statements fs (whole fs) (length ks) (ks ++ x.locals) x.body in
+        ≡ (let m = i.statements fs (whole fs) (length ks.kinds) (i.joined ks (i.locals x.locals x.refers)) x.body in
         record {
           made =
-              i.statements_and (i.passed place (length ks) x.locals (map (i.shifted_placed n) arguments))
-              (i.statements_and m.made (i.assigned place (length ks) x.result (option_map (i.shifted_target n) target)));
-          kinds = m.kinds;
+              i.statements_and (i.passed place (length ks.kinds) x.locals (map (i.shifted_placed n) arguments))
+              (i.statements_and m.made (i.assigned place (length ks.kinds) x.result (option_map (i.shifted_target n) target)));
+          locals = m.locals;
         })
     call_some x k h =
         let call : (o : Option p.Function) → i.Made f.Statements =
         λ o. elim o as (λ _. i.Made f.Statements) [
           | Some y ↦ i.called fs (whole fs) place n ks y (whole fs g ks) arguments target
-          | None ↦ record { made = f.no_statement; kinds = ks }
+          | None ↦ record { made = f.no_statement; locals = ks }
         ] in
         let c : call_made fs (length fs) n ks site ≡ i.called fs (whole fs) place n ks x (whole fs g ks) arguments target = ap call k in
         let some : made_statements v.size (i.called fs (whole fs) place n ks x (whole fs g ks) arguments target).made ≡ 0 → ⊥ =
         λ z. h (let y = ap (λ (m : i.Made f.Statements). made_statements v.size m.made) c in omega (arith, weighs, y, z)) in
-        let kept = kinds_kept (i.called fs (whole fs) place n ks x (whole fs g ks) arguments target).made ks (whole fs g ks).kinds some in
+        let kept = locals_kept (i.called fs (whole fs) place n ks x (whole fs g ks) arguments target).made ks (whole fs g ks).locals some in
         c
-        ∙ ap (λ (j : List Kind). let r : i.Made f.Statements =
-        record { made = (i.called fs (whole fs) place n ks x (whole fs g ks) arguments target).made; kinds = j } in r) kept
+        ∙ ap (λ (j : i.Locals). let r : i.Made f.Statements =
+        record { made = (i.called fs (whole fs) place n ks x (whole fs g ks) arguments target).made; locals = j } in r) kept
         ∙ ap (λ (b : i.Made f.Statements). let r : i.Made f.Statements =
         record {
           made =
-              i.statements_and (i.passed place (length ks) x.locals (map (i.shifted_placed n) arguments))
-              (i.statements_and b.made (i.assigned place (length ks) x.result (option_map (i.shifted_target n) target)));
-          kinds = b.kinds;
+              i.statements_and (i.passed place (length ks.kinds) x.locals (map (i.shifted_placed n) arguments))
+              (i.statements_and b.made (i.assigned place (length ks.kinds) x.result (option_map (i.shifted_target n) target)));
+          locals = b.locals;
         } in r)
         (fixed_bodies fs (length fs) g ks x (omega arith) (low_all g (slice_get_within fs g x k)) k)
 
 -- the body of a call is begun, and what stands before it is made
 module _ (functions : List Function) (sizes : List (Option ℕ)) (sized : AreSized (map p.function_of functions) sizes)
-    (n : ℕ) (ks : List Kind) (site : Site) (x : Function) (following : Option flat.Statement) (exists : slice_get functions site.function ≡ Some x) where
+    (n : ℕ) (ks : i.Locals) (site : Site) (x : Function) (following : Option flat.Statement) (exists : slice_get functions site.function ≡ Some x) where
   open site use {place, function as g, arguments, result as target}
 
   mapped : slice_get (map p.function_of functions) g ≡ Some (p.function_of x)
@@ -469,37 +474,40 @@ module _ (functions : List Function) (sizes : List (Option ℕ)) (sized : AreSiz
 
   call_begun_there : (old new : f.Statements) →
       (min (v.called_weight v.size 0 (map p.function_of functions) (v.known_weight sizes) g arguments target) (2 ^ 64 - 1) ≡ 0 → ⊥) →
-      new ≡ i.statements_and old (i.passed place (length ks) x.locals.items (map (i.shifted_placed n) arguments)) →
-      following_of following ≡ i.assigned place (length ks) (option_map p.returned_of x.result) (option_map (i.shifted_target n) target) →
+      new ≡ i.statements_and old (i.passed place (length ks.kinds) x.locals.items (map (i.shifted_placed n) arguments)) →
+      following_of following ≡ i.assigned place (length ks.kinds) (option_map p.returned_of x.result) (option_map (i.shifted_target n) target) →
       after old (call_made (map p.function_of functions) (length (map p.function_of functions)) n ks site)
-      ≡ after new (begun_made functions (record { function = g; done = 0; by = length ks; following = following }) (ks ++ x.locals.items))
+      ≡ after new (begun_made functions (record { function = g; done = 0; by = length ks.kinds; following = following })
+      (i.joined ks (i.locals x.locals.items x.refers.items)))
   call_begun_there old new some h k =
       let fs : List p.Function = map p.function_of functions in
-      let made : List Statement → i.Made f.Statements = λ xs. i.statements fs (whole fs) (length ks) (ks ++ x.locals.items) (p.statements_of xs) in
+      let made : List Statement → i.Made f.Statements =
+      λ xs. i.statements fs (whole fs) (length ks.kinds) (i.joined ks (i.locals x.locals.items x.refers.items)) (p.statements_of xs) in
       let m = made x.body.items in
-      let passing = i.passed place (length ks) x.locals.items (map (i.shifted_placed n) arguments) in
-      let result = i.assigned place (length ks) (option_map p.returned_of x.result) (option_map (i.shifted_target n) target) in
+      let passing = i.passed place (length ks.kinds) x.locals.items (map (i.shifted_placed n) arguments) in
+      let result = i.assigned place (length ks.kinds) (option_map p.returned_of x.result) (option_map (i.shifted_target n) target) in
       ap (after old) (call_some fs sizes sized n ks site (p.function_of x) mapped some)
-      ∙ ap (λ (y : f.Statements). let r : i.Made f.Statements = record { made = y; kinds = m.kinds } in r)
+      ∙ ap (λ (y : f.Statements). let r : i.Made f.Statements = record { made = y; locals = m.locals } in r)
       (sym (and_assoc old passing (i.statements_and m.made result)))
-      ∙ ap₂ (λ (y z : f.Statements). let r : i.Made f.Statements = record { made = i.statements_and y (i.statements_and m.made z); kinds = m.kinds } in
+      ∙ ap₂ (λ (y z : f.Statements). let r : i.Made f.Statements = record { made = i.statements_and y (i.statements_and m.made z); locals = m.locals } in
       r) (sym h) (sym k)
       ∙ ap (λ (xs : List Statement). let r : i.Made f.Statements =
-      record { made = i.statements_and new (i.statements_and (made xs).made (following_of following)); kinds = (made xs).kinds } in r)
+      record { made = i.statements_and new (i.statements_and (made xs).made (following_of following)); locals = (made xs).locals } in r)
       (sym (body_is functions g x exists))
 
-  pub call_begun : (first : ℕ) (kinds : List Kind) (old new : f.Statements) → first ≡ length ks → kinds ≡ ks ++ x.locals.items →
+  pub call_begun : (first : ℕ) (ls : i.Locals) (old new : f.Statements) → first ≡ length ks.kinds →
+      ls ≡ i.joined ks (i.locals x.locals.items x.refers.items) →
       (min (v.called_weight v.size 0 (map p.function_of functions) (v.known_weight sizes) g arguments target) (2 ^ 64 - 1) ≡ 0 → ⊥) →
       new ≡ i.statements_and old (i.passed place first x.locals.items (map (i.shifted_placed n) arguments)) →
       following_of following ≡ i.assigned place first (option_map p.returned_of x.result) (option_map (i.shifted_target n) target) →
       after old (call_made (map p.function_of functions) (length (map p.function_of functions)) n ks site)
-      ≡ after new (begun_made functions (record { function = g; done = 0; by = first; following = following }) kinds)
-  call_begun first kinds old new first_is kinds_is some h k =
+      ≡ after new (begun_made functions (record { function = g; done = 0; by = first; following = following }) ls)
+  call_begun first ls old new first_is locals_are some h k =
       call_begun_there old new some
       (h ∙ ap (λ (m : ℕ). i.statements_and old (i.passed place m x.locals.items (map (i.shifted_placed n) arguments))) first_is)
       (k ∙ ap (λ (m : ℕ). i.assigned place m (option_map p.returned_of x.result) (option_map (i.shifted_target n) target)) first_is)
-      ∙ ap₂ (λ (m : ℕ) (js : List Kind). after new (begun_made functions (record { function = g; done = 0; by = m; following = following }) js))
-      (sym first_is) (sym kinds_is)
+      ∙ ap₂ (λ (m : ℕ) (js : i.Locals). after new (begun_made functions (record { function = g; done = 0; by = m; following = following }) js))
+      (sym first_is) (sym locals_are)
 
   pub call_work : (by : ℕ) → begun_work functions (record { function = g; done = 0; by = by; following = following })
       < v.called_weight v.size 2 (map p.function_of functions) (function_work (map p.function_of functions)) g arguments target

@@ -1,5 +1,5 @@
 -- What is made weighs what the parts that it is made of do.
-use Rattle.std.proofs.Common.{◌≡◌, ℕ, zero, suc, ◌+◌, ◌-◌, ◌^◌, List, [], ◌∷◌, ◌++◌, length, min, map, Option, Some, None, refl, sym, ap, ap₂, ◌∙◌, arith}
+use Rattle.std.proofs.Common.{◌≡◌, ℕ, zero, suc, ◌+◌, ◌-◌, ◌^◌, List, [], ◌∷◌, length, min, map, Option, Some, None, refl, sym, ap, ap₂, ◌∙◌, arith}
 use Rattle.std.specs.Prelude.{slice_get}
 use Rattle.std.specs.Option.{option_map}
 use Rattle.ido_base.specs.declared.place.Place.{Place}
@@ -81,33 +81,33 @@ module _ (w : Weights) where
   assigned_weight place first n (Some x) None = refl
   assigned_weight place first n None target = refl
 
-  module _ (fs : List p.Function) (B : i.Bodies) (F : ℕ → ℕ) (bodies : (g : ℕ) (ks : List Kind) → made_statements (B g ks).made ≡ F g) where
-    pub called_made : (place name : Place) (n : ℕ) (ks : List Kind) (function : ℕ) (arguments : List e.Placed) (result : Option e.Lvalue) →
+  module _ (fs : List p.Function) (B : i.Bodies) (F : ℕ → ℕ) (bodies : (g : ℕ) (ks : i.Locals) → made_statements (B g ks).made ≡ F g) where
+    pub called_made : (place name : Place) (n : ℕ) (ks : i.Locals) (function : ℕ) (arguments : List e.Placed) (result : Option e.Lvalue) →
         made_statements (i.statement fs B n ks (p.Call place name function arguments result)).made ≡ v.called_weight w 0 fs F function arguments result
     called_made place name n ks function arguments result = at (slice_get fs function)
       where
         at : (o : Option p.Function) →
             made_statements (elim o as (λ _. i.Made f.Statements) [
               | Some x ↦ i.called fs B place n ks x (B function ks) arguments result
-              | None ↦ record { made = f.no_statement; kinds = ks }
+              | None ↦ record { made = f.no_statement; locals = ks }
             ]).made
             ≡ (elim o as (λ _. ℕ) [ Some x ↦ 0 + (v.arguments_weight w arguments + F function + v.result_weight w x.result result) | None ↦ 0 ])
         at (Some x) =
-            let a = made_and (i.passed place (length ks) x.locals (map (i.shifted_placed n) arguments))
-            (i.statements_and (B function ks).made (i.assigned place (length ks) x.result (option_map (i.shifted_target n) result))) in
-            let b = made_and (B function ks).made (i.assigned place (length ks) x.result (option_map (i.shifted_target n) result)) in
-            let c = passed_weight place (length ks) n x.locals arguments in
-            let d = assigned_weight place (length ks) n x.result result in
+            let a = made_and (i.passed place (length ks.kinds) x.locals (map (i.shifted_placed n) arguments))
+            (i.statements_and (B function ks).made (i.assigned place (length ks.kinds) x.result (option_map (i.shifted_target n) result))) in
+            let b = made_and (B function ks).made (i.assigned place (length ks.kinds) x.result (option_map (i.shifted_target n) result)) in
+            let c = passed_weight place (length ks.kinds) n x.locals arguments in
+            let d = assigned_weight place (length ks.kinds) n x.result result in
             omega (arith, a, b, c, d, bodies function ks)
         at None = refl
 
     mutual
-      pub statement_made : (n : ℕ) (ks : List Kind) (x : p.Statement) → made_statements (i.statement fs B n ks x).made ≡ v.statement_weight w 0 fs F x
+      pub statement_made : (n : ℕ) (ks : i.Locals) (x : p.Statement) → made_statements (i.statement fs B n ks x).made ≡ v.statement_weight w 0 fs F x
       statement_made n ks (p.Assign place target value) =
           plus_zero _ ∙ same_assign n target (nodes_of (i.shifted n value.expr)) ∙ ap (λ (m : ℕ). v.assign_weight w target m) (same_nodes n value.expr)
       statement_made n ks (p.Call place name function arguments result) = called_made place name n ks function arguments result
       statement_made n ks (p.If place arms otherwise) =
-          plus_zero _ ∙ sum3 _ _ w.branch w.branch (sum3 _ _ _ _ (arms_made n ks arms) (statements_made n (i.arms_of fs B n ks arms).kinds otherwise)) refl
+          plus_zero _ ∙ sum3 _ _ w.branch w.branch (sum3 _ _ _ _ (arms_made n ks arms) (statements_made n (i.arms_of fs B n ks arms).locals otherwise)) refl
       statement_made n ks (p.While place condition body) =
           plus_zero _ ∙ sum3 _ _ _ _ (ap (λ (m : ℕ). v.node_weight w m) (same_nodes n condition.expr)) (statements_made n ks body)
       statement_made n ks (p.Do place body condition) =
@@ -115,29 +115,30 @@ module _ (w : Weights) where
       statement_made n ks (p.Lock place name) = plus_zero _ ∙ ap (λ (m : ℕ). v.node_weight w m) (same_key n name.mutex name.key)
       statement_made n ks (p.Unlock place name) = plus_zero _ ∙ ap (λ (m : ℕ). v.node_weight w m) (same_key n name.mutex name.key)
 
-      pub statements_made : (n : ℕ) (ks : List Kind) (xs : p.Statements) → made_statements (i.statements fs B n ks xs).made ≡ v.statements_weight w 0 fs F xs
+      pub statements_made : (n : ℕ) (ks : i.Locals) (xs : p.Statements) → made_statements (i.statements fs B n ks xs).made ≡ v.statements_weight w 0 fs F xs
       statements_made n ks p.no_statement = refl
       statements_made n ks (p.statement_and x rest) =
-          made_and (i.statement fs B n ks x).made (i.statements fs B n (i.statement fs B n ks x).kinds rest).made
-          ∙ sum3 _ _ _ _ (statement_made n ks x) (statements_made n (i.statement fs B n ks x).kinds rest)
+          made_and (i.statement fs B n ks x).made (i.statements fs B n (i.statement fs B n ks x).locals rest).made
+          ∙ sum3 _ _ _ _ (statement_made n ks x) (statements_made n (i.statement fs B n ks x).locals rest)
 
-      pub arms_made : (n : ℕ) (ks : List Kind) (xs : p.Arms) → made_arms (i.arms_of fs B n ks xs).made ≡ v.arms_weight w 0 fs F xs
+      pub arms_made : (n : ℕ) (ks : i.Locals) (xs : p.Arms) → made_arms (i.arms_of fs B n ks xs).made ≡ v.arms_weight w 0 fs F xs
       arms_made n ks p.no_arm = refl
       arms_made n ks (p.arm_and condition body rest) =
           sum3 _ _ _ _ (sum3 _ _ _ _ (ap (λ (m : ℕ). v.node_weight w m) (same_nodes n condition.expr)) (statements_made n ks body))
-          (arms_made n (i.statements fs B n ks body).kinds rest)
+          (arms_made n (i.statements fs B n ks body).locals rest)
 
-  pub bodies_made : (fs : List p.Function) (d g : ℕ) (ks : List Kind) → made_statements (i.bodies_of fs d g ks).made ≡ v.function_weight w 0 fs d g
+  pub bodies_made : (fs : List p.Function) (d g : ℕ) (ks : i.Locals) → made_statements (i.bodies_of fs d g ks).made ≡ v.function_weight w 0 fs d g
   bodies_made fs zero g ks = refl
   bodies_made fs (suc d) g ks = at (slice_get fs g) (λ j js. bodies_made fs d j js)
     where
-      at : (o : Option p.Function) → ((j : ℕ) (js : List Kind) → made_statements (i.bodies_of fs d j js).made ≡ v.function_weight w 0 fs d j) →
+      at : (o : Option p.Function) → ((j : ℕ) (js : i.Locals) → made_statements (i.bodies_of fs d j js).made ≡ v.function_weight w 0 fs d j) →
           made_statements (elim o as (λ _. i.Made f.Statements) [
-            | Some x ↦ i.statements fs (i.bodies_of fs d) (length ks) (ks ++ x.locals) x.body
-            | None ↦ record { made = f.no_statement; kinds = ks }
+            | Some x ↦ i.statements fs (i.bodies_of fs d) (length ks.kinds) (i.joined ks (i.locals x.locals x.refers)) x.body
+            | None ↦ record { made = f.no_statement; locals = ks }
           ]).made
           ≡ (elim o as (λ _. ℕ) [ Some x ↦ v.statements_weight w 0 fs (v.function_weight w 0 fs d) x.body | None ↦ 0 ])
-      at (Some x) less = statements_made fs (i.bodies_of fs d) (v.function_weight w 0 fs d) less (length ks) (ks ++ x.locals) x.body
+      at (Some x) less =
+          statements_made fs (i.bodies_of fs d) (v.function_weight w 0 fs d) less (length ks.kinds) (i.joined ks (i.locals x.locals x.refers)) x.body
       at None less = refl
 
 -- ---- Prices
@@ -171,6 +172,6 @@ price_known fs known is_right all x =
     let F = v.function_weight v.price 0 fs (length fs) in
     let a = near_statements v.price 0 fs (v.known_weight known) F (2 ^ 64 - 1) x.body
     (λ c k. near_known v.price fs known is_right c.function (all c.function)) in
-    let b = statements_made v.price fs (i.bodies_of fs (length fs)) F (bodies_made v.price fs (length fs)) 0 x.locals x.body in
-    let c = price_statements (i.statements fs (i.bodies_of fs (length fs)) 0 x.locals x.body).made in
+    let b = statements_made v.price fs (i.bodies_of fs (length fs)) F (bodies_made v.price fs (length fs)) 0 (i.locals x.locals x.refers) x.body in
+    let c = price_statements (i.statements fs (i.bodies_of fs (length fs)) 0 (i.locals x.locals x.refers) x.body).made in
     omega (arith, a, b, c)

@@ -11,6 +11,9 @@ mod InlinedWeights
 mod InlinedStatements
 mod InliningAnswers
 mod ThreadFaults
+mod LocalsFrom
+mod FlatNulls
+mod FlatReferences
 mod FormLaws
 mod CallDepth
 mod CallLocals

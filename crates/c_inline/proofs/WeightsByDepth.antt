@@ -1,9 +1,8 @@
 -- Calls that lead no deeper than so far: what is found so deep is found at every greater depth.
-use Rattle.std.proofs.Common.{◌≡◌, ℕ, zero, suc, ◌≤◌, List, [], ◌++◌, length, Option, Some, None, refl, sym, ap, ◌∙◌, subst, arith, ⊎_elim}
+use Rattle.std.proofs.Common.{◌≡◌, ℕ, zero, suc, ◌≤◌, List, [], length, Option, Some, None, refl, sym, ap, ◌∙◌, subst, arith, ⊎_elim}
 use Rattle.std.specs.Prelude.{Contains, slice_get}
 use Rattle.std.proofs.lemmas.Bool.{cases_lt}
 use Rattle.std.proofs.lemmas.Option.{slice_get_past}
-use Rattle.ido_ints.specs.declared.kinds.Kind.{Kind}
 use Rattle.c_tree.specs.Programs as p
 use Rattle.c_tree.specs.Flats as f
 use Rattle.c_tree.specs.Inlining as i
@@ -53,34 +52,40 @@ module _ (fs : List p.Function) where
         ]) k
 
   -- ---- Bodies
-  pub bodies_past : (d g : ℕ) (ks : List Kind) → length fs ≤ g → i.bodies_of fs d g ks ≡ record { made = f.no_statement; kinds = ks }
+  pub bodies_past : (d g : ℕ) (ks : i.Locals) → length fs ≤ g → i.bodies_of fs d g ks ≡ record { made = f.no_statement; locals = ks }
   bodies_past zero g ks le = refl
   bodies_past (suc d) g ks le =
       ap (λ (o : Option p.Function). elim o as (λ _. i.Made f.Statements) [
-        | Some x ↦ i.statements fs (i.bodies_of fs d) (length ks) (ks ++ x.locals) x.body
-        | None ↦ record { made = f.no_statement; kinds = ks }
+        | Some x ↦ i.statements fs (i.bodies_of fs d) (length ks.kinds) (i.joined ks (i.locals x.locals x.refers)) x.body
+        | None ↦ record { made = f.no_statement; locals = ks }
       ]) (slice_get_past fs g le)
 
-  pub stable_bodies : (d e g : ℕ) (ks : List Kind) → d ≤ e → Low fs d g → i.bodies_of fs e g ks ≡ i.bodies_of fs d g ks
+  pub stable_bodies : (d e g : ℕ) (ks : i.Locals) → d ≤ e → Low fs d g → i.bodies_of fs e g ks ≡ i.bodies_of fs d g ks
   stable_bodies zero e g ks le h = absurd h
   stable_bodies (suc d) zero g ks le h = absurd (omega arith)
   stable_bodies (suc d) (suc e) g ks le h = at (slice_get fs g) refl (λ j js l. stable_bodies d e j js (omega arith) l)
     where
-      at : (o : Option p.Function) → slice_get fs g ≡ o → ((j : ℕ) (js : List Kind) → Low fs d j → i.bodies_of fs e j js ≡ i.bodies_of fs d j js) →
+      at : (o : Option p.Function) → slice_get fs g ≡ o → ((j : ℕ) (js : i.Locals) → Low fs d j → i.bodies_of fs e j js ≡ i.bodies_of fs d j js) →
           ◌≡◌ {A = i.Made f.Statements}
-          (elim o [ Some x ↦ i.statements fs (i.bodies_of fs e) (length ks) (ks ++ x.locals) x.body | None ↦ record { made = f.no_statement; kinds = ks } ])
-          (elim o [ Some x ↦ i.statements fs (i.bodies_of fs d) (length ks) (ks ++ x.locals) x.body | None ↦ record { made = f.no_statement; kinds = ks } ])
-      at (Some x) k less = same_statements fs (i.bodies_of fs e) (i.bodies_of fs d) (length ks) (ks ++ x.locals) x.body
+          (elim o [
+            | Some x ↦ i.statements fs (i.bodies_of fs e) (length ks.kinds) (i.joined ks (i.locals x.locals x.refers)) x.body
+            | None ↦ record { made = f.no_statement; locals = ks }
+          ])
+          (elim o [
+            | Some x ↦ i.statements fs (i.bodies_of fs d) (length ks.kinds) (i.joined ks (i.locals x.locals x.refers)) x.body
+            | None ↦ record { made = f.no_statement; locals = ks }
+          ])
+      at (Some x) k less = same_statements fs (i.bodies_of fs e) (i.bodies_of fs d) (length ks.kinds) (i.joined ks (i.locals x.locals x.refers)) x.body
           (λ c js m. ⊎_elim (λ l. less c.function js (h c (subst (λ xs. Contains xs c) (sym (calls_of_some g x k)) m) l))
           (λ past. bodies_past e c.function js past ∙ sym (bodies_past d c.function js past)) (cases_lt c.function (length fs)))
       at None k less = refl
 
   -- a body is that of the function, with the calls in it replaced by bodies
-  pub fixed_bodies : (d g : ℕ) (ks : List Kind) (x : p.Function) → d ≤ length fs → Low fs d g → slice_get fs g ≡ Some x →
-      i.bodies_of fs (length fs) g ks ≡ i.statements fs (i.bodies_of fs (length fs)) (length ks) (ks ++ x.locals) x.body
+  pub fixed_bodies : (d g : ℕ) (ks : i.Locals) (x : p.Function) → d ≤ length fs → Low fs d g → slice_get fs g ≡ Some x →
+      i.bodies_of fs (length fs) g ks ≡ i.statements fs (i.bodies_of fs (length fs)) (length ks.kinds) (i.joined ks (i.locals x.locals x.refers)) x.body
   fixed_bodies d g ks x le h k =
       stable_bodies d (length fs) g ks le h ∙ sym (stable_bodies d (suc (length fs)) g ks (omega arith) h)
       ∙ ap (λ (o : Option p.Function). elim o as (λ _. i.Made f.Statements) [
-        | Some y ↦ i.statements fs (i.bodies_of fs (length fs)) (length ks) (ks ++ y.locals) y.body
-        | None ↦ record { made = f.no_statement; kinds = ks }
+        | Some y ↦ i.statements fs (i.bodies_of fs (length fs)) (length ks.kinds) (i.joined ks (i.locals y.locals y.refers)) y.body
+        | None ↦ record { made = f.no_statement; locals = ks }
       ]) k

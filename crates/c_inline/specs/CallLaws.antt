@@ -132,14 +132,14 @@ AreFunctionsScoped fs = (function : ℕ) (x : p.Function) → slice_get fs funct
 
 -- with calls allowed deeper than there are functions, the bodies are the same
 abbrev pub DepthIsEnough : Type 0
-DepthIsEnough = (x : p.Program) (deep function : ℕ) (ks : List Kind) → HasNoBack x → length x.functions ≤ deep →
+DepthIsEnough = (x : p.Program) (deep function : ℕ) (ks : i.Locals) → HasNoBack x → length x.functions ≤ deep →
     bodies_of x.functions deep function ks ≡ bodies_of x.functions (length x.functions) function ks
 
 -- the body made of a function is that of its own statements, where each call in them is again such a body
 abbrev pub BodiesAreBodies : Type 0
-BodiesAreBodies = (x : p.Program) (function : ℕ) (g : p.Function) (ks : List Kind) → HasNoBack x → slice_get x.functions function ≡ Some g →
+BodiesAreBodies = (x : p.Program) (function : ℕ) (g : p.Function) (ks : i.Locals) → HasNoBack x → slice_get x.functions function ≡ Some g →
     bodies_of x.functions (length x.functions) function ks
-    ≡ i.statements x.functions (bodies_of x.functions (length x.functions)) (length ks) (ks ++ g.locals) g.body
+    ≡ i.statements x.functions (bodies_of x.functions (length x.functions)) (length ks.kinds) (i.joined ks (i.locals g.locals g.refers)) g.body
 
 -- ---- Locals of calls are new
 
@@ -151,18 +151,18 @@ pub record Site : Type 0 where
   pub arguments : List e.Placed
   pub result : Option e.Lvalue
 
--- what it becomes, where the locals of its caller begin at a number, and there are locals of these kinds
-abbrev pub call_made : List p.Function → (deep by : ℕ) → List Kind → Site → i.Made f.Statements
+-- what it becomes, where the locals of its caller begin at a number, and there are these locals
+abbrev pub call_made : List p.Function → (deep by : ℕ) → i.Locals → Site → i.Made f.Statements
 call_made fs deep by ks x = i.statement fs (bodies_of fs deep) by ks (p.Call x.place x.name x.function x.arguments x.result)
 
--- locals that there are keep their numbers and kinds: new ones come after them
-abbrev pub KindsGrow : Type 0
-KindsGrow = (fs : List p.Function) (deep by : ℕ) (ks : List Kind) (xs : p.Statements) →
-    (more : List Kind) × ((i.statements fs (bodies_of fs deep) by ks xs).kinds ≡ ks ++ more)
+-- locals that there are keep their numbers, kinds and what they refer to: new ones come after them
+abbrev pub LocalsGrow : Type 0
+LocalsGrow = (fs : List p.Function) (deep by : ℕ) (ks : i.Locals) (xs : p.Statements) →
+    (more : i.Locals) × ((i.statements fs (bodies_of fs deep) by ks xs).locals ≡ i.joined ks more)
 
 -- the local is one of those that came after the ones before: new, and that of no other call
-abbrev pub IsNew : (before after : List Kind) → (local : ℕ) → Type 0
-IsNew before after local = (length before ≤ local) × (local < length after)
+abbrev pub IsNew : (before after : i.Locals) → (local : ℕ) → Type 0
+IsNew before after local = (length before.kinds ≤ local) × (local < length after.kinds)
 
 -- the caller's arguments or its target name the local
 abbrev pub IsPassed : Use → (by : ℕ) → Site → (local : ℕ) → Type 0
@@ -170,15 +170,15 @@ IsPassed u by x local = ListUses u (map (i.shifted_placed by) x.arguments) local
 
 -- a call reads its arguments, assigns its target, and names no other local that was there before it
 abbrev pub NoneIsShared : Type 0
-NoneIsShared = (fs : List p.Function) (deep by : ℕ) (ks : List Kind) (x : Site) (u : Use) (local : ℕ) →
-    StatementsUse u (call_made fs deep by ks x).made local → (length ks ≤ local) ⊎ IsPassed u by x local
+NoneIsShared = (fs : List p.Function) (deep by : ℕ) (ks : i.Locals) (x : Site) (u : Use) (local : ℕ) →
+    StatementsUse u (call_made fs deep by ks x).made local → (length ks.kinds ≤ local) ⊎ IsPassed u by x local
 
 -- a call names what it is passed, its arguments to read and its target to assign, and else only locals that are new with it
 abbrev pub LocalsAreNew : Type 0
-LocalsAreNew = (program : p.Program) (by : ℕ) (ks : List Kind) (x : Site) (u : Use) (local : ℕ) →
+LocalsAreNew = (program : p.Program) (by : ℕ) (ks : i.Locals) (x : Site) (u : Use) (local : ℕ) →
     HasNoBack program → AreFunctionsScoped program.functions → TakesArguments program.functions x.function (length x.arguments) →
     (let m = call_made program.functions (length program.functions) by ks x in
-    StatementsUse u m.made local → IsNew ks m.kinds local ⊎ IsPassed u by x local)
+    StatementsUse u m.made local → IsNew ks m.locals local ⊎ IsPassed u by x local)
 
 -- ---- What is done with a caller's locals
 
@@ -209,9 +209,9 @@ UnassignedAreKept = (s : State) (schedule : List ℕ) (thread local : ℕ) (firs
 
 -- until a call is done, at every moment of any run, its caller's locals are what they were, but for the call's target
 abbrev pub CallersAreKept : Type 0
-CallersAreKept = (fs : List p.Function) (deep by : ℕ) (ks : List Kind) (x : Site) (s : State) (schedule : List ℕ) (thread local : ℕ) (rest : List f.Statement) →
+CallersAreKept = (fs : List p.Function) (deep by : ℕ) (ks : i.Locals) (x : Site) (s : State) (schedule : List ℕ) (thread local : ℕ) (rest : List f.Statement) →
     left_of s thread ≡ opened_all (call_made fs deep by ks x).made ++ rest → IsBefore s schedule thread rest →
-    local < length ks → ¬ (ResultUses assigned (option_map (i.shifted_target by) x.result) local) → IsKept s (after_from s schedule) thread local rest
+    local < length ks.kinds → ¬ (ResultUses assigned (option_map (i.shifted_target by) x.result) local) → IsKept s (after_from s schedule) thread local rest
 
 -- ---- What parameters begin with
 

@@ -8,7 +8,7 @@ ghost use Rattle.c_tree.specs.Programs.{function_of, returned_of};
 ghost use Rattle.c_tree.specs.Flats as f;
 ghost use Rattle.c_tree.specs.Inlining as i;
 ghost use Rattle.c_inline.specs.links.Weights as v;
-ghost use Rattle.c_inline.specs.links.InlinedBodies.{AreSized, IsTaken, whole, after, following_of, begun_made, begun_if_any};
+ghost use Rattle.c_inline.specs.links.InlinedBodies.{AreSized, IsTaken, locals_of, whole, after, following_of, begun_made, begun_if_any};
 ghost use Rattle.c_inline.specs.links.InlinedBodies.{all_made, and_any, work_if_any, all_work, function_work};
 
 use crate::shift::{shift, shift_lock, shift_placed, shift_target};
@@ -35,6 +35,13 @@ struct Begun {
     done: usize,
     by: u32,
     following: Option<flat::Statement>,
+}
+
+/// The kinds of the locals of a thread so far, and of each the array to whose elements it refers, where it is a reference.
+#[derive(Drop)]
+pub struct Locals {
+    pub kinds: Vec<Kind>,
+    pub refers: Vec<Option<u32>>,
 }
 
 /// How many locals there are; beyond 2^32 - 1 there is no memory for so many.
@@ -117,6 +124,15 @@ fn assign(
     }
 }
 
+/// Appends the locals of a function.
+fn add_locals(locals: &mut Locals, called: &Function) -> Result<(), AllocError>
+    ensures { OnOk result (locals_of locals.new ≡ i.joined (locals_of locals.old) (i.locals called.now.locals.items called.now.refers.items)) }
+{
+    locals.kinds.extend_from_slice(&called.locals)?;
+    locals.refers.extend_from_slice(&called.refers)?;
+    Ok(())
+}
+
 /// Begins the body of a call, unless nothing is left of the call.
 fn begin(
     alloc: Global,
@@ -126,14 +142,14 @@ fn begin(
     function: u32,
     arguments: &[Placed],
     target: &Option<Lvalue>,
-    kinds: &mut Vec<Kind>,
+    locals: &mut Locals,
     made: &mut Vec<flat::Statement>,
 ) -> Result<Option<Begun>, AllocError>
     requires { AreSized (map function_of bodies.functions.now) bodies.sizes.now }
     ensures made { IfOk result (λ begun. let fs = map function_of bodies.entry.functions.now in
         after (f.statements_of made.old.items)
-        (i.statement fs (whole fs) by kinds.old.items (p.Call place place function (map placed_of arguments.now) (option_map lvalue_of target.now)))
-        ≡ after (f.statements_of made.new.items) (begun_if_any bodies.entry.functions.now begun kinds.new.items)) }
+        (i.statement fs (whole fs) by (locals_of locals.old) (p.Call place place function (map placed_of arguments.now) (option_map lvalue_of target.now)))
+        ≡ after (f.statements_of made.new.items) (begun_if_any bodies.entry.functions.now begun (locals_of locals.new))) }
     ensures work { IfOk result (λ begun. let fs = map function_of bodies.entry.functions.now in
         work_if_any bodies.entry.functions.now begun
         < v.called_weight v.size 2 fs (function_work fs) function (map placed_of arguments.now) (option_map lvalue_of target.now)) }
@@ -152,9 +168,9 @@ fn begin(
     let Some(called) = bodies.functions.get(function as usize) else {
         return Ok(None);
     };
-    let first = local_count(kinds)?;
+    let first = local_count(&locals.kinds)?;
     pass(alloc, place, first, &called.locals, by, arguments, made)?;
-    kinds.extend_from_slice(&called.locals)?;
+    add_locals(locals, called)?;
     let following = assign(alloc, place, first, &called.result, by, target)?;
     Ok(Some(Begun {
         function,
@@ -204,12 +220,13 @@ fn make_step(
     bodies: Bodies,
     begun: Begun,
     waiting: &mut Vec<Begun>,
-    kinds: &mut Vec<Kind>,
+    locals: &mut Locals,
     made: &mut Vec<flat::Statement>,
 ) -> Result<(), AllocError>
     requires { AreSized (map function_of bodies.functions.now) bodies.sizes.now }
-    ensures made { OnOk result (after (f.statements_of made.old.items) (all_made bodies.entry.functions.now (waiting.old.items ++ begun ∷ []) kinds.old.items)
-        ≡ after (f.statements_of made.new.items) (all_made bodies.entry.functions.now waiting.new.items kinds.new.items)) }
+    ensures made { OnOk result
+        (after (f.statements_of made.old.items) (all_made bodies.entry.functions.now (waiting.old.items ++ begun ∷ []) (locals_of locals.old))
+        ≡ after (f.statements_of made.new.items) (all_made bodies.entry.functions.now waiting.new.items (locals_of locals.new))) }
     ensures work { OnOk result (all_work bodies.entry.functions.now waiting.new.items < all_work bodies.entry.functions.now (waiting.old.items ++ begun ∷ [])) }
 {
     let mut begun = begun;
@@ -217,7 +234,7 @@ fn make_step(
         Some(statement) => {
             let by = begun.by;
             waiting.push(begun)?;
-            let inner = make_or_begin(alloc, bodies, by, statement, kinds, made)?;
+            let inner = make_or_begin(alloc, bodies, by, statement, locals, made)?;
             push_begun(waiting, inner)
         }
         None => push_following(made, begun.following),
@@ -230,17 +247,17 @@ fn make_body(
     alloc: Global,
     bodies: Bodies,
     begun: Begun,
-    kinds: &mut Vec<Kind>,
+    locals: &mut Locals,
     made: &mut Vec<flat::Statement>,
 ) -> Result<(), AllocError>
     requires { AreSized (map function_of bodies.functions.now) bodies.sizes.now }
-    ensures { OnOk result (after (f.statements_of made.old.items) (begun_made bodies.entry.functions.now begun kinds.old.items)
-        ≡ record { made = f.statements_of made.new.items; kinds = kinds.new.items }) }
+    ensures { OnOk result (after (f.statements_of made.old.items) (begun_made bodies.entry.functions.now begun (locals_of locals.old))
+        ≡ record { made = f.statements_of made.new.items; locals = locals_of locals.new }) }
 {
     let mut waiting = Vec::new(alloc);
     waiting.push(begun)?;
     while let Some(begun) = waiting.pop() {
-        make_step(alloc, bodies, begun, &mut waiting, kinds, made)?;
+        make_step(alloc, bodies, begun, &mut waiting, locals, made)?;
     }
     Ok(())
 }
@@ -252,13 +269,13 @@ fn make_or_begin(
     bodies: Bodies,
     by: u32,
     statement: &Statement,
-    kinds: &mut Vec<Kind>,
+    locals: &mut Locals,
     made: &mut Vec<flat::Statement>,
 ) -> Result<Option<Begun>, AllocError>
     requires { AreSized (map function_of bodies.functions.now) bodies.sizes.now }
     ensures made { IfOk result (λ begun. let fs = map function_of bodies.entry.functions.now in
-        after (f.statements_of made.old.items) (i.statement fs (whole fs) by kinds.old.items (p.statement_of statement.now))
-        ≡ after (f.statements_of made.new.items) (begun_if_any bodies.entry.functions.now begun kinds.new.items)) }
+        after (f.statements_of made.old.items) (i.statement fs (whole fs) by (locals_of locals.old) (p.statement_of statement.now))
+        ≡ after (f.statements_of made.new.items) (begun_if_any bodies.entry.functions.now begun (locals_of locals.new))) }
     ensures work { IfOk result (λ begun. let fs = map function_of bodies.entry.functions.now in
         work_if_any bodies.entry.functions.now begun < v.statement_weight v.size 2 fs (function_work fs) (p.statement_of statement.now)) }
 {
@@ -270,7 +287,7 @@ fn make_or_begin(
             result: target,
             ..
         } => begin(
-            alloc, bodies, by, *place, *function, arguments, target, kinds, made,
+            alloc, bodies, by, *place, *function, arguments, target, locals, made,
         ),
         Statement::Assign {
             place,
@@ -291,8 +308,8 @@ fn make_or_begin(
             arms,
             otherwise,
         } => {
-            let arms = make_arms(alloc, bodies, by, arms, kinds)?;
-            let otherwise = make_statements(alloc, bodies, by, otherwise, kinds)?;
+            let arms = make_arms(alloc, bodies, by, arms, locals)?;
+            let otherwise = make_statements(alloc, bodies, by, otherwise, locals)?;
             made.push(flat::Statement::If {
                 place: *place,
                 arms,
@@ -306,7 +323,7 @@ fn make_or_begin(
             body,
         } => {
             let condition = shift_placed(alloc, by, condition)?;
-            let body = make_statements(alloc, bodies, by, body, kinds)?;
+            let body = make_statements(alloc, bodies, by, body, locals)?;
             made.push(flat::Statement::While {
                 place: *place,
                 condition,
@@ -319,7 +336,7 @@ fn make_or_begin(
             body,
             condition,
         } => {
-            let body = make_statements(alloc, bodies, by, body, kinds)?;
+            let body = make_statements(alloc, bodies, by, body, locals)?;
             let condition = shift_placed(alloc, by, condition)?;
             made.push(flat::Statement::Do {
                 place: *place,
@@ -354,37 +371,37 @@ fn make_statement(
     bodies: Bodies,
     by: u32,
     statement: &Statement,
-    kinds: &mut Vec<Kind>,
+    locals: &mut Locals,
     made: &mut Vec<flat::Statement>,
 ) -> Result<(), AllocError>
     requires { AreSized (map function_of bodies.functions.now) bodies.sizes.now }
     ensures { OnOk result (let fs = map function_of bodies.entry.functions.now in
-        after (f.statements_of made.old.items) (i.statement fs (whole fs) by kinds.old.items (p.statement_of statement.now))
-        ≡ record { made = f.statements_of made.new.items; kinds = kinds.new.items }) }
+        after (f.statements_of made.old.items) (i.statement fs (whole fs) by (locals_of locals.old) (p.statement_of statement.now))
+        ≡ record { made = f.statements_of made.new.items; locals = locals_of locals.new }) }
 {
-    match make_or_begin(alloc, bodies, by, statement, kinds, made)? {
-        Some(begun) => make_body(alloc, bodies, begun, kinds, made),
+    match make_or_begin(alloc, bodies, by, statement, locals, made)? {
+        Some(begun) => make_body(alloc, bodies, begun, locals, made),
         None => Ok(()),
     }
 }
 
-/// The flat form of statements. The kinds of the locals of what they call are appended to those that there are.
+/// The flat form of statements. The locals of what they call are appended to those that there are.
 #[cycle(build)]
 pub fn make_statements(
     alloc: Global,
     bodies: Bodies,
     by: u32,
     statements: &[Statement],
-    kinds: &mut Vec<Kind>,
+    locals: &mut Locals,
 ) -> Result<Vec<flat::Statement>, AllocError>
     requires { AreSized (map function_of bodies.functions.now) bodies.sizes.now }
     ensures { IfOk result (λ made. let fs = map function_of bodies.entry.functions.now in
-        i.statements fs (whole fs) by kinds.old.items (p.statements_of statements.now)
-        ≡ record { made = f.statements_of made.items; kinds = kinds.new.items }) }
+        i.statements fs (whole fs) by (locals_of locals.old) (p.statements_of statements.now)
+        ≡ record { made = f.statements_of made.items; locals = locals_of locals.new }) }
 {
     let mut made = Vec::new(alloc);
     for statement in statements {
-        make_statement(alloc, bodies, by, statement, kinds, &mut made)?;
+        make_statement(alloc, bodies, by, statement, locals, &mut made)?;
     }
     Ok(made)
 }
@@ -396,16 +413,17 @@ fn make_arms(
     bodies: Bodies,
     by: u32,
     arms: &[Arm],
-    kinds: &mut Vec<Kind>,
+    locals: &mut Locals,
 ) -> Result<Vec<flat::Arm>, AllocError>
     requires { AreSized (map function_of bodies.functions.now) bodies.sizes.now }
     ensures { IfOk result (λ made. let fs = map function_of bodies.entry.functions.now in
-        i.arms_of fs (whole fs) by kinds.old.items (p.arms_list_of arms.now) ≡ record { made = f.arms_list_of made.items; kinds = kinds.new.items }) }
+        i.arms_of fs (whole fs) by (locals_of locals.old) (p.arms_list_of arms.now)
+        ≡ record { made = f.arms_list_of made.items; locals = locals_of locals.new }) }
 {
     let mut made = Vec::new(alloc);
     for arm in arms {
         let condition = shift_placed(alloc, by, &arm.condition)?;
-        let body = make_statements(alloc, bodies, by, &arm.body, kinds)?;
+        let body = make_statements(alloc, bodies, by, &arm.body, locals)?;
         made.push(flat::Arm { condition, body })?;
     }
     Ok(made)

@@ -46,6 +46,7 @@ fn copy_variable(variable: &Variable) -> Result<Variable, AllocError>
         name: copy_name(&variable.name)?,
         guard: variable.guard,
         kind: variable.kind,
+        refers: variable.refers,
         length: variable.length,
         initial: variable.initial.clone()?,
     })

@@ -3,16 +3,17 @@ ghost use Rattle.std.specs.Prelude.{◌≡◌, ◌≤◌, ◌++◌, ◌∷◌, �
 ghost use Rattle.ido_base.specs.declared.limits.TheConstants.{MOST_PRICE};
 ghost use Rattle.c_tree.specs.Programs.{program_of, function_of, mutex_of, thread_of};
 ghost use Rattle.c_tree.specs.Flats as f;
+ghost use Rattle.c_tree.specs.Inlining as i;
 ghost use Rattle.c_tree.specs.Inlining.{flat_thread};
 ghost use Rattle.c_tree.specs.HoldPrices.{full_price};
 ghost use Rattle.c_tree.specs.Prices.{thread_price};
 ghost use Rattle.c_inline.specs.links.Weights.{price};
 ghost use Rattle.c_inline.specs.links.KnownWeights.{AreRight, IsUnknown};
-ghost use Rattle.c_inline.specs.links.InlinedBodies.{AreSized};
+ghost use Rattle.c_inline.specs.links.InlinedBodies.{AreSized, locals_of};
 ghost use Rattle.c_inline.specs.Inline.{IsInlining};
 ghost use Rattle.c_inline.specs.links.Faults.{IsDear, IsThreadFault, fault_among, form_with};
 
-use crate::build::{Bodies, make_statements};
+use crate::build::{Bodies, Locals, make_statements};
 use crate::calls::function_calls;
 use crate::copy::{copy_mutexes, copy_name, copy_variables};
 use crate::rank::order;
@@ -61,17 +62,28 @@ fn thread_price(functions: &[Function], prices: &[Option<u64>], thread: &Thread)
     statements_weight(PRICE, functions, prices, &thread.body).saturating_add(PRICE.node)
 }
 
+/// Copies of the locals of a thread.
+fn copy_locals(alloc: Global, thread: &Thread) -> Result<Locals, AllocError>
+    ensures { IfOk result (λ locals. locals_of locals ≡ i.locals thread.now.locals.items thread.now.refers.items) }
+{
+    let mut kinds = Vec::new(alloc);
+    kinds.extend_from_slice(&thread.locals)?;
+    let mut refers = Vec::new(alloc);
+    refers.extend_from_slice(&thread.refers)?;
+    Ok(Locals { kinds, refers })
+}
+
 /// The flat form of a thread.
 fn make_thread(alloc: Global, bodies: Bodies, thread: &Thread) -> Result<flat::Thread, AllocError>
     requires { AreSized (map function_of bodies.functions.now) bodies.sizes.now }
     ensures { IfOk result (λ t. f.thread_of t ≡ flat_thread (map function_of bodies.entry.functions.now) (thread_of thread.now)) }
 {
-    let mut locals = Vec::new(alloc);
-    locals.extend_from_slice(&thread.locals)?;
+    let mut locals = copy_locals(alloc, thread)?;
     let body = make_statements(alloc, bodies, 0, &thread.body, &mut locals)?;
     Ok(flat::Thread {
         name: copy_name(&thread.name)?,
-        locals,
+        locals: locals.kinds,
+        refers: locals.refers,
         body,
         closing: thread.closing,
     })

@@ -1,5 +1,5 @@
 //! Laws of calls and of the flat form: nothing is computed here.
-ghost use Rattle.c_inline.specs.CallLaws.{BodiesAreBodies, CallersAreKept, DepthIsEnough, KindsGrow};
+ghost use Rattle.c_inline.specs.CallLaws.{BodiesAreBodies, CallersAreKept, DepthIsEnough, LocalsGrow};
 ghost use Rattle.c_inline.specs.CallLaws.{LocalsAreNew, NoneIsShared, ParametersHold, UnassignedAreKept};
 ghost use Rattle.c_inline.specs.FormLaws.{FlatIsFormed, FlatIsPlain};
 
@@ -14,7 +14,7 @@ pub fn depth_is_enough()
 /// has them. Of the caller's it reads those of the arguments and of the target's index, and assigns the
 /// target.
 pub fn calls_have_their_own_locals()
-    ensures grow { KindsGrow }
+    ensures grow { LocalsGrow }
     ensures not_shared { NoneIsShared }
     ensures new { LocalsAreNew }
 {}
@@ -25,7 +25,8 @@ pub fn calls_keep_their_callers()
     ensures calls { CallersAreKept }
 {}
 
-/// The flat form of a well formed program whose indexes fit, and in which no call leads back, is well formed.
+/// The flat form of a well formed program whose indexes fit, that follows no reference which may be null, and in which no
+/// call leads back, is well formed.
 pub fn flat_is_formed()
     ensures { FlatIsFormed }
 {}

@@ -15,7 +15,7 @@ use Rattle.c_tree.specs.Ranges.{elements_of}
 use Rattle.c_tree.specs.Source.{opened, opened_all, tested}
 use Rattle.c_tree.specs.Values.{value, element_number, element_at}
 use Rattle.c_tree.specs.WellFormed.{elements_in, IsDeclared, IsExpr, IsFlatStatement, AreFlatStatements, AreFlatArms}
-use Rattle.c_ranges.specs.Laws.{AllHeld}
+use Rattle.c_ranges.specs.Laws.{AllHeld, AreFollowed}
 use Rattle.c_ranges.specs.RunInvariants.{AreNumbersOf, IsStatementLeft}
 
 -- ---- Two lists, one against the other
@@ -78,19 +78,20 @@ module _ (vs : List Variable) (ks : List Kind) (ls : List ℤ) (ns : List (List 
       subst (λ (k : Kind). Holds k (element_number ns variable i)) d.kind
       (held_at d.it.kind (slice_index_or ns variable []) i (zip_at AreNumbersOf vs ns variable d.it [] variables d.found).held)
 
-  -- whatever it names is of its kind
-  pub all_held : (x : e.Expr) → IsExpr vs ks x → AllHeld ls ns x
-  all_held (e.Constant x) h = tt
-  all_held (e.Local local kind) h = zip_at Holds ks ls local kind (pos 0) locals h
-  all_held (e.Variable place variable kind) h = element_held variable 0 kind false h
-  all_held (e.Element place variable kind index_place index) h = (element_held variable (element_at (value ls ns index)) kind true h.0, all_held index h.1)
-  all_held (e.Address variable index_place index) h = absurd h
-  all_held (e.Referent place last local) h = absurd h
-  all_held (e.Unary op operand) h = all_held operand h
-  all_held (e.Cast kind operand) h = all_held operand h
-  all_held (e.Converted kind operand) h = all_held operand h
-  all_held (e.Binary op left right) h = (all_held left h.0, all_held right h.1)
-  all_held (e.Conditional kind condition chosen otherwise) h = (all_held condition h.0, all_held chosen h.1, all_held otherwise h.2)
+  -- whatever it names is of its kind, where what it follows refers to elements
+  pub all_held : (x : e.Expr) → IsExpr vs ks x → AreFollowed ls x → AllHeld ls ns x
+  all_held (e.Constant x) h g = tt
+  all_held (e.Local local kind) h g = zip_at Holds ks ls local kind (pos 0) locals h
+  all_held (e.Variable place variable kind) h g = element_held variable 0 kind false h
+  all_held (e.Element place variable kind index_place index) h g =
+      (element_held variable (element_at (value ls ns index)) kind true h.0, all_held index h.1 g)
+  all_held (e.Address variable index_place index) h g = all_held index h.1 g
+  all_held (e.Referent place last local) h g = g
+  all_held (e.Unary op operand) h g = all_held operand h g
+  all_held (e.Cast kind operand) h g = all_held operand h g
+  all_held (e.Converted kind operand) h g = all_held operand h g
+  all_held (e.Binary op left right) h g = (all_held left h.0 g.0, all_held right h.1 g.1)
+  all_held (e.Conditional kind condition chosen otherwise) h g = (all_held condition h.0 g.0, all_held chosen h.1 g.1, all_held otherwise h.2 g.2)
 
 -- ---- How many elements there are
 

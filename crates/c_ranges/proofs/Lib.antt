@@ -9,6 +9,10 @@ mod ValuesInRanges
 mod HeldRanges
 mod HeldNumberLists
 mod RunsKeepInvariants
+mod KnownReferences
+mod ReferenceValues
+mod ReferencesKept
+mod WorkedFollowing
 mod StepEvaluations
 mod Multiples
 mod Operations

@@ -16,12 +16,14 @@ use Rattle.c_tree.specs.Source.{source_step}
 use Rattle.c_tree.specs.WellFormed.{IsExpr, Fits, IsFlatPlaced, IsFlatStatement, IsFlatLockName}
 use Rattle.c_tree.specs.Values.{lock_number}
 use Rattle.c_tree.proofs.Public.{array_within}
-use Rattle.c_ranges.specs.Laws.{IsForeseen}
+use Rattle.c_ranges.specs.Laws.{IsForeseen, AreFollowed}
 use Rattle.c_ranges.specs.RunInvariants.{AreNumbersOf, IsStatementLeft, IsThreadOf, IsStateOf, IsElement}
 use Rattle.c_ranges.specs.RunInvariants.{IsNext, IsOver, IsAtHeldLock, step_exprs, step_indexes}
 use Rattle.c_ranges.proofs.ValuesInRanges.{foreseen, fits_element}
 use Rattle.c_ranges.proofs.HeldNumberLists.{Pair, zip_found, all_append, all_held}
-use Rattle.c_ranges.proofs.RunsKeepInvariants.{step_is}
+use Rattle.c_ranges.proofs.RunsKeepInvariants.{AreStepFollowed, step_is}
+use Rattle.c_ranges.proofs.ReferenceValues.{key_followed}
+use Rattle.c_ranges.proofs.ReferencesKept.{references_hold}
 
 -- ---- Keys
 
@@ -31,8 +33,8 @@ key_expr vs ks (e.Constant value) h = tt
 key_expr vs ks (e.Local local kind) h = h
 key_expr vs ks (e.Variable place variable kind) h = absurd (none-some h.it h.found)
 key_expr vs ks (e.Element place variable kind index_place index) h = absurd (none-some h.0.it h.0.found)
-key_expr vs ks (e.Address variable index_place index) h = absurd h
-key_expr vs ks (e.Referent place last local) h = absurd h
+key_expr vs ks (e.Address variable index_place index) h = absurd (none-some h.0.it h.0.found)
+key_expr vs ks (e.Referent place last local) h = h
 key_expr vs ks (e.Unary op operand) h = key_expr vs ks operand h
 key_expr vs ks (e.Cast kind operand) h = key_expr vs ks operand h
 key_expr vs ks (e.Converted kind operand) h = key_expr vs ks operand h
@@ -45,8 +47,8 @@ key_fits vs ks (e.Constant value) h = tt
 key_fits vs ks (e.Local local kind) h = tt
 key_fits vs ks (e.Variable place variable kind) h = tt
 key_fits vs ks (e.Element place variable kind index_place index) h = absurd (none-some h.0.it h.0.found)
-key_fits vs ks (e.Address variable index_place index) h = absurd h
-key_fits vs ks (e.Referent place last local) h = absurd h
+key_fits vs ks (e.Address variable index_place index) h = absurd (none-some h.0.it h.0.found)
+key_fits vs ks (e.Referent place last local) h = tt
 key_fits vs ks (e.Unary op operand) h = key_fits vs ks operand h
 key_fits vs ks (e.Cast kind operand) h = key_fits vs ks operand h
 key_fits vs ks (e.Converted kind operand) h = key_fits vs ks operand h
@@ -58,7 +60,8 @@ below_by : (ms : List Mutex) (ks : List Kind) (ls : List ℤ) (mutex : ℕ) (key
     IsFlatLockName ms ks (record { mutex = mutex; key = key }) → lock_number ls (record { mutex = mutex; key = key }) < length ms
 below_by ms ks ls mutex None locals h = slice_get_within ms mutex h.it h.found
 below_by ms ks ls mutex (Some key) locals h =
-    let named = fits_element (mutexes_of ms mutex) key.expr h.fits ls [] (all_held [] ks ls [] locals tt key.expr h.reads) in
+    let named = fits_element (mutexes_of ms mutex) key.expr h.fits ls []
+    (all_held [] ks ls [] locals tt key.expr h.reads (key_followed ls key.expr h.follows)) in
     omega (arith, named.below, array_within ms mutex h.array)
 
 -- the lock of a name is there, whatever its key's locals hold
@@ -74,68 +77,74 @@ module _ (x : f.Flat) (ks : List Kind) (ls : List ℤ) (ns : List (List ℤ)) (l
       AllByRecursion (λ (z : e.Placed). IsForeseen ls ns z.expr) (key_exprs (record { mutex = mutex; key = key }))
   key_seen mutex None h = tt
   key_seen mutex (Some key) h =
-      (foreseen ls ns key.expr (all_held x.variables ks ls ns locals variables key.expr (key_expr x.variables ks key.expr h.reads)), tt)
+      let held = all_held x.variables ks ls ns locals variables key.expr (key_expr x.variables ks key.expr h.reads) (key_followed ls key.expr h.follows) in
+      (foreseen ls ns key.expr held, tt)
 
-  seen : (z : e.Placed) → IsFlatPlaced x ks z → IsForeseen ls ns z.expr
-  seen z h = foreseen ls ns z.expr (all_held x.variables ks ls ns locals variables z.expr h.0)
+  seen : (z : e.Placed) → IsFlatPlaced x ks z → AreFollowed ls z.expr → IsForeseen ls ns z.expr
+  seen z h g = foreseen ls ns z.expr (all_held x.variables ks ls ns locals variables z.expr h.0 g)
 
-  all_seen : (y : f.Statement) → IsFlatStatement x ks y → AllByRecursion (λ (z : e.Placed). IsForeseen ls ns z.expr) (step_exprs y)
-  all_seen (f.Assign place (e.ToLocal name local kind) value) h = (seen value h.1, tt)
-  all_seen (f.Assign place (e.ToVariable at variable kind) value) h = (seen value h.1, tt)
-  all_seen (f.Assign place (e.ToElement at variable kind index) value) h = (seen index (h.0.0.1, h.0.1.1), (seen value h.1, tt))
-  all_seen (f.If place f.no_arm otherwise) h = tt
-  all_seen (f.If place (f.arm_and condition body arms) otherwise) h = (seen condition h.1.0, tt)
-  all_seen (f.While place condition body) h = (seen condition h.0, tt)
-  all_seen (f.Do place body condition) h = tt
-  all_seen (f.Lock place name) h = key_seen name.mutex name.key h
-  all_seen (f.Unlock place name) h = key_seen name.mutex name.key h
+  all_seen : (y : f.Statement) → IsFlatStatement x ks y → AreStepFollowed ls y → AllByRecursion (λ (z : e.Placed). IsForeseen ls ns z.expr) (step_exprs y)
+  all_seen (f.Assign place (e.ToLocal name local kind) value) h g = (seen value h.1 g.0, tt)
+  all_seen (f.Assign place (e.ToVariable at variable kind) value) h g = (seen value h.1 g.0, tt)
+  all_seen (f.Assign place (e.ToElement at variable kind index) value) h g = (seen index (h.0.0.1, h.0.1.1) g.0, (seen value h.1 g.1.0, tt))
+  all_seen (f.If place f.no_arm otherwise) h g = tt
+  all_seen (f.If place (f.arm_and condition body arms) otherwise) h g = (seen condition h.1.0 g.0, tt)
+  all_seen (f.While place condition body) h g = (seen condition h.0 g.0, tt)
+  all_seen (f.Do place body condition) h g = tt
+  all_seen (f.Lock place name) h g = key_seen name.mutex name.key h
+  all_seen (f.Unlock place name) h g = key_seen name.mutex name.key h
 
-  elements : (z : e.Expr) → IsExpr x.variables ks z → Fits x.variables z → AllByRecursion (IsElement x.variables x.mutexes ls ns) (expr_indexes z)
-  elements (e.Constant value) h g = tt
-  elements (e.Local local kind) h g = tt
-  elements (e.Variable place variable kind) h g = tt
-  elements (e.Element place variable kind index_place index) h g = (
-    fits_element (elements_of x.variables variable) index g.0 ls ns
-        (all_held x.variables ks ls ns locals variables index h.1),
-    elements index h.1 g.1,
+  elements : (z : e.Expr) → IsExpr x.variables ks z → Fits x.variables z → AreFollowed ls z →
+      AllByRecursion (IsElement x.variables x.mutexes ls ns) (expr_indexes z)
+  elements (e.Constant value) h g k = tt
+  elements (e.Local local kind) h g k = tt
+  elements (e.Variable place variable kind) h g k = tt
+  elements (e.Element place variable kind index_place index) h g k = (
+    fits_element (elements_of x.variables variable) index g.0 ls ns (all_held x.variables ks ls ns locals variables index h.1 k),
+    elements index h.1 g.1 k,
   )
-  elements (e.Address variable index_place index) h g = absurd h
-  elements (e.Referent place last local) h g = absurd h
-  elements (e.Unary op operand) h g = elements operand h g
-  elements (e.Cast kind operand) h g = elements operand h g
-  elements (e.Converted kind operand) h g = elements operand h g
-  elements (e.Binary op left right) h g = all_append (IsElement x.variables x.mutexes ls ns) (expr_indexes left) (expr_indexes right) (elements left h.0 g.0)
-      (elements right h.1 g.1)
-  elements (e.Conditional kind condition chosen otherwise) h g =
+  elements (e.Address variable index_place index) h g k = (
+    fits_element (elements_of x.variables variable) index g.0 ls ns (all_held x.variables ks ls ns locals variables index h.1 k),
+    elements index h.1 g.1 k,
+  )
+  elements (e.Referent place last local) h g k = tt
+  elements (e.Unary op operand) h g k = elements operand h g k
+  elements (e.Cast kind operand) h g k = elements operand h g k
+  elements (e.Converted kind operand) h g k = elements operand h g k
+  elements (e.Binary op left right) h g k = all_append (IsElement x.variables x.mutexes ls ns) (expr_indexes left) (expr_indexes right)
+      (elements left h.0 g.0 k.0) (elements right h.1 g.1 k.1)
+  elements (e.Conditional kind condition chosen otherwise) h g k =
       all_append (IsElement x.variables x.mutexes ls ns) (expr_indexes condition ++ expr_indexes chosen) (expr_indexes otherwise)
-      (all_append (IsElement x.variables x.mutexes ls ns) (expr_indexes condition) (expr_indexes chosen) (elements condition h.0 g.0) (elements chosen h.1 g.1))
-      (elements otherwise h.2 g.2)
+      (all_append (IsElement x.variables x.mutexes ls ns) (expr_indexes condition) (expr_indexes chosen) (elements condition h.0 g.0 k.0)
+      (elements chosen h.1 g.1 k.1))
+      (elements otherwise h.2 g.2 k.2)
 
   -- a key is the number of a mutex of its array
   key_indexed : (mutex : ℕ) (key : Option e.Placed) → IsFlatLockName x.mutexes ks (record { mutex = mutex; key = key }) →
       AllByRecursion (IsElement x.variables x.mutexes ls ns) (lock_indexes (record { mutex = mutex; key = key }))
   key_indexed mutex None h = tt
   key_indexed mutex (Some key) h =
-      let formed = key_expr x.variables ks key.expr h.reads in (
-        fits_element (mutexes_of x.mutexes mutex) key.expr h.fits ls ns (all_held x.variables ks ls ns locals variables key.expr formed),
-        elements key.expr formed (key_fits x.variables ks key.expr h.reads),
+      let formed = key_expr x.variables ks key.expr h.reads in
+      let follows = key_followed ls key.expr h.follows in (
+        fits_element (mutexes_of x.mutexes mutex) key.expr h.fits ls ns (all_held x.variables ks ls ns locals variables key.expr formed follows),
+        elements key.expr formed (key_fits x.variables ks key.expr h.reads) follows,
       )
 
-  all_elements : (y : f.Statement) → IsFlatStatement x ks y → AllByRecursion (IsElement x.variables x.mutexes ls ns) (step_indexes y)
-  all_elements (f.Assign place (e.ToLocal name local kind) value) h = elements value.expr h.1.0 h.1.1
-  all_elements (f.Assign place (e.ToVariable at variable kind) value) h = elements value.expr h.1.0 h.1.1
-  all_elements (f.Assign place (e.ToElement at variable kind index) value) h = (
+  all_elements : (y : f.Statement) → IsFlatStatement x ks y → AreStepFollowed ls y → AllByRecursion (IsElement x.variables x.mutexes ls ns) (step_indexes y)
+  all_elements (f.Assign place (e.ToLocal name local kind) value) h g = elements value.expr h.1.0 h.1.1 g.0
+  all_elements (f.Assign place (e.ToVariable at variable kind) value) h g = elements value.expr h.1.0 h.1.1 g.0
+  all_elements (f.Assign place (e.ToElement at variable kind index) value) h g = (
     fits_element (elements_of x.variables variable) index.expr h.0.1.0 ls ns
-        (all_held x.variables ks ls ns locals variables index.expr h.0.0.1),
-    all_append (IsElement x.variables x.mutexes ls ns) (expr_indexes index.expr) (expr_indexes value.expr) (elements index.expr h.0.0.1 h.0.1.1)
-        (elements value.expr h.1.0 h.1.1),
+        (all_held x.variables ks ls ns locals variables index.expr h.0.0.1 g.0),
+    all_append (IsElement x.variables x.mutexes ls ns) (expr_indexes index.expr) (expr_indexes value.expr) (elements index.expr h.0.0.1 h.0.1.1 g.0)
+        (elements value.expr h.1.0 h.1.1 g.1.0),
   )
-  all_elements (f.If place f.no_arm otherwise) h = tt
-  all_elements (f.If place (f.arm_and condition body arms) otherwise) h = elements condition.expr h.1.0.0 h.1.0.1
-  all_elements (f.While place condition body) h = elements condition.expr h.0.0 h.0.1
-  all_elements (f.Do place body condition) h = tt
-  all_elements (f.Lock place name) h = key_indexed name.mutex name.key h
-  all_elements (f.Unlock place name) h = key_indexed name.mutex name.key h
+  all_elements (f.If place f.no_arm otherwise) h g = tt
+  all_elements (f.If place (f.arm_and condition body arms) otherwise) h g = elements condition.expr h.1.0.0 h.1.0.1 g.0
+  all_elements (f.While place condition body) h g = elements condition.expr h.0.0 h.0.1 g.0
+  all_elements (f.Do place body condition) h g = tt
+  all_elements (f.Lock place name) h g = key_indexed name.mutex name.key h
+  all_elements (f.Unlock place name) h g = key_indexed name.mutex name.key h
 
 module _ (x : f.Flat) (s : m.State) (t : ℕ) (it : m.Thread) (is : IsStateOf x s) where
   abbrev Own : Type 0
@@ -153,14 +162,18 @@ module _ (x : f.Flat) (s : m.State) (t : ℕ) (it : m.Thread) (is : IsStateOf x 
   values_foreseen y rest n =
       let own = own_of n.found in
       let kept = next_of y rest own n.first in
-      all_seen x own.it.locals it.locals s.variables own.related.locals is.variables y kept.0.1
+      all_seen x own.it.locals it.locals s.variables own.related.locals is.variables y kept.0.1 (references_hold x s t it y rest is n.found n.first)
 
   pub indexes_in_range : (y : f.Statement) (rest : List f.Statement) → IsNext s t it y rest →
       AllByRecursion (IsElement x.variables x.mutexes it.locals s.variables) (step_indexes y)
   indexes_in_range y rest n =
       let own = own_of n.found in
       let kept = next_of y rest own n.first in
-      all_elements x own.it.locals it.locals s.variables own.related.locals is.variables y kept.0.1
+      all_elements x own.it.locals it.locals s.variables own.related.locals is.variables y kept.0.1 (references_hold x s t it y rest is n.found n.first)
+
+  pub references_right : (y : f.Statement) (rest : List f.Statement) → IsNext s t it y rest →
+      AllByRecursion (λ (z : e.Placed). AreFollowed it.locals z.expr) (step_exprs y)
+  references_right y rest n = references_hold x s t it y rest is n.found n.first
 
   -- ---- What stops the thread
 

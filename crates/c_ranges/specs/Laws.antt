@@ -13,6 +13,31 @@ pub record IsReference (last : ℕ) (reference : ℤ) : Type 0 where
   pub held : Holds UnsignedLong reference
   pub names : Within (interval (pos 1) (pos (suc last))) reference
 
+-- the number is null, or refers to one of so many elements
+pub record IsNullOrReference (elements : ℕ) (reference : ℤ) : Type 0 where
+  pub held : Holds UnsignedLong reference
+  pub names : Within (interval (pos 0) (pos elements)) reference
+
+-- each reference that the expression follows refers to an element
+abbrev pub AreFollowed : (locals : List ℤ) → e.Expr → Type 0
+AreFollowed ls (e.Constant x) = Unit {0}
+AreFollowed ls (e.Local local kind) = Unit {0}
+AreFollowed ls (e.Variable place variable kind) = Unit {0}
+AreFollowed ls (e.Element place variable kind index_place index) = AreFollowed ls index
+AreFollowed ls (e.Address variable index_place index) = AreFollowed ls index
+AreFollowed ls (e.Referent place last local) = IsReference last (slice_index_or ls local (pos 0))
+AreFollowed ls (e.Unary operator operand) = AreFollowed ls operand
+AreFollowed ls (e.Cast kind operand) = AreFollowed ls operand
+AreFollowed ls (e.Converted kind operand) = AreFollowed ls operand
+AreFollowed ls (e.Binary operator left right) = AreFollowed ls left × AreFollowed ls right
+AreFollowed ls (e.Conditional kind condition chosen otherwise) = AreFollowed ls condition × AreFollowed ls chosen × AreFollowed ls otherwise
+
+-- so does each of an index
+abbrev pub IsTargetFollowed : (locals : List ℤ) → e.Lvalue → Type 0
+IsTargetFollowed ls (e.ToLocal place local kind) = Unit {0}
+IsTargetFollowed ls (e.ToVariable place variable kind) = Unit {0}
+IsTargetFollowed ls (e.ToElement place variable kind index) = AreFollowed ls index.expr
+
 -- each local, variable and element that the expression names has a number that its kind holds, and each reference to an element that it names refers to one
 abbrev pub AllHeld : (locals : List ℤ) (variables : List (List ℤ)) → e.Expr → Type 0
 AllHeld ls vs (e.Constant x) = Unit {0}

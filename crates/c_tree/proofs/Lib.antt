@@ -7,6 +7,7 @@ mod SameNames
 mod NamesInTables
 mod KnownNames
 mod HeldPrices
+mod NullLaws
 mod Samples
 mod WorkedReading
 mod WorkedValues

@@ -29,8 +29,8 @@ key_itself ks (e.Constant x) h = typed_itself x
 key_itself ks (e.Local local k) h = and_from (local == local) (same_kind k k) (itself local) (itself (kind_number k))
 key_itself ks (e.Variable place variable k) h = absurd (none-some h.it h.found)
 key_itself ks (e.Element place variable k index_place index) h = absurd (none-some h.0.it h.0.found)
-key_itself ks (e.Address variable index_place x) h = absurd h
-key_itself ks (e.Referent place last local) h = absurd h
+key_itself ks (e.Address variable index_place x) h = absurd (none-some h.0.it h.0.found)
+key_itself ks (e.Referent place last local) h = and_from (last == last) (local == local) (itself last) (itself local)
 key_itself ks (e.Unary operator x) h =
     and_from (unary_number operator == unary_number operator) (same_expr x x) (itself (unary_number operator)) (key_itself ks x h)
 key_itself ks (e.Cast k x) h = and_from (same_kind k k) (same_expr x x) (itself (kind_number k)) (key_itself ks x h)

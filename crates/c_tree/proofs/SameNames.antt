@@ -92,7 +92,7 @@ one_binary x y h = sym (binary_back x) ∙ (ap (λ (n : ℕ). slice_index_or bin
 same_kind_is : (x y : Kind) → same_kind x y ≡ true → x ≡ y
 same_kind_is x y h = one_kind x y (eqb-true (kind_number x) (kind_number y) h)
 
-same_typed_is : (x y : Typed) → same_typed x y ≡ true → x ≡ y
+pub same_typed_is : (x y : Typed) → same_typed x y ≡ true → x ≡ y
 same_typed_is x y h =
     let p = and_true (same_kind x.kind y.kind) (int_eq x.number y.number) h in
     ap₂ (λ (k : Kind) (n : ℤ). let t : Typed = record { kind = k; number = n } in t) (same_kind_is x.kind y.kind p.0) ((Decides-int_eq x.number y.number).0 p.1)

@@ -19,6 +19,7 @@ use Rattle.c_tree.specs.Inlining.{flat_form}
 use Rattle.c_tree.specs.TypeRules.{type_faults}
 use Rattle.c_tree.specs.LockNames.{lock_names}
 use Rattle.c_tree.specs.HoldPrices.{full_price}
+use Rattle.c_tree.specs.References.{AreFlatStatementsReferring}
 use Rattle.c_tree.specs.WellFormed.{AreShared, AreFlatStatements, IsFlatLockName, IsSingle, IsWellFormed}
 use Rattle.c_tree.specs.Source.{start, source_step, after_from, ended_from}
 use Rattle.c_tree.proofs.Samples.{at, int, name, length_at, thread, block, buckets}
@@ -92,7 +93,7 @@ buckets_shared = record {
 -- the key of the lock and of the unlock
 masked_name : IsFlatLockName flat.mutexes (kind.Int ∷ []) masked
 unfolding flat_form typed_program reduction.from_least_on
-masked_name = record { array = record { it = _; found = refl; array = refl; whole = refl }; reads = (refl, tt); fits = refl }
+masked_name = record { array = record { it = _; found = refl; array = refl; whole = refl }; reads = (refl, tt); follows = (tt, tt); fits = refl }
 
 -- its statements, with the key at the lock and at the unlock
 buckets_threads : AllByRecursion (λ (u : f.Thread). AreFlatStatements flat u.locals u.body) flat.threads
@@ -121,9 +122,25 @@ buckets_threads =
       tt,
     )
 
+-- its one thread refers to nothing
+buckets_refer : AllByRecursion (λ (u : f.Thread). AreFlatStatementsReferring flat u.refers u.body) flat.threads
+unfolding flat_form typed_program reduction.from_least_on
+buckets_refer = (
+  ((tt, tt, tt), (((tt, tt), (tt, (((tt, tt), ((tt, tt), tt), tt), (tt, ((tt, (tt, tt), tt), tt))))), tt)),
+  tt,
+)
+
 buckets_formed : IsWellFormed flat
 unfolding flat_form typed_program reduction.from_least_on
-buckets_formed = record { shared = buckets_shared; threads = buckets_threads }
+buckets_formed = record {
+  shared = buckets_shared;
+  threads = buckets_threads;
+  referring = record {
+    variables = ((tt, tt), tt);
+    threads = (record { locals = (tt, tt); refer = (tt, tt); body = buckets_refer.0; never_null = refl }, tt);
+  };
+  unreferring = record { variables = (refl, tt); threads = ((refl, tt), tt) };
+}
 
 -- its mutexes are in an array
 buckets_keyed : ¬ (AllByRecursion IsSingle flat.mutexes)

@@ -25,11 +25,11 @@ all_of (x ∷ xs) = f.statement_and x (all_of xs)
 
 -- a thread with two locals
 abbrev thread : List f.Statement → f.Thread
-thread body = record { name = name (codes "t") 50; locals = kind.Int ∷ kind.Int ∷ []; body = all_of body; closing = at 99 }
+thread body = record { name = name (codes "t") 50; locals = kind.Int ∷ kind.Int ∷ []; refers = None ∷ None ∷ []; body = all_of body; closing = at 99 }
 
 -- an array of 4 elements, each under a mutex of its own
 abbrev array : Variable
-array = record { name = name (codes "a") 30; guard = Each 0; kind = kind.Int; length = Some 4; initial = replicate 4 (pos 0) }
+array = record { name = name (codes "a") 30; guard = Each 0; kind = kind.Int; refers = None; length = Some 4; initial = replicate 4 (pos 0) }
 
 -- an array of 4 mutexes, and the array that they guard
 abbrev flat : List f.Statement → f.Flat

@@ -1,7 +1,9 @@
 -- Worked rows: where references may be null, and a run that follows one.
-use Rattle.std.proofs.Common.{◌≡◌, ℕ, List, [], ◌∷◌, map, replicate, Some, None, refl}
-use Rattle.std.specs.Prelude.{pos, codes}
+use Rattle.std.proofs.Common.{◌≡◌, ◌∙◌, ap, ℕ, List, [], ◌∷◌, map, replicate, Option, Some, None, true, is_some, refl, sym, subst, arith}
+use Rattle.std.proofs.lemmas.Option.{none-some, same_Some}
+use Rattle.std.specs.Prelude.{pos, codes, flat_map}
 use Rattle.ido_base.specs.declared.place.Place.{Place}
+use Rattle.ido_ints.specs.declared.kinds.Kind.{Kind}
 use Rattle.ido_ints.specs.declared.kinds.Kind.TheVariants as kind
 use Rattle.ido_ints.specs.declared.operators.Binary.TheVariants as b
 use Rattle.ido_ints.specs.Reduction as reduction
@@ -10,9 +12,13 @@ use Rattle.c_tree.specs.declared.language.Language.TheVariants.{Full}
 use Rattle.c_tree.specs.Elaboration.{typed_program}
 use Rattle.c_tree.specs.Exprs as e
 use Rattle.c_tree.specs.Programs as p
+use Rattle.c_tree.specs.Flats as f
+use Rattle.c_tree.specs.References.{RefersUpTo, IsReferred, IsFlatReferring, RefersTo, HasNoFlatReferences}
 use Rattle.c_tree.specs.Inlining.{flat_form}
+use Rattle.c_tree.specs.Ranges.{elements_of}
 use Rattle.c_tree.specs.LockDiscipline.{lock_fault}
-use Rattle.c_tree.specs.NullReferences.{program_nulls}
+use Rattle.c_tree.specs.NullReferences.{program_nulls, flat_statements_nulls}
+use Rattle.c_tree.specs.WellFormed.{IsExpr}
 use Rattle.c_tree.specs.Source.{start, source_step, after_from, ended_from}
 use Rattle.c_tree.proofs.Samples.{at, int, name, references, null_followed}
 
@@ -32,6 +38,9 @@ abbrev all_of : List p.Statement → p.Statements
 all_of [] = p.no_statement
 all_of (x ∷ xs) = p.statement_and x (all_of xs)
 
+abbrev cell : p.Variable
+cell = record { name = name (codes "h") 74; guard = p.By 0; kind = kind.UnsignedLong; refers = Some 0; length = None; initial = pos 0 ∷ [] }
+
 -- `mutex m; persistent(m) long a[4] = {10, 20, 30, 40}; persistent(m) ref(a) h; thread t { .. }` with one local, which refers to `a`
 abbrev program : List p.Statement → p.Program
 program body = record {
@@ -41,12 +50,13 @@ program body = record {
         name = name (codes "a") 28;
         guard = p.By 0;
         kind = kind.Long;
+        refers = None;
         length = Some 4;
         initial = pos 10 ∷ pos 20 ∷ pos 30 ∷ pos 40 ∷ [];
       } ∷
-      record { name = name (codes "h") 74; guard = p.By 0; kind = kind.UnsignedLong; length = None; initial = pos 0 ∷ [] } ∷ [];
+      cell ∷ [];
   functions = [];
-  threads = record { name = name (codes "t") 84; locals = kind.UnsignedLong ∷ []; body = all_of body; closing = at 165 } ∷ [];
+  threads = record { name = name (codes "t") 84; locals = kind.UnsignedLong ∷ []; refers = Some 0 ∷ []; body = all_of body; closing = at 165 } ∷ [];
 }
 
 abbrev nulls_of : List p.Statement → List ℕ
@@ -102,6 +112,95 @@ whole_read = refl
 read_null : map (λ (x : Place). x.0) (program_nulls (typed_program null_followed)) ≡ 71 ∷ []
 unfolding typed_program reduction.from_least_on
 read_null = refl
+
+-- in the flat form, too
+flat_null : flat_map (λ (x : f.Thread). map (λ (y : Place). y.0) (flat_statements_nulls [] x.body)) (flat_form (typed_program null_followed)).threads ≡ 71 ∷ []
+unfolding flat_form typed_program reduction.from_least_on
+flat_null = refl
+
+flat_never_null : flat_map (λ (x : f.Thread). flat_statements_nulls [] x.body) (flat_form (typed_program references)).threads ≡ []
+unfolding flat_form typed_program reduction.from_least_on
+flat_never_null = refl
+
+-- every reference is to the array that it is said to refer to
+a_referred : IsReferred (program whole).variables 0
+a_referred = record { it = _; found = refl; array = refl; mutex = 0; guard = refl }
+
+followed : RefersUpTo (program whole).variables (Some 0 ∷ []) 3 0
+followed = record { variable = 0; refers = refl; length = refl }
+
+whole_refers : IsFlatReferring (flat_form (program whole))
+unfolding flat_form
+whole_refers = record {
+  variables = ((tt, tt), ((a_referred, (refl, (refl, tt))), tt));
+  threads = (
+    record {
+      locals = (refl, tt);
+      refer = (a_referred, tt);
+      body = (
+        tt,
+        (
+          (tt, tt, refl),
+          (
+            ((((tt, tt), ((followed, (followed, tt), tt), tt), tt)), tt),
+            ((tt, tt, refl), (tt, tt)),
+          ),
+        ),
+      );
+      never_null = refl;
+    },
+    tt,
+  );
+}
+
+-- a local that refers to nothing, and the last element of another array
+refers_nowhere : ¬ (RefersUpTo (program whole).variables (None ∷ []) 3 0)
+refers_nowhere h = none-some h.variable (same_Some None (Some h.variable) h.refers)
+
+other_last : ¬ (RefersUpTo (program whole).variables (Some 0 ∷ []) 2 0)
+other_last h =
+    let own : 0 ≡ h.variable = same_Some 0 h.variable (same_Some (Some 0) (Some h.variable) h.refers) in
+    let long : 4 ≡ 3 = subst (λ (k : ℕ). elements_of (program whole).variables k ≡ 3) (sym own) h.length in
+    absurd (omega (arith, long))
+
+-- null is given to a reference, and one to an element of its array; a number and one to another array aren't
+abbrev To : (array : ℕ) → e.Expr → Type 0
+To array x = RefersTo (program whole).variables (Some 0 ∷ []) array x
+
+null_given : To 0 (e.Constant (typed kind.UnsignedLong (pos 0)))
+null_given = refl
+
+element_given : To 0 (e.Address 0 (at 1) (e.Constant (int 2)))
+element_given = refl
+
+other_given : ¬ (To 1 (e.Address 0 (at 1) (e.Constant (int 2))))
+other_given h = cc
+
+number_given : ¬ (To 0 (e.Constant (int 1)))
+number_given h = cc
+
+-- one is to an element of a guarded array, and what is followed is an `unsigned long`
+abbrev Formed : List Kind → e.Expr → Type 0
+Formed ks x = IsExpr (program whole).variables ks x
+
+address_formed : Formed [] (e.Address 0 (at 1) (e.Constant (int 2)))
+address_formed = (a_referred, tt)
+
+address_unformed : ¬ (Formed [] (e.Address 1 (at 1) (e.Constant (int 0))))
+address_unformed h =
+    let same : cell ≡ h.0.it = same_Some cell h.0.it h.0.found in
+    let some : is_some cell.length ≡ true = ap (λ (v : p.Variable). is_some v.length) same ∙ h.0.array in
+    cc
+
+through_formed : Formed (kind.UnsignedLong ∷ []) (through 137)
+through_formed = (record { it = _; found = refl; kind = refl; array = refl }, refl)
+
+through_unformed : ¬ (Formed (kind.Long ∷ []) (through 137))
+through_unformed h = let kinds : Some kind.Long ≡ Some kind.UnsignedLong = h.1 in cc
+
+whole_has_references : ¬ (HasNoFlatReferences (flat_form (program whole)))
+unfolding flat_form
+whole_has_references h = let some : ◌≡◌ {A = Option ℕ} (Some 0) None = h.variables.1.0 in cc
 
 -- `null != p` says it, too
 other_way : nulls_of (if_so (e.Binary b.NotEqual null reference) (change ∷ []) [] ∷ []) ≡ []

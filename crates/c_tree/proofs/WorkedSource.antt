@@ -19,7 +19,7 @@ abbrev placed : ℕ → e.Expr → e.Placed
 placed place x = record { place = at place; expr = x }
 
 abbrev variable : List ℕ → ℕ → ℤ → p.Variable
-variable text place initial = record { name = name text place; guard = p.By 0; kind = kind.Int; length = None; initial = initial ∷ [] }
+variable text place initial = record { name = name text place; guard = p.By 0; kind = kind.Int; refers = None; length = None; initial = initial ∷ [] }
 
 -- the variable of this number, where its name stands
 abbrev read : ℕ → ℕ → e.Expr
@@ -41,6 +41,7 @@ operators_typed : typed_program operators ≡ record {
   threads = record {
     name = name (codes "t") 163;
     locals = [];
+    refers = [];
     body = all_of (
         p.Lock (at 167) (record { mutex = 0; key = None }) ∷
         store 176 0 (placed 180 (e.Binary b.Add (read 180 0) (e.Constant (int 1)))) ∷
@@ -67,6 +68,7 @@ flat_all_of (x ∷ xs) = f.statement_and x (flat_all_of xs)
 operators_flat : (flat_form (typed_program operators)).threads ≡ record {
   name = name (codes "t") 163;
   locals = [];
+  refers = [];
   body = flat_all_of (
       f.Lock (at 167) (record { mutex = 0; key = None }) ∷
       flat_store 176 0 (placed 180 (e.Binary b.Add (read 180 0) (e.Constant (int 1)))) ∷

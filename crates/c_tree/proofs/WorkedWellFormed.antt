@@ -51,6 +51,11 @@ masked_formed = record {
     ),
     tt,
   );
+  referring = record {
+    variables = ((tt, tt), tt);
+    threads = (record { locals = (tt, tt); refer = (tt, tt); body = ((tt, tt, tt), (tt, (((tt, tt), tt, tt), (tt, tt)))); never_null = refl }, tt);
+  };
+  unreferring = record { variables = (refl, tt); threads = ((refl, tt), tt) };
 }
 
 -- of an array of four mutexes a key is one of their numbers, and reads locals alone
@@ -67,13 +72,16 @@ abbrev number : ℕ → e.Expr
 number n = e.Constant (typed Int (pos n))
 
 last_key : IsFlatLockName array [] (keyed (number 3))
-last_key = record { array = record { it = four; found = refl; array = refl; whole = refl }; reads = tt; fits = refl }
+last_key = record { array = record { it = four; found = refl; array = refl; whole = refl }; reads = tt; follows = tt; fits = refl }
 
 no_such_key : ¬ (IsFlatLockName array [] (keyed (number 4)))
 no_such_key k = let fits = k.fits in cc
 
 key_of_a_variable : ¬ (IsFlatLockName array [] (keyed (e.Variable (at 1) 0 Int)))
 key_of_a_variable k = let found = k.reads.found in cc
+
+key_that_follows : ¬ (IsFlatLockName array [] (keyed (e.Referent (at 1) 3 0)))
+key_that_follows k = let refers = k.follows.refers in cc
 
 -- an array is named by its first mutex, all of it, and no two as one
 abbrev other : Mutex
@@ -118,6 +126,7 @@ abbrev elements : ℕ → Variable
 elements n = record {
   name = name [] 1;
   kind = Int;
+  refers = None;
   length = Some n;
   guard = Each 0;
   initial = [];

@@ -286,12 +286,19 @@ module _ (gs : List n.Global) where
     name = x.name;
     parameters = length x.parameters;
     locals = m.scope.kinds;
+    refers = m.scope.refers;
     body = m.made;
     result = returned m.scope (option_map n.kind_named x.type_name) x.body.returned;
   }
 
   abbrev pub thread : t.Thread → p.Thread
-  thread x = let m = statements n.no_locals (body_of x.block) in record { name = x.name; locals = m.scope.kinds; body = m.made; closing = closing_of x.block }
+  thread x = let m = statements n.no_locals (body_of x.block) in record {
+    name = x.name;
+    locals = m.scope.kinds;
+    refers = m.scope.refers;
+    body = m.made;
+    closing = closing_of x.block;
+  }
 
   -- ---- Variables
 
@@ -303,6 +310,7 @@ module _ (gs : List n.Global) where
     name = x.name;
     guard = guard x.guard;
     kind = n.kind_named x.type_name;
+    refers = option_map (λ (a : n.Array). a.number) (n.referred gs x.type_name);
     length = option_map length_number x.length;
     initial = filled (element_count x.length) (map (reduced (n.kind_named x.type_name)) (numbers_of x.initialiser));
   }

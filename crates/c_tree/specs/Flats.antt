@@ -1,5 +1,5 @@
 -- The flat form of a program, as contracts see it: threads without calls.
-use Rattle.std.specs.Prelude.{List, [], ◌∷◌, map}
+use Rattle.std.specs.Prelude.{ℕ, List, [], ◌∷◌, map, Option}
 use Rattle.ido_base.specs.declared.place.Place.{Place}
 use Rattle.ido_ints.specs.declared.kinds.Kind.{Kind}
 use Rattle.c_tree.specs.Trees.{Name}
@@ -33,6 +33,8 @@ pub record Thread : Type 0 where
   pub name : Name
   -- the kinds of its locals, by their numbers
   pub locals : List Kind
+  -- of each the array to whose elements it refers, where it is a reference
+  pub refers : List (Option ℕ)
   pub body : Statements
   -- the place of its closing brace
   pub closing : Place
@@ -72,7 +74,7 @@ arms_list_of [] = no_arm
 arms_list_of (x ∷ xs) = arm_and (placed_of x.condition) (statements_of x.body.items) (arms_list_of xs)
 
 abbrev pub thread_of : thread.Thread → Thread
-thread_of x = record { name = name_of x.name; locals = x.locals.items; body = statements_of x.body.items; closing = x.closing }
+thread_of x = record { name = name_of x.name; locals = x.locals.items; refers = x.refers.items; body = statements_of x.body.items; closing = x.closing }
 
 abbrev pub flat_of : flat.Flat → Flat
 flat_of x = record { mutexes = map mutex_of x.mutexes.items; variables = map variable_of x.variables.items; threads = map thread_of x.threads.items }

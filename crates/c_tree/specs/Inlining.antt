@@ -92,10 +92,22 @@ statements_and (f.statement_and x xs) more = f.statement_and x (statements_and x
 abbrev pub one : f.Statement → f.Statements
 one x = f.statement_and x f.no_statement
 
--- what is made of a part, and the kinds of all locals of the thread after it
+-- the kinds of locals, and what each refers to
+pub record Locals : Type 0 where
+  pub kinds : List Kind
+  pub refers : List (Option ℕ)
+
+abbrev pub locals : List Kind → List (Option ℕ) → Locals
+locals kinds refers = record { kinds = kinds; refers = refers }
+
+-- the ones and then the others
+abbrev pub joined : Locals → Locals → Locals
+joined x y = locals (x.kinds ++ y.kinds) (x.refers ++ y.refers)
+
+-- what is made of a part, and all locals of the thread after it
 pub record Made (A : Type 0) : Type 0 where
   pub made : A
-  pub kinds : List Kind
+  pub locals : Locals
 
 -- parameters take the arguments, as if by assignment (C11 6.5.2.2, paragraph 7): the locals from the first number on
 abbrev pub passed : Place → (first : ℕ) → List Kind → List e.Placed → f.Statements
@@ -113,65 +125,66 @@ assigned place n (Some x) None = f.no_statement
 assigned place n None target = f.no_statement
 
 -- a call of which nothing is left has no locals
-abbrev pub kinds_after : f.Statements → (before after : List Kind) → List Kind
-kinds_after f.no_statement before after = before
-kinds_after (f.statement_and x xs) before after = after
+abbrev pub locals_after : f.Statements → (before after : Locals) → Locals
+locals_after f.no_statement before after = before
+locals_after (f.statement_and x xs) before after = after
 
--- a call's function with its locals after those of the kinds
+-- a call's function with its locals after those
 abbrev pub Bodies : Type 0
-Bodies = (function : ℕ) → List Kind → Made f.Statements
+Bodies = (function : ℕ) → Locals → Made f.Statements
 
 module _ (fs : List p.Function) (bodies : Bodies) where
   -- the parameters, the body, the result
-  abbrev pub called : Place → (by : ℕ) → List Kind → p.Function → (body : Made f.Statements) → List e.Placed → Option e.Lvalue → Made f.Statements
+  abbrev pub called : Place → (by : ℕ) → Locals → p.Function → (body : Made f.Statements) → List e.Placed → Option e.Lvalue → Made f.Statements
   called place n ks x body arguments result =
-      let made = statements_and (passed place (length ks) x.locals (map (shifted_placed n) arguments))
-      (statements_and body.made (assigned place (length ks) x.result (option_map (shifted_target n) result))) in
-      record { made = made; kinds = kinds_after made ks body.kinds }
+      let made = statements_and (passed place (length ks.kinds) x.locals (map (shifted_placed n) arguments))
+      (statements_and body.made (assigned place (length ks.kinds) x.result (option_map (shifted_target n) result))) in
+      record { made = made; locals = locals_after made ks body.locals }
 
   abbrev mutual
-    pub statement : (by : ℕ) → List Kind → p.Statement → Made f.Statements
-    statement n ks (p.Assign place target value) = record { made = one (f.Assign place (shifted_target n target) (shifted_placed n value)); kinds = ks }
+    pub statement : (by : ℕ) → Locals → p.Statement → Made f.Statements
+    statement n ks (p.Assign place target value) = record { made = one (f.Assign place (shifted_target n target) (shifted_placed n value)); locals = ks }
     statement n ks (p.Call place name function arguments result) = elim (slice_get fs function) [
       | Some x ↦ called place n ks x (bodies function ks) arguments result
-      | None ↦ record { made = f.no_statement; kinds = ks }
+      | None ↦ record { made = f.no_statement; locals = ks }
     ]
     statement n ks (p.If place arms otherwise) =
         let a = arms_of n ks arms in
-        let o = statements n a.kinds otherwise in
-        record { made = one (f.If place a.made o.made); kinds = o.kinds }
+        let o = statements n a.locals otherwise in
+        record { made = one (f.If place a.made o.made); locals = o.locals }
     statement n ks (p.While place condition body) =
-        let m = statements n ks body in record { made = one (f.While place (shifted_placed n condition) m.made); kinds = m.kinds }
+        let m = statements n ks body in record { made = one (f.While place (shifted_placed n condition) m.made); locals = m.locals }
     statement n ks (p.Do place body condition) =
-        let m = statements n ks body in record { made = one (f.Do place m.made (shifted_placed n condition)); kinds = m.kinds }
-    statement n ks (p.Lock place lock) = record { made = one (f.Lock place (shifted_lock n lock)); kinds = ks }
-    statement n ks (p.Unlock place lock) = record { made = one (f.Unlock place (shifted_lock n lock)); kinds = ks }
+        let m = statements n ks body in record { made = one (f.Do place m.made (shifted_placed n condition)); locals = m.locals }
+    statement n ks (p.Lock place lock) = record { made = one (f.Lock place (shifted_lock n lock)); locals = ks }
+    statement n ks (p.Unlock place lock) = record { made = one (f.Unlock place (shifted_lock n lock)); locals = ks }
 
-    pub statements : (by : ℕ) → List Kind → p.Statements → Made f.Statements
-    statements n ks p.no_statement = record { made = f.no_statement; kinds = ks }
+    pub statements : (by : ℕ) → Locals → p.Statements → Made f.Statements
+    statements n ks p.no_statement = record { made = f.no_statement; locals = ks }
     statements n ks (p.statement_and x rest) =
         let m = statement n ks x in
-        let r = statements n m.kinds rest in
-        record { made = statements_and m.made r.made; kinds = r.kinds }
+        let r = statements n m.locals rest in
+        record { made = statements_and m.made r.made; locals = r.locals }
 
-    pub arms_of : (by : ℕ) → List Kind → p.Arms → Made f.Arms
-    arms_of n ks p.no_arm = record { made = f.no_arm; kinds = ks }
+    pub arms_of : (by : ℕ) → Locals → p.Arms → Made f.Arms
+    arms_of n ks p.no_arm = record { made = f.no_arm; locals = ks }
     arms_of n ks (p.arm_and condition body rest) =
         let m = statements n ks body in
-        let r = arms_of n m.kinds rest in
-        record { made = f.arm_and (shifted_placed n condition) m.made r.made; kinds = r.kinds }
+        let r = arms_of n m.locals rest in
+        record { made = f.arm_and (shifted_placed n condition) m.made r.made; locals = r.locals }
 
 -- the bodies of functions, with calls at most so deep: where no call leads back, they are no deeper than there are functions
 abbrev pub bodies_of : List p.Function → (deep : ℕ) → Bodies
-bodies_of fs zero function ks = record { made = f.no_statement; kinds = ks }
+bodies_of fs zero function ks = record { made = f.no_statement; locals = ks }
 bodies_of fs (suc deep) function ks = elim (slice_get fs function) [
-  | Some x ↦ statements fs (bodies_of fs deep) (length ks) (ks ++ x.locals) x.body
-  | None ↦ record { made = f.no_statement; kinds = ks }
+  | Some x ↦ statements fs (bodies_of fs deep) (length ks.kinds) (joined ks (locals x.locals x.refers)) x.body
+  | None ↦ record { made = f.no_statement; locals = ks }
 ]
 
 abbrev pub flat_thread : List p.Function → p.Thread → f.Thread
 flat_thread fs x =
-    let m = statements fs (bodies_of fs (length fs)) 0 x.locals x.body in record { name = x.name; locals = m.kinds; body = m.made; closing = x.closing }
+    let m = statements fs (bodies_of fs (length fs)) 0 (locals x.locals x.refers) x.body in
+    record { name = x.name; locals = m.locals.kinds; refers = m.locals.refers; body = m.made; closing = x.closing }
 
 unfoldable pub flat_form : p.Program → f.Flat
 flat_form x = record { mutexes = x.mutexes; variables = x.variables; threads = map (flat_thread x.functions) x.threads }

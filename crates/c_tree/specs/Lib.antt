@@ -19,6 +19,7 @@ pub mod TypeRules
 pub mod Ranges
 pub mod NullReferences
 pub mod Inlining
+pub mod References
 pub mod WellFormed
 pub mod LockDiscipline
 pub mod Temporaries

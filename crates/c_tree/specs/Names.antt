@@ -127,21 +127,23 @@ pub record Local : Type 0 where
   -- the array to whose elements it refers, where it is a reference
   pub refers : Option Array
 
--- where a statement stands: the locals that are known, the innermost first; the names declared in its own scope; the kinds of all
--- locals of the function or thread so far
+-- where a statement stands: the locals that are known, the innermost first; the names declared in its own scope; of all locals of the
+-- function or thread so far the kinds, and the arrays to which they refer
 pub record Scope : Type 0 where
   pub known : List Local
   pub own : List (List ℕ)
   pub kinds : List Kind
+  pub refers : List (Option ℕ)
 
 abbrev pub no_locals : Scope
-no_locals = record { known = []; own = []; kinds = [] }
+no_locals = record { known = []; own = []; kinds = []; refers = [] }
 
 abbrev pub declared_as : Scope → (name : List ℕ) → Kind → Option Array → Scope
 declared_as s name kind refers = record {
   known = record { name = name; number = length s.kinds; kind = kind; refers = refers } ∷ s.known;
   own = name ∷ s.own;
   kinds = s.kinds ++ kind ∷ [];
+  refers = s.refers ++ option_map (λ (a : Array). a.number) refers ∷ [];
 }
 
 abbrev pub declared : List Global → Scope → (name : List ℕ) → t.TypeName → Scope
@@ -153,7 +155,7 @@ entered s = record s { own = [] }
 
 -- the scope again, after one that stood inside it
 abbrev pub left : Scope → (inside : Scope) → Scope
-left s inside = record s { kinds = inside.kinds }
+left s inside = record s { kinds = inside.kinds; refers = inside.refers }
 
 -- ---- Meanings
 

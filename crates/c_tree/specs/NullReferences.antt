@@ -9,6 +9,7 @@ use Rattle.c_tree.specs.declared.rule.Rule as r
 use Rattle.c_tree.specs.declared.rule.Rule.TheVariants as rule
 use Rattle.c_tree.specs.Exprs as e
 use Rattle.c_tree.specs.Programs as p
+use Rattle.c_tree.specs.Flats as f
 use Rattle.c_tree.specs.LockNames.{same_typed}
 use Rattle.c_tree.specs.Ranges.{Index, program_indexes, index_fits}
 
@@ -158,3 +159,50 @@ pub record IsFirstOutside (x : p.Program) (found : r.Rule) (place : Place) : Typ
   pub first : (other : r.Rule) (at : Place) → IsOutside x other at → place.0 ≤ at.0
   -- of both at one place the index is told
   pub index_first : IsOutside x rule.Index place → found ≡ rule.Index
+
+-- ---- Of flat forms, in which keys follow no reference
+
+abbrev mutual
+  pub flat_statement_assigned : f.Statement → List ℕ
+  flat_statement_assigned (f.Assign place target value) = target_assigned target
+  flat_statement_assigned (f.If place arms otherwise) = flat_arms_assigned arms ++ flat_statements_assigned otherwise
+  flat_statement_assigned (f.While place condition body) = flat_statements_assigned body
+  flat_statement_assigned (f.Do place body condition) = flat_statements_assigned body
+  flat_statement_assigned (f.Lock place lock) = []
+  flat_statement_assigned (f.Unlock place lock) = []
+
+  pub flat_statements_assigned : f.Statements → List ℕ
+  flat_statements_assigned f.no_statement = []
+  flat_statements_assigned (f.statement_and x rest) = flat_statement_assigned x ++ flat_statements_assigned rest
+
+  pub flat_arms_assigned : f.Arms → List ℕ
+  flat_arms_assigned f.no_arm = []
+  flat_arms_assigned (f.arm_and condition body rest) = flat_statements_assigned body ++ flat_arms_assigned rest
+
+abbrev pub flat_known_with : (known : List ℕ) → (body : f.Statements) → (local : Option ℕ) → List ℕ
+flat_known_with known body None = known
+flat_known_with known body (Some local) = if is_among (flat_statements_assigned body) local then known else known ++ local ∷ []
+
+-- what is known in the block of an arm: the condition of the first one says more
+abbrev pub flat_known_in : (known : List ℕ) → (first : Bool) → (condition : e.Placed) → (body : f.Statements) → List ℕ
+flat_known_in known false condition body = known
+flat_known_in known true condition body = flat_known_with known body (unnull condition.expr)
+
+abbrev mutual
+  pub flat_statement_nulls : (known : List ℕ) → f.Statement → List Place
+  flat_statement_nulls known (f.Assign place target value) = target_nulls known target ++ placed_nulls known value
+  flat_statement_nulls known (f.If place arms otherwise) = flat_arms_nulls known true arms ++ flat_statements_nulls known otherwise
+  flat_statement_nulls known (f.While place condition body) = placed_nulls known condition ++ flat_statements_nulls known body
+  flat_statement_nulls known (f.Do place body condition) = flat_statements_nulls known body ++ placed_nulls known condition
+  flat_statement_nulls known (f.Lock place lock) = []
+  flat_statement_nulls known (f.Unlock place lock) = []
+
+  pub flat_statements_nulls : (known : List ℕ) → f.Statements → List Place
+  flat_statements_nulls known f.no_statement = []
+  flat_statements_nulls known (f.statement_and x rest) = flat_statement_nulls known x ++ flat_statements_nulls known rest
+
+  -- whether they begin with the first arm of their `if`
+  pub flat_arms_nulls : (known : List ℕ) → (first : Bool) → f.Arms → List Place
+  flat_arms_nulls known first f.no_arm = []
+  flat_arms_nulls known first (f.arm_and condition body rest) =
+      placed_nulls known condition ++ flat_statements_nulls (flat_known_in known first condition body) body ++ flat_arms_nulls known false rest

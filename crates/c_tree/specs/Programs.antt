@@ -34,6 +34,8 @@ pub record Variable : Type 0 where
   pub name : Name
   pub guard : Guard
   pub kind : Kind
+  -- the array to whose elements it refers, where it has references
+  pub refers : Option ℕ
   -- elements of an array; none where it is no array
   pub length : Option ℕ
   -- a number for each element
@@ -69,12 +71,16 @@ pub record Function : Type 0 where
   -- how many of its locals, the first ones, are its parameters
   pub parameters : ℕ
   pub locals : List Kind
+  -- of each the array to whose elements it refers, where it is a reference
+  pub refers : List (Option ℕ)
   pub body : Statements
   pub result : Option Returned
 
 pub record Thread : Type 0 where
   pub name : Name
   pub locals : List Kind
+  -- of each the array to whose elements it refers, where it is a reference
+  pub refers : List (Option ℕ)
   pub body : Statements
   -- the place of its closing brace
   pub closing : Place
@@ -97,7 +103,7 @@ guard_of (guards.By mutex) = By mutex
 guard_of (guards.Each first) = Each first
 
 abbrev pub variable_of : variable.Variable → Variable
-variable_of x = record { name = name_of x.name; guard = guard_of x.guard; kind = x.kind; length = x.length; initial = x.initial.items }
+variable_of x = record { name = name_of x.name; guard = guard_of x.guard; kind = x.kind; refers = x.refers; length = x.length; initial = x.initial.items }
 
 abbrev mutual
   pub statement_of : p.Statement → Statement
@@ -133,12 +139,13 @@ function_of x = record {
   name = name_of x.name;
   parameters = x.parameters;
   locals = x.locals.items;
+  refers = x.refers.items;
   body = statements_of x.body.items;
   result = option_map returned_of x.result;
 }
 
 abbrev pub thread_of : thread.Thread → Thread
-thread_of x = record { name = name_of x.name; locals = x.locals.items; body = statements_of x.body.items; closing = x.closing }
+thread_of x = record { name = name_of x.name; locals = x.locals.items; refers = x.refers.items; body = statements_of x.body.items; closing = x.closing }
 
 abbrev pub program_of : program.Program → Program
 program_of x = record {

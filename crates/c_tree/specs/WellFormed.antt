@@ -6,11 +6,13 @@ use Rattle.ido_base.specs.declared.location.Shape.{Shape}
 use Rattle.ido_base.specs.Layout.{end_from}
 use Rattle.ido_base.specs.declared.limits.TheConstants.{MOST_THREADS, MOST_MUTEXES, MOST_VARIABLE_BYTES, MOST_ELEMENTS, MOST_LOCKS}
 use Rattle.ido_ints.specs.declared.kinds.Kind.{Kind}
+use Rattle.ido_ints.specs.declared.kinds.Kind.TheVariants.{UnsignedLong}
 use Rattle.ido_ints.specs.Kinds.{bytes_of, Holds}
 use Rattle.c_tree.specs.Exprs as e
 use Rattle.c_tree.specs.Programs as p
 use Rattle.c_tree.specs.Flats as f
 use Rattle.c_tree.specs.Ranges.{is_below, elements_of, mutexes_of}
+use Rattle.c_tree.specs.References.{IsReferred, Follows, IsProgramReferring, HasNoReferences, IsFlatReferring, HasNoFlatReferences}
 
 -- ---- Mutexes
 
@@ -83,14 +85,14 @@ pub record IsDeclared (vs : List p.Variable) (variable : ℕ) (k : Kind) (is_arr
   pub array : is_some it.length ≡ is_array
 
 module _ (vs : List p.Variable) (ks : List Kind) where
-  -- each local and each variable is there and of its kind, with an index exactly where it is an array; there is no reference
+  -- each local and each variable is there and of its kind, with an index exactly where it is an array; what a local that is followed refers to is asked apart
   abbrev pub IsExpr : e.Expr → Type 0
   IsExpr (e.Constant value) = Unit {0}
   IsExpr (e.Local local kind) = slice_get ks local ≡ Some kind
   IsExpr (e.Variable place variable kind) = IsDeclared vs variable kind false
   IsExpr (e.Element place variable kind index_place index) = IsDeclared vs variable kind true × IsExpr index
-  IsExpr (e.Address variable index_place index) = ⊥
-  IsExpr (e.Referent place last local) = ⊥
+  IsExpr (e.Address variable index_place index) = IsReferred vs variable × IsExpr index
+  IsExpr (e.Referent place last local) = slice_get ks local ≡ Some UnsignedLong
   IsExpr (e.Unary operator operand) = IsExpr operand
   IsExpr (e.Cast kind operand) = IsExpr operand
   IsExpr (e.Converted kind operand) = IsExpr operand
@@ -131,10 +133,11 @@ module _ (vs : List p.Variable) where
 
 -- ---- Names of locks
 
--- the key reads locals alone, and is the number of a mutex of the array, whatever they hold
+-- the key reads locals alone and follows none, and is the number of a mutex of the array, whatever they hold
 pub record IsKey (ms : List p.Mutex) (ks : List Kind) (first : ℕ) (key : e.Expr) : Type 0 where
   pub array : IsArrayAt ms first
   pub reads : IsExpr [] ks key
+  pub follows : Follows [] [] key
   pub fits : is_below key (mutexes_of ms first) ≡ true
 
 -- of a flat form: a mutex that is in no array and no key, or the first one of an array and a key
@@ -146,11 +149,11 @@ IsFlatLockName ms ks x = elim x.key [
 
 -- ---- Programs, with calls; whether indexes fit is asked apart, by `AllFit`
 
--- a mutex that is in no array and no key, or the first one of an array and a key that reads locals alone
+-- a mutex that is in no array and no key, or the first one of an array and a key that reads locals alone and follows none
 abbrev pub IsLockName : (ms : List p.Mutex) → (ks : List Kind) → e.LockName → Type 0
 IsLockName ms ks x = elim x.key [
   | None ↦ IsSingleAt ms x.mutex
-  | Some key ↦ IsArrayAt ms x.mutex × IsExpr [] ks key.expr
+  | Some key ↦ IsArrayAt ms x.mutex × IsExpr [] ks key.expr × Follows [] [] key.expr
 ]
 
 -- a call of a function that is there: as many arguments as parameters, and a result exactly where one is assigned
@@ -202,6 +205,9 @@ pub record IsProgram (x : p.Program) : Type 0 where
   pub shared : AreShared x.mutexes (length x.threads) x.variables
   pub functions : AllByRecursion (IsFunction x) x.functions
   pub threads : AllByRecursion (λ (t : p.Thread). AreStatements x t.locals t.body) x.threads
+  pub referring : IsProgramReferring x
+  -- for as long as no image is checked for references
+  pub unreferring : HasNoReferences x
 
 -- ---- Flat forms, in which all indexes fit
 
@@ -236,3 +242,6 @@ module _ (x : f.Flat) (ks : List Kind) where
 pub record IsWellFormed (x : f.Flat) : Type 0 where
   pub shared : AreShared x.mutexes (length x.threads) x.variables
   pub threads : AllByRecursion (λ (t : f.Thread). AreFlatStatements x t.locals t.body) x.threads
+  pub referring : IsFlatReferring x
+  -- for as long as no image is checked for references
+  pub unreferring : HasNoFlatReferences x

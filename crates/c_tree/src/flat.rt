@@ -59,6 +59,8 @@ pub struct Thread {
     pub name: Name,
     /// The kinds of its locals, by their numbers.
     pub locals: Vec<Kind>,
+    /// Of each local the array to whose elements it refers, where it is a reference.
+    pub refers: Vec<Option<u32>>,
     pub body: Vec<Statement>,
     /// The place of its closing brace.
     pub closing: Place,

@@ -28,6 +28,8 @@ pub struct Variable {
     pub guard: Guard,
     /// The kind of its elements.
     pub kind: Kind,
+    /// The array to whose elements it refers, where it has references.
+    pub refers: Option<u32>,
     /// How many elements an array has; none where it is no array.
     pub length: Option<u32>,
     /// The numbers that its elements begin with, one for each element.
@@ -98,6 +100,8 @@ pub struct Function {
     pub parameters: u32,
     /// The kinds of its locals, by their numbers.
     pub locals: Vec<Kind>,
+    /// Of each local the array to whose elements it refers, where it is a reference.
+    pub refers: Vec<Option<u32>>,
     pub body: Vec<Statement>,
     /// The kind and the value of its result; none where it has no result.
     pub result: Option<Returned>,
@@ -116,6 +120,8 @@ pub struct Thread {
     pub name: Name,
     /// The kinds of its locals, by their numbers.
     pub locals: Vec<Kind>,
+    /// Of each local the array to whose elements it refers, where it is a reference.
+    pub refers: Vec<Option<u32>>,
     pub body: Vec<Statement>,
     /// The place of its closing brace.
     pub closing: Place,

@@ -9,5 +9,7 @@ mod NestedScopes
 mod RowSteps
 mod UniqueFirstFault
 mod LocalKindsGrow
+mod EmptyFaults
+mod PlainReferences
 mod WellFormedStatements
 mod WellFormedItems

@@ -23,9 +23,9 @@ use Rattle.c_typer.specs.declared.globals.Declared.{Declared}
 use Rattle.c_typer.specs.declared.names.Places.{Places}
 use Rattle.c_typer.specs.declared.scope.Local.{Local}
 
--- what a scope represents that has these locals, this mark and these kinds
-abbrev pub scope_made : List Local → ℕ → List Kind → n.Scope
-scope_made xs mark ks = record { known = known_of xs; own = own_of (drop mark xs); kinds = ks }
+-- what a scope represents that has these locals and this mark, and of all locals so far these kinds, and these arrays to which they refer
+abbrev pub scope_made : List Local → ℕ → List Kind → List (Option ℕ) → n.Scope
+scope_made xs mark ks rs = record { known = known_of xs; own = own_of (drop mark xs); kinds = ks; refers = rs }
 
 pub known_push : (xs : List Local) (x : Local) → known_of (xs ++ x ∷ []) ≡ local_of x ∷ known_of xs
 known_push xs x = ap (map local_of) (reverse-append xs (x ∷ []))
@@ -338,15 +338,25 @@ last_is_placed places xs ys x key placed at_key more =
     ∙ ap is_some (placed x.name.items ∙ ap (λ (zs : List Local). last_place x.name.items (names_in zs)) more ∙ last_push x.name.items xs x)
     ∙ ap (λ (b : Bool). is_some (cond b (Some (length xs)) (last_place x.name.items (names_in xs)))) (nat_list_eq_equiv.refl x.name.items)
 
-pub declares : (xs : List Local) (mark : ℕ) (kinds : List Kind) (x : Local) (ys : List Local) (ks : List Kind) (name : List ℕ) (kind : Kind)
-    (refers : Option n.Array) → mark ≤ length xs → x.name.items ≡ name → x.number ≡ length kinds → x.kind ≡ kind → option_map array_of x.refers ≡ refers →
-    ys ≡ xs ++ x ∷ [] → ks ≡ kinds ++ kind ∷ []
-    → scope_made ys mark ks ≡ n.declared_as (scope_made xs mark kinds) name kind refers
-declares xs mark kinds x ys ks name kind refers within text number at_kind at_array more more_kinds =
-    (λ i. scope_made (more i) mark (more_kinds i))
-    ∙ (λ i. record { known = known_push xs x i; own = own_drop mark xs x within i; kinds = kinds ++ kind ∷ [] })
+-- the number of an array
+abbrev pub number_in : Option n.Array → Option ℕ
+number_in o = option_map (λ (a : n.Array). a.number) o
+
+pub declares : (xs : List Local) (mark : ℕ) (kinds : List Kind) (referring : List (Option ℕ)) (x : Local) (ys : List Local) (ks : List Kind)
+    (rs : List (Option ℕ)) (name : List ℕ) (kind : Kind) (refers : Option n.Array) → mark ≤ length xs → x.name.items ≡ name → x.number ≡ length kinds →
+    x.kind ≡ kind → option_map array_of x.refers ≡ refers → ys ≡ xs ++ x ∷ [] → ks ≡ kinds ++ kind ∷ [] → rs ≡ referring ++ number_in refers ∷ [] →
+    scope_made ys mark ks rs ≡ n.declared_as (scope_made xs mark kinds referring) name kind refers
+declares xs mark kinds referring x ys ks rs name kind refers within text number at_kind at_array more more_kinds more_refers =
+    (λ i. scope_made (more i) mark (more_kinds i) (more_refers i))
+    ∙ (λ i. record {
+      known = known_push xs x i;
+      own = own_drop mark xs x within i;
+      kinds = kinds ++ kind ∷ [];
+      refers = referring ++ number_in refers ∷ [];
+    })
     ∙ (λ i. record {
       known = record { name = text i; number = number i; kind = at_kind i; refers = at_array i } ∷ known_of xs;
       own = text i ∷ own_of (drop mark xs);
       kinds = kinds ++ kind ∷ [];
+      refers = referring ++ number_in refers ∷ [];
     })

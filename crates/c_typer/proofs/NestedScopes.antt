@@ -1,5 +1,5 @@
 -- Scopes after others, and the scope again after one that stood inside it.
-use Rattle.std.proofs.Common.{◌≡◌, ℕ, List, [], ◌++◌, length, drop, take, sym, ap, ◌∙◌, append-nil, append_assoc, refl, Vec, Global}
+use Rattle.std.proofs.Common.{◌≡◌, ℕ, List, [], ◌++◌, length, drop, take, sym, ap, ap₂, ◌∙◌, append-nil, append_assoc, refl, Option, Vec, Global}
 use Rattle.std.proofs.lemmas.List.{take_at}
 use Rattle.ido_ints.specs.declared.kinds.Kind.{Kind}
 use Rattle.c_tree.specs.Names as n
@@ -20,15 +20,15 @@ grows_both a b c h k = record {
 pub stays_both : (a b c : Scope) → Stays a b → Stays b c → Stays a c
 stays_both a b c h k = record { mark = k.mark ∙ h.mark; known = k.known ∙ h.known }
 
-abbrev made_of : List Local → ℕ → List Kind → n.Scope
-made_of xs mark ks = record { known = known_of xs; own = own_of (drop mark xs); kinds = ks }
+abbrev made_of : List Local → ℕ → List Kind → List (Option ℕ) → n.Scope
+made_of xs mark ks rs = record { known = known_of xs; own = own_of (drop mark xs); kinds = ks; refers = rs }
 
 -- the scope again, once the locals after those that it had are gone
 pub left_again : (old inside mid new : Scope) → inside.known ≡ old.known → ScopeGrows inside mid →
     new.known.items ≡ take (length old.known.items) mid.known.items
     → new.mark ≡ old.mark
-    → new.kinds ≡ mid.kinds → (scope_of new ≡ n.left (scope_of old) (scope_of mid)) × Stays old new
-left_again old inside mid new begins h cut mark kinds = (same, record { mark = mark; known = known })
+    → new.kinds ≡ mid.kinds → new.refers ≡ mid.refers → (scope_of new ≡ n.left (scope_of old) (scope_of mid)) × Stays old new
+left_again old inside mid new begins h cut mark kinds refers = (same, record { mark = mark; known = known })
   where
     grown : mid.known.items ≡ old.known.items ++ h.more
     grown = h.known ∙ ap (λ (xs : Vec Local Global). xs.items ++ h.more) begins
@@ -38,6 +38,6 @@ left_again old inside mid new begins h cut mark kinds = (same, record { mark = m
 
     same : scope_of new ≡ n.left (scope_of old) (scope_of mid)
     same =
-        ap (λ (xs : List Local). made_of xs new.mark new.kinds.items) known
-        ∙ ap (λ (m : ℕ). made_of old.known.items m new.kinds.items) mark
-        ∙ ap (λ (ks : Vec Kind Global). made_of old.known.items old.mark ks.items) kinds
+        ap (λ (xs : List Local). made_of xs new.mark new.kinds.items new.refers.items) known
+        ∙ ap (λ (m : ℕ). made_of old.known.items m new.kinds.items new.refers.items) mark
+        ∙ ap₂ (λ (ks : Vec Kind Global) (rs : Vec (Option ℕ) Global). made_of old.known.items old.mark ks.items rs.items) kinds refers

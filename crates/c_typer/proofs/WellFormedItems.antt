@@ -35,8 +35,10 @@ use Rattle.c_tree.specs.Ranges.{mutexes_of}
 use Rattle.c_tree.specs.WellFormed.{elements_in, shape_of, IsSingle, IsSingleAt, IsArrayAt, IsVariable, IsGuard, AreStatements}
 use Rattle.c_tree.specs.WellFormed.{ArePlain, IsExpr, IsReturned, IsFunction, IsProgram}
 use Rattle.c_typer.proofs.LocalKindsGrow.{Into, into_self, into_length, Known, grow_statements, known_parameters}
-use Rattle.c_typer.proofs.WellFormedStatements.{nil_left, nil_right, not_broken, unbroken, IsNamedMutex, MutexIn, SortIn, array_at, equal_counts, lock_formed}
+use Rattle.c_typer.proofs.EmptyFaults.{nil_left, nil_right, not_broken, unbroken}
+use Rattle.c_typer.proofs.WellFormedStatements.{IsNamedMutex, MutexIn, SortIn, array_at, equal_counts, lock_formed}
 use Rattle.c_typer.proofs.WellFormedStatements.{expr_formed, numeric_formed, known_all, single_at, statements_formed}
+use Rattle.c_typer.proofs.PlainReferences.{no_references, program_referring}
 
 -- ---- Counts
 
@@ -500,6 +502,8 @@ formed language xs ts d h =
       };
       functions = parts.functions;
       threads = parts.threads;
+      referring = program_referring gs xs items;
+      unreferring = no_references gs xs items;
     }
 
 spelled_items : (language : Language) (xs : List t.Item) (ts : List Token) → g.program language xs ts → all_of (g.item language) xs ts

@@ -62,6 +62,20 @@ pub struct Array {
     pub last: u32,
 }
 
+impl Array {
+    ghost use Rattle.c_typer.specs.links.Scopes.{array_of};
+
+    /// The number of an array, if there is one.
+    pub fn number_of(array: Option<Array>) -> Option<u32>
+        ensures { result ≡ option_map (λ (a : n.Array). a.number) (option_map array_of array) }
+    {
+        match array {
+            Some(array) => Some(array.number),
+            None => None,
+        }
+    }
+}
+
 impl Sort {
     ghost use Rattle.std.specs.Prelude.{Some};
     ghost use Rattle.c_typer.specs.links.Scopes.{referring_of, sort_of};

@@ -17,7 +17,7 @@ ghost use Rattle.ido_ints.specs.Reduction.{reduced};
 use crate::assignment::{note_twice, note_type_name};
 use crate::expression::{note_given, numeric, placed};
 use crate::faults::Faults;
-use crate::globals::{Globals, copied, kind_of_result};
+use crate::globals::{Array, Globals, copied, kind_of_result};
 use crate::length::{element_count, length_number};
 use crate::meaning::resolve;
 use crate::scope::Scope;
@@ -183,6 +183,7 @@ pub fn function(
         name: copied(&read.name)?,
         parameters,
         locals: scope.kinds,
+        refers: scope.refers,
         body,
         result,
     })
@@ -212,6 +213,7 @@ pub fn thread(
     Ok(Thread {
         name: copied(&read.name)?,
         locals: scope.kinds,
+        refers: scope.refers,
         body,
         closing: read.block.closing,
     })
@@ -431,6 +433,7 @@ pub fn variable(
         name: copied(&read.name)?,
         guard,
         kind: number_kind,
+        refers: Array::number_of(globals.referred(&read.type_name)),
         length: checked_length(&read.length),
         initial,
     })

@@ -20,13 +20,15 @@ pub struct Local {
     hidden: Option<usize>,
 }
 
-/// The locals that are known, the innermost last, and where those of the own scope begin; the kinds
-/// of all locals of the function or thread so far; for each name the place of its innermost local.
+/// The locals that are known, the innermost last, and where those of the own scope begin; of all locals
+/// of the function or thread so far the kinds, and the arrays to whose elements they refer; for each name the
+/// place of its innermost local.
 #[derive(Drop)]
 pub struct Scope {
     pub known: Vec<Local>,
     pub mark: usize,
     pub kinds: Vec<Kind>,
+    pub refers: Vec<Option<u32>>,
     places: Places,
     ghost within: { mark ≤ length known.items },
     ghost placed: { (name : List ℕ) → place_of places name ≡ last_place name (names_in known.items) } by { Prim.hlevel props },
@@ -55,6 +57,7 @@ impl Scope {
             known: Vec::new(alloc),
             mark: 0,
             kinds: Vec::new(alloc),
+            refers: Vec::new(alloc),
             places: Places::new(alloc),
         }
     }
@@ -97,6 +100,7 @@ impl Scope {
         let number = self.next_number()?;
         let text = name.clone()?;
         let key = name.clone()?;
+        self.refers.push(Array::number_of(refers))?;
         self.known.reserve(1)?;
         let hidden = self.places.put(key, self.known.len())?;
         self.known.push_reserved(Local {
@@ -131,6 +135,7 @@ impl Scope {
         ensures known { self.new.known.items ≡ take outer.known self.old.known.items }
         ensures mark { self.new.mark ≡ outer.mark }
         ensures kinds { self.new.kinds ≡ self.old.kinds }
+        ensures refers { self.new.refers ≡ self.old.refers }
     {
         self.mark = outer.mark;
         while self.known.len() > outer.known {
@@ -144,6 +149,7 @@ impl Scope {
         ensures known { self.new.known.items ≡ take (length self.old.known.items - 1) self.old.known.items }
         ensures mark { self.new.mark ≡ self.old.mark }
         ensures kinds { self.new.kinds ≡ self.old.kinds }
+        ensures refers { self.new.refers ≡ self.old.refers }
     {
         if let Some(local) = self.known.pop() {
             self.places.put_back(&local.name, local.hidden);

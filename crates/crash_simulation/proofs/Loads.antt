@@ -6,6 +6,11 @@ use Rattle.crash_simulation.proofs.Common.{element_at, shape_of, elements_in, Is
 use Rattle.crash_simulation.proofs.Common.{IsThreadOf, AreNumbersOf, zip_found, fits_element, Pair, all_held, elements_is, Seen, FlowState, seen_by, Standing}
 use Rattle.crash_simulation.proofs.Common.{free, threads_standings, Action, Eval, Test, Element, expr_elements, target_elements, reads_of, Good, ActionLeads}
 use Rattle.crash_simulation.proofs.Common.{chooses, repeats, IsThere, Source, IsLoaded, AreLoaded, IsAnsweredIn, IsAnswered}
+use Rattle.std.proofs.Common.{ap}
+use Rattle.std.specs.List.{AllByRecursion}
+use Rattle.c_ranges.specs.Laws.{AreFollowed, IsTargetFollowed}
+use Rattle.c_ranges.specs.RunInvariants.{step_exprs}
+use Rattle.c_ranges.proofs.Public.{assign_followed, references_hold}
 use Rattle.flow_graph.specs.Paths.{element}
 use Rattle.c_tree.specs.Exprs as e
 use Rattle.c_tree.specs.Flats as f
@@ -84,35 +89,35 @@ module _ (vs : List Variable) (ks kinds : List Kind) (ls : List ℤ) (p : Option
       Loaded source loads (element variable number) → IsLoaded source loads kind variable number
   loaded_declared variable number kind array d below all = grind (arith, nat_tests)
 
-  pub loaded_expr : (x : e.Expr) → IsExpr vs ks x → Fits vs x → ((one : Element) → Contains (expr_elements x seen) one → Loaded source loads one) →
-      AreLoaded source loads x
-  loaded_expr (e.Constant v) w fit all = tt
-  loaded_expr (e.Local local kind) w fit all = tt
-  loaded_expr (e.Variable place variable kind) w fit all =
+  pub loaded_expr : (x : e.Expr) → IsExpr vs ks x → Fits vs x → AreFollowed ls x →
+      ((one : Element) → Contains (expr_elements x seen) one → Loaded source loads one) → AreLoaded source loads x
+  loaded_expr (e.Constant value) w fit g all = tt
+  loaded_expr (e.Local local kind) w fit g all = tt
+  loaded_expr (e.Variable place variable kind) w fit g all =
       loaded_declared variable 0 kind false w (scalar_one w.it.length w.array) (all (element variable 0) (0, omega arith, refl))
-  loaded_expr (e.Element place variable kind index_place index) w fit all =
+  loaded_expr (e.Element place variable kind index_place index) w fit g all =
       let named = fits_element (elements_of vs variable) index fit.0 ls ns
-      (all_held vs ks ls ns locals variables index w.1) in (
+      (all_held vs ks ls ns locals variables index w.1 g) in (
         loaded_declared variable (element_at (value ls ns index)) kind true w.0 (omega (arith, named.below, elements_is vs variable w.0.it w.0.found w.0.array))
             (all (element variable (element_at (value ls ns index))) (0, omega arith, refl)),
-        loaded_expr index w.1 fit.1 (λ one c. all one (suc c.0, omega (arith, c.1), c.2)),
+        loaded_expr index w.1 fit.1 g (λ one c. all one (suc c.0, omega (arith, c.1), c.2)),
       )
-  loaded_expr (e.Address variable index_place index) w fit all = absurd w
-  loaded_expr (e.Referent place last local) w fit all = absurd w
-  loaded_expr (e.Unary operator operand) w fit all = loaded_expr operand w fit all
-  loaded_expr (e.Cast kind operand) w fit all = loaded_expr operand w fit all
-  loaded_expr (e.Converted kind operand) w fit all = loaded_expr operand w fit all
-  loaded_expr (e.Binary operator left right) w fit all = (
-    loaded_expr left w.0 fit.0 (λ one c. all one (Contains-append_left (expr_elements left seen) (expr_elements right seen) one c)),
-    loaded_expr right w.1 fit.1 (λ one c. all one (Contains-append_right (expr_elements left seen) (expr_elements right seen) one c)),
+  loaded_expr (e.Address variable index_place index) w fit g all = loaded_expr index w.1 fit.1 g all
+  loaded_expr (e.Referent place last local) w fit g all = g
+  loaded_expr (e.Unary operator operand) w fit g all = loaded_expr operand w fit g all
+  loaded_expr (e.Cast kind operand) w fit g all = loaded_expr operand w fit g all
+  loaded_expr (e.Converted kind operand) w fit g all = loaded_expr operand w fit g all
+  loaded_expr (e.Binary operator left right) w fit g all = (
+    loaded_expr left w.0 fit.0 g.0 (λ one c. all one (Contains-append_left (expr_elements left seen) (expr_elements right seen) one c)),
+    loaded_expr right w.1 fit.1 g.1 (λ one c. all one (Contains-append_right (expr_elements left seen) (expr_elements right seen) one c)),
   )
-  loaded_expr (e.Conditional kind condition chosen otherwise) w fit all =
+  loaded_expr (e.Conditional kind condition chosen otherwise) w fit g all =
       let prefix : List Element = expr_elements condition seen ++ expr_elements chosen seen in (
-        loaded_expr condition w.0 fit.0 (λ one c. all one (Contains-append_left prefix (expr_elements otherwise seen) one
+        loaded_expr condition w.0 fit.0 g.0 (λ one c. all one (Contains-append_left prefix (expr_elements otherwise seen) one
             (Contains-append_left (expr_elements condition seen) (expr_elements chosen seen) one c))),
-        loaded_expr chosen w.1 fit.1 (λ one c. all one (Contains-append_left prefix (expr_elements otherwise seen) one
+        loaded_expr chosen w.1 fit.1 g.1 (λ one c. all one (Contains-append_left prefix (expr_elements otherwise seen) one
             (Contains-append_right (expr_elements condition seen) (expr_elements chosen seen) one c))),
-        loaded_expr otherwise w.2 fit.2 (λ one c. all one (Contains-append_right prefix (expr_elements otherwise seen) one c)),
+        loaded_expr otherwise w.2 fit.2 g.2 (λ one c. all one (Contains-append_right prefix (expr_elements otherwise seen) one c)),
       )
 
 -- ---- What nodes read
@@ -144,6 +149,21 @@ module _ {x : f.Flat} {s : FlowState} {t : ℕ} (good : Good x s) (i : IsAtNode 
     | repeats place body rest is a b ↦ (left_formed (f.While place condition body) rest is).0
   ]
 
+  -- what its step follows refers to elements
+  followed : (y : f.Statement) (rest : List f.Statement) → standing ≡ free (y ∷ rest) →
+      AllByRecursion (λ (z : e.Placed). AreFollowed graph_thread.locals z.expr) (step_exprs y)
+  followed y rest is =
+      let left : there.thread.left ≡ y ∷ rest = ap (λ (z : Standing). z.left) is in
+      subst (λ (ls : List ℤ). AllByRecursion (λ (z : e.Placed). AreFollowed ls z.expr) (step_exprs y)) (sym there.match.locals)
+      (references_hold x good.source t there.thread y rest good.formed there.there left)
+
+  test_followed : (condition : e.Placed) (holds fails : ℕ) → ActionLeads all (Test condition holds fails) standing →
+      AreFollowed graph_thread.locals condition.expr
+  test_followed condition holds fails d = elim d [
+    | chooses place body arms otherwise rest is a b ↦ (followed (f.If place (f.arm_and condition body arms) otherwise) rest is).0
+    | repeats place body rest is a b ↦ (followed (f.While place condition body) rest is).0
+  ]
+
   locals_held : AllZip Holds ks graph_thread.locals
   locals_held = let P : List ℤ → Type 0 = λ ls. AllZip Holds ks ls in subst P (sym there.match.locals) own.related.locals
 
@@ -153,27 +173,28 @@ module _ {x : f.Flat} {s : FlowState} {t : ℕ} (good : Good x s) (i : IsAtNode 
   abbrev pub here : Source
   here = record { variables = x.variables; kinds = kinds; locals = graph_thread.locals; numbers = s.variables }
 
-  expr_here : (y : e.Placed) → IsFlatPlaced x ks y → ((one : Element) → Contains (expr_elements y.expr (seen_by s graph_thread)) one → Loaded here loads one) →
-      AreLoaded here loads y.expr
-  expr_here y formed each =
-      loaded_expr x.variables ks kinds graph_thread.locals graph_thread.pending s.variables locals_held variables_held loads y.expr formed.0 formed.1 each
+  expr_here : (y : e.Placed) → IsFlatPlaced x ks y → AreFollowed graph_thread.locals y.expr →
+      ((one : Element) → Contains (expr_elements y.expr (seen_by s graph_thread)) one → Loaded here loads one) → AreLoaded here loads y.expr
+  expr_here y formed g each =
+      loaded_expr x.variables ks kinds graph_thread.locals graph_thread.pending s.variables locals_held variables_held loads y.expr formed.0 formed.1 g each
 
-  target_here : (target : e.Lvalue) → IsTarget x.variables ks target → TargetFits x.variables target →
+  target_here : (target : e.Lvalue) → IsTarget x.variables ks target → TargetFits x.variables target → IsTargetFollowed graph_thread.locals target →
       ((one : Element) → Contains (target_elements target (seen_by s graph_thread)) one → Loaded here loads one) → IsAnsweredIn here loads target
-  target_here (e.ToLocal place local kind) formed fits each = tt
-  target_here (e.ToVariable place variable kind) formed fits each = tt
-  target_here (e.ToElement place variable kind index) formed fits each = expr_here index (formed.1, fits.1) each
+  target_here (e.ToLocal place local kind) formed fits g each = tt
+  target_here (e.ToVariable place variable kind) formed fits g each = tt
+  target_here (e.ToElement place variable kind index) formed fits g each = expr_here index (formed.1, fits.1) g each
 
   answered_by : (a : Action) → ActionLeads all a standing → ((one : Element) → Contains (reads_of a (seen_by s graph_thread)) one → Loaded here loads one) →
       IsAnswered here loads a
   answered_by (Eval target value next) d each =
       let formed = left_formed (f.Assign d.place target value) d.rest d.is in
+      let follows = assign_followed graph_thread.locals target value (followed (f.Assign d.place target value) d.rest d.is) in
       let first : List Element = target_elements target (seen_by s graph_thread) in
       let second : List Element = expr_elements value.expr (seen_by s graph_thread) in (
-        target_here target formed.0.0 formed.0.1 (λ one c. each one (Contains-append_left first second one c)),
-        expr_here value formed.1 (λ one c. each one (Contains-append_right first second one c)),
+        target_here target formed.0.0 formed.0.1 follows.0 (λ one c. each one (Contains-append_left first second one c)),
+        expr_here value formed.1 follows.1 (λ one c. each one (Contains-append_right first second one c)),
       )
-  answered_by (Test condition holds fails) d each = expr_here condition (test_formed condition holds fails d) each
+  answered_by (Test condition holds fails) d each = expr_here condition (test_formed condition holds fails d) (test_followed condition holds fails d) each
   answered_by a d each = tt
 
   -- loads of what the node reads are

@@ -4,8 +4,9 @@ use Rattle.std.proofs.Common.{add-one, ◌==◌}
 use Rattle.std.proofs.lemmas.Nat.{pow-add}
 use Rattle.std.specs.Prelude.{not, ◌||◌, ℤ, pos, slice_index_or, int_lt, int_le}
 use Rattle.std.specs.Ordering.{int_eq}
+use Rattle.ido_base.specs.declared.place.Place.{Place}
 use Rattle.ido_ints.specs.declared.kinds.Kind.{Kind}
-use Rattle.ido_ints.specs.declared.kinds.Kind.TheVariants.{Int}
+use Rattle.ido_ints.specs.declared.kinds.Kind.TheVariants.{Int, UnsignedLong}
 use Rattle.ido_ints.specs.declared.operators.Unary.{Unary}
 use Rattle.ido_ints.specs.declared.operators.Unary.TheVariants.{Not}
 use Rattle.ido_ints.specs.declared.operators.Binary.{Binary}
@@ -13,12 +14,13 @@ use Rattle.ido_ints.specs.declared.operators.Binary.TheVariants.{Mul, Div, Rem, 
 use Rattle.ido_ints.specs.declared.operators.Binary.TheVariants.{Equal, NotEqual, And, Xor, Or, LogicalAnd, LogicalOr}
 use Rattle.ido_ints.specs.Kinds.{Holds, common_of, bits_of, bytes_of, modulus_of}
 use Rattle.ido_ints.proofs.Public.{register_below, Same, Same-factor, Holds-reduced, Same-reduced, reduced-same, Holds-truth, Holds-unary_number}
-use Rattle.ido_ints.proofs.Public.{Holds-binary_number}
+use Rattle.ido_ints.proofs.Public.{Holds-binary_number, reduced_held}
 use Rattle.ido_ints.specs.Operators.{truth, is_zero, unary_of, binary_of}
+use Rattle.ido_ints.specs.Reduction as reduction
 use Rattle.ido_ints.specs.Reduction.{reduced}
 use Rattle.ido_ints.specs.TypedNumbers.{Typed, typed, converted, register_form_of}
 use Rattle.c_tree.specs.Exprs as e
-use Rattle.c_tree.specs.Values.{value}
+use Rattle.c_tree.specs.Values.{value, reference_to, referent}
 use Rattle.c_tree.specs.Elaboration.{kind_of}
 use Rattle.rv64_isa.specs.declared.instr.Instr.{Instr}
 use Rattle.rv64_isa.specs.Rows.{read}
@@ -33,7 +35,7 @@ use Rattle.operator_code.specs.ComputingCode.{is_comparison, KeepsForm, AreOpera
 use Rattle.expr_code.specs.declared.operand.Pair as pair
 use Rattle.code_runs.specs.ComputingRuns.{Environment, LocalConfig, config}
 use Rattle.expr_code.specs.EvaluationCode.{Homes, Source, IsLegal, IsEvaluationStart, EvaluationEnds, home_of, HomeCarries}
-use Rattle.expr_code.specs.links.OperandCode.{temporary, is_free, IsEvaluation, IsOperand, IsPair, IsTest, IsMade, IsConstantForm, truth_of}
+use Rattle.expr_code.specs.links.OperandCode.{temporary, is_free, IsEvaluation, IsOperand, IsPair, IsTest, IsMade, IsConstantForm, one, truth_of}
 use Rattle.expr_code.proofs.RunComposition.{stands_right}
 use Rattle.expr_code.proofs.PreservedRegisters.{or_right, kept_later, local_kept, own_kept, with_own}
 use Rattle.expr_code.proofs.ValueKinds.{kind_is}
@@ -263,6 +265,44 @@ immediate_code form rd rs a some small o h x y held kx ky f operand = record { e
           held = Holds-binary_number o.operator vx.kind vx.number vy.kind vy.number;
           form = at ∙ ap register_form_of is;
         }))
+
+-- ---- References
+
+-- 1 has its own register form
+pub one_form : register_form_of (converted (typed UnsignedLong (pos 1)) UnsignedLong) ≡ 1
+unfolding reduction.residue reduction.from_least_on
+one_form = refl
+
+-- an operand that is an `unsigned long` is the same when it is converted to one
+pub again_operand : (h : Homes) (x : e.Expr) (held rs : ℕ) (a : List Instr) → kind_of x ≡ UnsignedLong → IsOperand h x held rs a →
+    IsOperand h (e.Converted UnsignedLong x) held rs a
+again_operand h x held rs a kind operand =
+    kept_code UnsignedLong UnsignedLong rs a (λ z holds. ap (λ (n : ℤ). register_form_of (typed UnsignedLong n)) (reduced_held UnsignedLong z holds))
+    h x held kind operand
+
+-- a reference is its element's number and 1
+pub address_code : (h : Homes) (variable : ℕ) (index_place : Place) (x : e.Expr) (held rd : ℕ) (a : List Instr) →
+    IsEvaluation h (e.Binary Add (e.Converted UnsignedLong x) one) held rd a → IsEvaluation h (e.Address variable index_place x) held rd a
+address_code h variable index_place x held rd a sum = record { ends = ends }
+  where
+    ends : (s : Source) (r : Environment) (m : LocalConfig) → IsLegal h s r (e.Address variable index_place x) →
+        IsEvaluationStart h s r (e.Address variable index_place x) a m →
+        EvaluationEnds r a (λ n. n == rd || is_free held n) (λ y. Carries y rd (reference_to (value s.locals s.numbers x))) m
+    ends s r m l b =
+        sum.ends s r m (record { suits = l.suits; formed = (l.formed.1, tt); fits = (l.fits.1, tt); loaded = (l.loaded, tt) })
+        (begins_as h s r (e.Address variable index_place x) (e.Binary Add (e.Converted UnsignedLong x) one) a m (b.locals, tt) b)
+
+-- the element's number is a reference without 1
+pub referent_code : (h : Homes) (place : Place) (last local held rd : ℕ) (a : List Instr) →
+    IsEvaluation h (e.Binary Sub (e.Local local UnsignedLong) one) held rd a → IsEvaluation h (e.Referent place last local) held rd a
+referent_code h place last local held rd a difference = record { ends = ends }
+  where
+    ends : (s : Source) (r : Environment) (m : LocalConfig) → IsLegal h s r (e.Referent place last local) →
+        IsEvaluationStart h s r (e.Referent place last local) a m →
+        EvaluationEnds r a (λ n. n == rd || is_free held n) (λ y. Carries y rd (referent (slice_index_or s.locals local (pos 0)))) m
+    ends s r m l b =
+        difference.ends s r m (record { suits = l.suits; formed = (l.formed, tt); fits = (tt, tt); loaded = (tt, tt) })
+        (begins_as h s r (e.Referent place last local) (e.Binary Sub (e.Local local UnsignedLong) one) a m (b.locals, tt) b)
 
 -- ---- Tests
 

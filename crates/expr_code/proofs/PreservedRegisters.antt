@@ -12,6 +12,7 @@ use Rattle.expr_code.specs.EvaluationCode.{Homes, Source, Suits, HoldsLocals, ho
 use Rattle.expr_code.specs.links.OperandCode.{temporary, is_held, is_free}
 use Rattle.expr_code.specs.declared.home.Home.{Home}
 use Rattle.expr_code.specs.declared.home.Home.TheVariants.{InRegister}
+use Rattle.ido_ints.specs.declared.kinds.Kind.TheVariants.{UnsignedLong}
 use Rattle.ido_ints.specs.Kinds.{Holds}
 use Rattle.ido_ints.specs.TypedNumbers.{Typed}
 
@@ -122,8 +123,10 @@ locals_kept h s x y (e.Local local k) suits f same l =
     (λ register is. same register (sym (ap is_home is) ∙ suits.local local (slice_get_within s.kinds local k f))) l
 locals_kept h s x y (e.Variable place variable k) suits f same l = tt
 locals_kept h s x y (e.Element place variable k index_place index) suits f same l = locals_kept h s x y index suits f.1 same l
-locals_kept h s x y (e.Address variable index_place index) suits f same l = absurd f
-locals_kept h s x y (e.Referent place last local) suits f same l = absurd f
+locals_kept h s x y (e.Address variable index_place index) suits f same l = locals_kept h s x y index suits f.1 same l
+locals_kept h s x y (e.Referent place last local) suits f same l =
+    still_there x y (home_of h.locals local) _
+    (λ register is. same register (sym (ap is_home is) ∙ suits.local local (slice_get_within s.kinds local UnsignedLong f))) l
 locals_kept h s x y (e.Unary op t) suits f same l = locals_kept h s x y t suits f same l
 locals_kept h s x y (e.Cast k t) suits f same l = locals_kept h s x y t suits f same l
 locals_kept h s x y (e.Converted k t) suits f same l = locals_kept h s x y t suits f same l

@@ -14,6 +14,7 @@ use Rattle.c_tree.specs.Programs as p
 use Rattle.c_tree.specs.Values.{value, element_number, element_at}
 use Rattle.c_tree.specs.Ranges.{elements_of}
 use Rattle.c_tree.specs.WellFormed.{IsExpr, IsDeclared, IndexFits, Fits, shape_of}
+use Rattle.c_ranges.specs.Laws.{IsReference}
 use Rattle.rv64_isa.specs.declared.instr.Instr.{Instr}
 use Rattle.rv64_isa.specs.declared.instr.Instr.TheVariants.{Store, CboClean, Fence, Ecall}
 use Rattle.rv64_isa.specs.Rows.{read}
@@ -47,14 +48,14 @@ pub record Homes : Type 0 where
 abbrev pub homes_of : frame.Frame → Homes
 homes_of f = record { addresses = f.addresses.now; locals = f.locals.now }
 
--- every variable that the expression names has an address, and every local a home; there is no reference
+-- every variable that the expression reads has an address, and every local a home
 abbrev pub AreAtHome : Homes → e.Expr → Type 0
 AreAtHome h (e.Constant value) = Unit {0}
 AreAtHome h (e.Local local kind) = (local < length h.locals) × (is_home (home_of h.locals local) ≡ true)
 AreAtHome h (e.Variable place variable kind) = variable < length h.addresses
 AreAtHome h (e.Element place variable kind index_place index) = (variable < length h.addresses) × AreAtHome h index
-AreAtHome h (e.Address variable index_place index) = ⊥
-AreAtHome h (e.Referent place last local) = ⊥
+AreAtHome h (e.Address variable index_place index) = AreAtHome h index
+AreAtHome h (e.Referent place last local) = (local < length h.locals) × (is_home (home_of h.locals local) ≡ true)
 AreAtHome h (e.Unary operator operand) = AreAtHome h operand
 AreAtHome h (e.Cast kind operand) = AreAtHome h operand
 AreAtHome h (e.Converted kind operand) = AreAtHome h operand
@@ -98,7 +99,7 @@ pub record IsLoaded (s : Source) (loads : (address bytes : ℕ) → Option ℕ) 
   pub answer : loads (place_of s variable element) (bytes_of k) ≡ Some (residue (bits_of k) (element_number s.numbers variable element))
   pub held : Holds k (element_number s.numbers variable element)
 
--- loads of the elements that the expression reads do
+-- loads of the elements that the expression reads do, and each reference that it follows refers to one
 abbrev pub AreLoaded : Source → (loads : (address bytes : ℕ) → Option ℕ) → e.Expr → Type 0
 AreLoaded s loads (e.Constant value) = Unit {0}
 AreLoaded s loads (e.Local local kind) = Unit {0}
@@ -106,7 +107,7 @@ AreLoaded s loads (e.Variable place variable kind) = IsLoaded s loads kind varia
 AreLoaded s loads (e.Element place variable kind index_place index) =
     IsLoaded s loads kind variable (element_at (value s.locals s.numbers index)) × AreLoaded s loads index
 AreLoaded s loads (e.Address variable index_place index) = AreLoaded s loads index
-AreLoaded s loads (e.Referent place last local) = Unit {0}
+AreLoaded s loads (e.Referent place last local) = IsReference last (slice_index_or s.locals local (pos 0))
 AreLoaded s loads (e.Unary operator operand) = AreLoaded s loads operand
 AreLoaded s loads (e.Cast kind operand) = AreLoaded s loads operand
 AreLoaded s loads (e.Converted kind operand) = AreLoaded s loads operand

@@ -16,7 +16,8 @@ use crate::frame::Frame;
 use crate::operand::{Operand, TestCode};
 use crate::operators::{
     constant_code, constant_form, converted, copied, held_operand, left_first, local_operand,
-    right_first, with_binary, with_conversion, with_immediate, with_truth, with_unary,
+    one_less, one_more, right_first, with_binary, with_conversion, with_immediate, with_truth,
+    with_unary,
 };
 use crate::temporaries::temporary;
 use c_tree::expr::Expr;
@@ -63,7 +64,14 @@ pub(crate) fn evaluate(
             let index = operand(alloc, index, frame, held)?;
             Ok(element_code(index, frame.addresses[*variable as usize], *kind, rd, held)?)
         }
-        Expr::Address { .. } | Expr::Referent { .. } => unreachable!(),
+        Expr::Address { index, .. } => {
+            let index = operand_in(alloc, index, Kind::UnsignedLong, frame, held)?;
+            Ok(with_immediate(index, one_more(), rd)?)
+        }
+        Expr::Referent { local, .. } => {
+            let local = local_operand(alloc, frame.locals[*local as usize]);
+            Ok(with_immediate(local, one_less(), rd)?)
+        }
         Expr::Unary {
             operator,
             operand: inner,

@@ -10,14 +10,14 @@ ghost use Rattle.operator_code.specs.declared.operation.BinaryOperation.{BinaryO
 ghost use Rattle.rv64_isa.specs.declared.instr.Instr.{Instr};
 ghost use Rattle.operator_code.specs.ComputingCode.{is_strict, left_kind, right_kind};
 ghost use Rattle.expr_code.specs.EvaluationCode.{Homes, EvaluatesTo, home_of, is_home, impure_among};
-ghost use Rattle.expr_code.specs.links.OperandCode.{IsEvaluation, IsOperand, IsPair, IsMade, IsConstantForm, temporary, truth_of};
+ghost use Rattle.expr_code.specs.links.OperandCode.{IsEvaluation, IsOperand, IsPair, IsMade, IsConstantForm, one, reference_operation, temporary, truth_of};
 
 use crate::home::Home;
 use crate::operand::{Operand, Pair};
 use crate::temporaries::temporary;
 use c_tree::expr::Expr;
 use ido_base::memory::OutOfMemory;
-use ido_ints::{Kind, Unary, Value, convert as convert_value, register_form};
+use ido_ints::{Binary, Kind, Unary, Value, convert as convert_value, register_form};
 use operator_code::constant::constant;
 use operator_code::{
     BinaryOperation, ImmediateForm, binary, convert, copy, keeps_form, truth, unary, with_constant,
@@ -208,6 +208,30 @@ pub(crate) fn constant_form(operation: BinaryOperation, right: &Expr) -> Option<
         }
         _ => None,
     }
+}
+
+/// The instruction that adds 1: to an element's number, which gives the reference to it.
+pub(crate) fn one_more() -> ImmediateForm
+    ensures { IsConstantForm (reference_operation Binary.Add) one result }
+{
+    let sum = BinaryOperation {
+        operator: Binary::Add,
+        left: Kind::UnsignedLong,
+        right: Kind::UnsignedLong,
+    };
+    with_constant(sum, 1).unwrap()
+}
+
+/// The instruction that takes 1 away: from a reference, which gives its element's number.
+pub(crate) fn one_less() -> ImmediateForm
+    ensures { IsConstantForm (reference_operation Binary.Sub) one result }
+{
+    let difference = BinaryOperation {
+        operator: Binary::Sub,
+        left: Kind::UnsignedLong,
+        right: Kind::UnsignedLong,
+    };
+    with_constant(difference, 1).unwrap()
 }
 
 /// What the operator gives for its left operand, converted, and a constant, into `rd`.

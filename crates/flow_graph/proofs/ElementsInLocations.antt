@@ -15,6 +15,7 @@ use Rattle.c_tree.specs.Source.{Pending}
 use Rattle.c_tree.specs.Values.{value, element_at}
 use Rattle.c_tree.specs.Ranges.{elements_of}
 use Rattle.c_tree.specs.WellFormed.{elements_in, IsDeclared, IsExpr, Fits, IndexFits, IsTarget, TargetFits}
+use Rattle.c_ranges.specs.Laws.{AreFollowed, IsTargetFollowed}
 use Rattle.c_ranges.specs.RunInvariants.{AreNumbersOf}
 use Rattle.c_ranges.proofs.Public.{foreseen, fits_element, all_held, elements_is}
 use Rattle.flow_graph.specs.Lowering.{Table, element_number, elements, scalar, expr_reads, target_reads}
@@ -94,9 +95,10 @@ module _ (vs : List Variable) (ks : List Kind) (ls : List ℤ) (ns : List (List 
   seen p = record { locals = ls; pending = p; variables = ns }
 
   pub lies_element : (variable : ℕ) (kind : Kind) (place : Place) (index : e.Expr) → IsDeclared vs variable kind true → IsExpr vs ks index →
-      IndexFits vs variable place index → Lies naming (elements table variable (at_index place index)) (element variable (element_at (value ls ns index)))
-  lies_element variable kind place index d w fit =
-      let held = all_held vs ks ls ns locals variables index w in
+      IndexFits vs variable place index → AreFollowed ls index →
+      Lies naming (elements table variable (at_index place index)) (element variable (element_at (value ls ns index)))
+  lies_element variable kind place index d w fit g =
+      let held = all_held vs ks ls ns locals variables index w g in
       let range = (foreseen ls ns index held).within in
       let named = fits_element (elements_of vs variable) index fit ls ns held in
       let count : elements_of vs variable ≡ elements_in d.it.length = elements_is vs variable d.it d.found d.array in
@@ -110,39 +112,39 @@ module _ (vs : List Variable) (ks : List Kind) (ls : List ℤ) (ns : List (List 
         by_key = λ key h. key_names vs names ls ns variable (at_index place index) key h;
       }
 
-  pub lies_expr : (x : e.Expr) (p : Option Pending) (one : Element) → IsExpr vs ks x → Fits vs x → Contains (expr_elements x (seen p)) one →
-      LiesInOne naming (expr_reads table x) one
-  lies_expr (e.Constant v) p one w fit c = absurd (contains_none one c)
-  lies_expr (e.Local local kind) p one w fit c = absurd (contains_none one c)
-  lies_expr (e.Variable place variable kind) p one w fit c = ⊎_elim
+  pub lies_expr : (x : e.Expr) (p : Option Pending) (one : Element) → IsExpr vs ks x → Fits vs x → AreFollowed ls x →
+      Contains (expr_elements x (seen p)) one → LiesInOne naming (expr_reads table x) one
+  lies_expr (e.Constant v) p one w fit g c = absurd (contains_none one c)
+  lies_expr (e.Local local kind) p one w fit g c = absurd (contains_none one c)
+  lies_expr (e.Variable place variable kind) p one w fit g c = ⊎_elim
       (λ is. let P : Element → Type 0 = λ z. Lies naming (scalar variable) z in
       one_head naming (scalar variable) [] one (subst P is (lies_scalar naming variable)))
       (λ none. absurd (contains_none one none))
       (contains_cons one (element variable 0) [] c)
-  lies_expr (e.Element place variable kind index_place index) p one w fit c = ⊎_elim
+  lies_expr (e.Element place variable kind index_place index) p one w fit g c = ⊎_elim
       (λ is.
       let P : Element → Type 0 = λ z. Lies naming (elements table variable (at_index index_place index)) z in
       one_head naming (elements table variable (at_index index_place index)) (expr_reads table index) one
-      (subst P is (lies_element variable kind index_place index w.0 w.1 fit.0)))
-      (λ more. one_tail naming (elements table variable (at_index index_place index)) (expr_reads table index) one (lies_expr index p one w.1 fit.1 more))
+      (subst P is (lies_element variable kind index_place index w.0 w.1 fit.0 g)))
+      (λ more. one_tail naming (elements table variable (at_index index_place index)) (expr_reads table index) one (lies_expr index p one w.1 fit.1 g more))
       (contains_cons one (element variable (element_at (value ls ns index))) (expr_elements index (seen p)) c)
-  lies_expr (e.Address variable index_place index) p one w fit c = absurd w
-  lies_expr (e.Referent place last local) p one w fit c = absurd w
-  lies_expr (e.Unary operator operand) p one w fit c = lies_expr operand p one w fit c
-  lies_expr (e.Cast kind operand) p one w fit c = lies_expr operand p one w fit c
-  lies_expr (e.Converted kind operand) p one w fit c = lies_expr operand p one w fit c
-  lies_expr (e.Binary operator left right) p one w fit c =
+  lies_expr (e.Address variable index_place index) p one w fit g c = lies_expr index p one w.1 fit.1 g c
+  lies_expr (e.Referent place last local) p one w fit g c = absurd (contains_none one c)
+  lies_expr (e.Unary operator operand) p one w fit g c = lies_expr operand p one w fit g c
+  lies_expr (e.Cast kind operand) p one w fit g c = lies_expr operand p one w fit g c
+  lies_expr (e.Converted kind operand) p one w fit g c = lies_expr operand p one w fit g c
+  lies_expr (e.Binary operator left right) p one w fit g c =
       one_of_both naming (expr_elements left (seen p)) (expr_elements right (seen p)) (expr_reads table left) (expr_reads table right) one
-      (lies_expr left p one w.0 fit.0) (lies_expr right p one w.1 fit.1) c
-  lies_expr (e.Conditional kind condition chosen otherwise) p one w fit c =
+      (lies_expr left p one w.0 fit.0 g.0) (lies_expr right p one w.1 fit.1 g.1) c
+  lies_expr (e.Conditional kind condition chosen otherwise) p one w fit g c =
       one_of_both naming (expr_elements condition (seen p) ++ expr_elements chosen (seen p)) (expr_elements otherwise (seen p))
       (expr_reads table condition ++ expr_reads table chosen) (expr_reads table otherwise) one
       (one_of_both naming (expr_elements condition (seen p)) (expr_elements chosen (seen p)) (expr_reads table condition) (expr_reads table chosen) one
-      (lies_expr condition p one w.0 fit.0) (lies_expr chosen p one w.1 fit.1))
-      (lies_expr otherwise p one w.2 fit.2) c
+      (lies_expr condition p one w.0 fit.0 g.0) (lies_expr chosen p one w.1 fit.1 g.1))
+      (lies_expr otherwise p one w.2 fit.2 g.2) c
 
-  pub lies_target : (target : e.Lvalue) (p : Option Pending) (one : Element) → IsTarget vs ks target → TargetFits vs target →
+  pub lies_target : (target : e.Lvalue) (p : Option Pending) (one : Element) → IsTarget vs ks target → TargetFits vs target → IsTargetFollowed ls target →
       Contains (target_elements target (seen p)) one → LiesInOne naming (target_reads table target) one
-  lies_target (e.ToLocal place local kind) p one w fit c = absurd (contains_none one c)
-  lies_target (e.ToVariable place variable kind) p one w fit c = absurd (contains_none one c)
-  lies_target (e.ToElement place variable kind index) p one w fit c = lies_expr index.expr p one w.1 fit.1 c
+  lies_target (e.ToLocal place local kind) p one w fit g c = absurd (contains_none one c)
+  lies_target (e.ToVariable place variable kind) p one w fit g c = absurd (contains_none one c)
+  lies_target (e.ToElement place variable kind index) p one w fit g c = lies_expr index.expr p one w.1 fit.1 g c

@@ -18,8 +18,9 @@ use Rattle.c_tree.specs.Source as m
 use Rattle.c_tree.specs.Source.{Pending}
 use Rattle.c_tree.specs.LockNames.{lock_names}
 use Rattle.c_tree.specs.WellFormed.{elements_in, IsSingle, IsVariable, IsWellFormed, IsFlatStatement, IsFlatPlaced}
-use Rattle.c_ranges.specs.RunInvariants.{AreNumbersOf, IsStatementLeft, IsThreadOf, IsStateOf}
-use Rattle.c_ranges.proofs.Public.{Pair, zip_found, begins_so, stays_so}
+use Rattle.c_ranges.specs.Laws.{AreFollowed}
+use Rattle.c_ranges.specs.RunInvariants.{AreNumbersOf, IsStatementLeft, IsThreadOf, IsStateOf, step_exprs}
+use Rattle.c_ranges.proofs.Public.{Pair, assign_followed, begins_so, references_hold, stays_so, zip_found}
 use Rattle.flow_graph.specs.declared.graph.Part.{Part}
 use Rattle.flow_graph.specs.Nodes.{Action, Eval, Store, Test, Lock, Unlock, End, Node, Graph, successors}
 use Rattle.flow_graph.specs.Lowering.{table_of, lowered, threads_nodes, scalar, elements, expr_reads, target_reads, parts, part, thread_count}
@@ -225,6 +226,7 @@ module _ (x : f.Flat) (w : IsWellFormed x) (s : FlowState) (good : Good x s) (t 
 
   pub record Here : Type 0 where
     pub thread : m.Thread
+    pub there : slice_get good.source.threads t ≡ Some thread
     pub match : GraphThreadMatches x graph_thread thread
     pub own : Own thread
 
@@ -233,6 +235,7 @@ module _ (x : f.Flat) (w : IsWellFormed x) (s : FlowState) (good : Good x s) (t 
       let there = found_in good.source.threads t (omega (arith, good.matches.count, slice_get_within s.graph_threads t graph_thread found)) in
       record {
         thread = there.0;
+        there = there.1;
         match = good.matches.each t graph_thread there.0 found there.1;
         own = zip_found (λ (u : f.Thread) (own : m.Thread). IsThreadOf x u.locals own) x.threads good.source.threads t there.0 good.formed.threads there.1;
       }
@@ -265,6 +268,21 @@ module _ (x : f.Flat) (w : IsWellFormed x) (s : FlowState) (good : Good x s) (t 
     | repeats place body rest is a b ↦ (left_formed h (f.While place condition body) rest is).0
   ]
 
+  -- what its step follows refers to elements
+  followed_here : (h : Here) (y : f.Statement) (rest : List f.Statement) → standing h ≡ free (y ∷ rest) →
+      AllByRecursion (λ (z : e.Placed). AreFollowed graph_thread.locals z.expr) (step_exprs y)
+  followed_here h y rest is =
+      let left : h.thread.left ≡ y ∷ rest = ap (λ (z : Standing). z.left) is in
+      subst (λ (ls : List ℤ). AllByRecursion (λ (z : e.Placed). AreFollowed ls z.expr) (step_exprs y)) (sym h.match.locals)
+      (references_hold x good.source t h.thread y rest good.formed h.there left)
+
+  test_followed : (h : Here) (condition : e.Placed) (holds fails : ℕ) → ActionLeads all (Test condition holds fails) (standing h) →
+      AreFollowed graph_thread.locals condition.expr
+  test_followed h condition holds fails d = elim d [
+    | chooses place body arms otherwise rest is a b ↦ (followed_here h (f.If place (f.arm_and condition body arms) otherwise) rest is).0
+    | repeats place body rest is a b ↦ (followed_here h (f.While place condition body) rest is).0
+  ]
+
   locals_held : (h : Here) → AllZip Holds h.own.it.locals graph_thread.locals
   locals_held h = let P : List ℤ → Type 0 = λ ls. AllZip Holds h.own.it.locals ls in subst P (sym h.match.locals) h.own.related.locals
 
@@ -287,6 +305,7 @@ module _ (x : f.Flat) (w : IsWellFormed x) (s : FlowState) (good : Good x s) (t 
       Contains (reads_of a (seen_by s graph_thread)) one → LiesInOne naming node.reads one
   reads_lie_by node (Eval target value next) one d shape c =
       let formed = left_formed here (f.Assign d.place target value) d.rest d.is in
+      let follows = assign_followed graph_thread.locals target value (followed_here here (f.Assign d.place target value) d.rest d.is) in
       let ks = text.locals in
       let P : List Location → Type 0 = λ ls. LiesInOne naming ls one in
       subst P (sym shape.reads) (one_of_both naming (target_elements target (seen_by s graph_thread)) (expr_elements value.expr (seen_by s graph_thread))
@@ -294,17 +313,17 @@ module _ (x : f.Flat) (w : IsWellFormed x) (s : FlowState) (good : Good x s) (t 
       (expr_reads (table_of x text) value.expr) one
       (lies_target x.variables ks graph_thread.locals s.variables (locals_held here) variables_held (bounded x w) (lock_names x text) target
       graph_thread.pending one
-      formed.0.0 formed.0.1)
+      formed.0.0 formed.0.1 follows.0)
       (lies_expr x.variables ks graph_thread.locals s.variables (locals_held here) variables_held (bounded x w) (lock_names x text) value.expr
       graph_thread.pending one
-      formed.1.0 formed.1.1) c)
+      formed.1.0 formed.1.1 follows.1) c)
   reads_lie_by node (Store variable kind next) one d shape c = absurd (contains_none one c)
   reads_lie_by node (Test condition holds fails) one d shape c =
       let formed = test_formed here condition holds fails d in
       let P : List Location → Type 0 = λ ls. LiesInOne naming ls one in
       subst P (sym shape.reads)
       (lies_expr x.variables text.locals graph_thread.locals s.variables (locals_held here) variables_held
-      (bounded x w) (lock_names x text) condition.expr graph_thread.pending one formed.0 formed.1 c)
+      (bounded x w) (lock_names x text) condition.expr graph_thread.pending one formed.0 formed.1 (test_followed here condition holds fails d) c)
   reads_lie_by node (Lock lock next) one d shape c = absurd (contains_none one c)
   reads_lie_by node (Unlock lock next) one d shape c = absurd (contains_none one c)
   reads_lie_by node End one d shape c = absurd (contains_none one c)
@@ -388,6 +407,7 @@ module _ (x : f.Flat) (w : IsWellFormed x) (s : FlowState) (good : Good x s) (t 
   owes_by node (Eval (e.ToElement place variable kind index) value next) effect d shape is = subst Owing (sym (effects_same _ effect is))
       (λ q i.
       let formed = left_formed here (f.Assign d.place (e.ToElement place variable kind index) value) d.rest d.is in
+      let follows = followed_here here (f.Assign d.place (e.ToElement place variable kind index) value) d.rest d.is in
       let P : Pending → Type 0 = λ z. OwesThere x naming next z in
       subst P (pending_same _ q i) (record {
         node = shape.owed.node;
@@ -397,7 +417,7 @@ module _ (x : f.Flat) (w : IsWellFormed x) (s : FlowState) (good : Good x s) (t 
           of = shape.owed.writes;
           lies = lies_element x.variables text.locals graph_thread.locals s.variables (locals_held here) variables_held
               (bounded x w) (lock_names x text) variable kind index.place index.expr
-              formed.0.0.0 formed.0.0.1 formed.0.1.0;
+              formed.0.0.0 formed.0.0.1 formed.0.1.0 follows.0;
         };
       }))
   owes_by node (Store variable kind next) effect d shape is = owes_stored next effect graph_thread.pending is
@@ -467,7 +487,7 @@ good_step x s next t w good h =
           (cases_eq k t);
       source = after.0;
       matches = after.2;
-      formed = stays_so x good.source after.0 t good.formed after.1;
+      formed = stays_so x good.source after.0 t w good.formed after.1;
       owes = λ k text graph_thread p there its is. ⊎_elim
           (λ same_thread.
           let there' : slice_get next.graph_threads t ≡ Some graph_thread = ap (slice_get next.graph_threads) (sym same_thread) ∙ there in

@@ -46,6 +46,7 @@ counting = record {
   threads = record {
     name = name (codes "t") 7;
     locals = kind.Int ∷ [];
+    refers = None ∷ [];
     body = all_of (
         f.Assign (at 11) (e.ToLocal (at 16) 0 kind.Int) (placed 24 (int 0)) ∷
         f.While (at 11) (placed 27 (e.Binary b.Less (e.Local 0 kind.Int) (int 2)))
@@ -113,7 +114,7 @@ abbrev one_thread : List f.Statement → ℕ → f.Flat
 one_thread body closing = record {
   mutexes = record { name = name (codes "m") 6; length = None } ∷ [];
   variables = [];
-  threads = record { name = name (codes "t") 39; locals = kind.Long ∷ []; body = all_of body; closing = at closing } ∷ [];
+  threads = record { name = name (codes "t") 39; locals = kind.Long ∷ []; refers = None ∷ []; body = all_of body; closing = at closing } ∷ [];
 }
 
 -- `mutex m; persistent(m) long x = 5; thread t { lock(m); x = x + 1; unlock(m); }`
@@ -152,7 +153,7 @@ choices =
     f.While (at 84) (placed 91 (int 4)) f.no_statement ∷ []
 
 abbrev thread : f.Thread
-thread = record { name = name (codes "t") 7; locals = []; body = all_of choices; closing = at 98 }
+thread = record { name = name (codes "t") 7; locals = []; refers = []; body = all_of choices; closing = at 98 }
 
 abbrev two_threads : f.Flat
 two_threads = record { mutexes = record { name = name (codes "m") 6; length = None } ∷ []; variables = []; threads = thread ∷ thread ∷ [] }

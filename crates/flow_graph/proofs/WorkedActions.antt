@@ -72,10 +72,18 @@ reads_key = refl
 abbrev section : f.Flat
 section = record {
   mutexes = record { name = record { text = codes "m"; place = at 6 }; length = None } ∷ [];
-  variables = record { name = record { text = codes "x"; place = at 28 }; guard = By 0; kind = kind.Long; length = None; initial = pos 5 ∷ [] } ∷ [];
+  variables = record {
+    name = record { text = codes "x"; place = at 28 };
+    guard = By 0;
+    kind = kind.Long;
+    refers = None;
+    length = None;
+    initial = pos 5 ∷ [];
+  } ∷ [];
   threads = record {
     name = record { text = codes "t"; place = at 42 };
     locals = [];
+    refers = [];
     body = f.statement_and (f.Lock (at 46) (record { mutex = 0; key = None }))
         (f.statement_and (f.Assign (at 55) (e.ToVariable (at 55) 0 kind.Long) (placed (e.Converted kind.Long (int 6))))
         (f.statement_and (f.Unlock (at 66) (record { mutex = 0; key = None })) f.no_statement));

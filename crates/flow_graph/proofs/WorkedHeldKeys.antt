@@ -33,8 +33,15 @@ names =
 -- a variable under the mutex, and an array each of whose elements is under one of the array's
 abbrev variables : List Variable
 variables =
-    record { name = record { text = codes "x"; place = at 1 }; guard = By 0; kind = kind.Int; length = Some 4; initial = replicate 4 (pos 0) } ∷
-    record { name = record { text = codes "a"; place = at 2 }; guard = Each 1; kind = kind.Int; length = Some 4; initial = replicate 4 (pos 0) } ∷ []
+    record { name = record { text = codes "x"; place = at 1 }; guard = By 0; kind = kind.Int; refers = None; length = Some 4; initial = replicate 4 (pos 0) } ∷
+    record {
+      name = record { text = codes "a"; place = at 2 };
+      guard = Each 1;
+      kind = kind.Int;
+      refers = None;
+      length = Some 4;
+      initial = replicate 4 (pos 0);
+    } ∷ []
 
 -- the spelling of the index at another place is the same name
 one_key : key_number names (Each 1) (local 0 30) ≡ Some 1
@@ -119,6 +126,7 @@ section = record {
   threads = record {
     name = record { text = codes "t"; place = at 5 };
     locals = kind.Int ∷ [];
+    refers = None ∷ [];
     body = f.statement_and (f.Lock (at 10) (key_at 12)) (f.statement_and
         (f.Assign (at 20) (e.ToElement (at 20) 1 kind.Int (local 0 22)) (record {
           place = at 26;

@@ -25,7 +25,7 @@ abbrev cuts : Boundaries
 cuts = record { before = false ∷ true ∷ true ∷ false ∷ []; after_lock = true ∷ false ∷ false ∷ false ∷ [] }
 
 abbrev one : Thread
-one = record { name = record { text = codes "t"; place = record { 0 = 0 } }; locals = []; body = no_statement; closing = record { 0 = 7 } }
+one = record { name = record { text = codes "t"; place = record { 0 = 0 } }; locals = []; refers = []; body = no_statement; closing = record { 0 = 7 } }
 
 -- no stretch is told
 abbrev none : Straight

@@ -12,6 +12,7 @@ use Rattle.c_tree.specs.Exprs as e
 use Rattle.c_tree.specs.Flats as f
 use Rattle.c_tree.specs.LockNames.{Held, holds, none_held, lock_names, number_in, plain_names}
 use Rattle.c_tree.specs.LockDiscipline.{Use, guard_name, is_guarded}
+use Rattle.c_tree.specs.References.{IsFlatStatementReferring, IsFlatThreadReferring}
 use Rattle.c_tree.specs.WellFormed.{AreFlatStatements, IsSingle}
 use Rattle.c_ranges.specs.RunInvariants.{IsStatementLeft}
 use Rattle.c_tree.proofs.Public.{length-plain_names, names_are_plain}
@@ -33,6 +34,7 @@ use Rattle.thread_code.proofs.Public.{has_held, names_are, nothing_held, plain_b
 use Rattle.recovered_threads.specs.RecordDescriptions.{Code, ResumesAt, at_chosen, past_lock, past_unlock}
 use Rattle.recovered_threads.proofs.Public.{left_at, standing_at}
 use Rattle.flat_compile.proofs.Public.{node_there}
+use Rattle.image_runs.proofs.LeftReferences.{are_right}
 use Rattle.image_runs.proofs.LeftStatements.{are_left}
 use Rattle.image_runs.proofs.ResumedLocals.{part_is}
 
@@ -114,6 +116,11 @@ module _ (p : Plan) (plan : IsPlan p) (t : Thread) (of : IsThread p t) where
     left_is =
         are_left p.flat of.text step stands.0
         (all_at (λ (u : f.Thread). AreFlatStatements p.flat u.locals u.body) p.flat.threads t.number of.text plan.formed.threads of.of_text) own_standing
+
+    pub left_refers : AllByRecursion (IsFlatStatementReferring p.flat of.text.refers) stands.0.left
+    left_refers =
+        are_right p.flat of.text step stands.0
+        (all_at (IsFlatThreadReferring p.flat) p.flat.threads t.number of.text plan.formed.referring.threads of.of_text).body own_standing
 
     -- before a store at which a boundary is chosen the lock that guards its variable is held
     pub locked_here : ChosenAreLocked → IsChosen p.graph p.boundaries node → StoresLocked p.flat t.number node (set_before p t node)

@@ -3,6 +3,7 @@ mod ResumedLocals
 mod AcceptedShapes
 mod LeftShapes
 mod LeftStatements
+mod LeftReferences
 mod StoredElements
 mod HeldAtNodes
 mod RecordedWords

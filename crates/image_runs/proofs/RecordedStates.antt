@@ -22,7 +22,7 @@ use Rattle.c_tree.specs.Programs.{Variable}
 use Rattle.c_tree.specs.Source.{Pending}
 use Rattle.c_tree.specs.LockNames.{Held, holds, lock_names, plain_names}
 use Rattle.c_tree.specs.WellFormed.{elements_in, shape_of, ArePlain}
-use Rattle.c_ranges.specs.RunInvariants.{AreNumbersOf, IsStateOf, IsThreadOf}
+use Rattle.c_ranges.specs.RunInvariants.{AreNumbersOf, IsReferringThread, IsStateOf, IsThreadOf}
 use Rattle.source_machine.specs.Mutexes.{held_by}
 use Rattle.c_tree.specs.Exprs.{LockName}
 use Rattle.c_tree.proofs.Public.{names_are_plain}
@@ -57,6 +57,7 @@ use Rattle.crash_simulation.specs.Systems.{System, IsSystem, flat_of, thread_cou
 use Rattle.crash_simulation.proofs.Public.{row_of}
 use Rattle.image_runs.specs.Shapes.{HasShape}
 use Rattle.image_runs.specs.Laws.{ShapesAreStates}
+use Rattle.image_runs.proofs.LeftReferences.{durable_unreferring}
 use Rattle.image_runs.proofs.ResumedThreads.{IsSaid, said}
 
 -- ---- Rows
@@ -382,10 +383,16 @@ module _ (locked : ChosenAreLocked) (y : System) (s : IsSystem y) (plain : ArePl
     holders = locks_count;
     threads =
         subst (λ (k : ℕ). AllZip (λ (t : f.Thread) (z : m.Thread). IsThreadOf x t.locals z) x.threads (map thread (numbers_from 0 k))) (sym threads_count)
-        (zip_row (λ (t : f.Thread) (z : m.Thread). IsThreadOf x t.locals z) x.threads thread 0 each);
+        (zip_row (λ (t : f.Thread) (z : m.Thread). IsThreadOf x t.locals z) x.threads thread 0 (λ i t there. (each i t there).0));
+    references = record {
+      variables = durable_unreferring ws x.variables s.plan.formed.unreferring.variables;
+      threads =
+          subst (λ (k : ℕ). AllZip (IsReferringThread x) x.threads (map thread (numbers_from 0 k))) (sym threads_count)
+          (zip_row (IsReferringThread x) x.threads thread 0 (λ i t there. (each i t there).1));
+    };
   }
     where
-      each : (i : ℕ) (t : f.Thread) → slice_get x.threads i ≡ Some t → IsThreadOf x t.locals (thread (0 + i))
+      each : (i : ℕ) (t : f.Thread) → slice_get x.threads i ≡ Some t → IsThreadOf x t.locals (thread (0 + i)) × IsReferringThread x t (thread (0 + i))
       each i t there =
           let l = slice_get_within x.threads i t there in
           let c = threads_count in
@@ -394,8 +401,9 @@ module _ (locked : ChosenAreLocked) (y : System) (s : IsSystem y) (plain : ArePl
           let text : code.of.text ≡ t =
           same_Some code.of.text t (sym code.of.of_text ∙ (ap (slice_get x.threads) (s.codes.number i below) ∙ there)) in
           let same : (of i below).thread ≡ thread (0 + i) = sym (thread_is i below) ∙ (let e : i ≡ 0 + i = omega arith in ap thread e) in
-          subst (λ (z : m.Thread). IsThreadOf x t.locals z) same
-          (subst (λ (u : f.Thread). IsThreadOf x u.locals (of i below).thread) text (of i below).formed)
+          let o = of i below in
+          subst (λ (z : m.Thread). IsThreadOf x t.locals z × IsReferringThread x t z) same
+          (subst (λ (u : f.Thread). IsThreadOf x u.locals o.thread × IsReferringThread x u o.thread) text (o.formed, o.referring))
 
   pending_there : (n : ℕ) (text : f.Thread) (g : GraphThread) (store : Pending) → slice_get kept.graph_threads n ≡ Some g →
       slice_get x.threads n ≡ Some text → g.pending ≡ Some store → IsPendingAt x (naming_of x text g.locals) g.at store

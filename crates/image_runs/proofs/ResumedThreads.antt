@@ -20,8 +20,10 @@ use Rattle.c_tree.specs.Source as m
 use Rattle.c_tree.specs.Source.{Pending}
 use Rattle.c_tree.specs.Exprs.{Placed}
 use Rattle.c_tree.specs.LockNames.{Held, holds, none_held, lock_names}
+use Rattle.c_tree.specs.References.{IsFlatThreadReferring, NoneRefer}
 use Rattle.c_tree.specs.WellFormed.{AreFlatStatements, elements_in, shape_of, ArePlain}
-use Rattle.c_ranges.specs.RunInvariants.{IsStoreInRange, IsThreadOf}
+use Rattle.c_ranges.specs.RunInvariants.{IsReferringThread, IsStoreInRange, IsThreadOf}
+use Rattle.c_ranges.proofs.Public.{right_opened_all}
 use Rattle.source_machine.specs.Discipline.{KeepList, KeepsLeft}
 use Rattle.source_machine.specs.ElementLocks.{element_lock}
 use Rattle.source_machine.proofs.Public.{keep_opened_all}
@@ -52,7 +54,8 @@ use Rattle.recovered_threads.specs.RecordDescriptions.{Code, Describes, between,
 use Rattle.image_checks.specs.Checks.{IsElementOf}
 use Rattle.image_runs.specs.Shapes.{GoesOnAt, HasThreadShape, idle, resumes, HomeHasForm}
 use Rattle.image_runs.proofs.HeldAtNodes.{all, names, names_long, node_is, lowered_is, stands}
-use Rattle.image_runs.proofs.HeldAtNodes.{keeps, long, left_is, numbers_plain, sets, resumed_hold, resumed_store_locked}
+use Rattle.image_runs.proofs.HeldAtNodes.{keeps, long, left_is, left_refers, numbers_plain, sets, resumed_hold, resumed_store_locked}
+use Rattle.image_runs.proofs.LeftReferences.{thread_unreferring}
 use Rattle.image_runs.proofs.LeftStatements.{opened_all_left}
 use Rattle.image_runs.proofs.RecordedWords.{durable_word, nothing_is_recorded, point_small, register_small, record_none}
 use Rattle.image_runs.proofs.ResumedLocals.{local_keepable, loggable}
@@ -105,6 +108,7 @@ pub record IsSaid (p : Plan) (code : Code p) (words : List ℕ) : Type 0 where
   pub matches : GraphThreadMatches p.flat graph_thread thread
   pub own : IsOwnNode p.flat code.thread.number graph_thread.at
   pub formed : IsThreadOf p.flat code.of.text.locals thread
+  pub referring : IsReferringThread p.flat code.of.text thread
   -- the mutexes that it holds
   pub set : Held
   pub long : length set ≡ length p.flat.mutexes
@@ -133,6 +137,12 @@ module _ (locked : ChosenAreLocked) (p : Plan) (plan : IsPlan p) (plain : ArePla
   abbrev x : f.Flat
   x = p.flat
 
+  form : IsFlatThreadReferring x code.of.text
+  form = all_at (IsFlatThreadReferring x) x.threads n code.of.text plan.formed.referring.threads code.of.of_text
+
+  unreferring : NoneRefer code.of.text.refers
+  unreferring = all_at (λ (u : f.Thread). NoneRefer u.refers) x.threads n code.of.text plan.formed.unreferring.threads code.of.of_text
+
   -- ---- Between two sections
 
   module _ (none : durable_point p.log ws n ≡ 0) where
@@ -160,6 +170,9 @@ module _ (locked : ChosenAreLocked) (p : Plan) (plan : IsPlan p) (plain : ArePla
         locals = zeros_hold code.of.text.locals;
         pending = λ q some. absurd (none-some q some);
       };
+      referring =
+          thread_unreferring x code.of.text (m.thread_start code.of.text) plan.formed.unreferring.variables unreferring form.locals
+          (zeros_hold code.of.text.locals) (right_opened_all x code.of.text.refers code.of.text.body form.body);
       set = free_set;
       long = length-replicate (length x.mutexes) false;
       left = subst (λ (k : ℕ). KeepList x.variables (names p plan t code.of) (none_held k) (m.opened_all code.of.text.body)
@@ -448,6 +461,9 @@ module _ (locked : ChosenAreLocked) (p : Plan) (plan : IsPlan p) (plain : ArePla
         below_end = g.own.below_end;
       };
       formed = formed;
+      referring =
+          thread_unreferring x code.of.text thread plan.formed.unreferring.variables unreferring form.locals formed.locals
+          (left_refers p plan t code.of node g.own);
       set = set;
       long = long p plan t code.of node g.own plain.single;
       left = keeps p plan t code.of node g.own;

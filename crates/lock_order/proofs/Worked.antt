@@ -21,7 +21,7 @@ all_of [] = f.no_statement
 all_of (x ∷ xs) = f.statement_and x (all_of xs)
 
 abbrev thread : List f.Statement → f.Thread
-thread xs = record { name = name; locals = []; body = all_of xs; closing = at 99 }
+thread xs = record { name = name; locals = []; refers = []; body = all_of xs; closing = at 99 }
 
 abbrev mutex : Mutex
 mutex = record { name = name; length = None }

@@ -61,6 +61,7 @@ pub(crate) fn flat(
     let thread = Thread {
         name: name(a)?,
         locals: vec![in a; KIND; locals]?,
+        refers: vec![in a; None; locals]?,
         body,
         closing: HERE,
     };
@@ -70,6 +71,7 @@ pub(crate) fn flat(
             name: name(a)?,
             guard: Guard::By { mutex: 0 },
             kind: KIND,
+            refers: None,
             length: None,
             initial: vec![in a; *initial]?,
         })?;

@@ -45,6 +45,7 @@ fn flat(a: Global, body: Vec<Statement>) -> Result<Flat, AllocError> {
             Thread {
                 name: name(a),
                 locals: Vec::new(a),
+                refers: Vec::new(a),
                 body,
                 closing: Place(9),
             },

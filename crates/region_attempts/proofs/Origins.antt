@@ -6,7 +6,7 @@ use Rattle.c_tree.specs.Flats as f
 use Rattle.c_tree.specs.Source as m
 use Rattle.c_tree.specs.LockDiscipline.{IsDisciplined}
 use Rattle.c_tree.specs.WellFormed.{IsWellFormed}
-use Rattle.c_ranges.specs.RunInvariants.{AreNumbersOf}
+use Rattle.c_ranges.specs.RunInvariants.{AreElementsReferring, AreNumbersOf}
 use Rattle.c_ranges.proofs.Public.{begins_so}
 use Rattle.source_machine.proofs.Public.{start_keeps}
 use Rattle.flow_graph.specs.Lowering.{lowered}
@@ -87,6 +87,11 @@ module _ (x : f.Flat) (o : Origin x) (schedule : List ℕ) (w : IsWellFormed x) 
               good.formed.variables;
           holders = (begins_so x w).holders;
           threads = (begins_so x w).threads;
+          references = record {
+            variables = subst (λ (ns : List (List ℤ)). AllZip (AreElementsReferring x.variables) x.variables ns)
+                (sym good.matches.variables ∙ left.variables) good.formed.references.variables;
+            threads = (begins_so x w).references.threads;
+          };
         };
         holders = λ mutex t held. absurd (all_free _ mutex t held);
         own = (good_start x w).own;

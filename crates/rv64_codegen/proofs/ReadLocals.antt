@@ -4,6 +4,7 @@ use Rattle.std.specs.Prelude.{slice_get, Contains}
 use Rattle.std.proofs.lemmas.Option.{slice_get_within}
 use Rattle.std.proofs.lemmas.List.Elements.{Contains-append_left, Contains-append_right}
 use Rattle.ido_ints.specs.declared.kinds.Kind.{Kind}
+use Rattle.ido_ints.specs.declared.kinds.Kind.TheVariants.{UnsignedLong}
 use Rattle.c_tree.specs.Exprs as e
 use Rattle.c_tree.specs.LockDiscipline.{expr_locals}
 use Rattle.c_tree.specs.Programs as p
@@ -28,8 +29,8 @@ reads_are_held h s x (e.Constant value) f held = tt
 reads_are_held h s x (e.Local local k) f held = held local k (only local) f
 reads_are_held h s x (e.Variable place variable k) f held = tt
 reads_are_held h s x (e.Element place variable k index_place index) f held = reads_are_held h s x index f.1 held
-reads_are_held h s x (e.Address variable index_place index) f held = absurd f
-reads_are_held h s x (e.Referent place last local) f held = absurd f
+reads_are_held h s x (e.Address variable index_place index) f held = reads_are_held h s x index f.1 held
+reads_are_held h s x (e.Referent place last local) f held = held local UnsignedLong (only local) f
 reads_are_held h s x (e.Unary operator t) f held = reads_are_held h s x t f held
 reads_are_held h s x (e.Cast k t) f held = reads_are_held h s x t f held
 reads_are_held h s x (e.Converted k t) f held = reads_are_held h s x t f held
@@ -70,8 +71,9 @@ formed_is_at_home vs ks h (e.Local local k) homes f = (local_in_range vs ks h lo
 formed_is_at_home vs ks h (e.Variable place variable k) homes f = variable_at_home vs ks h variable f.it homes f.found
 formed_is_at_home vs ks h (e.Element place variable k index_place index) homes f =
     (variable_at_home vs ks h variable f.0.it homes f.0.found, formed_is_at_home vs ks h index homes f.1)
-formed_is_at_home vs ks h (e.Address variable index_place index) homes f = absurd f
-formed_is_at_home vs ks h (e.Referent place last local) homes f = absurd f
+formed_is_at_home vs ks h (e.Address variable index_place index) homes f = formed_is_at_home vs ks h index homes f.1
+formed_is_at_home vs ks h (e.Referent place last local) homes f =
+    (local_in_range vs ks h local UnsignedLong homes f, homes.home local (slice_get_within ks local UnsignedLong f))
 formed_is_at_home vs ks h (e.Unary operator t) homes f = formed_is_at_home vs ks h t homes f
 formed_is_at_home vs ks h (e.Cast k t) homes f = formed_is_at_home vs ks h t homes f
 formed_is_at_home vs ks h (e.Converted k t) homes f = formed_is_at_home vs ks h t homes f

@@ -14,8 +14,8 @@ name = record { text = []; place = record { 0 = 0 } }
 
 -- an array of two elements, guarded by the second mutex, and a variable guarded by the first
 abbrev variables : List Variable
-variables = record { name = name; guard = By 1; kind = kind.Int; length = Some 2; initial = pos 5 ∷ pos 6 ∷ [] }
-    ∷ record { name = name; guard = By 0; kind = kind.Int; length = None; initial = pos 7 ∷ [] } ∷ []
+variables = record { name = name; guard = By 1; kind = kind.Int; refers = None; length = Some 2; initial = pos 5 ∷ pos 6 ∷ [] }
+    ∷ record { name = name; guard = By 0; kind = kind.Int; refers = None; length = None; initial = pos 7 ∷ [] } ∷ []
 
 abbrev mutex : Mutex
 mutex = record { name = name; length = None }
@@ -59,7 +59,7 @@ none_guards_free h = cc
 
 -- an array of four elements, under the second mutex and those after it
 abbrev each : List Variable
-each = record { name = name; guard = Each 1; kind = kind.Int; length = Some 4; initial = pos 0 ∷ pos 0 ∷ pos 0 ∷ pos 0 ∷ [] } ∷ []
+each = record { name = name; guard = Each 1; kind = kind.Int; refers = None; length = Some 4; initial = pos 0 ∷ pos 0 ∷ pos 0 ∷ pos 0 ∷ [] } ∷ []
 
 first_of_each : element_lock each 0 0 ≡ 1
 unfolding element_lock

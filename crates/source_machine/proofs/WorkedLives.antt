@@ -21,10 +21,18 @@ sum = record { place = at 55; expr = e.Binary b.Add (e.Variable (at 55) 0 kind.I
 abbrev x : f.Flat
 x = record {
   mutexes = record { name = record { text = codes "m"; place = at 6 }; length = None } ∷ [];
-  variables = record { name = record { text = codes "x"; place = at 26 }; guard = By 0; kind = kind.Int; length = None; initial = pos 0 ∷ [] } ∷ [];
+  variables = record {
+    name = record { text = codes "x"; place = at 26 };
+    guard = By 0;
+    kind = kind.Int;
+    refers = None;
+    length = None;
+    initial = pos 0 ∷ [];
+  } ∷ [];
   threads = record {
     name = record { text = codes "t"; place = at 36 };
     locals = [];
+    refers = [];
     body = f.statement_and (f.Lock (at 40) (record { mutex = 0; key = None })) (f.statement_and (f.Assign (at 51) (e.ToVariable (at 51) 0 kind.Int) sum)
         (f.statement_and (f.Unlock (at 62) (record { mutex = 0; key = None })) f.no_statement));
     closing = at 73;

@@ -14,7 +14,7 @@ use Rattle.variable_words.specs.VariablesInWords.{spots_of}
 use Rattle.variable_words.specs.Logs.{Point, Slot, log_address}
 
 abbrev short : Variable
-short = record { name = record { text = []; place = record { 0 = 0 } }; guard = By 0; kind = kind.Short; length = None; initial = negsuc 1 ∷ [] }
+short = record { name = record { text = []; place = record { 0 = 0 } }; guard = By 0; kind = kind.Short; refers = None; length = None; initial = negsuc 1 ∷ [] }
 
 abbrev char : Variable
 char = record short { kind = kind.Char; initial = pos 7 ∷ [] }

@@ -1,6 +1,5 @@
 -- The flat form of what has been begun, and how long it takes.
 use Rattle.std.specs.Prelude.{◌≡◌, ℕ, ◌+◌, ◌<◌, List, [], ◌∷◌, ◌++◌, length, map, drop, Option, Some, None, slice_get}
-use Rattle.ido_ints.specs.declared.kinds.Kind.{Kind}
 use Rattle.c_tree.specs.Programs as p
 use Rattle.c_tree.specs.Flats as f
 use Rattle.c_tree.specs.Inlining as i
@@ -8,6 +7,7 @@ use Rattle.c_tree.specs.declared.program.Function.{Function}
 use Rattle.c_tree.specs.declared.program.Statement.{Statement}
 use Rattle.c_tree.specs.declared.flat.Statement as flat
 use Rattle.c_inline.specs.declared.build.Begun.{Begun}
+use Rattle.c_inline.specs.declared.build.Locals.{Locals}
 use Rattle.c_inline.specs.links.Weights as v
 use Rattle.c_inline.specs.links.Weights.{size}
 use Rattle.c_inline.specs.links.KnownWeights.{AreRight}
@@ -23,8 +23,11 @@ whole fs = i.bodies_of fs (length fs)
 
 -- ---- What is made
 
+abbrev pub locals_of : Locals → i.Locals
+locals_of x = i.locals x.kinds.items x.refers.items
+
 abbrev pub after : f.Statements → i.Made f.Statements → i.Made f.Statements
-after made more = record { made = i.statements_and made more.made; kinds = more.kinds }
+after made more = record { made = i.statements_and made more.made; locals = more.locals }
 
 abbrev pub following_of : Option flat.Statement → f.Statements
 following_of (Some x) = i.one (f.statement_of x)
@@ -38,22 +41,22 @@ abbrev pub rest_of : List Function → Begun → List Statement
 rest_of functions b = drop b.done (body_of functions b.function)
 
 -- what is made of the rest of a begun body, and of what stands after the body
-abbrev pub begun_made : List Function → Begun → List Kind → i.Made f.Statements
+abbrev pub begun_made : List Function → Begun → i.Locals → i.Made f.Statements
 begun_made functions b ks =
     let m = i.statements (map p.function_of functions) (whole (map p.function_of functions)) b.by ks (p.statements_of (rest_of functions b)) in
-    record { made = i.statements_and m.made (following_of b.following); kinds = m.kinds }
+    record { made = i.statements_and m.made (following_of b.following); locals = m.locals }
 
-abbrev pub begun_if_any : List Function → Option Begun → List Kind → i.Made f.Statements
+abbrev pub begun_if_any : List Function → Option Begun → i.Locals → i.Made f.Statements
 begun_if_any functions (Some b) ks = begun_made functions b ks
-begun_if_any functions None ks = record { made = f.no_statement; kinds = ks }
+begun_if_any functions None ks = record { made = f.no_statement; locals = ks }
 
--- what is made first, and then what is made with the kinds that it leaves
-abbrev pub in_turn : i.Made f.Statements → (List Kind → i.Made f.Statements) → i.Made f.Statements
-in_turn s K = let r = K s.kinds in record { made = i.statements_and s.made r.made; kinds = r.kinds }
+-- what is made first, and then what is made with the locals that it leaves
+abbrev pub in_turn : i.Made f.Statements → (i.Locals → i.Made f.Statements) → i.Made f.Statements
+in_turn s K = let r = K s.locals in record { made = i.statements_and s.made r.made; locals = r.locals }
 
 -- bodies that have been begun, the last one first
-abbrev pub all_made : List Function → List Begun → List Kind → i.Made f.Statements
-all_made functions [] ks = record { made = f.no_statement; kinds = ks }
+abbrev pub all_made : List Function → List Begun → i.Locals → i.Made f.Statements
+all_made functions [] ks = record { made = f.no_statement; locals = ks }
 all_made functions (b ∷ bs) ks = in_turn (all_made functions bs ks) (begun_made functions b)
 
 abbrev pub and_any : List Begun → Option Begun → List Begun

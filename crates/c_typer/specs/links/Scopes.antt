@@ -56,7 +56,7 @@ abbrev pub own_of : List l.Local → List (List ℕ)
 own_of xs = map name_in (reverse xs)
 
 abbrev pub scope_of : scope.Scope → n.Scope
-scope_of x = record { known = known_of x.known.items; own = own_of (drop x.mark x.known.items); kinds = x.kinds.items }
+scope_of x = record { known = known_of x.known.items; own = own_of (drop x.mark x.known.items); kinds = x.kinds.items; refers = x.refers.items }
 
 -- locals were declared in the own scope, or none
 pub record ScopeGrows (old new : scope.Scope) : Type 0 where

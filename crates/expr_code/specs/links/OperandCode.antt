@@ -1,6 +1,7 @@
 -- Which temporaries are free where so many are held, and code of operands.
-use Rattle.std.specs.Prelude.{◌≡◌, ℕ, zero, suc, ◌*◌, Bool, false, not, ◌==◌, ◌&&◌, ◌||◌, if◌then◌else◌, List}
-use Rattle.ido_ints.specs.declared.kinds.Kind.TheVariants.{Int}
+use Rattle.std.specs.Prelude.{◌≡◌, ℕ, zero, suc, ◌*◌, Bool, false, not, ◌==◌, ◌&&◌, ◌||◌, if◌then◌else◌, List, pos}
+use Rattle.ido_ints.specs.declared.kinds.Kind.TheVariants.{Int, UnsignedLong}
+use Rattle.ido_ints.specs.declared.operators.Binary.{Binary}
 use Rattle.ido_ints.specs.Kinds.{rank_of}
 use Rattle.ido_ints.specs.Operators.{is_zero, truth}
 use Rattle.ido_ints.specs.TypedNumbers.{Typed, typed, converted, register_form_of}
@@ -56,6 +57,13 @@ pub record IsConstantForm (o : BinaryOperation) (y : e.Expr) (form : ImmediateFo
   pub number : Typed
   pub is : y ≡ e.Constant number
   pub gives : IsWithConstant o (register_form_of (converted number (right_kind o))) form
+
+-- an operation on references, and 1 as one operand of it
+abbrev pub reference_operation : Binary → BinaryOperation
+reference_operation operator = record { operator = operator; left = UnsignedLong; right = UnsignedLong }
+
+abbrev pub one : e.Expr
+one = e.Constant (typed UnsignedLong (pos 1))
 
 -- a condition, and what is chosen by it: each an expression and what is made of its value
 pub record Choice : Type 0 where

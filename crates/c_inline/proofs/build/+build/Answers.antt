@@ -11,7 +11,7 @@ use Rattle.c_tree.specs.declared.flat.Statement as flat
 use Rattle.c_tree.proofs.Public.{program_rows_of_while as of_while, program_rows_of_do as of_do, program_rows_of_if as of_if}
 use Rattle.c_inline.specs.declared.build.Begun.{Begun}
 use Rattle.c_inline.specs.links.Weights as v
-use Rattle.c_inline.specs.links.InlinedBodies.{whole, after, following_of, begun_if_any, all_made, and_any}
+use Rattle.c_inline.specs.links.InlinedBodies.{locals_of, whole, after, following_of, begun_if_any, all_made, and_any}
 use Rattle.c_inline.specs.links.InlinedBodies.{begun_work, all_work, function_work, statements_work}
 use Rattle.c_inline.proofs.InlinedStatements.{and_none, made_alone, one_made, while_made, do_made, if_made, assign_made, statement_step, statement_left}
 use Rattle.c_inline.proofs.InlinedStatements.{statements_all, arm_made, arm_left, arms_all, step_made, step_work, done_made, done_work, all_work_more}
@@ -23,9 +23,10 @@ make_arms-loop-arm-preserved t c =
     let xs = c.args.arms.now in
     let j = c.loop-arm.arm-index in
     let x = c.arm-item.result in
-    let inner = ap (λ (ys : List Statement). i.statements fs (whole fs) c.args.by c.loop-arm.kinds.items (p.statements_of ys)) (sym c.deref.ensures.value)
+    let inner = ap (λ (ys : List Statement). i.statements fs (whole fs) c.args.by (locals_of c.loop-arm.locals) (p.statements_of ys))
+    (sym c.deref.ensures.value)
     ∙ c.in_ok-body.ensures in (
-      sym (arm_made fs (whole fs) c.args.by xs j x c.loop-arm-test.true c.arm-item.is c.loop-arm.kinds.items c.make_statements.new.kinds.items
+      sym (arm_made fs (whole fs) c.args.by xs j x c.loop-arm-test.true c.arm-item.is (locals_of c.loop-arm.locals) (locals_of c.make_statements.new.locals)
           c.loop-arm.made.items c.push.new.self.items _ c.in_ok-push.ensures.items c.in_ok-condition.ensures inner)
           ∙ c.loop-arm.invariant.0,
       omega (arith, c.loop-arm.invariant.1, arm_left fs (whole fs) c.args.by xs j x c.loop-arm-test.true c.arm-item.is),
@@ -34,7 +35,7 @@ make_arms-loop-arm-preserved t c =
 pub make_arms-returns : goal.make_arms-returns
 make_arms-returns t c =
     let fs = map function_of c.args.bodies.functions.now in
-    sym c.loop-arm.invariant.0 ∙ arms_all fs (whole fs) c.args.by c.args.arms.now c.loop-arm.arm-index c.loop-arm.kinds.items
+    sym c.loop-arm.invariant.0 ∙ arms_all fs (whole fs) c.args.by c.args.arms.now c.loop-arm.arm-index (locals_of c.loop-arm.locals)
     (f.arms_list_of c.loop-arm.made.items) c.loop-arm-test.false
 
 pub make_body-make_step-requires : goal.make_body-make_step-requires
@@ -50,11 +51,11 @@ pub make_body-returns : goal.make_body-returns
 make_body-returns t c =
     let functions = c.args.bodies.functions.now in
     let made = f.statements_of c.loop-begun.made.items in
-    let ks = c.loop-begun.kinds.items in
+    let ks = locals_of c.loop-begun.locals in
     let empty : c.loop-begun.waiting.items ≡ [] = grind (arith, c.in_default.ensures.cases) in
     sym (c.loop-begun.invariant.0)
     ∙ ap (λ (bs : List Begun). after made (all_made functions bs ks)) empty
-    ∙ ap (λ (y : f.Statements). let r : i.Made f.Statements = record { made = y; kinds = ks } in r) (and_none made)
+    ∙ ap (λ (y : f.Statements). let r : i.Made f.Statements = record { made = y; locals = ks } in r) (and_none made)
 
 pub make_or_begin-make_arms-requires : goal.make_or_begin-make_arms-requires
 make_or_begin-make_arms-requires t c =
@@ -104,7 +105,7 @@ pub make_or_begin-returns-in_ok-push-in-Assign-clause-made : goal.make_or_begin-
 make_or_begin-returns-in_ok-push-in-Assign-clause-made t c =
     let n = c.in-Assign in
     let fs = map function_of c.args.bodies.functions.now in
-    let ks = c.args.kinds.now.items in
+    let ks = locals_of c.args.locals.now in
     assign_made fs (whole fs) c.args.by ks ks c.args.made.now.items c.push.new.self.items n.place (p.statement_of c.args.statement.now)
     c.in_ok-target-in-Assign.target n.target c.in_ok-value-in-Assign.value n.value
     (ap p.statement_of n.is) c.in_ok-push-in-Assign.ensures.items refl c.in_ok-target-in-Assign.ensures c.in_ok-value-in-Assign.ensures
@@ -113,22 +114,24 @@ pub make_or_begin-returns-in_ok-push-in-If-clause-made : goal.make_or_begin-retu
 make_or_begin-returns-in_ok-push-in-If-clause-made t c =
     let n = c.in-If in
     let fs = map function_of c.args.bodies.functions.now in
-    let arms = ap (λ (ys : List Arm). i.arms_of fs (whole fs) c.args.by c.args.kinds.now.items (p.arms_list_of ys)) (sym c.deref-in-If.ensures.value)
+    let arms = ap (λ (ys : List Arm). i.arms_of fs (whole fs) c.args.by (locals_of c.args.locals.now) (p.arms_list_of ys)) (sym c.deref-in-If.ensures.value)
     ∙ c.in_ok-arms-in-If.ensures in
-    let otherwise = ap (λ (ys : List Statement). i.statements fs (whole fs) c.args.by c.make_arms.new.kinds.items (p.statements_of ys))
+    let otherwise = ap (λ (ys : List Statement). i.statements fs (whole fs) c.args.by (locals_of c.make_arms.new.locals) (p.statements_of ys))
     (sym c.deref-in-If-2.ensures.value) ∙ c.in_ok-otherwise-in-If.ensures in
-    if_made fs (whole fs) c.args.by c.args.kinds.now.items c.make_statements.new.kinds.items c.args.made.now.items c.push-in-If.new.self.items n.place
+    if_made fs (whole fs) c.args.by (locals_of c.args.locals.now) (locals_of c.make_statements.new.locals) c.args.made.now.items
+    c.push-in-If.new.self.items n.place
     (p.statement_of c.args.statement.now) c.in_ok-arms-in-If.arms c.in_ok-otherwise-in-If.otherwise
-    (p.arms_list_of n.arms.items) (p.statements_of n.otherwise.items) c.make_arms.new.kinds.items
+    (p.arms_list_of n.arms.items) (p.statements_of n.otherwise.items) (locals_of c.make_arms.new.locals)
     (ap p.statement_of n.is ∙ of_if n.place n.arms n.otherwise) c.in_ok-push-in-If.ensures.items arms otherwise
 
 pub make_or_begin-returns-in_ok-push-in-While-clause-made : goal.make_or_begin-returns-in_ok-push-in-While-clause-made
 make_or_begin-returns-in_ok-push-in-While-clause-made t c =
     let n = c.in-While in
     let fs = map function_of c.args.bodies.functions.now in
-    let inner = ap (λ (ys : List Statement). i.statements fs (whole fs) c.args.by c.args.kinds.now.items (p.statements_of ys))
+    let inner = ap (λ (ys : List Statement). i.statements fs (whole fs) c.args.by (locals_of c.args.locals.now) (p.statements_of ys))
     (sym c.deref-in-While.ensures.value) ∙ c.in_ok-body-in-While.ensures in
-    while_made fs (whole fs) c.args.by c.args.kinds.now.items c.make_statements-in-While.new.kinds.items c.args.made.now.items c.push-in-While.new.self.items
+    while_made fs (whole fs) c.args.by (locals_of c.args.locals.now) (locals_of c.make_statements-in-While.new.locals) c.args.made.now.items
+    c.push-in-While.new.self.items
     n.place c.in_ok-condition-in-While.condition n.condition c.in_ok-body-in-While.body
     (p.statements_of n.body.items) c.in_ok-condition-in-While.ensures inner (p.statement_of c.args.statement.now)
     (ap p.statement_of n.is ∙ of_while n.place n.condition n.body) c.in_ok-push-in-While.ensures.items
@@ -137,9 +140,11 @@ pub make_or_begin-returns-in_ok-push-in-Do-clause-made : goal.make_or_begin-retu
 make_or_begin-returns-in_ok-push-in-Do-clause-made t c =
     let n = c.in-Do in
     let fs = map function_of c.args.bodies.functions.now in
-    let inner = ap (λ (ys : List Statement). i.statements fs (whole fs) c.args.by c.args.kinds.now.items (p.statements_of ys)) (sym c.deref-in-Do.ensures.value)
+    let inner = ap (λ (ys : List Statement). i.statements fs (whole fs) c.args.by (locals_of c.args.locals.now) (p.statements_of ys))
+    (sym c.deref-in-Do.ensures.value)
     ∙ c.in_ok-body-in-Do.ensures in
-    do_made fs (whole fs) c.args.by c.args.kinds.now.items c.make_statements-in-Do.new.kinds.items c.args.made.now.items c.push-in-Do.new.self.items n.place
+    do_made fs (whole fs) c.args.by (locals_of c.args.locals.now) (locals_of c.make_statements-in-Do.new.locals) c.args.made.now.items
+    c.push-in-Do.new.self.items n.place
     c.in_ok-condition-in-Do.condition n.condition c.in_ok-body-in-Do.body
     (p.statements_of n.body.items) c.in_ok-condition-in-Do.ensures inner (p.statement_of c.args.statement.now)
     (ap p.statement_of n.is ∙ of_do n.place n.body n.condition) c.in_ok-push-in-Do.ensures.items
@@ -148,7 +153,7 @@ pub make_or_begin-returns-in_ok-push-in-Lock-clause-made : goal.make_or_begin-re
 make_or_begin-returns-in_ok-push-in-Lock-clause-made t c =
     let n = c.in-Lock in
     let fs = map function_of c.args.bodies.functions.now in
-    let ks = c.args.kinds.now.items in
+    let ks = locals_of c.args.locals.now in
     one_made fs (whole fs) c.args.by ks ks c.args.made.now.items c.push-in-Lock.new.self.items n.place (flat.Lock n.place c.in_ok-lock-in-Lock.lock)
     (f.Lock n.place (i.shifted_lock c.args.by (e.lock_name_of n.lock)))
     (i.statement fs (whole fs) c.args.by ks (p.statement_of c.args.statement.now))
@@ -159,7 +164,7 @@ pub make_or_begin-returns-in_ok-push-in-Unlock-clause-made : goal.make_or_begin-
 make_or_begin-returns-in_ok-push-in-Unlock-clause-made t c =
     let n = c.in-Unlock in
     let fs = map function_of c.args.bodies.functions.now in
-    let ks = c.args.kinds.now.items in
+    let ks = locals_of c.args.locals.now in
     one_made fs (whole fs) c.args.by ks ks c.args.made.now.items c.push-in-Unlock.new.self.items n.place (flat.Unlock n.place c.in_ok-lock-in-Unlock.lock)
     (f.Unlock n.place (i.shifted_lock c.args.by (e.lock_name_of n.lock))) (i.statement fs (whole fs) c.args.by ks (p.statement_of c.args.statement.now))
     c.in_ok-push-in-Unlock.ensures.items (ap (f.Unlock n.place) c.in_ok-lock-in-Unlock.ensures)
@@ -171,8 +176,8 @@ make_statements-loop-statement-preserved t c =
     let xs = c.args.statements.now in
     let j = c.loop-statement.statement-index in
     let x = c.statement-item.result in (
-      sym (statement_step fs (whole fs) c.args.by xs j x c.loop-statement-test.true c.statement-item.is c.loop-statement.kinds.items
-          c.make_statement.new.kinds.items
+      sym (statement_step fs (whole fs) c.args.by xs j x c.loop-statement-test.true c.statement-item.is (locals_of c.loop-statement.locals)
+          (locals_of c.make_statement.new.locals)
           (f.statements_of c.loop-statement.made.items) (f.statements_of c.make_statement.new.made.items) c.in_ok-make_statement.ensures)
           ∙ c.loop-statement.invariant.0,
       omega (arith, c.loop-statement.invariant.1, statement_left fs (whole fs) c.args.by xs j x c.loop-statement-test.true c.statement-item.is),
@@ -193,7 +198,7 @@ pub make_statements-returns : goal.make_statements-returns
 make_statements-returns t c =
     let fs = map function_of c.args.bodies.functions.now in
     sym c.loop-statement.invariant.0 ∙ statements_all fs (whole fs) c.args.by c.args.statements.now c.loop-statement.statement-index
-    c.loop-statement.kinds.items (f.statements_of c.loop-statement.made.items) c.loop-statement-test.false
+    (locals_of c.loop-statement.locals) (f.statements_of c.loop-statement.made.items) c.loop-statement-test.false
 
 pub make_step-returns-in_ok-inner-in-Some-clause-made : goal.make_step-returns-in_ok-inner-in-Some-clause-made
 make_step-returns-in_ok-inner-in-Some-clause-made t c =
@@ -202,7 +207,7 @@ make_step-returns-in_ok-inner-in-Some-clause-made t c =
     (λ (rest : c.push_begun.new.waiting.items ≡ and_any c.push.new.self.items inner).
     step_made c.args.bodies.functions.now c.args.waiting.now.items c.push_begun.new.waiting.items c.args.begun c.next.new.begun inner c.in-Some.statement.now
     c.in-Some.ensures (rest ∙ ap (λ (bs : List Begun). and_any bs inner) c.in_ok-push-in-Some.ensures.items)
-    c.args.kinds.now.items c.make_or_begin.new.kinds.items
+    (locals_of c.args.locals.now) (locals_of c.make_or_begin.new.locals)
     (f.statements_of c.args.made.now.items) (f.statements_of c.make_or_begin.new.made.items) c.in_ok-inner-in-Some.ensures.made)
     c.push_begun.ensures
 
@@ -221,7 +226,8 @@ make_step-returns-in-None-clause-made t c =
     let old = f.statements_of c.args.made.now.items in
     on_ok_weaker c.push_following.result
     (λ (following : f.statements_of c.push_following.new.made.items ≡ i.statements_and old (following_of c.next.new.begun.following)).
-    done_made c.args.bodies.functions.now c.args.waiting.now.items c.args.begun c.args.kinds.now.items old (f.statements_of c.push_following.new.made.items)
+    done_made c.args.bodies.functions.now c.args.waiting.now.items c.args.begun (locals_of c.args.locals.now) old
+    (f.statements_of c.push_following.new.made.items)
     c.in-None.ensures.0
     (following ∙ ap (λ (b : Begun). i.statements_and old (following_of b.following)) c.in-None.ensures.1))
     c.push_following.ensures
@@ -231,7 +237,8 @@ make_step-returns-in-None-clause-work t c =
     let old = f.statements_of c.args.made.now.items in
     on_ok_weaker c.push_following.result
     (λ (following : f.statements_of c.push_following.new.made.items ≡ i.statements_and old (following_of c.next.new.begun.following)).
-    done_work c.args.bodies.functions.now c.args.waiting.now.items c.args.begun c.args.kinds.now.items old (f.statements_of c.push_following.new.made.items)
+    done_work c.args.bodies.functions.now c.args.waiting.now.items c.args.begun (locals_of c.args.locals.now) old
+    (f.statements_of c.push_following.new.made.items)
     c.in-None.ensures.0)
     c.push_following.ensures
 
@@ -239,6 +246,7 @@ pub make_statement-returns-in-None : goal.make_statement-returns-in-None
 make_statement-returns-in-None t c =
     let fs = map function_of c.args.bodies.functions.now in
     let new = f.statements_of c.make_or_begin.new.made.items in
-    let ks = c.make_or_begin.new.kinds.items in
-    made_alone (f.statements_of c.args.made.now.items) new (i.statement fs (whole fs) c.args.by c.args.kinds.now.items (p.statement_of c.args.statement.now)) ks
+    let ks = locals_of c.make_or_begin.new.locals in
+    made_alone (f.statements_of c.args.made.now.items) new
+    (i.statement fs (whole fs) c.args.by (locals_of c.args.locals.now) (p.statement_of c.args.statement.now)) ks
     (c.in_ok-begun.ensures.made ∙ ap (λ (o : Option Begun). after new (begun_if_any c.args.bodies.functions.now o ks)) c.in-None.is)

@@ -1,5 +1,5 @@
 -- By induction on the schedule, and cases on the step.
-use Rattle.c_ranges.proofs.RunsKeepInvariants.{begins_so, stays_so, is_so}
+use Rattle.c_ranges.proofs.ReferencesKept.{begins_so, stays_so, is_so}
 use Rattle.c_ranges.proofs.laws.values_keep_to_their_kinds.Goals as goal
 
 pub returns-clause-begins : goal.returns-clause-begins

@@ -33,10 +33,12 @@ returns-clause-made c none =
     ∙ ap (typing.filled (element_count size)) c.in_ok-initial.ensures
     ∙ ap (λ (k : Kind). typing.filled (element_count size) (map (reduced k) given)) c.kind-number_kind.ensures in
     let length = c.checked_length.ensures allowed.1 in
+    let refers_to = c.number_of.ensures ∙ ap (option_map (λ (a : n.Array). a.number)) c.referred.ensures in
     (λ i. record {
       name = c.in_ok-copied.ensures i;
       guard = c.in_ok-guard.ensures.made i;
       kind = c.kind-number_kind.ensures i;
+      refers = refers_to i;
       length = length i;
       initial = initial i;
     })

@@ -307,7 +307,7 @@ statement-returns-in_ok-next-in-For-clause-scope t c =
     let again = left_again c.args.scope.now c.enter-outer.new.self c.loop_of_for.new.scope c.leave.new.self enter.known
     (grows_both _ _ _ begins.grows (grows_none _ _ goes.stays))
     (c.leave.ensures.known ∙ ap (λ (o : Mark). take o.known c.loop_of_for.new.scope.known.items) enter.outer)
-    (c.leave.ensures.mark ∙ ap (λ (o : Mark). o.mark) enter.outer) c.leave.ensures.kinds in
+    (c.leave.ensures.mark ∙ ap (λ (o : Mark). o.mark) enter.outer) c.leave.ensures.kinds c.leave.ensures.refers in
     always c.add-in-For.result
     (again.0 ∙ ap (n.left s) (goes.scope ∙ ap (λ (z : n.Scope). (typing.inside gs z block).scope) scope)
     ∙ ap (λ (x : tree.Statement). (typing.statement gs s x).scope) (sym view))
@@ -318,5 +318,5 @@ statement-returns-in_ok-next-in-For-clause-grows t c =
     let again = left_again c.args.scope.now c.enter-outer.new.self c.loop_of_for.new.scope c.leave.new.self enter.known
     (grows_both _ _ _ c.in_ok-start_of_for-in-For.ensures.grows (grows_none _ _ c.in_ok-next-in-For.ensures.stays))
     (c.leave.ensures.known ∙ ap (λ (o : Mark). take o.known c.loop_of_for.new.scope.known.items) enter.outer)
-    (c.leave.ensures.mark ∙ ap (λ (o : Mark). o.mark) enter.outer) c.leave.ensures.kinds in
+    (c.leave.ensures.mark ∙ ap (λ (o : Mark). o.mark) enter.outer) c.leave.ensures.kinds c.leave.ensures.refers in
     always c.add-in-For.result (grows_none _ _ again.1)

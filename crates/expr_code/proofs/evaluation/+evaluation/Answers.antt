@@ -4,6 +4,8 @@ use Rattle.std.specs.Prelude.{true}
 use Rattle.std.proofs.lemmas.Option.{slice_get-get_or, same_Some}
 use Rattle.rv64_isa.specs.declared.instr.Instr.{Instr}
 use Rattle.ido_ints.specs.declared.kinds.Kind.{Kind}
+use Rattle.ido_ints.specs.declared.kinds.Kind.TheVariants.{UnsignedLong}
+use Rattle.ido_ints.specs.declared.operators.Binary.TheVariants.{Add, Sub}
 use Rattle.ido_ints.specs.Kinds.{bits_of, rank_of}
 use Rattle.c_tree.specs.declared.expr.Expr.{Expr}
 use Rattle.c_tree.specs.declared.expr.Expr as raw
@@ -16,9 +18,9 @@ use Rattle.operator_code.specs.ComputingCode.{is_comparison, left_kind}
 use Rattle.expr_code.specs.declared.home.Home.{Home}
 use Rattle.expr_code.specs.declared.home.Home.TheVariants.{InRegister}
 use Rattle.expr_code.specs.EvaluationCode.{Homes, homes_of, AreAtHome, home_of, is_home}
-use Rattle.expr_code.specs.links.OperandCode.{IsEvaluation, IsOperand, IsMade, IsConstantForm, truth_of, conversion_words}
+use Rattle.expr_code.specs.links.OperandCode.{IsEvaluation, IsOperand, IsMade, IsConstantForm, truth_of, conversion_words, one, reference_operation}
 use Rattle.expr_code.proofs.TemporaryNeeds.{need_some}
-use Rattle.expr_code.proofs.OperationCode.{comparison_made, skipped_code, kept_value}
+use Rattle.expr_code.proofs.OperationCode.{comparison_made, skipped_code, kept_value, address_code, again_operand, referent_code}
 use Rattle.expr_code.proofs.Words.{wider_rank, some_rank}
 use Rattle.expr_code.proofs.evaluation.+evaluation.Goals as goal
 use Rattle.expr_code.proofs.evaluation.+evaluation.Goals.{evaluate_converted-in_default-via-in-Converted+else-bits}
@@ -87,6 +89,41 @@ operand-returns-in-Local-clause-operand t c =
     let it = has_home h w.local c.index-frame-local.result home in
     subst (λ (z : e.Expr). IsOperand h z c.args.held c.local_operand.result.register c.local_operand.result.code.items) (sym seen)
     (c.local_operand.ensures.operand h w.local w.kind c.args.held it.is it.home)
+
+-- ---- References
+
+pub evaluate-returns-in_ok-with_immediate-in-Address-clause-code : goal.evaluate-returns-in_ok-with_immediate-in-Address-clause-code
+evaluate-returns-in_ok-with_immediate-in-Address-clause-code t c =
+    let w = c.in-Address in
+    let h = homes_of c.args.frame.now in
+    let code : List Instr = c.in_ok-with_immediate-in-Address.field-0.items in
+    let x = expr_of w.index.value in
+    let seen : expr_of c.args.expr.now ≡ e.Address w.variable w.index_place x = ap expr_of w.is in
+    let index = c.in_ok-index-in-Address.index in
+    let operand : IsOperand h (e.Converted UnsignedLong x) c.args.held index.register index.code.items =
+    subst (λ (z : Expr). IsOperand h (e.Converted UnsignedLong (expr_of z)) c.args.held index.register index.code.items) c.deref-in-Address.ensures
+    c.in_ok-index-in-Address.ensures.operand in
+    subst (λ (z : e.Expr). IsEvaluation h z c.args.held c.args.rd code) (sym seen)
+    (address_code h w.variable w.index_place x c.args.held c.args.rd code
+    (c.in_ok-with_immediate-in-Address.ensures.code (reference_operation Add) h (e.Converted UnsignedLong x) one c.args.held refl refl c.one_more.ensures
+    (again_operand h (e.Converted UnsignedLong x) c.args.held index.register index.code.items refl operand)))
+
+pub evaluate-returns-in_ok-with_immediate-in-Referent-clause-code : goal.evaluate-returns-in_ok-with_immediate-in-Referent-clause-code
+evaluate-returns-in_ok-with_immediate-in-Referent-clause-code t c =
+    let w = c.in-Referent in
+    let h = homes_of c.args.frame.now in
+    let code : List Instr = c.in_ok-with_immediate-in-Referent.field-0.items in
+    let own : e.Expr = e.Local w.local UnsignedLong in
+    let seen : expr_of c.args.expr.now ≡ e.Referent w.place w.last w.local = ap expr_of w.is in
+    let home : AreAtHome h (e.Referent w.place w.last w.local) = subst (λ (z : e.Expr). AreAtHome h z) seen c.requires.home in
+    let it = has_home h w.local c.index-frame-local-in-Referent.result home in
+    let local = c.local_operand-local-in-Referent.result in
+    let operand : IsOperand h own c.args.held local.register local.code.items =
+    c.local_operand-local-in-Referent.ensures.operand h w.local UnsignedLong c.args.held it.is it.home in
+    subst (λ (z : e.Expr). IsEvaluation h z c.args.held c.args.rd code) (sym seen)
+    (referent_code h w.place w.last w.local c.args.held c.args.rd code
+    (c.in_ok-with_immediate-in-Referent.ensures.code (reference_operation Sub) h own one c.args.held refl refl c.one_less.ensures
+    (again_operand h own c.args.held local.register local.code.items refl operand)))
 
 -- ---- Conversions
 

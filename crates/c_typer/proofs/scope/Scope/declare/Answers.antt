@@ -1,4 +1,4 @@
-use Rattle.std.proofs.Common.{◌≡◌, ◌∙◌, ◌++◌, List, [], ◌∷◌, length, ap, sym, refl, arith, rules}
+use Rattle.std.proofs.Common.{◌≡◌, ◌∙◌, ◌++◌, ℕ, List, [], ◌∷◌, length, Option, ap, sym, refl, arith, rules}
 use Rattle.std.specs.List.{each_same}
 use Rattle.std.specs.Option.{option_map}
 use Rattle.c_typer.specs.links.Places.{place_of}
@@ -47,7 +47,8 @@ returns-clause-declared c =
       refers = c.args.refers;
       hidden = c.in_ok-hidden.hidden;
     } in
-    declares c.args.self.now.known.items c.args.self.now.mark c.args.self.now.kinds.items local c.push_reserved.new.self.items c.push.new.self.items
-    c.args.name.now.items c.args.kind (option_map array_of c.args.refers)
+    declares c.args.self.now.known.items c.args.self.now.mark c.args.self.now.kinds.items c.args.self.now.refers.items local c.push_reserved.new.self.items
+    c.push-2.new.self.items c.push.new.self.items c.args.name.now.items c.args.kind (option_map array_of c.args.refers)
     c.args.self.now.within (each_same _ _ c.in_ok-text.ensures.cases.0) (search rules) refl refl
-    (c.push_reserved.ensures.items ∙ ap (λ (xs : List Local). xs ++ local ∷ []) c.reserve.ensures.items) (search rules)
+    (c.push_reserved.ensures.items ∙ ap (λ (xs : List Local). xs ++ local ∷ []) c.reserve.ensures.items) c.in_ok-push-2.ensures.items
+    (c.in_ok-push.ensures.items ∙ ap (λ (o : Option ℕ). c.args.self.now.refers.items ++ o ∷ []) c.number_of.ensures)

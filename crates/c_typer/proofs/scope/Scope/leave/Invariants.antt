@@ -8,6 +8,7 @@ invariant-loop-outer l = record {
   known : l.self.known.items ≡ take (length l.self.known.items) l.fn.self.known.items;
   mark : l.self.mark ≡ l.outer.mark;
   kinds : l.self.kinds ≡ l.fn.self.kinds;
+  refers : l.self.refers ≡ l.fn.self.refers;
 }
 
 abbrev pub decreases-loop-outer : goal.decreases-loop-outer
