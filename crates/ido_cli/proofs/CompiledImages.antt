@@ -1,9 +1,8 @@
 -- What is answered to bytes.
-use Rattle.std.proofs.Common.{◌≡◌, ◌≤◌, ℕ, List, [], ◌∷◌, ◌++◌, length, map, ap, sym, ◌∙◌, arith, Err, Ok}
+use Rattle.std.proofs.Common.{◌≡◌, ◌≤◌, ℕ, List, ◌++◌, length, map, ap, sym, ◌∙◌, arith, Err, Ok}
 use Rattle.std.specs.Prelude.{Vec, sum_by}
 use Rattle.std.specs.Global.{Global}
-use Rattle.std.proofs.lemmas.List.{length-append, length-map}
-use Rattle.std.proofs.lemmas.List.Sums.{sum_by-cons}
+use Rattle.std.proofs.lemmas.List.{length-map}
 use Rattle.ido_base.specs.declared.limits.TheConstants.{MOST_STEPS}
 use Rattle.c_tree.specs.Source.{start}
 use Rattle.c_tree.specs.Flats.{flat_of}
@@ -19,7 +18,9 @@ use Rattle.run_scripts.specs.Runs.{schedule_of}
 use Rattle.crash_images.specs.Contents.{State, IsState}
 use Rattle.crash_images.specs.ImageDecoder.{source_at, state_at}
 use Rattle.crash_images.specs.declared.version.ImageVersion.TheVariants.{First}
+use Rattle.rv64_isa.specs.Schedule.{LifeSchedules, all_lives}
 use Rattle.run_scripts.specs.links.ReportViews.{steps_of}
+use Rattle.run_tracker.specs.links.EarlierLives.{lives_in}
 use Rattle.ido_cli.specs.CompiledImages.{size_of, threads_of, BeginsCompiled, HasState, IsImageAnswer, whole, no_source, refused, no_state, unsound, no_memory}
 use Rattle.image_checks.specs.links.Errors.{of_read}
 use Rattle.ido_cli.specs.links.CompileRefusals.{image_fault}
@@ -70,29 +71,25 @@ module _ (bytes : List ℕ) where
 
   pub image_answer : (image : Image) (s : State) (lives : Vec (Vec ℕ Global) Global) → HasState bytes image.compiled s →
       IsStateAnswer (flat_of image.compiled.flat) image.compiled.translated.resumes.items s (Ok lives) → image.words.items ≡ s.variables ++ s.logs →
-      map steps_of lives.items ≡ image.schedule.items ∷ [] → IsImageAnswer bytes (Ok image)
-  image_answer image s lives has (sound told sound_is steps_is) words_is schedule_is = whole image (record {
+      map steps_of lives.items ≡ all_lives (lives_in image.lives.earlier.items image.lives.schedule.items) → IsImageAnswer bytes (Ok image)
+  image_answer image s lives has (sound told sound_is steps_is) words_is lives_is = whole image (record {
     state = s;
     is = has;
     sound = sound_is;
     words = words_is;
-    schedule = sym steps_is ∙ schedule_is;
+    lives = sym steps_is ∙ lives_is;
   })
 
--- ---- The one life
+-- ---- Its lives
 
-pub one_popped : (lives rest : List (Vec ℕ Global)) (last : Vec ℕ Global) → length lives ≡ 1 → lives ≡ rest ++ last ∷ [] →
-    map steps_of lives ≡ last.items ∷ []
-one_popped lives [] last one e = ap (map steps_of) e
-one_popped lives (first ∷ rest) last one e = absurd (omega (arith, one, ap length e, length-append rest (last ∷ [])))
+pub some_lives : (c : Compiled) (s : State) (lives : Vec (Vec ℕ Global) Global) →
+    IsStateAnswer (flat_of c.flat) c.translated.resumes.items s (Ok lives) → 1 ≤ length s.lives → 1 ≤ length lives.items
+some_lives c s lives (sound told sound_is steps_is) some =
+    omega (arith, some, length-map lives.items steps_of, ap length steps_is, length-map s.lives schedule_of)
 
-pub one_life : (c : Compiled) (s : State) (lives : Vec (Vec ℕ Global) Global) →
-    IsStateAnswer (flat_of c.flat) c.translated.resumes.items s (Ok lives) → length s.lives ≡ 1 → length lives.items ≡ 1
-one_life c s lives (sound told sound_is steps_is) one =
-    sym (length-map lives.items steps_of) ∙ ap length steps_is ∙ length-map s.lives schedule_of ∙ one
-
-pub few_steps : (c : Compiled) (s : State) (lives : Vec (Vec ℕ Global) Global) (schedule : List ℕ) →
-    IsStateAnswer (flat_of c.flat) c.translated.resumes.items s (Ok lives) → map steps_of lives.items ≡ schedule ∷ [] → length schedule ≤ MOST_STEPS
-few_steps c s lives schedule (sound told sound_is steps_is) is =
+pub few_steps : (c : Compiled) (s : State) (lives : Vec (Vec ℕ Global) Global) (kept : LifeSchedules) →
+    IsStateAnswer (flat_of c.flat) c.translated.resumes.items s (Ok lives) → map steps_of lives.items ≡ all_lives kept →
+    sum_by length (all_lives kept) ≤ MOST_STEPS
+few_steps c s lives kept (sound told sound_is steps_is) is =
     let few = lives_few (flat_of c.flat) (start (flat_of c.flat)) 0 s.lives (omega arith) sound_is.schedules in
-    omega (arith, few, ap (sum_by length) (sym steps_is ∙ is), sum_by-cons length schedule [])
+    omega (arith, few, ap (sum_by length) (sym steps_is ∙ is))

@@ -20,6 +20,7 @@ mod DurableNumbers
 mod ScriptEventCount
 mod EndedSections
 mod PlayedRuns
+mod LastLifeApart
 mod KeptStepsBounded
 mod RunImages
 mod LegEvents

@@ -1,5 +1,5 @@
 -- What `recover` says of the image of a run.
-use Rattle.std.proofs.Common.{◌≡◌, ◌∙◌, ℕ, ◌≤◌, List, [], length, ap, ap₂, sym, subst, arith, Result, Ok, Err, Some}
+use Rattle.std.proofs.Common.{◌≡◌, ◌∙◌, ℕ, ◌≤◌, List, [], length, ap₂, sym, subst, arith, Result, Ok, Err, Some}
 use Rattle.std.proofs.lemmas.Option.{none-some}
 use Rattle.ido_base.specs.declared.event.Event.{Event}
 use Rattle.ido_base.specs.declared.limits.TheConstants.{MOST_EVENTS, MOST_STEPS}
@@ -19,6 +19,7 @@ use Rattle.ido_cli.specs.Recoveries.{IsRecovery, IsRecoveredRun, recovered, refu
 use Rattle.ido_cli.specs.Refusals.{image_line}
 use Rattle.rv64_isa.specs.Schedule.{LifeSchedules, first_steps, only_life}
 use Rattle.rv64_isa.proofs.Public.{along_earlier}
+use Rattle.ido_cli.proofs.LastLifeApart.{same_lives}
 use Rattle.ido_cli.proofs.KeptStepsBounded.{kept_few}
 use Rattle.ido_cli.proofs.RunImageAnswers.{RunImage}
 
@@ -35,10 +36,6 @@ module _ (law : RunImagesAreRead) (source image : List ℕ) (run : RunImage sour
   abbrev Recovered : Type 0
   Recovered = IsRecoveredRun source c before turns answer output
 
-  one_life : only_life (left_by c before).kept.schedule ≡ (left_by c before).kept
-  one_life =
-      ap (λ (earlier : List (List ℕ)). let z : LifeSchedules = record { earlier = earlier; schedule = (left_by c before).kept.schedule } in z) (sym run.alone)
-
   read : (result : Result Image ImageError) → IsImageAnswer image result → IsReadAgain source c (left_by c before) result
   read result told = law source image flat object marks cuts before result run.accepted run.translated run.alone run.most run.spelled told
 
@@ -48,9 +45,10 @@ module _ (law : RunImagesAreRead) (source image : List ℕ) (run : RunImage sour
 
   is_read : (found : Image) → IsRecovery (translation_in found.compiled) (file_in found) turns answer output →
       IsReadAgain source c (left_by c before) (Ok found) → Recovered
-  is_read found recovery (again x is words schedule) =
+  is_read found recovery (again x is words schedules) =
       let file_is : file_in x ≡ left_by c before =
-      ap₂ (λ (ws : List ℕ) (lives : LifeSchedules). let z : left.Image = record { words = ws; kept = lives } in z) words (ap only_life schedule ∙ one_life) in
+      ap₂ (λ (ws : List ℕ) (lives : LifeSchedules). let z : left.Image = record { words = ws; kept = lives } in z) words
+      (same_lives (file_in x).kept (left_by c before).kept schedules) in
       recovered x.compiled is (subst (λ (z : left.Image). IsRecovery (translation_in x.compiled) z turns answer output) file_is recovery)
 
   by : RecoverAnswer turns image answer output → Recovered

@@ -1,10 +1,10 @@
 -- A run that goes on from an image's file.
-use Rattle.std.proofs.Common.{◌≡◌, ℕ, ◌+◌, ◌-◌, ◌*◌, ◌/◌, ◌≤◌, List, [], ◌∷◌, ◌++◌, length, map, take, drop, ◌<◌, min, inl, inr, ◌⊎◌}
+use Rattle.std.proofs.Common.{◌≡◌, ℕ, ◌+◌, ◌-◌, ◌*◌, ◌/◌, ◌≤◌, List, [], ◌∷◌, ◌++◌, length, map, take, drop, ◌<◌, ◌^◌, min, inl, inr, ◌⊎◌}
 use Rattle.std.proofs.Common.{replicate, ap, ap₂, sym, subst, ◌∙◌, arith, length-append, length-drop, length-take, Option, None, Ok}
-use Rattle.std.specs.Prelude.{sum_by}
+use Rattle.std.specs.Prelude.{Vec, sum_by}
+use Rattle.std.specs.Global.{Global}
 use Rattle.std.proofs.lemmas.Bool.{cases_lt}
 use Rattle.std.proofs.lemmas.List.{length-map, length-replicate}
-use Rattle.std.proofs.lemmas.List.Sums.{sum_by-cons}
 use Rattle.ido_base.specs.Layout.{log_words}
 use Rattle.ido_base.specs.declared.log.Log.TheVariants.{V1}
 use Rattle.ido_base.specs.declared.log.Log.{Log}
@@ -39,19 +39,31 @@ use Rattle.image_checks.proofs.Public.{lives_few}
 use Rattle.image_runs.specs.Laws.{AcceptedRunOn}
 use Rattle.ido_compile.specs.Files.{FilesBegin}
 use Rattle.run_scripts.specs.declared.evictor.Evictor.{Evictor}
+use Rattle.run_scripts.specs.Runs.{schedule_of}
 use Rattle.run_tracker.specs.ObjectLives.{Course, LifeConfig, life_from, living, opening_of, steps_in, world_of}
+use Rattle.run_tracker.specs.links.EarlierLives.{lives_in}
 use Rattle.ido_cli.specs.Plays.{IsRunBy}
 use Rattle.ido_cli.specs.Recoveries.{IsRecovery, recovering}
 use Rattle.ido_cli.specs.Reports.{machine_state}
 use Rattle.ido_cli.specs.Runs.{IsReport}
 use Rattle.ido_cli.specs.ThreadedRuns.{leg_after, moment_after, most_leg_events}
 use Rattle.ido_cli.specs.links.LegRuns.{leg_from}
+use Rattle.ido_cli.proofs.LastLifeApart.{as_many_lives}
 use Rattle.ido_cli.proofs.KeptStepsBounded.{all_kept_few}
 use Rattle.ido_cli.proofs.LegEvents.{leg_bounded}
 use Rattle.ido_cli.proofs.LegRooms.{in_more_room}
 use Rattle.ido_cli.proofs.LegRuns.{IsLifeDriven, is_leg_after}
 use Rattle.ido_cli.proofs.PlayedRuns.{sound_along}
 use Rattle.ido_cli.proofs.SettledReports.{run_of}
+
+-- ---- The life that is begun from it
+
+pub begun_from : (object : Object) (marks : Marks) (words words' : List ℕ) (earlier earlier' : List (Vec ℕ Global)) (schedule schedule' : List ℕ)
+    (cap : ℕ) (life : Course) → life ≡ life_from object marks words (lives_in earlier schedule) cap → words ≡ words' → earlier ≡ earlier' →
+    schedule ≡ schedule' → life ≡ life_from object marks words' (lives_in earlier' schedule') cap
+begun_from object marks words words' earlier earlier' schedule schedule' cap life is a b c =
+    is ∙ ap (λ (ws : List ℕ). life_from object marks ws (lives_in earlier schedule) cap) a
+    ∙ ap₂ (λ (ls : List (Vec ℕ Global)) (ks : List ℕ). life_from object marks words' (lives_in ls ks) cap) b c
 
 -- ---- A run from a file of the same translation
 
@@ -208,11 +220,22 @@ pub compiled_in : (bytes : List ℕ) (image : i.Image) → IsImageAnswer bytes (
 compiled_in bytes image (whole read is) = (is.is.source.source, is.is.source.compiled)
 
 -- it has few steps
-pub few_steps_in : (bytes : List ℕ) (image : i.Image) → IsImageAnswer bytes (Ok image) → length image.schedule.items ≤ MOST_STEPS
+pub few_steps_in : (bytes : List ℕ) (image : i.Image) → IsImageAnswer bytes (Ok image) → sum_by length (all_lives (file_in image).kept) ≤ MOST_STEPS
 few_steps_in bytes image (whole read is) =
     let flat = f.flat_of image.compiled.flat in
     let few = lives_few flat (start flat) 0 is.state.lives (omega arith) is.sound.schedules in
-    omega (arith, few, ap (sum_by length) is.schedule, sum_by-cons length image.schedule.items [])
+    omega (arith, few, ap (sum_by length) is.lives)
+
+-- it has few lives
+pub few_lives_in : (bytes : List ℕ) (image : i.Image) → IsImageAnswer bytes (Ok image) → length image.lives.earlier.items < 2 ^ 32
+few_lives_in bytes image (whole read is) =
+    omega (
+      arith,
+      is.is.fits.lives,
+      length-map is.state.lives schedule_of,
+      ap length is.lives,
+      as_many_lives image.lives.earlier.items image.lives.schedule.items,
+    )
 
 -- what is read as an image is run on, whoever wrote it
 pub accepted_runs_on : AcceptedRunOn → (bytes : List ℕ) (image : i.Image) → IsImageAnswer bytes (Ok image) →

@@ -1,5 +1,5 @@
 -- What bytes are answered that spell the file of a run.
-use Rattle.std.proofs.Common.{◌≡◌, ℕ, ◌≤◌, List, [], ◌∷◌, ◌++◌, length, get_or, map, take, drop, ap, sym, subst, ◌∙◌, arith, Result, Ok, Err}
+use Rattle.std.proofs.Common.{◌≡◌, ℕ, ◌≤◌, List, [], ◌∷◌, ◌++◌, length, map, take, drop, ap, sym, subst, ◌∙◌, arith, Result, Ok, Err}
 use Rattle.std.specs.Prelude.{sum_by}
 use Rattle.std.proofs.lemmas.List.Sums.{sum_by-cons}
 use Rattle.std.proofs.lemmas.List.{length-map, take-append-drop}
@@ -180,8 +180,7 @@ module _ (one_flat : OneFlat) (not_both : NotBoth) (machines : MachinesResume) (
       let same : is.state ≡ state = state_is image.compiled is.state is.is in
       again image (compiled image.compiled is.is.source)
       (is.words ∙ ap (λ (x : State). x.variables ++ x.logs) same ∙ take-append-drop (variable_words c) file.words)
-      (ap (λ (schedules : List (List ℕ)). get_or schedules 0 []) (sym is.schedule ∙ ap (λ (x : State). schedules_of x.lives) same
-      ∙ told_again (all_lives file.kept) ∙ ap (λ (earlier : List (List ℕ)). earlier ++ file.kept.schedule ∷ []) alone))
+      (sym is.lives ∙ ap (λ (x : State). schedules_of x.lives) same ∙ told_again (all_lives file.kept))
 
   not_here : (fault : Fault) (answer : Result Image ImageError) → source_at First bytes ≡ Err fault → Read answer
   not_here fault answer e = absurd (not_both_ways (source_at First bytes) (source, begun.rest) fault begun.begins e)

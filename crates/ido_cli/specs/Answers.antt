@@ -41,7 +41,7 @@ use Rattle.ido_cli.specs.Regions.{IsListing}
 use Rattle.ido_cli.specs.Runs.{RunAnswer}
 use Rattle.ido_cli.specs.Sweeps.{SweptScript}
 use Rattle.ido_cli.specs.ThreadedRuns.{AreLegs, IsLoadedRun, evictions_by}
-use Rattle.rv64_isa.specs.Schedule.{only_life}
+use Rattle.run_tracker.specs.links.EarlierLives.{lives_in}
 
 -- the whole input, or the source text in it
 abbrev pub IsSourcePastLimits : (input : List ℕ) → Type 0
@@ -181,7 +181,7 @@ pub data LoadAnswer (rounds seed : ℕ) (status : ℕ) (output : List ℕ) : Typ
 
 -- the file in an image
 abbrev pub file_in : i.Image → Image
-file_in image = record { words = image.words.items; kept = only_life image.schedule.items }
+file_in image = record { words = image.words.items; kept = lives_in image.lives.earlier.items image.lives.schedule.items }
 
 -- What an input of an image is answered: its first fault, or what is said of a run that goes on from it. Whoever wrote the image, that run is never stuck,
 -- its delays are bounded, and no hart waits that takes its locks.

@@ -1,5 +1,5 @@
 -- What bytes are read as: an image of version 1, of a source that is accepted, or the first fault.
-use Rattle.std.specs.Prelude.{◌≡◌, ℕ, List, [], ◌∷◌, ◌++◌, length, Result, Ok, Err}
+use Rattle.std.specs.Prelude.{◌≡◌, ℕ, List, ◌++◌, length, Result, Ok, Err}
 use Rattle.ido_base.specs.declared.place.Place.{Place}
 use Rattle.c_tree.specs.declared.rule.Rule.{Rule}
 use Rattle.c_tree.specs.Flats.{flat_of}
@@ -8,6 +8,8 @@ use Rattle.file_fields.specs.Fields.{Fault, Magic, Version, Cut, Field, Rest}
 use Rattle.ido_compile.specs.declared.compiler.Compiled.{Compiled}
 use Rattle.ido_compile.specs.CompileAnswers.{IsCompiled}
 use Rattle.image_checks.specs.declared.error.ImageError.{ImageError}
+use Rattle.rv64_isa.specs.Schedule.{all_lives}
+use Rattle.run_tracker.specs.links.EarlierLives.{lives_in}
 use Rattle.image_checks.specs.declared.error.ImageError.TheVariants as e
 use Rattle.ido_cli.specs.declared.compiled_image.Image.{Image}
 use Rattle.crash_images.specs.Contents.{State, IsState}
@@ -44,14 +46,13 @@ pub record HasState (bytes : List ℕ) (c : Compiled) (s : State) : Type 0 where
   pub state : state_at First (length bytes) (size_of c) (threads_of c) source.rest ≡ Ok s
   pub fits : IsState First (size_of c) (threads_of c) s
 
--- the image has the words of the variables, and after them those of the logs
+-- the image has the words of the variables and after them those of the logs, and the schedules of all lives
 pub record IsImage (bytes : List ℕ) (image : Image) : Type 0 where
   pub state : State
   pub is : HasState bytes image.compiled state
   pub sound : IsWellFormedState (flat_of image.compiled.flat) image.compiled.translated.resumes.items state
   pub words : image.words.items ≡ state.variables ++ state.logs
-  -- that of its one life
-  pub schedule : schedules_of state.lives ≡ image.schedule.items ∷ []
+  pub lives : schedules_of state.lives ≡ all_lives (lives_in image.lives.earlier.items image.lives.schedule.items)
 
 pub data IsImageAnswer (bytes : List ℕ) : Result Image ImageError → Type 0 where
   whole : (image : Image) → IsImage bytes image → IsImageAnswer bytes (Ok image)

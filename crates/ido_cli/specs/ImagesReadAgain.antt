@@ -20,12 +20,14 @@ use Rattle.image_checks.specs.Checks.{IsThreadFault}
 use Rattle.image_checks.specs.RunImages.{left_by, file_contents, file_state}
 use Rattle.ido_cli.specs.declared.compiled_image.Image.{Image}
 use Rattle.ido_cli.specs.CompiledImages.{IsImageAnswer}
+use Rattle.rv64_isa.specs.Schedule.{all_lives}
+use Rattle.run_tracker.specs.links.EarlierLives.{lives_in}
 
 -- where bytes spell the file of a run of the translation
 pub data IsReadAgain (source : List ℕ) (c : Translation) (file : left.Image) : Result Image ImageError → Type 0 where
-  -- the source is compiled again, and the words and the schedule are the file's
-  again : (image : Image) → IsCompiled source image.compiled → image.words.items ≡ file.words → image.schedule.items ≡ file.kept.schedule →
-      IsReadAgain source c file (Ok image)
+  -- the source is compiled again, and the words and the schedules are the file's
+  again : (image : Image) → IsCompiled source image.compiled → image.words.items ≡ file.words →
+      all_lives (lives_in image.lives.earlier.items image.lives.schedule.items) ≡ all_lives file.kept → IsReadAgain source c file (Ok image)
   -- the source is compiled to another translation, and a thread can't be resumed by its places
   elsewhere : (d : Compiled) (error : ImageError) → IsCompiled source d → translation_in d ≢ c →
       IsThreadFault (flat_of d.flat).variables d.translated.resumes.items (file_state c file).logs error → IsReadAgain source c file (Err error)

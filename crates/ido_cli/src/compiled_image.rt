@@ -1,11 +1,13 @@
 //! Bytes read as an image, from which a machine can begin.
-ghost use Rattle.std.specs.Prelude.{◌≡◌, ◌+◌, ◌*◌, ◌/◌, ◌≤◌, ◌∷◌, ◌++◌, [], length, map, Err, IfOk, OnOk, MatchResult};
+ghost use Rattle.std.specs.Prelude.{◌≡◌, ◌+◌, ◌*◌, ◌/◌, ◌≤◌, ◌++◌, length, map, sum_by, Err, IfOk, OnOk, MatchResult};
 ghost use Rattle.ido_base.specs.declared.limits.TheConstants.{MOST_INPUT_BYTES, MOST_SOURCE_BYTES, MOST_STEPS};
 ghost use Rattle.run_scripts.specs.links.ReportViews.{steps_of};
 ghost use Rattle.crash_images.specs.Contents.{log_words, word_bytes};
 ghost use Rattle.ido_compile.specs.CompileAnswers.{IsCompiled, IsCompileAnswer};
 ghost use Rattle.ido_compile.specs.declared.error.CompileError.{CompileError};
 ghost use Rattle.ido_cli.specs.CompiledImages.{IsImageAnswer};
+ghost use Rattle.rv64_isa.specs.Schedule.{all_lives};
+ghost use Rattle.run_tracker.specs.links.EarlierLives.{lives_in};
 ghost use Rattle.ido_cli.specs.links.CompileRefusals.{image_fault};
 
 use crash_images::reading::{read_source, read_state};
@@ -17,14 +19,21 @@ use image_checks::error::ImageError;
 use image_checks::state::check_state;
 use std::alloc::Global;
 
-/// An image: its source, compiled, what a crash has left of the machine's memory, and the schedule of the steps that are kept.
+/// The schedules of the kept steps, one for each life: of each step the thread that takes it.
+#[derive(Drop)]
+pub struct KeptLives {
+    /// Those of the lives before the last one.
+    pub earlier: Vec<Vec<u32>>,
+    pub schedule: Vec<u32>,
+}
+
+/// An image: its source, compiled, what a crash has left of the machine's memory, and the schedules of the steps that are kept.
 #[derive(Drop)]
 pub struct Image {
     pub compiled: Compiled,
     /// The durable words of the variables, and after them those of the logs, 128 for each thread.
     pub words: Vec<u64>,
-    /// Of each kept step the thread that takes it.
-    pub schedule: Vec<u32>,
+    pub lives: KeptLives,
 }
 
 /// The fault of an image whose source isn't compiled.
@@ -57,15 +66,18 @@ fn extend(words: &mut Vec<u64>, others: &[u64]) -> Result<(), OutOfMemory>
     Ok(())
 }
 
-/// The schedule of the one life.
-fn only(mut lives: Vec<Vec<u32>>) -> Vec<u32>
-    requires { length lives.items ≡ 1 }
-    ensures { map steps_of lives.items ≡ result.items ∷ [] }
+/// The schedules of lives, the last one apart.
+fn last_apart(mut lives: Vec<Vec<u32>>) -> KeptLives
+    requires { 1 ≤ length lives.items }
+    ensures { map steps_of lives.items ≡ all_lives (lives_in result.earlier.items result.schedule.items) }
 {
     let Some(schedule) = lives.pop() else {
         unreachable!()
     };
-    schedule
+    KeptLives {
+        earlier: lives,
+        schedule,
+    }
 }
 
 /// The image of version 1 that all bytes spell, of a source that the compiler accepts, where each thread can be resumed by its log, no two
@@ -83,7 +95,7 @@ pub fn read_image(alloc: Global, bytes: &[u8]) -> Result<Image, ImageError>
     // The image has as many words as the variables and the logs have, and at most 4,000,000 steps.
     ensures words { IfOk result (λ image. length image.words.items ≡
         length image.compiled.translated.object.initial.items / word_bytes + log_words * length image.compiled.translated.object.code.items) }
-    ensures steps { IfOk result (λ image. length image.schedule.items ≤ MOST_STEPS) }
+    ensures steps { IfOk result (λ image. sum_by length (all_lives (lives_in image.lives.earlier.items image.lives.schedule.items)) ≤ MOST_STEPS) }
 {
     let (source, rest) = read_source(bytes, ImageVersion::First)?;
     let compiled = compiled_source(alloc, source)?;
@@ -101,6 +113,6 @@ pub fn read_image(alloc: Global, bytes: &[u8]) -> Result<Image, ImageError>
     Ok(Image {
         compiled,
         words,
-        schedule: only(lives),
+        lives: last_apart(lives),
     })
 }

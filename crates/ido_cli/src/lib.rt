@@ -30,5 +30,5 @@ mod sweep;
 mod table;
 mod top;
 
-pub use compiled_image::{Image, read_image};
+pub use compiled_image::{Image, KeptLives, read_image};
 pub use top::{alone, ido};

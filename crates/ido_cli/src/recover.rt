@@ -1,8 +1,9 @@
 //! The command `recover`: a run that goes on from what a crash has left.
 ghost use Rattle.ido_base.specs.declared.log.Log.TheVariants.{V1};
-ghost use Rattle.std.specs.Prelude.{◌≡◌, ◌+◌, ◌*◌, ◌/◌, ◌≤◌, length, min, IfOk, Some};
+ghost use Rattle.std.specs.Prelude.{◌≡◌, ◌+◌, ◌*◌, ◌/◌, ◌<◌, ◌≤◌, ◌^◌, length, min, sum_by, IfOk, Some};
 ghost use Rattle.ido_base.specs.declared.limits.TheConstants.{MOST_INPUT_BYTES, MOST_STEPS};
 ghost use Rattle.ido_base.specs.Layout.{log_words};
+ghost use Rattle.rv64_isa.specs.Schedule.{all_lives};
 ghost use Rattle.c_tree.specs.Flats.{flat_of};
 ghost use Rattle.compiler_correctness.specs.Compilations.{IsCompilation};
 ghost use Rattle.flat_compile.specs.TranslatedForms.{IsTranslated};
@@ -82,7 +83,8 @@ fn recovered<R: Threads + Wait + Sync, G: Gate + Sync>(
     requires translated { let made = image.now.compiled.translated in
         IsTranslated (flat_of image.now.compiled.flat) made.object made.marks made.cuts }
     requires compilation { IsCompilation (translation_in image.now.compiled) }
-    requires steps { length image.now.schedule.items ≤ MOST_STEPS }
+    requires steps { sum_by length (all_lives (file_in image.now).kept) ≤ MOST_STEPS }
+    requires lives { length image.now.lives.earlier.items < 2 ^ 32 }
     requires words { let object = image.now.compiled.translated.object in
         length image.now.words.items ≡ length object.initial.items / 8 + log_words V1 * length object.code.items }
     ensures { IfOk result (λ said. IsRecovery (translation_in image.now.compiled) (file_in image.now) turns said.status said.output.items) }
@@ -96,7 +98,8 @@ fn recovered<R: Threads + Wait + Sync, G: Gate + Sync>(
         &compiled.translated.object,
         &compiled.translated.marks,
         &image.words,
-        &image.schedule,
+        &image.lives.earlier,
+        &image.lives.schedule,
         most,
     )?;
     let none: Option<Evictor> = None;

@@ -6,6 +6,7 @@ mod DurablePoints
 mod DurableWordsStay
 mod DurableWords
 mod LivesEnd
+mod EarlierSchedules
 mod StoppedHarts
 mod Events
 mod PointPositions

@@ -11,7 +11,7 @@ use Rattle.rv64_isa.specs.declared.object.Slot.{Slot}
 use Rattle.rv64_isa.specs.Executables.{node_marks}
 use Rattle.rv64_isa.specs.Frames.{IsWellFormedWorld}
 use Rattle.rv64_isa.specs.Machine.{World, IsEviction, IsValidAt, can_start}
-use Rattle.rv64_isa.specs.Schedule.{Steps, only_life}
+use Rattle.rv64_isa.specs.Schedule.{Steps}
 use Rattle.ido_machine.specs.declared.machine.Machine.{Machine}
 use Rattle.ido_machine.specs.Machines.{RepresentsMachine, log_by, program_in, events_of}
 use Rattle.run_tracker.specs.declared.account.Account.{Account}
@@ -24,7 +24,8 @@ use Rattle.run_tracker.specs.links.AccountRepresentation.{AccountInv, AreOpen, A
 use Rattle.run_tracker.specs.links.SectionRepresentation.{AreSections}
 use Rattle.run_tracker.specs.links.SignTables.{AreTables}
 use Rattle.run_tracker.specs.ObjectLives.{Course, IsValidIn, world_of, steps_in, living, opening_of, ended_sections}
-use Rattle.run_tracker.specs.links.LifeRepresentation.{course_of, executable_by, opening_by, AreCounts, LifeInv}
+use Rattle.run_tracker.specs.links.EarlierLives.{lives_in}
+use Rattle.run_tracker.specs.links.LifeRepresentation.{course_of, executable_by, kept_first, opening_by, AreCounts, LifeInv}
 
 -- what events change of a life
 pub record Parts : Type 0 where
@@ -108,7 +109,7 @@ module _ (life : Inside) (stands : LifeInv life) where
     course_is =
         let at : List (List Slot) → Log → List Event → Course = λ p l j. record {
           runs = executable_by l p life;
-          kept_before = only_life life.before.items;
+          kept_before = lives_in life.earlier.items life.before.items;
           opening = opening_by l p life.mutexes life.initial.items life.left;
           journal = j;
           cap = life.cap;
@@ -135,7 +136,7 @@ module _ (life : Inside) (stands : LifeInv life) where
       harts = sym at.account.count ∙ at.harts ∙ steps_count ∙ ap length (sym grown.program);
       ordered = moved (λ (x : Course). AreOrdered (world_of x).log (world_of x).words (steps_in x)) at.ordered;
       are_open = moved (λ (x : Course). AreOpen (world_of x).log (world_of x).words (steps_in x)) at.are_open;
-      light = moved (λ (x : Course). weight (steps_in x) ≤ length life.before.items + length parts.journal.events)
+      light = moved (λ (x : Course). weight (steps_in x) ≤ kept_first life + length parts.journal.events)
           (omega (arith, at.light, stands.light, longer));
       points = moved (λ (x : Course). AreCounts parts.counts.points.items (length x.runs.program) (point_stores living (opening_of x) x.journal)) at.points;
       fences = moved (λ (x : Course). AreCounts parts.counts.fences.items (length x.runs.program) (finished_fences living (opening_of x) x.journal)) at.fences;

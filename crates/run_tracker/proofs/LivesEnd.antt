@@ -29,7 +29,7 @@ together_more (life ∷ lives) last =
 pub next_keeps : (s : Steps) → all_kept (next_life s) ≡ all_kept s
 next_keeps s = append-nil (flat_map (λ (steps : List ℕ). steps) (s.earlier ++ s.kept ∷ [])) ∙ together_more s.earlier s.kept
 
-ends_more : (at : ℕ) (lives : List (List ℕ)) (last : List ℕ) → ends_from at (lives ++ last ∷ [])
+pub ends_more : (at : ℕ) (lives : List (List ℕ)) (last : List ℕ) → ends_from at (lives ++ last ∷ [])
     ≡ ends_from at lives ++ (at + length (flat_map (λ (steps : List ℕ). steps) lives ++ last)) ∷ []
 ends_more at [] last = refl
 ends_more at (life ∷ lives) last =
@@ -158,12 +158,12 @@ life_there s kept ends life from to kept_is ends_are within from_is to_is =
       i.is ∙ ap Some ((λ j. take ((sym finishes) j - (sym begins) j) (drop (here j) (kept_is j)))),
     )
 
+pub as_many_ends : (at : ℕ) (lives : List (List ℕ)) → length (ends_from at lives) ≡ length lives
+as_many_ends at [] = refl
+as_many_ends at (one ∷ rest) = ap suc (as_many_ends (at + length one) rest)
+
 pub lives_counted : (s : Steps) (ends : List ℕ) → ends ≡ ends_from 0 s.earlier → length ends + 1 ≡ length (schedules s)
-lives_counted s ends is = omega (arith, ap length is, as_many 0 s.earlier, length-append s.earlier (s.kept ∷ []))
-  where
-    as_many : (at : ℕ) (lives : List (List ℕ)) → length (ends_from at lives) ≡ length lives
-    as_many at [] = refl
-    as_many at (one ∷ rest) = ap suc (as_many (at + length one) rest)
+lives_counted s ends is = omega (arith, ap length is, as_many_ends 0 s.earlier, length-append s.earlier (s.kept ∷ []))
 
 pub last_there : (lives : List (List ℕ)) (last : List ℕ) → slice_get (lives ++ last ∷ []) (length lives) ≡ Some last
 last_there [] last = refl

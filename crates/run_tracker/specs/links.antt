@@ -1,4 +1,5 @@
 pub mod AccountRepresentation
+pub mod EarlierLives
 pub mod SectionRepresentation
 pub mod LifeRepresentation
 pub mod Journals

@@ -4,6 +4,7 @@
 
 mod account;
 mod counts;
+mod earlier;
 mod journal;
 pub mod life;
 pub mod local;

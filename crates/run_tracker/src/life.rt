@@ -10,18 +10,20 @@ ghost use Rattle.rv64_isa.specs.Machine.{Hart, World, can_start, has_stopped, ha
 ghost use Rattle.ido_machine.specs.Machines.{RepresentsMachine, program_in, log_by, events_of};
 ghost use Rattle.rv64_isa.specs.Programs.{program_of};
 ghost use Rattle.rv64_isa.specs.Frames.{IsWellFormedWorld};
-ghost use Rattle.rv64_isa.specs.Schedule.{only_life, schedules};
+ghost use Rattle.rv64_isa.specs.Schedule.{schedules};
 ghost use Rattle.rv64_isa.specs.Machine.{is_settled, is_settled_hart};
 ghost use Rattle.hart_core.specs.Objects.{IsWithinLimits};
 ghost use Rattle.run_tracker.specs.ObjectLives.{Course, new_life, life_at, life_from, with_event, world_of, steps_in, left_words, variable_words_in};
 ghost use Rattle.run_tracker.specs.ObjectLives.{IsValidIn, LifeConfig, ended_sections, is_stopped, living, opening_of};
 ghost use Rattle.run_tracker.specs.LocalRuns.{IsLocalOf, IsAtBeginning, local_at, with_steps};
 ghost use Rattle.run_tracker.specs.links.AccountRepresentation.{ends_then, life_place};
+ghost use Rattle.run_tracker.specs.links.EarlierLives.{kept_count, lives_in};
 ghost use Rattle.run_tracker.specs.links.LifeParts.{is_start, may_persist};
 ghost use Rattle.run_tracker.specs.links.LifeRepresentation.{opening_by};
 
 use crate::account::Account;
 use crate::counts::Counts;
+use crate::earlier::{account_after, copies_of, ends_of};
 use crate::journal::Journal;
 use crate::local::LocalRun;
 use crate::points::{durable_point, live_point};
@@ -51,7 +53,8 @@ pub struct Life {
     marks: Marks,
     /// What a crash left of the variables and logs, where the life begins after one.
     left: Option<Vec<u64>>,
-    /// The schedule that was kept before the first event.
+    /// The schedules that were kept before the first event: of the lives that have ended, and of the one that goes on.
+    earlier: Vec<Vec<u32>>,
     before: Vec<u32>,
     tables: Vec<SignTable>,
     machine: Machine,
@@ -81,16 +84,6 @@ fn has_stopped(phase: Phase) -> bool
     ensures { result ≡ has_stopped phase }
 {
     matches!(phase, Phase::Done | Phase::Ended)
-}
-
-/// No life has ended yet; there is room for so many that do.
-fn no_ends(alloc: Global, cap: u64) -> Result<Vec<u64>, OutOfMemory>
-    requires { cap < 2 ^ 63 }
-    ensures none { IfOk result (λ ends. ends.items ≡ []) }
-    ensures room { IfOk result (λ ends. vec_capacity ends ≡ cap) }
-    ensures len { IfOk result (λ ends. vec_len ends ≡ 0) }
-{
-    Ok(Vec::with_capacity(alloc, cap as usize)?)
 }
 
 /// The event is a start.
@@ -226,28 +219,29 @@ impl Life {
         ensures { IfOk result (λ life. life ≡ new_life object.now marks.now cap) }
     {
         let machine = Machine::start(alloc, object)?;
-        Life::begun(alloc, object, marks, machine, None, &[], cap)
+        Life::begun(alloc, object, marks, machine, None, &[], &[], cap)
     }
 
     /// The life of an object that begins as after a crash that left these words of its variables and, after them, of
-    /// its logs, with this schedule kept already and room for so many events.
+    /// its logs, with the schedules of earlier lives and this one of its own kept already, and room for so many events.
     pub fn of_words(
         alloc: Global,
         object: &Object,
         marks: &Marks,
         words: &[u64],
+        earlier: &[Vec<u32>],
         schedule: &[u32],
         cap: u64,
     ) -> Result<Life, OutOfMemory>
         requires limits { IsWithinLimits object.now }
         requires marks { length marks.now.threads.items ≡ length object.now.code.items }
         requires count { length words.now ≡ length object.now.initial.items / 8 + log_words object.now.log * length object.now.code.items }
-        requires cap { length schedule.now + cap < 2 ^ 63 }
-        ensures { IfOk result (λ life. life ≡ life_from object.now marks.now words.now (only_life schedule.now) cap) }
+        requires cap { kept_count earlier.now schedule.now + length earlier.now + cap < 2 ^ 63 }
+        ensures { IfOk result (λ life. life ≡ life_from object.now marks.now words.now (lives_in earlier.now schedule.now) cap) }
     {
         let machine = Machine::of_words(alloc, object, words)?;
         let left = Some(words.to_vec(alloc)?);
-        Life::begun(alloc, object, marks, machine, left, schedule, cap)
+        Life::begun(alloc, object, marks, machine, left, earlier, schedule, cap)
     }
 
     /// The life of an object whose machine has made no event yet.
@@ -257,6 +251,7 @@ impl Life {
         marks: &Marks,
         machine: Machine,
         left: Option<Vec<u64>>,
+        earlier: &[Vec<u32>],
         before: &[u32],
         cap: u64,
     ) -> Result<Life, OutOfMemory>
@@ -267,23 +262,24 @@ impl Life {
         requires events { events_of machine ≡ 0 }
         requires stands { RepresentsMachine machine (opening_by object.now.log (program_of object.now) object.now.mutexes object.now.initial.items left) }
         requires sound { IsWellFormedWorld (opening_by object.now.log (program_of object.now) object.now.mutexes object.now.initial.items left) }
-        requires cap { length before.now + cap < 2 ^ 63 }
+        requires cap { kept_count earlier.now before.now + length earlier.now + cap < 2 ^ 63 }
         ensures { IfOk result (λ life. life ≡
             life_at object.now marks.now (opening_by object.now.log (program_of object.now) object.now.mutexes object.now.initial.items left)
-            (only_life before.now) cap) }
+            (lives_in earlier.now before.now) cap) }
     {
         let harts = machine.harts();
-        let ends = no_ends(alloc, cap)?;
+        let ends = ends_of(alloc, earlier, cap)?;
         let sections = Sections::new(alloc, &machine)?;
         Ok(Life {
             initial: object.initial.to_vec(alloc)?,
             mutexes: object.mutexes,
             marks: copy_of(alloc, marks)?,
             left,
+            earlier: copies_of(alloc, earlier)?,
             before: before.to_vec(alloc)?,
             tables: tables_of(alloc, object, machine.program(), marks)?,
             machine,
-            account: Account::new(alloc, harts, before, cap)?,
+            account: account_after(alloc, harts, earlier, before, cap)?,
             ends,
             journal: Journal::new(alloc, cap)?,
             counts: Counts::new(alloc, harts)?,

@@ -1,5 +1,5 @@
 -- What the account of begun and kept steps represents.
-use Rattle.std.specs.Prelude.{◌≡◌, ℕ, zero, suc, ◌+◌, ◌<◌, ◌≤◌, List, [], ◌∷◌, ◌++◌, length, flat_map, slice_index, slice_index_or, drop, replicate, sum_by}
+use Rattle.std.specs.Prelude.{◌≡◌, ℕ, zero, suc, ◌+◌, ◌<◌, ◌≤◌, List, [], ◌∷◌, ◌++◌, length, slice_index, slice_index_or, drop, replicate, sum_by}
 use Rattle.std.specs.Prelude.{Bool, true, false, ◌==◌, if◌then◌else◌}
 use Rattle.ido_base.specs.declared.log.Log.{Log}
 use Rattle.ido_base.specs.Words.{Word, word_at, last_position}
@@ -8,6 +8,7 @@ use Rattle.rv64_isa.specs.Schedule.{Steps, HartSteps, Bound, hart_steps, no_step
 use Rattle.run_tracker.specs.declared.account.PointStore.{PointStore}
 use Rattle.run_tracker.specs.declared.account.OpenSteps.{OpenSteps}
 use Rattle.run_tracker.specs.declared.account.Account.{Account}
+use Rattle.run_tracker.specs.links.EarlierLives.{steps_together}
 
 -- the word of a hart's point
 abbrev pub point_word : Log → (h : ℕ) → ℕ
@@ -36,7 +37,7 @@ steps_of stores h left = record { free = left.free; bound = bound_in (drop left.
 
 -- all steps that are kept, one life's after another's
 abbrev pub all_kept : Steps → List ℕ
-all_kept s = flat_map (λ steps. steps) s.earlier ++ s.kept
+all_kept s = steps_together s.earlier ++ s.kept
 
 -- where each of these lives ends among all kept steps, where the first of them begins there
 abbrev pub ends_from : (at : ℕ) → List (List ℕ) → List ℕ

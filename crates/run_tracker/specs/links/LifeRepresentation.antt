@@ -10,10 +10,10 @@ use Rattle.rv64_isa.specs.declared.object.Slot.{Slot}
 use Rattle.rv64_isa.specs.Executables.{Executable, node_marks, resume_marks}
 use Rattle.rv64_isa.specs.Machine.{World, start_of, after_crash_of}
 use Rattle.rv64_isa.specs.Frames.{IsWellFormedWorld}
-use Rattle.rv64_isa.specs.Schedule.{only_life}
 use Rattle.ido_machine.specs.Machines.{RepresentsMachine, program_in, log_by, events_of}
 use Rattle.run_tracker.specs.declared.life.Life.TheInside.{Inside}
 use Rattle.run_tracker.specs.links.AccountRepresentation.{AccountInv, AreOpen, AreOrdered, ends_from, weight}
+use Rattle.run_tracker.specs.links.EarlierLives.{kept_count, lives_in}
 use Rattle.run_tracker.specs.links.SectionRepresentation.{AreSections}
 use Rattle.run_tracker.specs.links.SignTables.{AreTables}
 use Rattle.run_tracker.specs.ObjectLives.{Course, world_of, steps_in, living, opening_of, ended_sections}
@@ -37,11 +37,15 @@ executable_by log program life = record {
 abbrev pub course_of : Inside → Course
 course_of life = record {
   runs = executable_by (log_by life.machine) (program_in life.machine) life;
-  kept_before = only_life life.before.items;
+  kept_before = lives_in life.earlier.items life.before.items;
   opening = opening_by (log_by life.machine) (program_in life.machine) life.mutexes life.initial.items life.left;
   journal = life.journal.events;
   cap = life.cap;
 }
+
+-- how many steps were kept before the first event
+abbrev pub kept_first : Inside → ℕ
+kept_first life = kept_count life.earlier.items life.before.items
 
 -- each hart has done it as often as is counted
 abbrev pub AreCounts : List ℕ → (harts : ℕ) → (done : ℕ → ℕ) → Type 0
@@ -58,17 +62,17 @@ pub record LifeInv (life : Inside) : Type 0 where
   pub harts : length life.account.harts.items ≡ length (program_in life.machine)
   pub ordered : AreOrdered (world_of (course_of life)).log (world_of (course_of life)).words (steps_in (course_of life))
   pub are_open : AreOpen (world_of (course_of life)).log (world_of (course_of life)).words (steps_in (course_of life))
-  pub light : weight (steps_in (course_of life)) ≤ length life.before.items + length life.journal.events
+  pub light : weight (steps_in (course_of life)) ≤ kept_first life + length life.journal.events
   pub points : AreCounts life.counts.points.items (length (program_in life.machine)) (point_stores living (opening_of (course_of life)) life.journal.events)
   pub fences : AreCounts life.counts.fences.items (length (program_in life.machine)) (finished_fences living (opening_of (course_of life)) life.journal.events)
   pub sections : AreSections life.sections (length (program_in life.machine)) (world_of (course_of life)) (ended_sections (course_of life))
   pub within : length life.journal.events ≤ life.cap
-  pub few : length life.before.items + life.cap < 2 ^ 63
+  pub few : kept_first life + length life.earlier.items + life.cap < 2 ^ 63
   pub bytes : length life.initial.items ≤ MOST_VARIABLE_BYTES
   pub journal_room : life.cap ≤ life.journal.room
-  pub kept_room : length life.before.items + life.cap ≤ vec_capacity life.account.kept
+  pub kept_room : kept_first life + life.cap ≤ vec_capacity life.account.kept
   pub stores_room : life.cap ≤ vec_capacity life.account.stores
   pub stores : vec_len life.account.stores ≤ length life.journal.events
   pub ends : life.ends.items ≡ ends_from 0 (steps_in (course_of life)).earlier
-  pub ends_room : life.cap ≤ vec_capacity life.ends
-  pub few_ends : vec_len life.ends ≤ length life.journal.events
+  pub ends_room : length life.earlier.items + life.cap ≤ vec_capacity life.ends
+  pub few_ends : vec_len life.ends ≤ length life.earlier.items + length life.journal.events

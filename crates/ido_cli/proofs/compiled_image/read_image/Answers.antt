@@ -2,8 +2,9 @@ use Rattle.std.proofs.Common.{ℕ, List, ◌++◌, ap, ◌∙◌}
 use Rattle.std.proofs.lemmas.Result.{err_from_is_err_and}
 use Rattle.ido_cli.specs.CompiledImages.{BeginsCompiled, no_memory}
 use Rattle.crash_images.specs.links.Views.{state_of}
+use Rattle.run_tracker.specs.links.EarlierLives.{lives_in}
 use Rattle.ido_cli.proofs.CompiledLimits.{ready}
-use Rattle.ido_cli.proofs.CompiledImages.{source_answer, compile_answer, state_answer, has_state, check_answer, image_answer, one_life, few_steps}
+use Rattle.ido_cli.proofs.CompiledImages.{source_answer, compile_answer, state_answer, has_state, check_answer, image_answer, some_lives, few_steps}
 use Rattle.ido_cli.proofs.compiled_image.read_image.Goals as goal
 
 pub returns-in_err-source-clause-answer : goal.returns-in_err-source-clause-answer
@@ -76,16 +77,17 @@ returns-clause-answer c =
     has_state c.args.bytes.now c.in_ok-compiled.compiled begun c.len-size.result c.len-threads.result size_is threads_is state
     c.in_ok-state.ensures.exact c.in_ok-state.ensures.found.0 in
     image_answer c.args.bytes.now
-    (record { compiled = c.in_ok-compiled.compiled; words = c.extend.new.words; schedule = c.only.result })
+    (record { compiled = c.in_ok-compiled.compiled; words = c.extend.new.words; lives = c.last_apart.result })
     state c.in_ok-lives.lives has (rw c.deref.ensures.value at c.in_ok-lives.ensures)
-    (c.in_ok-extend.ensures ∙ ap (λ (ws : List ℕ). c.in_ok-state.state.variables.items ++ ws) c.deref-2.ensures.value) c.only.ensures
+    (c.in_ok-extend.ensures ∙ ap (λ (ws : List ℕ). c.in_ok-state.state.variables.items ++ ws) c.deref-2.ensures.value) c.last_apart.ensures
 
-pub only-requires : goal.only-requires
-only-requires c =
-    one_life c.in_ok-compiled.compiled (state_of c.in_ok-state.state) c.in_ok-lives.lives (rw c.deref.ensures.value at c.in_ok-lives.ensures)
-    c.in_ok-state.ensures.found.0.lives
+pub last_apart-requires : goal.last_apart-requires
+last_apart-requires c =
+    some_lives c.in_ok-compiled.compiled (state_of c.in_ok-state.state) c.in_ok-lives.lives (rw c.deref.ensures.value at c.in_ok-lives.ensures)
+    (omega (arith, c.in_ok-state.ensures.found.0.lives))
 
 pub returns-clause-steps : goal.returns-clause-steps
 returns-clause-steps c =
-    few_steps c.in_ok-compiled.compiled (state_of c.in_ok-state.state) c.in_ok-lives.lives c.only.result.items
-    (rw c.deref.ensures.value at c.in_ok-lives.ensures) c.only.ensures
+    let lives = c.last_apart.result in
+    few_steps c.in_ok-compiled.compiled (state_of c.in_ok-state.state) c.in_ok-lives.lives (lives_in lives.earlier.items lives.schedule.items)
+    (rw c.deref.ensures.value at c.in_ok-lives.ensures) c.last_apart.ensures

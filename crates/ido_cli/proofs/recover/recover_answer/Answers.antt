@@ -1,6 +1,6 @@
 use Rattle.std.proofs.lemmas.Result.{IfOk-weaker}
 use Rattle.ido_cli.specs.Answers.{no_image, of_image}
-use Rattle.ido_cli.proofs.RecoveredRuns.{accepted_runs_on, compiled_in, few_steps_in}
+use Rattle.ido_cli.proofs.RecoveredRuns.{accepted_runs_on, compiled_in, few_lives_in, few_steps_in}
 use Rattle.ido_cli.proofs.RefusedSchedules.{both_ok}
 use Rattle.ido_cli.proofs.recover.recover_answer.Goals as goal
 
@@ -12,6 +12,9 @@ recovered-requires-clause-compilation g c κs within = (compiled_in c.args.input
 
 pub recovered-requires-clause-steps : goal.recovered-requires-clause-steps
 recovered-requires-clause-steps g c κs within = few_steps_in c.args.input.now c.in-Ok.image c.in-Ok.ensures.answer
+
+pub recovered-requires-clause-lives : goal.recovered-requires-clause-lives
+recovered-requires-clause-lives g c κs within = few_lives_in c.args.input.now c.in-Ok.image c.in-Ok.ensures.answer
 
 pub returns-in-Ok : goal.returns-in-Ok
 returns-in-Ok g c = IfOk-weaker c.recovered.result _ _
