@@ -1,4 +1,4 @@
-"""Object files and image files, version 1, and what the words of an image are."""
+"""Object files of versions 1 and 2, image files of versions 1 to 3, and what the words of an image are."""
 
 import collections
 import struct
@@ -9,15 +9,27 @@ from ido_tools.source import VARIABLES_FROM
 
 OBJECT_HEAD = b"IDO-OBJ\n"
 IMAGE_HEAD = b"IDO-IMG\n"
-LOG_BYTES = 1024
-BANKS = (64, 320)
+OBJECT_VERSIONS = (1, 2)
+# How many bytes an image of each version has of a thread's log.
+LOG_BYTES = {1: 1024, 2: 2048, 3: 2048}
+# Where the banks stand in a log of so many bytes. The first word of a bank is a mask of locks in the first kind, and in the other how many there are in a list.
+BANKS = {1024: (64, 320), 2048: (64, 1088)}
+LIST_SLOT, MOST_LISTED = 32, 16
 SLOT_BYTES = 8
 
 # The registers of the store that a boundary before it keeps.
 PENDING_ADDRESS, PENDING_VALUE = 28, 29
 
 Object = collections.namedtuple("Object", "mutexes initial code")
-Image = collections.namedtuple("Image", "source variables logs runs")
+
+
+class Image(collections.namedtuple("Image", "version source variables logs lives")):
+    """What an image has; of each life the runs of its schedule."""
+
+    @property
+    def runs(self):
+        """The runs of all lives, one life after another."""
+        return [run for life in self.lives for run in life]
 
 
 class Fields:
@@ -37,13 +49,14 @@ class Fields:
         """The next number of four bytes."""
         return struct.unpack("<I", self.take(4))[0]
 
-    def head(self, expected):
-        """The beginning and the version."""
+    def head(self, expected, versions):
+        """The version, after the beginning."""
         if self.take(len(expected)) != expected:
             raise BadInput(f"no {self.what}: another beginning")
         version = self.number()
-        if version != 1:
+        if version not in versions:
             raise BadInput(f"{self.what} of version {version}")
+        return version
 
     def done(self):
         """All bytes were taken."""
@@ -54,7 +67,7 @@ class Fields:
 def parse_object(content):
     """The object that these bytes are."""
     fields = Fields(content, "object file")
-    fields.head(OBJECT_HEAD)
+    fields.head(OBJECT_HEAD, OBJECT_VERSIONS)
     threads, mutexes, count = fields.number(), fields.number(), fields.number()
     initial = fields.take(count)
     code = []
@@ -68,20 +81,21 @@ def parse_object(content):
 def image_source(content):
     """The source in an image."""
     fields = Fields(content, "image file")
-    fields.head(IMAGE_HEAD)
+    fields.head(IMAGE_HEAD, LOG_BYTES)
     return fields.take(fields.number())
 
 
 def parse_image(content, threads):
     """The image that these bytes are, of a source with so many threads."""
     fields = Fields(content, "image file")
-    fields.head(IMAGE_HEAD)
+    version = fields.head(IMAGE_HEAD, LOG_BYTES)
     source = fields.take(fields.number())
     variables = fields.take(fields.number())
-    logs = [fields.take(LOG_BYTES) for _ in range(threads)]
-    runs = [(fields.number(), fields.number()) for _ in range(fields.number())]
+    logs = [fields.take(LOG_BYTES[version]) for _ in range(threads)]
+    count = fields.number() if version == 3 else 1
+    lives = [[(fields.number(), fields.number()) for _ in range(fields.number())] for _ in range(count)]
     fields.done()
-    return Image(source, variables, logs, runs)
+    return Image(version, source, variables, logs, lives)
 
 
 def element_number(variable, element, content):
@@ -132,16 +146,25 @@ def point_of(log):
 
 def slot_of(log, bank, slot):
     """A slot of a bank."""
-    return log_word(log, BANKS[bank] + SLOT_BYTES * slot)
+    return log_word(log, BANKS[len(log)][bank] + SLOT_BYTES * slot)
 
 
-def mutexes_of(source, mask):
-    """The names of the mutexes in a mask; a bit that is none's is told by its number."""
-    names = []
-    for bit in range(64):
-        if mask >> bit & 1:
-            names.append(source.mutexes[bit] if bit < len(source.mutexes) else f"bit {bit}")
-    return names
+def locks_of(mask):
+    """The numbers of the locks in a mask."""
+    return [bit for bit in range(64) if mask >> bit & 1]
+
+
+def held_in(log, bank):
+    """The numbers of the locks that a bank tells, which a list has in its own order."""
+    first = slot_of(log, bank, 0)
+    if len(log) == LOG_BYTES[1]:
+        return locks_of(first)
+    return [slot_of(log, bank, LIST_SLOT + it) for it in range(min(first, MOST_LISTED))]
+
+
+def mutexes_of(source, locks):
+    """The names of mutexes by their numbers; one that is none's is told by its number."""
+    return [source.mutexes[it] if it < len(source.mutexes) else f"lock {it}" for it in locks]
 
 
 def variable_lines(source):
@@ -152,7 +175,7 @@ def variable_lines(source):
 
 def bank_lines(thread):
     """The lines of memory that the banks of a thread's log stand in."""
-    last = point_line(thread) + (BANKS[1] + 32 * SLOT_BYTES) // LINE_BYTES
+    last = point_line(thread) + (BANKS[LOG_BYTES[1]][1] + 32 * SLOT_BYTES) // LINE_BYTES
     return list(range(point_line(thread) + 1, last))
 
 

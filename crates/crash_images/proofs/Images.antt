@@ -1,15 +1,15 @@
 -- What is read is spelled so, and what is spelled so is read.
 use Rattle.std.proofs.Common.{◌≡◌, ℕ, ◌-◌, ◌*◌, ◌/◌, ◌%◌, ◌^◌, ◌<◌, ◌≤◌, List, []}
-use Rattle.std.proofs.Common.{◌++◌, length, Result, Ok, Err, refl, sym, ap, subst, ◌∙◌, append_assoc, arith}
+use Rattle.std.proofs.Common.{◌++◌, length, Result, Ok, Err, refl, sym, ap, subst, ◌∙◌, append_assoc, arith, inl, inr}
 use Rattle.std.specs.Result.{IsOkAnd}
-use Rattle.std.specs.Prelude.{IfOk, ◌==◌}
+use Rattle.std.specs.Prelude.{IfOk, cond, ◌==◌}
 use Rattle.std.specs.List.{AllByRecursion, flat_map}
-use Rattle.std.proofs.lemmas.Bool.{eqb-true}
+use Rattle.std.proofs.lemmas.Bool.{cases_Bool, cond-false, eqb-true}
 use Rattle.std.proofs.lemmas.List.{append-nil, nil_from_length}
 use Rattle.ido_base.specs.declared.limits.TheConstants.{MOST_SOURCE_BYTES}
 use Rattle.file_fields.specs.declared.error.ReadError.{ReadError}
 use Rattle.file_fields.specs.declared.error.ReadError.TheVariants as e
-use Rattle.file_fields.specs.Fields.{Rest, Reads, ◌>>=◌, bytes_at, number_at, word_at, number_within, repeated, magic_at, version_at, ended}
+use Rattle.file_fields.specs.Fields.{Fault, Rest, Version, Reads, ◌>>=◌, bytes_at, number_at, word_at, number_within, repeated, magic_at, version_at, ended}
 use Rattle.file_fields.specs.Numbers.{number, word, IsNumber, IsWord}
 use Rattle.file_fields.specs.links.ReaderResults.{ViewsFault, Gives}
 use Rattle.file_fields.proofs.Public.{IsBytes, bind_ok, test_ok, ok_is, Takes, then, bytes_take, bytes_again, number_takes, number_again}
@@ -48,6 +48,30 @@ version_is_again newest version rest le =
     let total = length (magic ++ number (number_of version) ++ rest) in
     rw (magic_again total magic (number (number_of version) ++ rest), number_again total (number_of version) rest (is_number version))
     (known_again newest version le)
+
+-- bytes that begin with a source of the version have it
+pub source_version : (newest version : ImageVersion) (bytes source rest : List ℕ) → number_of version ≤ number_of newest →
+    source_at version bytes ≡ Ok (source, rest) → version_in newest bytes ≡ Ok version
+unfolding source_at version_in version_at
+source_version newest version bytes source rest le is =
+    let total = length bytes in
+    let to_end : List ℕ → Reads (List ℕ) = λ after.
+    number_within total 0 MOST_SOURCE_BYTES after >>= λ size. bytes_at total size.0 size.1 in
+    let a = bind_ok (magic_at total magic bytes) (λ after. version_at total (number_of version) after >>= to_end) (source, rest) is in
+    let b = bind_ok (version_at total (number_of version) a.0) to_end (source, rest) a.2 in
+    let n = bind_ok (number_at total a.0) (λ n. cond (n.0 == number_of version) (Ok n.1) (Err Version)) b.0 b.1 in
+    let same : n.0.0 ≡ number_of version = told n.0.0 (number_of version) n.0.1 b.0 n.2 in
+    ap (λ (r : Result (List ℕ) Fault). r >>= λ after. number_at total after >>= λ m. known newest m.0) a.1
+    ∙ ap (λ (r : Reads ℕ). r >>= λ m. known newest m.0) n.1
+    ∙ ap (known newest) same ∙ known_again newest version le
+  where
+    told : (n wanted : ℕ) (left rest : List ℕ) → cond (n == wanted) (Ok left) (Err Version) ≡ Ok rest → n ≡ wanted
+    told n wanted left rest e = elim (cases_Bool (n == wanted)) [
+      | inl same ↦ eqb-true n wanted same
+      | inr other ↦ (
+          let wrong : ◌≡◌ {A = Result (List ℕ) Fault} (Err Version) (Ok rest) = sym (cond-false (n == wanted) (Ok left) (Err Version) other) ∙ e in
+          cc wrong)
+    ]
 
 pub version_read : (x : Result ImageVersion ReadError) (version : ImageVersion) →
     ViewsFault {Y = ImageVersion} (λ y. y) x (Ok version) → IsOkAnd x (λ y. y ≡ version)

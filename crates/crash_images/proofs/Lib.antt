@@ -1,3 +1,4 @@
+pub mod Public
 mod Images
 mod WrittenImages
 mod Worked

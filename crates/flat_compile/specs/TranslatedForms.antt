@@ -48,10 +48,13 @@ pub record IsResumableAs (wanted : Log) (flat : Flat) (object : Object) (marks :
   pub translated : IsTranslatedAs wanted flat object marks cuts
   pub are : IsResumeTable translated.system.plan translated.is.codes table
 
--- ---- With the first log, which all files have
+-- ---- With the log for which commands compile
+
+abbrev pub command_log : Log
+command_log = V1
 
 abbrev pub IsTranslated : Flat → Object → Marks → Cuts → Type 0
-IsTranslated flat object marks cuts = IsTranslatedAs V1 flat object marks cuts
+IsTranslated flat object marks cuts = IsTranslatedAs command_log flat object marks cuts
 
 abbrev pub IsResumable : Flat → Object → Marks → Cuts → List (Vec Resume Global) → Type 0
-IsResumable flat object marks cuts table = IsResumableAs V1 flat object marks cuts table
+IsResumable flat object marks cuts table = IsResumableAs command_log flat object marks cuts table

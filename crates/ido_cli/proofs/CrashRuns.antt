@@ -3,6 +3,7 @@ use Rattle.std.proofs.Common.{◌≡◌, ℕ, ◌+◌, ◌-◌, ◌≤◌, List,
 use Rattle.std.proofs.Common.{Bool, Option, Some, None, IfSome, IsSome}
 use Rattle.std.specs.Prelude.{◌==◌, Err}
 use Rattle.ido_base.specs.declared.event.Event.{Event}
+use Rattle.ido_base.specs.declared.log.Log.{Log}
 use Rattle.ido_base.specs.declared.event.Event.TheVariants.{Crash}
 use Rattle.ido_base.specs.Cores.{played}
 use Rattle.c_tree.specs.Flats as f
@@ -10,6 +11,7 @@ use Rattle.c_tree.specs.Flats.{flat_of}
 use Rattle.rv64_isa.specs.declared.object.Object.{Object}
 use Rattle.rv64_isa.specs.declared.object.Marks.{Marks}
 use Rattle.flow_graph.specs.Refusals.{IsAccepted, IsRefusedBy}
+use Rattle.flat_compile.specs.TranslatedForms.{command_log}
 use Rattle.ido_compile.specs.CompileAnswers.{IsCompileAnswer}
 use Rattle.ido_compile.specs.declared.error.CompileError.{CompileError}
 use Rattle.ido_compile.specs.declared.error.CompileError.TheVariants as error
@@ -137,12 +139,14 @@ module _ (source input : List ℕ) (is : source ≡ source_of input) where
       (one, told ∙ ap (λ (text : List ℕ). line_at (code_of x.rule) text x.place.0) is)
   sweep_refused error.Memory refused status output none = absurd none
 
-module _ (input rest : List ℕ) (flat : f.Flat) (harts : ℕ) (is : rest ≡ rest_of input) (many : harts ≡ length flat.threads)
-    (accepted : IsAccepted (source_of input) flat) where
-  read_is : e.read (length flat.threads) (rest_of input) ≡ e.read harts rest
-  read_is = ap (λ (n : ℕ). e.read n (rest_of input)) (sym many) ∙ sym (ap (e.read harts) is)
+module _ (input rest : List ℕ) (flat : f.Flat) (log : Log) (harts : ℕ) (is : rest ≡ rest_of input) (logs : log ≡ command_log)
+    (many : harts ≡ length flat.threads) (accepted : IsAccepted (source_of input) flat) where
+  read_is : e.read command_log (length flat.threads) (rest_of input) ≡ e.read log harts rest
+  read_is =
+      ap (λ (l : Log). e.read l (length flat.threads) (rest_of input)) (sym logs)
+      ∙ (ap (λ (n : ℕ). e.read log n (rest_of input)) (sym many) ∙ sym (ap (e.read log harts) is))
 
-  pub swept_fault : (o : Option e.Fault) (status : ℕ) (output : List ℕ) → IsSome o → IfSome o (λ x. e.read harts rest ≡ e.Refused x) →
+  pub swept_fault : (o : Option e.Fault) (status : ℕ) (output : List ℕ) → IsSome o → IfSome o (λ x. e.read log harts rest ≡ e.Refused x) →
       IfSome o (λ x. IsRefusedAt 6 (script_fault_code x) input (length input - length rest + script_fault_place x) status output) →
       SweepAnswer input status output
   swept_fault (Some x) status output some read said =
@@ -150,7 +154,7 @@ module _ (input rest : List ℕ) (flat : f.Flat) (harts : ℕ) (is : rest ≡ re
       (subst (λ (r : List ℕ). IsRefusedAt 6 (script_fault_code x) input (length input - length r + script_fault_place x) status output) is said)
   swept_fault None status output some read said = absurd (cc some)
 
-  pub swept_script : (lines : List e.Line) (c : Translation) (status : ℕ) (output : List ℕ) → e.read harts rest ≡ e.Lines lines → IsTranslationOf flat c →
+  pub swept_script : (lines : List e.Line) (c : Translation) (status : ℕ) (output : List ℕ) → e.read log harts rest ≡ e.Lines lines → IsTranslationOf flat c →
       SweptScript c (record { lines = lines; input = input; begins = length input - length rest }) status output → SweepAnswer input status output
   swept_script lines c status output read translation answer =
       of_points flat accepted lines (read_is ∙ read) c translation

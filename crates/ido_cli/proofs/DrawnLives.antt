@@ -2,7 +2,6 @@
 use Rattle.std.proofs.Common.{◌≡◌, ℕ, ◌-◌, ◌≤◌, List, ◌++◌, length, map, sym, ap, ◌∙◌, subst, arith}
 use Rattle.std.proofs.lemmas.List.{length-map}
 use Rattle.std.specs.Prelude.{All}
-use Rattle.ido_base.specs.declared.log.Log.TheVariants.{V1}
 use Rattle.ido_base.specs.declared.log.Log.{Log}
 use Rattle.ido_base.specs.declared.event.Event.{Event}
 use Rattle.ido_base.specs.Cores.{IsValid}
@@ -14,11 +13,11 @@ use Rattle.run_tracker.specs.ObjectLives.{Course, new_life, opening_of}
 use Rattle.ido_cli.specs.links.PlayedLives.{HasPlayed}
 
 -- what is valid at so many harts
-pub all_valid : (log : Log) (harts many : ℕ) (es others : List Event) → V1 ≡ log → es ≡ others → many ≡ harts → All (IsValid many (IsEviction V1 many)) others →
-    All (IsValid harts (IsEviction log harts)) es
-all_valid log harts many es others logs are same valid =
+pub all_valid : (log own : Log) (harts many : ℕ) (es others : List Event) → own ≡ log → es ≡ others → many ≡ harts →
+    All (IsValid many (IsEviction own many)) others → All (IsValid harts (IsEviction log harts)) es
+all_valid log own harts many es others logs are same valid =
     subst (λ (l : Log). All (IsValid harts (IsEviction l harts)) es) logs (
-    subst (λ (n : ℕ). All (IsValid n (IsEviction V1 n)) es) same (subst (λ (xs : List Event). All (IsValid many (IsEviction V1 many)) xs) (sym are) valid))
+    subst (λ (n : ℕ). All (IsValid n (IsEviction own n)) es) same (subst (λ (xs : List Event). All (IsValid many (IsEviction own many)) xs) (sym are) valid))
 
 module _ (object : Object) (marks : Marks) (cap : ℕ) (old : Course) (is : old ≡ new_life object marks cap) where
   pub many_harts : length old.runs.program ≡ length object.code.items

@@ -10,6 +10,7 @@ use Rattle.ido_base.specs.Places.{line_feed}
 use Rattle.c_tree.specs.Flats as f
 use Rattle.rv64_isa.specs.Programs.{slot_of}
 use Rattle.flow_graph.specs.Refusals.{IsAccepted}
+use Rattle.flat_compile.specs.TranslatedForms.{command_log}
 use Rattle.compiler_correctness.specs.Translations.{Translation}
 use Rattle.ido_compile.proofs.Public.{few_accepted}
 use Rattle.ido_compile.specs.Verdicts.{OneFlat, NotBoth}
@@ -58,22 +59,22 @@ threads_are flat c made =
 
 -- an input whose source is accepted, and whose script has these lines
 module _ (one_flat : OneFlat) (not_both : NotBoth) (input : List ℕ) (flat : f.Flat) (accepted : IsAccepted (source_of input) flat)
-    (lines : List scripts.Line) (read_is : scripts.read (length flat.threads) (rest_of input) ≡ scripts.Lines lines) where
+    (lines : List scripts.Line) (read_is : scripts.read command_log (length flat.threads) (rest_of input) ≡ scripts.Lines lines) where
   same_flat : (other : f.Flat) → IsAccepted (source_of input) other → other ≡ flat
   same_flat other is = one_flat (source_of input) other flat is accepted
 
-  reading : (other : f.Flat) → IsAccepted (source_of input) other → scripts.read (length other.threads) (rest_of input) ≡ scripts.Lines lines
-  reading other is = ap (λ (z : f.Flat). scripts.read (length z.threads) (rest_of input)) (same_flat other is) ∙ read_is
+  reading : (other : f.Flat) → IsAccepted (source_of input) other → scripts.read command_log (length other.threads) (rest_of input) ≡ scripts.Lines lines
+  reading other is = ap (λ (z : f.Flat). scripts.read command_log (length z.threads) (rest_of input)) (same_flat other is) ∙ read_is
 
   same_lines : (other : f.Flat) → IsAccepted (source_of input) other → (found : List scripts.Line) →
-      scripts.read (length other.threads) (rest_of input) ≡ scripts.Lines found → found ≡ lines
+      scripts.read command_log (length other.threads) (rest_of input) ≡ scripts.Lines found → found ≡ lines
   same_lines other is found read = equal found lines (sym read ∙ reading other is)
     where
       equal : (xs ys : List scripts.Line) → scripts.Lines xs ≡ scripts.Lines ys → xs ≡ ys
       equal xs ys e = cc e
 
   none_refused : (other : f.Flat) → IsAccepted (source_of input) other → (x : scripts.Fault) →
-      scripts.read (length other.threads) (rest_of input) ≡ scripts.Refused x → ⊥
+      scripts.read command_log (length other.threads) (rest_of input) ≡ scripts.Refused x → ⊥
   none_refused other is x read = apart x lines (sym read ∙ reading other is)
     where
       apart : (x : scripts.Fault) (xs : List scripts.Line) → scripts.Refused x ≡ scripts.Lines xs → ⊥
@@ -105,7 +106,7 @@ module _ (one_flat : OneFlat) (not_both : NotBoth) (input : List ℕ) (flat : f.
     is_of_script status output (of_script other is found read c made answer) =
         of_script_at other (same_flat other is) found (same_lines other is found read) c made _ status output answer
 
-module _ (flat : f.Flat) (events : List Event) (played : IsPlayedBack living (length flat.threads) events) (few : length events ≤ MOST_EVENTS)
+module _ (flat : f.Flat) (events : List Event) (played : IsPlayedBack living command_log (length flat.threads) events) (few : length events ≤ MOST_EVENTS)
     (c : Translation) (made : IsTranslationOf flat c) (may : MayStart living (beginning c) events) where
   events_are : events_by c played.lines ≡ events
   events_are = ap (λ n. script_events living n (beginning c) played.lines) (threads_are flat c made) ∙ played.events_are (beginning c) may
@@ -127,12 +128,12 @@ module _ (flat : f.Flat) (events : List Event) (played : IsPlayedBack living (le
 pub journals_are_played : OneFlat → NotBoth → ArePlayedBack living → JournalsArePlayed
 journals_are_played one_flat not_both back source events flat status output alone accepted few valid may answer =
     let limit : length events < 4294967296 = omega (arith, few) in
-    let played = back (length flat.threads) events (few_accepted source flat accepted) limit valid in
+    let played = back command_log (length flat.threads) events (few_accepted source flat accepted) limit valid in
     let both = parts source events alone in
     let input = journal_text source events in
     let accepted_in : IsAccepted (source_of input) flat = subst (λ (text : List ℕ). IsAccepted text flat) (sym both.0) accepted in
-    let read_is : scripts.read (length flat.threads) (rest_of input) ≡ scripts.Lines played.lines =
-    ap (scripts.read (length flat.threads)) both.1 ∙ played.read_is in
+    let read_is : scripts.read command_log (length flat.threads) (rest_of input) ≡ scripts.Lines played.lines =
+    ap (scripts.read command_log (length flat.threads)) both.1 ∙ played.read_is in
     let it = is_of_script one_flat not_both input flat accepted_in played.lines read_is IsRunBy status output answer in
     let starts = may it.translation it.made in
     (it.translation, it.made, run_is flat events played few it.translation it.made starts input it.begins status output it.says)

@@ -40,21 +40,21 @@ coming_is None (Some w) count h = absurd h
 coming_is (Some v) None count h = absurd h
 
 -- the evictions that a seed draws, where there are threads and a seed
-pub drawn_none : (threads lines : ℕ) (seed : Option ℕ) → threads ≡ 0 → coming_of evictions_of None ≡ evictions_at threads lines seed
-drawn_none threads lines seed none =
-    ap (λ (b : Bool). if b then None else option_map (λ s. drawn_evictions s threads lines) seed) (sym (eq-eqb threads 0 none))
+pub drawn_none : (log : Log) (threads lines : ℕ) (seed : Option ℕ) → threads ≡ 0 → coming_of evictions_of None ≡ evictions_at log threads lines seed
+drawn_none log threads lines seed none =
+    ap (λ (b : Bool). if b then None else option_map (λ s. drawn_evictions s log threads lines) seed) (sym (eq-eqb threads 0 none))
 
-pub undrawn_none : (threads lines : ℕ) → coming_of evictions_of None ≡ evictions_at threads lines None
-undrawn_none threads lines = by (threads == 0)
+pub undrawn_none : (log : Log) (threads lines : ℕ) → coming_of evictions_of None ≡ evictions_at log threads lines None
+undrawn_none log threads lines = by (threads == 0)
   where
     by : (b : Bool) → None ≡ (if b then None else (let none : Option (ℕ → ℕ × ℕ) = None in none))
     by true = refl
     by false = refl
 
-pub drawn_some : (threads lines seed : ℕ) (v : Evictor) → threads ≢ 0 → ((n : ℕ) → evictions_of v n ≡ drawn_evictions seed threads lines n) →
-    coming_of evictions_of (Some v) ≡ evictions_at threads lines (Some seed)
-drawn_some threads lines seed v some each =
-    (λ i. Some (λ n. each n i)) ∙ ap (λ (b : Bool). if b then None else Some (drawn_evictions seed threads lines)) (sym (ne_eqb threads 0 some))
+pub drawn_some : (log : Log) (threads lines seed : ℕ) (v : Evictor) → threads ≢ 0 → ((n : ℕ) → evictions_of v n ≡ drawn_evictions seed log threads lines n) →
+    coming_of evictions_of (Some v) ≡ evictions_at log threads lines (Some seed)
+drawn_some log threads lines seed v some each =
+    (λ i. Some (λ n. each n i)) ∙ ap (λ (b : Bool). if b then None else Some (drawn_evictions seed log threads lines)) (sym (ne_eqb threads 0 some))
 
 none_over : (first : Option Evictor) → HasAdvanced evictions_of first 0 first
 none_over None = tt

@@ -1,6 +1,6 @@
 -- What is played of a compiled source: the machine and the kept steps of its translation, which are those of the source.
 use Rattle.std.proofs.Common.{◌≡◌, refl, Bool, ℕ, suc, ◌+◌, ◌<◌, ◌≤◌, List, [], ◌∷◌, ◌++◌, length, map, take}
-use Rattle.std.proofs.Common.{sym, ◌∙◌, ap, ap₂, subst, Option, Some, None, ◌-◌, min}
+use Rattle.std.proofs.Common.{sym, ◌∙◌, ap, ap₂, subst, Option, Some, None, min}
 use Rattle.std.proofs.lemmas.List.{length-map, take_all}
 use Rattle.ido_base.specs.declared.log.Log.{Log}
 use Rattle.ido_base.specs.declared.event.Event.{Event}
@@ -25,7 +25,7 @@ use Rattle.c_tree.specs.WellFormed.{shape_of}
 use Rattle.memory_layout.specs.Variables.{HaveRoom}
 use Rattle.variable_words.proofs.Public.{well_formed_placed}
 use Rattle.variable_words.specs.Variables.{durable_variables}
-use Rattle.flat_compile.specs.TranslatedForms.{IsTranslated}
+use Rattle.flat_compile.specs.TranslatedForms.{IsTranslatedAs}
 use Rattle.compiler_correctness.specs.Translations.{world, steps, translation_to}
 use Rattle.compiler_correctness.specs.Compilations.{IsCompilation}
 use Rattle.run_scripts.proofs.Public.{fault_by_bound}
@@ -67,7 +67,7 @@ parts_count : (ts : List f.Thread) (first : ℕ) → length (parts ts first) ≡
 parts_count [] first = refl
 parts_count (t ∷ ts) first = ap suc (parts_count ts (first + thread_count t))
 
-pub as_many_threads : (flat : f.Flat) (object : Object) (marks : Marks) (cuts : Cuts) → IsTranslated flat object marks cuts →
+pub as_many_threads : {log : Log} (flat : f.Flat) (object : Object) (marks : Marks) (cuts : Cuts) → IsTranslatedAs log flat object marks cuts →
     length object.code.items ≡ length flat.threads
 as_many_threads flat object marks cuts t =
     let y = t.system in
@@ -75,7 +75,8 @@ as_many_threads flat object marks cuts t =
     ∙ ap length (ap (λ (g : Graph). g.threads) t.is.plan.lowered ∙ lowered_threads y.plan.flat) ∙ parts_count y.plan.flat.threads 0
     ∙ ap (λ (x : f.Flat). length x.threads) t.of_flat
 
-pub has_room : (flat : f.Flat) (object : Object) (marks : Marks) (cuts : Cuts) → IsTranslated flat object marks cuts → HaveRoom (map shape_of flat.variables)
+pub has_room : {log : Log} (flat : f.Flat) (object : Object) (marks : Marks) (cuts : Cuts) → IsTranslatedAs log flat object marks cuts →
+    HaveRoom (map shape_of flat.variables)
 has_room flat object marks cuts t =
     subst (λ (x : f.Flat). HaveRoom (map shape_of x.variables)) t.of_flat (well_formed_placed t.system.plan.flat t.is.plan.formed).room
 

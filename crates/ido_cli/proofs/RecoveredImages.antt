@@ -1,5 +1,5 @@
 -- What `recover` says of the image of a run.
-use Rattle.std.proofs.Common.{◌≡◌, ◌∙◌, ℕ, ◌≤◌, List, [], length, ap₂, sym, subst, arith, Result, Ok, Err, Some}
+use Rattle.std.proofs.Common.{◌≡◌, ℕ, ◌≤◌, List, [], length, ap₂, sym, subst, arith, Result, Ok, Err, Some}
 use Rattle.std.proofs.lemmas.Option.{none-some}
 use Rattle.ido_base.specs.declared.event.Event.{Event}
 use Rattle.ido_base.specs.declared.limits.TheConstants.{MOST_EVENTS, MOST_STEPS}
@@ -10,6 +10,7 @@ use Rattle.ido_compile.specs.CompileAnswers.{translation_in}
 use Rattle.image_checks.specs.declared.error.ImageError.{ImageError}
 use Rattle.image_checks.specs.RunImages.{left_by}
 use Rattle.ido_cli.specs.declared.compiled_image.Image.{Image}
+use Rattle.crash_images.specs.declared.version.ImageVersion.TheVariants.{Third}
 use Rattle.ido_cli.specs.CompiledImages.{IsImageAnswer}
 use Rattle.ido_cli.specs.ImagesReadAgain.{IsReadAgain, again, elsewhere, no_memory, RunImagesAreRead}
 use Rattle.ido_cli.specs.Answers.{RecoverAnswer, no_image, of_image, file_in}
@@ -36,7 +37,7 @@ module _ (law : RunImagesAreRead) (source image : List ℕ) (run : RunImage sour
   abbrev Recovered : Type 0
   Recovered = IsRecoveredRun source c before turns answer output
 
-  read : (result : Result Image ImageError) → IsImageAnswer image result → IsReadAgain source c (left_by c before) result
+  read : (result : Result Image ImageError) → IsImageAnswer Third image result → IsReadAgain source c (left_by c before) result
   read result told = law source image flat object marks cuts before result run.accepted run.translated run.alone run.most run.spelled told
 
   not_read : (error : ImageError) → answer ≡ 6 → image_line error ≡ Some output → IsReadAgain source c (left_by c before) (Err error) → Recovered

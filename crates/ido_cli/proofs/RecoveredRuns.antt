@@ -6,7 +6,7 @@ use Rattle.std.specs.Global.{Global}
 use Rattle.std.proofs.lemmas.Bool.{cases_lt}
 use Rattle.std.proofs.lemmas.List.{length-map, length-replicate}
 use Rattle.ido_base.specs.Layout.{log_words}
-use Rattle.ido_base.specs.declared.log.Log.TheVariants.{V1}
+use Rattle.ido_base.specs.declared.log.Log.TheVariants.{V1, V2}
 use Rattle.ido_base.specs.declared.log.Log.{Log}
 use Rattle.ido_base.specs.declared.limits.TheConstants.{MOST_STEPS, VARIABLE_WORDS}
 use Rattle.ido_base.specs.declared.event.Event.{Event}
@@ -23,7 +23,7 @@ use Rattle.rv64_isa.specs.Programs.{program_of, slot_of}
 use Rattle.rv64_isa.specs.Schedule.{Steps, first_steps, steps_along, LifeSchedules, all_lives, schedules}
 use Rattle.rv64_isa.proofs.Public.{crashes_simulate}
 use Rattle.flow_graph.specs.declared.cuts.Cuts.{Cuts}
-use Rattle.flat_compile.specs.TranslatedForms.{IsTranslated}
+use Rattle.flat_compile.specs.TranslatedForms.{IsTranslatedAs}
 use Rattle.compiler_correctness.specs.Compilations.{IsCompilation}
 use Rattle.compiler_correctness.specs.Images.{Image, file_of, image_in, image_of, steps_from, world_from}
 use Rattle.compiler_correctness.specs.Laws.{ImagesAreCrashes}
@@ -34,8 +34,11 @@ use Rattle.ido_cli.specs.Answers.{file_in}
 use Rattle.ido_cli.specs.CompiledImages.{IsImageAnswer, whole}
 use Rattle.hart_driver.specs.declared.stop.Stop.{Stop}
 use Rattle.hart_driver.specs.Legs.{IsLeg}
-use Rattle.ido_compile.specs.CompileAnswers.{IsCompiled, translation_in}
+use Rattle.ido_compile.specs.CompileAnswers.{IsCompiledAs, translation_in}
 use Rattle.image_checks.proofs.Public.{lives_few}
+use Rattle.crash_images.specs.Contents.{Tells, log_of}
+use Rattle.crash_images.specs.declared.version.ImageVersion.{ImageVersion}
+use Rattle.crash_images.specs.declared.version.ImageVersion.TheVariants.{First, Second, Third}
 use Rattle.image_runs.specs.Laws.{AcceptedRunOn}
 use Rattle.ido_compile.specs.Files.{FilesBegin}
 use Rattle.run_scripts.specs.declared.evictor.Evictor.{Evictor}
@@ -83,10 +86,9 @@ after_crash crashes c is file journal status output told before left =
 
 -- ---- A life that begins with a file's words
 
-spread_size : (n threads : ℕ) (words : List ℕ) → n ≤ VARIABLE_WORDS → length words ≡ n + log_words V1 * threads →
-    length (spread_words n words) ≡ word_count V1 threads
+spread_long : (n rest : ℕ) (words : List ℕ) → n ≤ VARIABLE_WORDS → length words ≡ n + rest → length (spread_words n words) ≡ VARIABLE_WORDS + rest
 unfolding spread_words
-spread_size n threads words few size =
+spread_long n own words few size =
     let front = take n words in
     let zeros : List ℕ = replicate (VARIABLE_WORDS - n) 0 in
     let rest = drop n words in
@@ -103,7 +105,16 @@ spread_size n threads words few size =
       size,
     )
 
-module _ (flat : f.Flat) (object : Object) (marks : Marks) (cuts : Cuts) (t : IsTranslated flat object marks cuts) (file : Image) (cap : ℕ) (begun : Course)
+all_words : (log : Log) (threads : ℕ) → VARIABLE_WORDS + log_words log * threads ≡ word_count log threads
+all_words V1 threads = omega arith
+all_words V2 threads = omega arith
+
+spread_size : (log : Log) (n threads : ℕ) (words : List ℕ) → n ≤ VARIABLE_WORDS → length words ≡ n + log_words log * threads →
+    length (spread_words n words) ≡ word_count log threads
+spread_size log n threads words few size = spread_long n (log_words log * threads) words few size ∙ all_words log threads
+
+module _ (flat : f.Flat) (object : Object) (marks : Marks) (cuts : Cuts) (t : IsTranslatedAs object.log flat object marks cuts) (file : Image) (cap : ℕ)
+    (begun : Course)
     (is : begun ≡ life_from object marks file.words file.kept cap) where
   abbrev made : Translation
   made = translation_to flat object marks cuts
@@ -153,7 +164,7 @@ module _ (flat : f.Flat) (object : Object) (marks : Marks) (cuts : Cuts) (t : Is
   few_harts =
       omega (arith, ap (λ (x : Course). length x.runs.program) is, length-map object.code.items (λ code. map slot_of code.items), t.limits.threads)
 
-  module _ (size : length file.words ≡ length object.initial.items / 8 + log_words V1 * length object.code.items) where
+  module _ (size : length file.words ≡ length object.initial.items / 8 + log_words object.log * length object.code.items) where
     first : World
     first = machine_from object file.words []
 
@@ -161,8 +172,8 @@ module _ (flat : f.Flat) (object : Object) (marks : Marks) (cuts : Cuts) (t : Is
     stands =
         let threads = length-map object.code.items (λ code. map slot_of code.items) in
         crashes_simulate object.log (program_of object) object.mutexes (spread_words (length object.initial.items / 8) file.words)
-        (subst (λ (l : Log). length (spread_words (length object.initial.items / 8) file.words) ≡ word_count l (length (program_of object))) (sym t.log)
-        (spread_size (length object.initial.items / 8) (length (program_of object)) file.words (omega (arith, t.limits.bytes)) (omega (arith, size, threads))))
+        (spread_size object.log (length object.initial.items / 8) (length (program_of object)) file.words (omega (arith, t.limits.bytes))
+        (size ∙ ap (λ (n : ℕ). length object.initial.items / 8 + log_words object.log * n) (sym threads)))
 
     pub harts_stand : length (world_of begun).harts ≡ length begun.runs.program
     harts_stand = ap (λ (x : Course). length (world_of x).harts) is ∙ stands.1 ∙ sym (ap (λ (x : Course). length x.runs.program) is)
@@ -173,7 +184,7 @@ module _ (flat : f.Flat) (object : Object) (marks : Marks) (cuts : Cuts) (t : Is
   -- ---- After its leg
 
   module _ (life : Course) (same : opening_of life ≡ opening_of begun) where
-    pub harts_after : length file.words ≡ length object.initial.items / 8 + log_words V1 * length object.code.items →
+    pub harts_after : length file.words ≡ length object.initial.items / 8 + log_words object.log * length object.code.items →
         length (world_of life).harts ≡ length life.runs.program
     harts_after size =
         let first = stands size in
@@ -216,36 +227,68 @@ module _ (flat : f.Flat) (object : Object) (marks : Marks) (cuts : Cuts) (t : Is
 
 -- ---- What is read
 
-pub compiled_in : (bytes : List ℕ) (image : i.Image) → IsImageAnswer bytes (Ok image) → (source : List ℕ) × IsCompiled source image.compiled
-compiled_in bytes image (whole read is) = (is.is.source.source, is.is.source.compiled)
+pub compiled_in : (newest : ImageVersion) (bytes : List ℕ) (image : i.Image) → IsImageAnswer newest bytes (Ok image) →
+    (version : ImageVersion) × (source : List ℕ) × IsCompiledAs (log_of version) source image.compiled
+compiled_in newest bytes image (whole read is) = (is.version, is.is.source.source, is.is.source.compiled)
+
+-- what a machine runs for it logs as the object says
+pub by_object : (log : Log) (flat : f.Flat) (object : Object) (marks : Marks) (cuts : Cuts) → IsTranslatedAs log flat object marks cuts →
+    IsTranslatedAs object.log flat object marks cuts
+by_object log flat object marks cuts t = subst (λ (l : Log). IsTranslatedAs l flat object marks cuts) (sym t.log) t
+
+pub translated_in : (newest : ImageVersion) (bytes : List ℕ) (image : i.Image) → IsImageAnswer newest bytes (Ok image) → let made = image.compiled.translated in
+    IsTranslatedAs made.object.log (f.flat_of image.compiled.flat) made.object made.marks made.cuts
+translated_in newest bytes image read =
+    let it = compiled_in newest bytes image read in
+    let made = image.compiled.translated in
+    by_object (log_of it.0) (f.flat_of image.compiled.flat) made.object made.marks made.cuts it.2.translated
 
 -- it has few steps
-pub few_steps_in : (bytes : List ℕ) (image : i.Image) → IsImageAnswer bytes (Ok image) → sum_by length (all_lives (file_in image).kept) ≤ MOST_STEPS
-few_steps_in bytes image (whole read is) =
+pub few_steps_in : (newest : ImageVersion) (bytes : List ℕ) (image : i.Image) → IsImageAnswer newest bytes (Ok image) →
+    sum_by length (all_lives (file_in image).kept) ≤ MOST_STEPS
+few_steps_in newest bytes image (whole read is) =
     let flat = f.flat_of image.compiled.flat in
     let few = lives_few flat (start flat) 0 is.state.lives (omega arith) is.sound.schedules in
     omega (arith, few, ap (sum_by length) is.lives)
 
+few_told : (version : ImageVersion) (lives : ℕ) → Tells version lives → lives < 2 ^ 32
+few_told First lives told = omega (arith, told)
+few_told Second lives told = omega (arith, told)
+few_told Third lives told = told.1
+
 -- it has few lives
-pub few_lives_in : (bytes : List ℕ) (image : i.Image) → IsImageAnswer bytes (Ok image) → length image.lives.earlier.items < 2 ^ 32
-few_lives_in bytes image (whole read is) =
+pub few_lives_in : (newest : ImageVersion) (bytes : List ℕ) (image : i.Image) → IsImageAnswer newest bytes (Ok image) →
+    length image.lives.earlier.items < 2 ^ 32
+few_lives_in newest bytes image (whole read is) =
     omega (
       arith,
-      is.is.fits.lives,
+      few_told is.version (length is.state.lives) is.is.fits.lives,
       length-map is.state.lives schedule_of,
       ap length is.lives,
       as_many_lives image.lives.earlier.items image.lives.schedule.items,
     )
 
+-- it has the words of its log
+pub words_in : (newest : ImageVersion) (bytes : List ℕ) (image : i.Image) → IsImageAnswer newest bytes (Ok image) →
+    let object = image.compiled.translated.object in
+    length image.words.items ≡ length object.initial.items / 8 + log_words object.log * length object.code.items
+words_in newest bytes image (whole read is) =
+    let object = image.compiled.translated.object in
+    let variables : length is.state.variables ≡ length object.initial.items / 8 = omega (arith, is.is.fits.variables) in
+    ap length is.words ∙ length-append is.state.variables is.state.logs
+    ∙ ap₂ (λ (m n : ℕ). m + n) variables
+    (is.is.fits.logs ∙ ap (λ (l : Log). log_words l * length object.code.items) (sym is.is.source.compiled.translated.log))
+
 -- what is read as an image is run on, whoever wrote it
-pub accepted_runs_on : AcceptedRunOn → (bytes : List ℕ) (image : i.Image) → IsImageAnswer bytes (Ok image) →
+pub accepted_runs_on : AcceptedRunOn → (newest : ImageVersion) (bytes : List ℕ) (image : i.Image) → IsImageAnswer newest bytes (Ok image) →
     RunsOn (translation_in image.compiled) (image_in (translation_in image.compiled) (file_in image))
-accepted_runs_on run bytes image (whole read is) =
+accepted_runs_on run newest bytes image (whole read is) =
     let c = image.compiled in
     let t = c.translated in
     let state = is.state in
     let kept = (file_in image).kept in
-    let on = run (f.flat_of c.flat) t.object t.marks t.cuts t.resumes.items state kept is.is.source.compiled.resumable is.is.fits is.sound in
+    let on = run is.version (f.flat_of c.flat) t.object t.marks t.cuts t.resumes.items state kept is.is.source.compiled.resumable
+    is.is.source.compiled.plain is.is.fits is.sound in
     let count : length state.variables ≡ length t.object.initial.items / 8 = omega (arith, is.is.fits.variables) in
     let spread = ap₂ (λ (n : ℕ) (ws : List ℕ). spread_words n ws) count (sym is.words) in
     subst (λ (ws : List ℕ). RunsOn (translation_in c) (record { words = ws; kept = kept })) spread on

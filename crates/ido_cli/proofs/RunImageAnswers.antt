@@ -1,5 +1,5 @@
 -- What bytes are answered that spell the file of a run.
-use Rattle.std.proofs.Common.{◌≡◌, ℕ, ◌≤◌, List, [], ◌∷◌, ◌++◌, length, map, take, drop, ap, sym, subst, ◌∙◌, arith, Result, Ok, Err}
+use Rattle.std.proofs.Common.{◌≡◌, ℕ, ◌-◌, ◌≤◌, List, [], ◌∷◌, ◌++◌, length, map, take, drop, ap, sym, subst, ◌∙◌, arith, Result, Ok, Err}
 use Rattle.std.specs.Prelude.{sum_by}
 use Rattle.std.proofs.lemmas.List.Sums.{sum_by-cons}
 use Rattle.std.proofs.lemmas.List.{length-map, take-append-drop}
@@ -28,17 +28,29 @@ use Rattle.compiler_correctness.specs.Images.{variable_words}
 use Rattle.compiler_correctness.specs.Translations.{Translation, translation_to}
 use Rattle.flat_compile.specs.TranslatedForms.{IsTranslated}
 use Rattle.ido_compile.specs.declared.compiler.Compiled.{Compiled}
-use Rattle.ido_compile.specs.CompileAnswers.{IsCompiled, translation_in}
+use Rattle.ido_compile.specs.CompileAnswers.{IsCompiledAs, translation_in}
+use Rattle.ido_compile.specs.FormLaws.{FlattenedIsFormed, FlattenedIsPlain}
+use Rattle.ido_compile.specs.LoggedTexts.{IsRefusedAs}
+use Rattle.ido_compile.proofs.Public.{as_accepted, as_refused}
+use Rattle.lock_discipline.specs.Discipline.{WalkIsDiscipline}
 use Rattle.ido_compile.specs.Verdicts.{NotBoth, OneFlat}
-use Rattle.crash_images.specs.Contents.{Contents, State}
-use Rattle.crash_images.specs.ImageDecoder.{IsReadAs, image_at, source_at, state_at}
-use Rattle.crash_images.specs.declared.version.ImageVersion.TheVariants.{First}
+use Rattle.crash_images.specs.Contents.{Contents, State, log_of}
+use Rattle.crash_images.proofs.Public.{source_version}
+use Rattle.crash_images.specs.ImageDecoder.{IsReadAs, image_at, source_at, state_at, version_in}
+use Rattle.crash_images.specs.declared.version.ImageVersion.{ImageVersion}
+use Rattle.crash_images.specs.declared.version.ImageVersion.TheVariants.{First, Third}
 use Rattle.image_checks.specs.declared.error.ImageError.{ImageError}
+use Rattle.image_checks.specs.declared.error.ImageError.TheVariants as e
 use Rattle.ido_cli.specs.declared.compiled_image.Image.{Image}
 use Rattle.image_checks.specs.Checks.{IsStateFault, IsUnshared, of_thread, of_mutexes, of_schedules}
-use Rattle.ido_cli.specs.CompiledImages.{size_of, threads_of, BeginsCompiled, HasState, IsImage, IsImageAnswer, whole, no_source, refused, no_state, unsound}
+use Rattle.ido_cli.specs.CompiledImages.{size_of, threads_of, BeginsCompiled, HasState, IsImage, IsImageAnswer, whole, no_source, refused}
+use Rattle.ido_cli.specs.CompiledImages.{no_state, no_version, state_error, unsound}
 use Rattle.ido_cli.specs.CompiledImages as answers
+use Rattle.c_tree.specs.declared.rule.Rule.{Rule}
+use Rattle.ido_base.specs.declared.place.Place.{Place}
+use Rattle.ido_base.specs.declared.log.Log.TheVariants.{V1}
 use Rattle.image_checks.specs.Laws.{RunsLeaveNoFault}
+use Rattle.image_checks.specs.Logs.{logs_of}
 use Rattle.image_checks.specs.Schedules.{IsLivesFault, schedules_of}
 use Rattle.image_checks.specs.RunImages.{left_by, file_contents, file_state}
 use Rattle.ido_cli.specs.ImagesReadAgain.{IsReadAgain, again, elsewhere, RunImagesAreRead}
@@ -79,7 +91,8 @@ pub record RunImage (source bytes : List ℕ) : Type 0 where
   pub most : length (left_by (translation_to flat object marks cuts) events).kept.schedule ≤ MOST_STEPS
   pub spelled : IsReadAs First (file_contents source (translation_to flat object marks cuts) (left_by (translation_to flat object marks cuts) events)) bytes
 
-module _ (one_flat : OneFlat) (not_both : NotBoth) (machines : MachinesResume) (records : MachinesRecord) (no_fault : RunsLeaveNoFault)
+module _ (walk : WalkIsDiscipline) (formed : FlattenedIsFormed) (plain : FlattenedIsPlain) (one_flat : OneFlat) (not_both : NotBoth) (machines : MachinesResume)
+    (records : MachinesRecord) (no_fault : RunsLeaveNoFault)
     (source bytes : List ℕ) (run : RunImage source bytes) where
   open run use {flat, object, marks, cuts, events, accepted, translated as t, alone, most, spelled}
 
@@ -101,8 +114,8 @@ module _ (one_flat : OneFlat) (not_both : NotBoth) (machines : MachinesResume) (
   abbrev Read : Result Image ImageError → Type 0
   Read answer = IsReadAgain source c file answer
 
-  is_whole : IsWhole flat threads size state
-  is_whole = left_is_whole flat object marks cuts t events machines records (few_lives file.kept alone most)
+  is_whole : IsWhole V1 flat threads size state
+  is_whole = left_is_whole flat object marks cuts V1 t events machines records (few_lives file.kept alone most)
 
   -- its one life is all
   same_state : (file_contents source c file).state ≡ state
@@ -137,20 +150,28 @@ module _ (one_flat : OneFlat) (not_both : NotBoth) (machines : MachinesResume) (
         after = b.1 ∙ ap (λ (x : Contents). Ok x.state) same ∙ ap (λ (x : State). Ok x) same_state;
       }
 
+  -- the version is the first
+  known : version_in Third bytes ≡ Ok First
+  known = source_version Third First bytes source begun.rest (omega arith) begun.begins
+
+  -- what is so of images of the first version is so of this one
+  at_first : (P : ImageVersion → Type 0) (version : ImageVersion) → version_in Third bytes ≡ Ok version → P First → P version
+  at_first P version is first = subst P (ok_is First version (sym known ∙ is)) first
+
   -- ---- The source, compiled
 
-  module _ (d : Compiled) (b : BeginsCompiled bytes d) where
+  module _ (d : Compiled) (b : BeginsCompiled Third bytes First d) where
     same_bytes : ◌≡◌ {A = List ℕ × List ℕ} (b.source, b.rest) (source, begun.rest)
     same_bytes = ok_is (b.source, b.rest) (source, begun.rest) (sym b.begins ∙ begun.begins)
 
-    compiled : IsCompiled source d
-    compiled = subst (λ (text : List ℕ). IsCompiled text d) (ap (λ (x : List ℕ × List ℕ). x.0) same_bytes) b.compiled
+    compiled : IsCompiledAs V1 source d
+    compiled = subst (λ (text : List ℕ). IsCompiledAs V1 text d) (ap (λ (x : List ℕ × List ℕ). x.0) same_bytes) b.compiled
 
     same_rest : b.rest ≡ begun.rest
     same_rest = ap (λ (x : List ℕ × List ℕ). x.1) same_bytes
 
     same_flat : flat_of d.flat ≡ flat
-    same_flat = one_flat source (flat_of d.flat) flat compiled.accepted accepted
+    same_flat = one_flat source (flat_of d.flat) flat (as_accepted walk formed plain V1 source (flat_of d.flat) compiled.accepted) accepted
 
     same_size : size_of d ≡ size
     same_size =
@@ -172,63 +193,91 @@ module _ (one_flat : OneFlat) (not_both : NotBoth) (machines : MachinesResume) (
 
   -- ---- Answers
 
-  state_is : (d : Compiled) (x : State) (has : HasState bytes d x) → x ≡ state
+  state_is : (d : Compiled) (x : State) (has : HasState Third bytes First d x) → x ≡ state
   state_is d x has = ok_is x state (sym has.state ∙ found d has.source)
 
-  image_read : (image : Image) → IsImage bytes image → Read (Ok image)
+  image_read : (image : Image) → IsImage Third bytes image → Read (Ok image)
   image_read image is =
-      let same : is.state ≡ state = state_is image.compiled is.state is.is in
-      again image (compiled image.compiled is.is.source)
+      at_first (λ (v : ImageVersion). HasState Third bytes v image.compiled is.state → Read (Ok image)) is.version is.is.source.known
+      (λ has.
+      let same : is.state ≡ state = state_is image.compiled is.state has in
+      again image (compiled image.compiled has.source)
       (is.words ∙ ap (λ (x : State). x.variables ++ x.logs) same ∙ take-append-drop (variable_words c) file.words)
-      (sym is.lives ∙ ap (λ (x : State). schedules_of x.lives) same ∙ told_again (all_lives file.kept))
+      (sym is.lives ∙ ap (λ (x : State). schedules_of x.lives) same ∙ told_again (all_lives file.kept))) is.is
 
-  not_here : (fault : Fault) (answer : Result Image ImageError) → source_at First bytes ≡ Err fault → Read answer
-  not_here fault answer e = absurd (not_both_ways (source_at First bytes) (source, begun.rest) fault begun.begins e)
+  not_first : (fault : Fault) (answer : Result Image ImageError) → version_in Third bytes ≡ Err fault → Read answer
+  not_first fault answer e = absurd (not_both_ways (version_in Third bytes) First fault known e)
 
-  not_after : (d : Compiled) (b : BeginsCompiled bytes d) (fault : Fault) (answer : Result Image ImageError) →
-      state_at First (length bytes) (size_of d) (threads_of d) b.rest ≡ Err fault → Read answer
-  not_after d b fault answer e =
-      absurd (not_both_ways (state_at First (length bytes) (size_of d) (threads_of d) b.rest) state fault (found d b) e)
+  not_here : (version : ImageVersion) (fault : Fault) (answer : Result Image ImageError) → version_in Third bytes ≡ Ok version →
+      source_at version bytes ≡ Err fault → Read answer
+  not_here version fault answer is =
+      at_first (λ (v : ImageVersion). source_at v bytes ≡ Err fault → Read answer) version is
+      (λ e. absurd (not_both_ways (source_at First bytes) (source, begun.rest) fault begun.begins e))
 
-  module _ (d : Compiled) (is : IsCompiled source d) (flat_is : flat_of d.flat ≡ flat) (threads_are : threads_of d ≡ threads) where
+  not_after : (version : ImageVersion) (d : Compiled) (begins : BeginsCompiled Third bytes version d) (fault : Fault) →
+      state_at version (length bytes) (size_of d) (threads_of d) begins.rest ≡ Err fault →
+      Read (Err (state_error (length bytes - length begins.rest) fault))
+  not_after version d begins fault =
+      at_first (λ (v : ImageVersion). (b : BeginsCompiled Third bytes v d) → state_at v (length bytes) (size_of d) (threads_of d) b.rest ≡ Err fault →
+      Read (Err (state_error (length bytes - length b.rest) fault))) version begins.known
+      (λ b e. absurd (not_both_ways (state_at First (length bytes) (size_of d) (threads_of d) b.rest) state fault (found d b) e)) begins
+
+  module _ (d : Compiled) (is : IsCompiledAs V1 source d) (flat_is : flat_of d.flat ≡ flat) (threads_are : threads_of d ≡ threads) where
     -- by the same translation nothing is at fault
-    none : translation_in d ≡ c → (error : ImageError) → ¬ (IsStateFault (flat_of d.flat) d.translated.resumes.items state error)
+    none : translation_in d ≡ c → (error : ImageError) → ¬ (IsStateFault V1 (flat_of d.flat) d.translated.resumes.items state error)
     none same error fault =
         let x = d.translated in
         let few : sum_by length (all_lives (left_by (translation_in d) events).kept) ≤ MOST_STEPS =
         subst (λ (z : Translation). sum_by length (all_lives (left_by z events).kept) ≤ MOST_STEPS) (sym same) (few_lives file.kept alone most) in
-        let sound = no_fault (flat_of d.flat) x.object x.marks x.cuts x.resumes.items events is.resumable few in
-        none_if_sound (flat_of d.flat) x.resumes.items (file_state (translation_in d) (left_by (translation_in d) events)) error sound
-        (subst (λ (z : Translation). IsStateFault (flat_of d.flat) x.resumes.items (file_state z (left_by z events)) error) (sym same) fault)
+        let sound = no_fault V1 (flat_of d.flat) x.object x.marks x.cuts x.resumes.items events is.resumable is.plain few in
+        none_if_sound V1 (flat_of d.flat) x.resumes.items (file_state (translation_in d) (left_by (translation_in d) events)) error sound
+        (subst (λ (z : Translation). IsStateFault V1 (flat_of d.flat) x.resumes.items (file_state z (left_by z events)) error) (sym same) fault)
 
     table_is : length d.translated.resumes.items ≡ threads
     table_is = let r = is.resumable in r.are.count ∙ sym r.translated.is.count ∙ ap (λ (x : Executable). length x.program) r.translated.runs
         ∙ length-map d.translated.object.code.items (λ code. map slot_of code.items) ∙ threads_are
 
-    fault_read : (error : ImageError) → IsStateFault (flat_of d.flat) d.translated.resumes.items state error → Read (Err error)
+    fault_read : (error : ImageError) → IsStateFault V1 (flat_of d.flat) d.translated.resumes.items state error → Read (Err error)
     fault_read error (of_thread x f) = elsewhere d x is (λ same. none same x (of_thread x f)) f
     fault_read error (of_mutexes x sound f) =
-        absurd (unshared state.logs (length d.translated.resumes.items) x
-        (λ lock. subst (λ (k : ℕ). IsUnshared state.logs k lock) (sym table_is) (is_whole.unshared lock)) f)
+        absurd (unshared (logs_of V1 state.logs) (length d.translated.resumes.items) x
+        (λ lock. subst (λ (k : ℕ). IsUnshared (logs_of V1 state.logs) k lock) (sym table_is) (is_whole.unshared lock)) f)
     fault_read error (of_schedules x sound apart f) =
         absurd (none_in_lives flat 1 (start flat) 0 state.lives x is_whole.schedules
         (subst (λ (y : Flat). IsLivesFault y 1 (start y) 0 state.lives x) flat_is f))
 
-  read : (answer : Result Image ImageError) → IsImageAnswer bytes answer → Read answer
-  read answer (whole image is) = image_read image is
-  read answer (no_source fault e) = not_here fault _ e
-  read answer (refused other rest rule place begins broken) =
+  not_refused : (version : ImageVersion) (other rest : List ℕ) (rule : Rule) (place : Place) → version_in Third bytes ≡ Ok version →
+      source_at version bytes ≡ Ok (other, rest) → IsRefusedAs (log_of version) other rule place → Read (Err e.Source)
+  not_refused version other rest rule place is =
+      at_first (λ (v : ImageVersion). source_at v bytes ≡ Ok (other, rest) → IsRefusedAs (log_of v) other rule place → Read (Err e.Source)) version is
+      (λ begins broken.
       let same : ◌≡◌ {A = List ℕ × List ℕ} (other, rest) (source, begun.rest) = ok_is (other, rest) (source, begun.rest) (sym begins ∙ begun.begins) in
+      let refusal : IsRefusedBy other rule place = as_refused other rule place broken in
       absurd (not_both source flat rule place accepted
-      (subst (λ (text : List ℕ). IsRefusedBy text rule place) (ap (λ (x : List ℕ × List ℕ). x.0) same) broken))
-  read answer (no_state d fault b e) = not_after d b fault _ e
-  read answer (unsound d x error has fault) =
-      fault_read d (compiled d has.source) (same_flat d has.source) (same_threads d has.source) error
-      (subst (λ (z : State). IsStateFault (flat_of d.flat) d.translated.resumes.items z error) (state_is d x has) fault)
+      (subst (λ (text : List ℕ). IsRefusedBy text rule place) (ap (λ (x : List ℕ × List ℕ). x.0) same) refusal)))
+
+  unsound_read : (version : ImageVersion) (d : Compiled) (x : State) (error : ImageError) → HasState Third bytes version d x →
+      IsStateFault (log_of version) (flat_of d.flat) d.translated.resumes.items x error → Read (Err error)
+  unsound_read version d x error has =
+      at_first (λ (v : ImageVersion). HasState Third bytes v d x → IsStateFault (log_of v) (flat_of d.flat) d.translated.resumes.items x error →
+      Read (Err error)) version has.source.known
+      (λ at fault. fault_read d (compiled d at.source) (same_flat d at.source) (same_threads d at.source) error
+      (subst (λ (z : State). IsStateFault V1 (flat_of d.flat) d.translated.resumes.items z error) (state_is d x at) fault)) has
+
+  read : (answer : Result Image ImageError) → IsImageAnswer Third bytes answer → Read answer
+  read answer (whole image is) = image_read image is
+  read answer (no_version fault e) = not_first fault _ e
+  read answer (no_source version fault is e) = not_here version fault _ is e
+  read answer (refused version other rest rule place is begins broken) = not_refused version other rest rule place is begins broken
+  read answer (no_state version d fault begins e) = not_after version d begins fault e
+  read answer (unsound version d x error has fault) = unsound_read version d x error has fault
   read answer answers.no_memory = reads.no_memory
 
-pub run_images_are_read : OneFlat → NotBoth → MachinesResume → MachinesRecord → RunsLeaveNoFault → RunImagesAreRead
-run_images_are_read one_flat not_both machines records no_fault source bytes flat object marks cuts events answer accepted t alone most spelled told =
+pub run_images_are_read : WalkIsDiscipline → FlattenedIsFormed → FlattenedIsPlain → OneFlat → NotBoth → MachinesResume → MachinesRecord → RunsLeaveNoFault →
+    RunImagesAreRead
+run_images_are_read walk formed plain one_flat not_both machines records no_fault source bytes flat object marks cuts events answer accepted t
+    alone most spelled
+    told =
     let run : RunImage source bytes =
     record {
       flat = flat;
@@ -242,4 +291,4 @@ run_images_are_read one_flat not_both machines records no_fault source bytes fla
       most = most;
       spelled = spelled;
     } in
-    read one_flat not_both machines records no_fault source bytes run answer told
+    read walk formed plain one_flat not_both machines records no_fault source bytes run answer told

@@ -1,13 +1,13 @@
 -- What is answered to a script that is read, and to one that isn't.
 use Rattle.std.proofs.Common.{◌≡◌, Bool, ℕ, ◌+◌, ◌-◌, List, length, sym, ap, ◌∙◌, subst, Option, Some, None, IfSome, IsSome, All}
 use Rattle.rv64_isa.specs.Machine as isa
-use Rattle.ido_base.specs.declared.log.Log.TheVariants.{V1}
 use Rattle.ido_base.specs.declared.log.Log.{Log}
 use Rattle.ido_base.specs.declared.event.Event.{Event}
 use Rattle.c_tree.specs.Flats as f
 use Rattle.flow_graph.specs.Refusals.{IsAccepted}
+use Rattle.flat_compile.specs.TranslatedForms.{command_log}
 use Rattle.run_scripts.specs.Scripts as e
-use Rattle.run_scripts.specs.Scripts.{IsDoable, IsEviction}
+use Rattle.run_scripts.specs.Scripts.{IsDoable}
 use Rattle.run_scripts.specs.declared.script.Line.{Line}
 use Rattle.compiler_correctness.specs.Translations.{Translation}
 use Rattle.ido_cli.specs.Answers.{ScriptedAnswer, no_script, of_script}
@@ -15,13 +15,15 @@ use Rattle.ido_cli.specs.Inputs.{rest_of, source_of}
 use Rattle.ido_cli.specs.Plays.{IsTranslationOf, ScriptAnswer}
 use Rattle.ido_cli.specs.Refusals.{IsRefusedAt, script_fault_code, script_fault_place}
 
-module _ (input rest : List ℕ) (flat : f.Flat) (harts : ℕ) (is : rest ≡ rest_of input) (many : harts ≡ length flat.threads)
-    (accepted : IsAccepted (source_of input) flat)
+module _ (input rest : List ℕ) (flat : f.Flat) (log : Log) (harts : ℕ) (is : rest ≡ rest_of input) (logs : log ≡ command_log)
+    (many : harts ≡ length flat.threads) (accepted : IsAccepted (source_of input) flat)
     (lives : Bool) (Says : Translation → List Event → ℕ → List ℕ → Type 0) where
-  read_is : e.read (length flat.threads) (rest_of input) ≡ e.read harts rest
-  read_is = ap (λ (n : ℕ). e.read n (rest_of input)) (sym many) ∙ sym (ap (e.read harts) is)
+  read_is : e.read command_log (length flat.threads) (rest_of input) ≡ e.read log harts rest
+  read_is =
+      ap (λ (l : Log). e.read l (length flat.threads) (rest_of input)) (sym logs)
+      ∙ (ap (λ (n : ℕ). e.read log n (rest_of input)) (sym many) ∙ sym (ap (e.read log harts) is))
 
-  pub script_fault_answer : (o : Option e.Fault) (status : ℕ) (output : List ℕ) → IsSome o → IfSome o (λ x. e.read harts rest ≡ e.Refused x) →
+  pub script_fault_answer : (o : Option e.Fault) (status : ℕ) (output : List ℕ) → IsSome o → IfSome o (λ x. e.read log harts rest ≡ e.Refused x) →
       IfSome o (λ x. IsRefusedAt 6 (script_fault_code x) input (length input - length rest + script_fault_place x) status output) →
       ScriptedAnswer lives Says input status output
   script_fault_answer (Some x) status output some read said =
@@ -29,7 +31,8 @@ module _ (input rest : List ℕ) (flat : f.Flat) (harts : ℕ) (is : rest ≡ re
       (subst (λ (r : List ℕ). IsRefusedAt 6 (script_fault_code x) input (length input - length r + script_fault_place x) status output) is said)
   script_fault_answer None status output some read said = absurd (cc some)
 
-  pub script_run_answer : (lines : List e.Line) (c : Translation) (status : ℕ) (output : List ℕ) → e.read harts rest ≡ e.Lines lines → IsTranslationOf flat c →
+  pub script_run_answer : (lines : List e.Line) (c : Translation) (status : ℕ) (output : List ℕ) → e.read log harts rest ≡ e.Lines lines →
+      IsTranslationOf flat c →
       ScriptAnswer c lives (Says c) (record { lines = lines; input = input; begins = length input - length rest }) status output →
       ScriptedAnswer lives Says input status output
   script_run_answer lines c status output read translation answer =
@@ -38,9 +41,9 @@ module _ (input rest : List ℕ) (flat : f.Flat) (harts : ℕ) (is : rest ≡ re
       answer)
 
 -- what exists at so many harts
-pub all_doable : (log : Log) (harts many : ℕ) (lines : List Line) → V1 ≡ log → harts ≡ many →
-    All (λ (line : Line). IsDoable harts (IsEviction harts) line.command) lines →
+pub all_doable : (log own : Log) (harts many : ℕ) (lines : List Line) → own ≡ log → harts ≡ many →
+    All (λ (line : Line). IsDoable harts (isa.IsEviction own harts) line.command) lines →
     All (λ (line : Line). IsDoable many (isa.IsEviction log many) line.command) lines
-all_doable log harts many lines logs same all =
+all_doable log own harts many lines logs same all =
     subst (λ (l : Log). All (λ (line : Line). IsDoable many (isa.IsEviction l many) line.command) lines) logs
-    (subst (λ (n : ℕ). All (λ (line : Line). IsDoable n (IsEviction n) line.command) lines) same all)
+    (subst (λ (n : ℕ). All (λ (line : Line). IsDoable n (isa.IsEviction own n) line.command) lines) same all)

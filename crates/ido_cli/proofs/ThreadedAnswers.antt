@@ -5,7 +5,6 @@ use Rattle.std.specs.Prelude.{◌-◌, Err, IfSome, codes, decimal, flat_map, na
 use Rattle.std.proofs.lemmas.Bool.{leb-true}
 use Rattle.std.proofs.lemmas.Fmt.{length-decimal-le}
 use Rattle.ido_base.specs.declared.log.Log.{Log}
-use Rattle.ido_base.specs.declared.log.Log.TheVariants.{V1}
 use Rattle.ido_base.specs.Places.{line_feed}
 use Rattle.ido_base.specs.declared.event.Event.{Event}
 use Rattle.ido_base.specs.declared.limits.TheConstants.{MOST_SOURCE_BYTES}
@@ -56,19 +55,19 @@ module _ (object : Object) (marks : Marks) (cap : ℕ) (life : Course) (is : lif
   pub new_room : cap ≤ length life.journal + (life.cap - length life.journal)
   new_room = omega (arith, ap (λ (x : Course). x.cap) is, ap length new_none)
 
-  pub new_can : (evict : Option Evictor) → length object.code.items ≤ 8 → object.log ≡ V1 →
-      IfSome evict (λ v. (n : ℕ) → IsEviction V1 (length object.code.items) (evictions_of v n).0 (evictions_of v n).1) →
+  pub new_can : (evict : Option Evictor) → length object.code.items ≤ 8 →
+      IfSome evict (λ v. (n : ℕ) → IsEviction object.log (length object.code.items) (evictions_of v n).0 (evictions_of v n).1) →
       CanRun cap (record { life = life; evict = evict })
-  new_can evict few first valid =
+  new_can evict few valid =
       let harts = many_harts object marks cap life is in
       record {
         room = new_room;
         few = omega (arith, harts, few);
         valid = λ v there n.
             subst (λ (l : Log). IsEviction l (length life.runs.program) (evictions_of v n).0 (evictions_of v n).1)
-            (sym (ap (λ (x : Course). x.runs.log) is ∙ first))
-            (subst (λ (k : ℕ). IsEviction V1 k (evictions_of v n).0 (evictions_of v n).1) (sym harts)
-            (some_is (λ w. (k : ℕ) → IsEviction V1 (length object.code.items) (evictions_of w k).0 (evictions_of w k).1) evict valid v there n));
+            (sym (ap (λ (x : Course). x.runs.log) is))
+            (subst (λ (k : ℕ). IsEviction object.log k (evictions_of v n).0 (evictions_of v n).1) (sym harts)
+            (some_is (λ w. (k : ℕ) → IsEviction object.log (length object.code.items) (evictions_of w k).0 (evictions_of w k).1) evict valid v there n));
       }
 
 -- ---- `live`

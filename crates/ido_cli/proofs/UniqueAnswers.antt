@@ -12,6 +12,7 @@ use Rattle.ido_cli.specs.declared.command.Command as c
 use Rattle.ido_cli.specs.declared.command.Command.TheVariants as command
 use Rattle.c_tree.specs.declared.rule.Rule as r
 use Rattle.flow_graph.specs.Refusals.{IsAccepted, IsRefusedBy}
+use Rattle.flat_compile.specs.TranslatedForms.{command_log}
 use Rattle.compiler_correctness.specs.Translations.{Translation}
 use Rattle.ido_cli.specs.Draws.{IsGenerated}
 use Rattle.ido_cli.specs.Images.{IsImageAfter}
@@ -229,9 +230,9 @@ module _ (one_flat : OneFlat) (one_fault : OneFault) (not_both : NotBoth) (one_s
   -- ---- A script that isn't spelled as one
 
   module _ (lives : Bool) (Says : Translation → List Event → ℕ → List ℕ → Type 0) (input : List ℕ) (flat : f.Flat) (is : IsAccepted (source_of input) flat)
-      (x : scripts.Fault) (bad : scripts.read (length flat.threads) (rest_of input) ≡ scripts.Refused x) where
-    reading : (other : f.Flat) → IsAccepted (source_of input) other → scripts.read (length other.threads) (rest_of input) ≡ scripts.Refused x
-    reading other also = ap (λ (z : f.Flat). scripts.read (length z.threads) (rest_of input)) (one_flat (source_of input) other flat also is) ∙ bad
+      (x : scripts.Fault) (bad : scripts.read command_log (length flat.threads) (rest_of input) ≡ scripts.Refused x) where
+    reading : (other : f.Flat) → IsAccepted (source_of input) other → scripts.read command_log (length other.threads) (rest_of input) ≡ scripts.Refused x
+    reading other also = ap (λ (z : f.Flat). scripts.read command_log (length z.threads) (rest_of input)) (one_flat (source_of input) other flat also is) ∙ bad
 
     misspelling : (status : ℕ) (output : List ℕ) → ScriptedAnswer lives Says input status output →
         IsRefusedAt 6 (script_fault_code x) input (rest_begins input + script_fault_place x) status output
@@ -252,9 +253,10 @@ module _ (one_flat : OneFlat) (one_fault : OneFault) (not_both : NotBoth) (one_s
 
   -- that of a sweep
   module _ (input : List ℕ) (flat : f.Flat) (is : IsAccepted (source_of input) flat) (x : scripts.Fault)
-      (bad : scripts.read (length flat.threads) (rest_of input) ≡ scripts.Refused x) where
-    read_again : (other : f.Flat) → IsAccepted (source_of input) other → scripts.read (length other.threads) (rest_of input) ≡ scripts.Refused x
-    read_again other also = ap (λ (z : f.Flat). scripts.read (length z.threads) (rest_of input)) (one_flat (source_of input) other flat also is) ∙ bad
+      (bad : scripts.read command_log (length flat.threads) (rest_of input) ≡ scripts.Refused x) where
+    read_again : (other : f.Flat) → IsAccepted (source_of input) other → scripts.read command_log (length other.threads) (rest_of input) ≡ scripts.Refused x
+    read_again other also = ap (λ (z : f.Flat). scripts.read command_log (length z.threads) (rest_of input)) (one_flat (source_of input) other flat also is) ∙
+        bad
 
     no_sweep : (status : ℕ) (output : List ℕ) → SweepAnswer input status output →
         IsRefusedAt 6 (script_fault_code x) input (rest_begins input + script_fault_place x) status output

@@ -1,6 +1,7 @@
 -- Runs on threads: moments, evictions and sums at a few inputs.
 use Rattle.std.specs.Prelude.{◌≡◌, refl, [], ◌∷◌, Some, None, codes, pos, neg_ℤ}
 use Rattle.std.specs.Fmt.{digits}
+use Rattle.ido_base.specs.declared.log.Log.TheVariants.{V1}
 use Rattle.ido_base.specs.declared.event.Event.TheVariants.{Step, Evict, Crash}
 use Rattle.run_scripts.specs.Reports.{ReportedState, hart_text, unsettled_line}
 use Rattle.ido_cli.specs.Loads.{settled_summary, summary_by, sums_text, total}
@@ -21,10 +22,10 @@ moment_at_once = refl
 moment_of_great_word : moment_after (Crash ∷ Crash ∷ []) (Some 4000000) ≡ 3999002
 moment_of_great_word = refl
 
-no_evictions_without_threads : evictions_at 0 3 (Some 7) ≡ None
+no_evictions_without_threads : evictions_at V1 0 3 (Some 7) ≡ None
 no_evictions_without_threads = refl
 
-no_evictions_without_seed : evictions_at 2 3 None ≡ None
+no_evictions_without_seed : evictions_at V1 2 3 None ≡ None
 no_evictions_without_seed = refl
 
 evictions_go_on : evictions_from (λ n. (n, 255)) 5 2 ≡ (7, 255)

@@ -8,11 +8,13 @@ use Rattle.ido_outside.specs.Sink.{Adds, AddsPrefix}
 use Rattle.c_tree.specs.Flats as f
 use Rattle.c_tree.specs.declared.rule.Rule as r
 use Rattle.flow_graph.specs.Refusals.{IsAccepted, IsRefusedBy}
+use Rattle.flat_compile.specs.TranslatedForms.{command_log}
 use Rattle.compiler_correctness.specs.Translations.{Translation}
 use Rattle.compiler_correctness.specs.Images.{Image, image_in}
 use Rattle.compiler_correctness.specs.WordRuns.{RunsOn}
 use Rattle.file_fields.specs.Fields as fields
 use Rattle.image_checks.specs.declared.error.ImageError.{ImageError}
+use Rattle.crash_images.specs.declared.version.ImageVersion.TheVariants.{Third}
 use Rattle.ido_cli.specs.declared.compiled_image.Image as i
 use Rattle.ido_cli.specs.CompiledImages.{IsImageAnswer}
 use Rattle.lock_order.specs.LockOrder.{OrderFault, order_fault}
@@ -118,9 +120,10 @@ pub data ScriptedAnswer (lives : Bool) (Says : Translation → List Event → (s
     (output : List ℕ) : Type 0 where
   unplayed : (found : r.Rule) (place : Place) → IsRefusedBy (source_of input) found place →
       IsRefusedAt 1 (code_of found) (source_of input) place.0 status output → ScriptedAnswer lives Says input status output
-  no_script : (flat : f.Flat) → IsAccepted (source_of input) flat → (x : e.Fault) → e.read (length flat.threads) (rest_of input) ≡ e.Refused x →
+  no_script : (flat : f.Flat) → IsAccepted (source_of input) flat → (x : e.Fault) → e.read command_log (length flat.threads) (rest_of input) ≡ e.Refused x →
       IsRefusedAt 6 (script_fault_code x) input (rest_begins input + script_fault_place x) status output → ScriptedAnswer lives Says input status output
-  of_script : (flat : f.Flat) → IsAccepted (source_of input) flat → (lines : List e.Line) → e.read (length flat.threads) (rest_of input) ≡ e.Lines lines →
+  of_script : (flat : f.Flat) → IsAccepted (source_of input) flat → (lines : List e.Line) →
+      e.read command_log (length flat.threads) (rest_of input) ≡ e.Lines lines →
       (c : Translation) → IsTranslationOf flat c →
       ScriptAnswer c lives (Says c) (record { lines = lines; input = input; begins = rest_begins input }) status output →
       ScriptedAnswer lives Says input status output
@@ -139,9 +142,10 @@ ImageAnswer input status output = ScriptedAnswer false (IsImageAfter (source_of 
 pub data SweepAnswer (input : List ℕ) (status : ℕ) (output : List ℕ) : Type 0 where
   unswept : (found : r.Rule) (place : Place) → IsRefusedBy (source_of input) found place →
       IsRefusedAt 1 (code_of found) (source_of input) place.0 status output → SweepAnswer input status output
-  no_points : (flat : f.Flat) → IsAccepted (source_of input) flat → (x : e.Fault) → e.read (length flat.threads) (rest_of input) ≡ e.Refused x →
+  no_points : (flat : f.Flat) → IsAccepted (source_of input) flat → (x : e.Fault) → e.read command_log (length flat.threads) (rest_of input) ≡ e.Refused x →
       IsRefusedAt 6 (script_fault_code x) input (rest_begins input + script_fault_place x) status output → SweepAnswer input status output
-  of_points : (flat : f.Flat) → IsAccepted (source_of input) flat → (lines : List e.Line) → e.read (length flat.threads) (rest_of input) ≡ e.Lines lines →
+  of_points : (flat : f.Flat) → IsAccepted (source_of input) flat → (lines : List e.Line) →
+      e.read command_log (length flat.threads) (rest_of input) ≡ e.Lines lines →
       (c : Translation) → IsTranslationOf flat c → SweptScript c (record { lines = lines; input = input; begins = rest_begins input }) status output →
       SweepAnswer input status output
 
@@ -186,8 +190,9 @@ file_in image = record { words = image.words.items; kept = lives_in image.lives.
 -- What an input of an image is answered: its first fault, or what is said of a run that goes on from it. Whoever wrote the image, that run is never stuck,
 -- its delays are bounded, and no hart waits that takes its locks.
 pub data RecoverAnswer (turns : ℕ) (input : List ℕ) (status : ℕ) (output : List ℕ) : Type 0 where
-  no_image : (error : ImageError) → IsImageAnswer input (Err error) → status ≡ 6 → image_line error ≡ Some output → RecoverAnswer turns input status output
-  of_image : (image : i.Image) → IsImageAnswer input (Ok image) →
+  no_image : (error : ImageError) → IsImageAnswer Third input (Err error) → status ≡ 6 → image_line error ≡ Some output →
+      RecoverAnswer turns input status output
+  of_image : (image : i.Image) → IsImageAnswer Third input (Ok image) →
       RunsOn (translation_in image.compiled) (image_in (translation_in image.compiled) (file_in image)) →
       IsRecovery (translation_in image.compiled) (file_in image) turns status output → RecoverAnswer turns input status output
 

@@ -1,30 +1,39 @@
--- What bytes are read as: an image of version 1, of a source that is accepted, or the first fault.
-use Rattle.std.specs.Prelude.{◌≡◌, ℕ, List, ◌++◌, length, Result, Ok, Err}
+-- What bytes are read as: an image of a version up to the newest that is asked for, of a source that is accepted, or the first fault.
+use Rattle.std.specs.Prelude.{◌≡◌, ◌==◌, ℕ, ◌-◌, List, ◌++◌, length, if◌then◌else◌, Result, Ok, Err}
 use Rattle.ido_base.specs.declared.place.Place.{Place}
 use Rattle.c_tree.specs.declared.rule.Rule.{Rule}
 use Rattle.c_tree.specs.Flats.{flat_of}
-use Rattle.flow_graph.specs.Refusals.{IsRefusedBy}
 use Rattle.file_fields.specs.Fields.{Fault, Magic, Version, Cut, Field, Rest}
 use Rattle.ido_compile.specs.declared.compiler.Compiled.{Compiled}
-use Rattle.ido_compile.specs.CompileAnswers.{IsCompiled}
+use Rattle.ido_compile.specs.CompileAnswers.{IsCompiledAs}
+use Rattle.ido_compile.specs.LoggedTexts.{IsRefusedAs}
 use Rattle.image_checks.specs.declared.error.ImageError.{ImageError}
 use Rattle.rv64_isa.specs.Schedule.{all_lives}
 use Rattle.run_tracker.specs.links.EarlierLives.{lives_in}
 use Rattle.image_checks.specs.declared.error.ImageError.TheVariants as e
 use Rattle.ido_cli.specs.declared.compiled_image.Image.{Image}
-use Rattle.crash_images.specs.Contents.{State, IsState}
-use Rattle.crash_images.specs.ImageDecoder.{source_at, state_at}
-use Rattle.crash_images.specs.declared.version.ImageVersion.TheVariants.{First}
+use Rattle.crash_images.specs.Contents.{State, IsState, log_of}
+use Rattle.crash_images.specs.ImageDecoder.{source_at, state_at, version_in}
+use Rattle.crash_images.specs.declared.version.ImageVersion.{ImageVersion}
 use Rattle.image_checks.specs.Checks.{IsWellFormedState, IsStateFault}
 use Rattle.image_checks.specs.Schedules.{schedules_of}
 
--- the error that tells a fault of the bytes; a field outside its limits is the number of bytes of another source, or of its variables
+-- the error that tells a fault of the bytes up to the end of the source; a field outside its limits is the number of bytes of a source that is too long
 abbrev pub error_of : Fault → ImageError
 error_of Magic = e.Magic
 error_of Version = e.Version
 error_of (Cut place) = e.Cut (record { 0 = place })
 error_of (Field place) = e.Source
 error_of (Rest place) = e.Rest (record { 0 = place })
+
+-- of those after it, where a field may be outside its limits at this place, since the source's variables take another number of bytes; any other such field
+-- tells that there is no life
+abbrev pub state_error : (size_place : ℕ) → Fault → ImageError
+state_error size_place Magic = e.Magic
+state_error size_place Version = e.Version
+state_error size_place (Cut place) = e.Cut (record { 0 = place })
+state_error size_place (Field place) = if place == size_place then e.Source else e.Lives 0
+state_error size_place (Rest place) = e.Rest (record { 0 = place })
 
 -- bytes of the variables, and how many threads there are
 abbrev pub size_of : Compiled → ℕ
@@ -33,39 +42,46 @@ size_of c = length c.translated.object.initial.items
 abbrev pub threads_of : Compiled → ℕ
 threads_of c = length c.translated.object.code.items
 
--- the bytes begin with a source that is compiled to this
-pub record BeginsCompiled (bytes : List ℕ) (c : Compiled) : Type 0 where
-  pub source : List ℕ
-  pub rest : List ℕ
-  pub begins : source_at First bytes ≡ Ok (source, rest)
-  pub compiled : IsCompiled source c
+module _ (newest : ImageVersion) (bytes : List ℕ) where
+  -- the bytes begin with a version, and with a source that is compiled to this for the log of that version
+  pub record BeginsCompiled (version : ImageVersion) (c : Compiled) : Type 0 where
+    pub source : List ℕ
+    pub rest : List ℕ
+    pub known : version_in newest bytes ≡ Ok version
+    pub begins : source_at version bytes ≡ Ok (source, rest)
+    pub compiled : IsCompiledAs (log_of version) source c
 
--- the bytes begin with a source that is compiled to this, and after it they have this state
-pub record HasState (bytes : List ℕ) (c : Compiled) (s : State) : Type 0 where
-  pub source : BeginsCompiled bytes c
-  pub state : state_at First (length bytes) (size_of c) (threads_of c) source.rest ≡ Ok s
-  pub fits : IsState First (size_of c) (threads_of c) s
+  -- and after it they have this state
+  pub record HasState (version : ImageVersion) (c : Compiled) (s : State) : Type 0 where
+    pub source : BeginsCompiled version c
+    pub state : state_at version (length bytes) (size_of c) (threads_of c) source.rest ≡ Ok s
+    pub fits : IsState version (size_of c) (threads_of c) s
 
--- the image has the words of the variables and after them those of the logs, and the schedules of all lives
-pub record IsImage (bytes : List ℕ) (image : Image) : Type 0 where
-  pub state : State
-  pub is : HasState bytes image.compiled state
-  pub sound : IsWellFormedState (flat_of image.compiled.flat) image.compiled.translated.resumes.items state
-  pub words : image.words.items ≡ state.variables ++ state.logs
-  pub lives : schedules_of state.lives ≡ all_lives (lives_in image.lives.earlier.items image.lives.schedule.items)
+  -- the image has the words of the variables and after them those of the logs, and the schedules of all lives
+  pub record IsImage (image : Image) : Type 0 where
+    pub version : ImageVersion
+    pub state : State
+    pub is : HasState version image.compiled state
+    pub sound : IsWellFormedState (log_of version) (flat_of image.compiled.flat) image.compiled.translated.resumes.items state
+    pub words : image.words.items ≡ state.variables ++ state.logs
+    pub lives : schedules_of state.lives ≡ all_lives (lives_in image.lives.earlier.items image.lives.schedule.items)
 
-pub data IsImageAnswer (bytes : List ℕ) : Result Image ImageError → Type 0 where
-  whole : (image : Image) → IsImage bytes image → IsImageAnswer bytes (Ok image)
-  -- the bytes begin with no source
-  no_source : (fault : Fault) → source_at First bytes ≡ Err fault → IsImageAnswer bytes (Err (error_of fault))
-  -- the compiler refuses the source
-  refused : (source rest : List ℕ) (rule : Rule) (place : Place) → source_at First bytes ≡ Ok (source, rest) → IsRefusedBy source rule place →
-      IsImageAnswer bytes (Err e.Source)
-  -- what stands after the source isn't whole, or isn't of it
-  no_state : (c : Compiled) (fault : Fault) → (source : BeginsCompiled bytes c) →
-      state_at First (length bytes) (size_of c) (threads_of c) source.rest ≡ Err fault → IsImageAnswer bytes (Err (error_of fault))
-  -- nothing can be resumed from it
-  unsound : (c : Compiled) (s : State) (error : ImageError) → HasState bytes c s → IsStateFault (flat_of c.flat) c.translated.resumes.items s error →
-      IsImageAnswer bytes (Err error)
-  -- want of memory tells nothing
-  no_memory : IsImageAnswer bytes (Err e.Memory)
+  pub data IsImageAnswer : Result Image ImageError → Type 0 where
+    whole : (image : Image) → IsImage image → IsImageAnswer (Ok image)
+    -- the bytes begin with no version that may be read
+    no_version : (fault : Fault) → version_in newest bytes ≡ Err fault → IsImageAnswer (Err (error_of fault))
+    -- the version is followed by no source
+    no_source : (version : ImageVersion) (fault : Fault) → version_in newest bytes ≡ Ok version → source_at version bytes ≡ Err fault →
+        IsImageAnswer (Err (error_of fault))
+    -- the compiler refuses the source
+    refused : (version : ImageVersion) (source rest : List ℕ) (rule : Rule) (place : Place) → version_in newest bytes ≡ Ok version →
+        source_at version bytes ≡ Ok (source, rest) → IsRefusedAs (log_of version) source rule place → IsImageAnswer (Err e.Source)
+    -- what stands after the source isn't whole, or isn't of it
+    no_state : (version : ImageVersion) (c : Compiled) (fault : Fault) → (source : BeginsCompiled version c) →
+        state_at version (length bytes) (size_of c) (threads_of c) source.rest ≡ Err fault →
+        IsImageAnswer (Err (state_error (length bytes - length source.rest) fault))
+    -- nothing can be resumed from it
+    unsound : (version : ImageVersion) (c : Compiled) (s : State) (error : ImageError) → HasState version c s →
+        IsStateFault (log_of version) (flat_of c.flat) c.translated.resumes.items s error → IsImageAnswer (Err error)
+    -- want of memory tells nothing
+    no_memory : IsImageAnswer (Err e.Memory)

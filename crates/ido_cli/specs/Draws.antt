@@ -12,7 +12,7 @@ variable_lines c = (length c.runs.initial + (LINE_BYTES - 1)) / LINE_BYTES
 
 -- the events that a seed draws, with crashes after some of the draws
 abbrev pub drawn_by : Translation → (seed turns : ℕ) → (crashes : List ℕ) → List Event
-drawn_by c seed turns crashes = drawn_run seed turns crashes (length c.flat.threads) (variable_lines c)
+drawn_by c seed turns crashes = drawn_run seed turns crashes c.runs.log (length c.flat.threads) (variable_lines c)
 
 -- status 0, and the source of a seed, whose threads make so many rounds
 pub record IsGenerated (rounds seed status : ℕ) (output : List ℕ) : Type 0 where

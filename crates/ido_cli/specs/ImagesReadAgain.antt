@@ -11,12 +11,14 @@ use Rattle.compiler_correctness.specs.Images as left
 use Rattle.compiler_correctness.specs.Translations.{Translation, translation_to}
 use Rattle.flat_compile.specs.TranslatedForms.{IsTranslated}
 use Rattle.ido_compile.specs.declared.compiler.Compiled.{Compiled}
-use Rattle.ido_compile.specs.CompileAnswers.{IsCompiled, translation_in}
+use Rattle.ido_compile.specs.CompileAnswers.{IsCompiledAs, translation_in}
 use Rattle.crash_images.specs.ImageDecoder.{IsReadAs}
-use Rattle.crash_images.specs.declared.version.ImageVersion.TheVariants.{First}
+use Rattle.crash_images.specs.declared.version.ImageVersion.TheVariants.{First, Third}
 use Rattle.image_checks.specs.declared.error.ImageError.{ImageError}
 use Rattle.image_checks.specs.declared.error.ImageError.TheVariants as e
+use Rattle.ido_base.specs.declared.log.Log.TheVariants.{V1}
 use Rattle.image_checks.specs.Checks.{IsThreadFault}
+use Rattle.image_checks.specs.Logs.{logs_of}
 use Rattle.image_checks.specs.RunImages.{left_by, file_contents, file_state}
 use Rattle.ido_cli.specs.declared.compiled_image.Image.{Image}
 use Rattle.ido_cli.specs.CompiledImages.{IsImageAnswer}
@@ -26,11 +28,11 @@ use Rattle.run_tracker.specs.links.EarlierLives.{lives_in}
 -- where bytes spell the file of a run of the translation
 pub data IsReadAgain (source : List ℕ) (c : Translation) (file : left.Image) : Result Image ImageError → Type 0 where
   -- the source is compiled again, and the words and the schedules are the file's
-  again : (image : Image) → IsCompiled source image.compiled → image.words.items ≡ file.words →
+  again : (image : Image) → IsCompiledAs V1 source image.compiled → image.words.items ≡ file.words →
       all_lives (lives_in image.lives.earlier.items image.lives.schedule.items) ≡ all_lives file.kept → IsReadAgain source c file (Ok image)
   -- the source is compiled to another translation, and a thread can't be resumed by its places
-  elsewhere : (d : Compiled) (error : ImageError) → IsCompiled source d → translation_in d ≢ c →
-      IsThreadFault (flat_of d.flat).variables d.translated.resumes.items (file_state c file).logs error → IsReadAgain source c file (Err error)
+  elsewhere : (d : Compiled) (error : ImageError) → IsCompiledAs V1 source d → translation_in d ≢ c →
+      IsThreadFault (flat_of d.flat).variables d.translated.resumes.items (logs_of V1 (file_state c file).logs) error → IsReadAgain source c file (Err error)
   -- want of memory tells nothing
   no_memory : IsReadAgain source c file (Err e.Memory)
 
@@ -39,5 +41,5 @@ abbrev pub RunImagesAreRead : Type 0
 RunImagesAreRead = (source bytes : List ℕ) (flat : Flat) (object : Object) (marks : Marks) (cuts : Cuts) (events : List Event)
     (answer : Result Image ImageError) → IsAccepted source flat → IsTranslated flat object marks cuts → let c = translation_to flat object marks cuts in
     (left_by c events).kept.earlier ≡ [] → length (left_by c events).kept.schedule ≤ MOST_STEPS →
-    IsReadAs First (file_contents source c (left_by c events)) bytes → IsImageAnswer bytes answer →
+    IsReadAs First (file_contents source c (left_by c events)) bytes → IsImageAnswer Third bytes answer →
     IsReadAgain source c (left_by c events) answer

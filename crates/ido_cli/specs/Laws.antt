@@ -5,6 +5,7 @@ use Rattle.ido_base.specs.Cores.{IsValidNow}
 use Rattle.ido_base.specs.declared.limits.TheConstants.{MOST_EVENTS}
 use Rattle.c_tree.specs.Flats.{Flat}
 use Rattle.flow_graph.specs.Refusals.{IsAccepted}
+use Rattle.flat_compile.specs.TranslatedForms.{command_log}
 use Rattle.compiler_correctness.specs.Translations.{Translation}
 use Rattle.run_scripts.specs.Journals.{ends_line, journal_text}
 use Rattle.run_scripts.specs.Plays.{MayStart}
@@ -61,7 +62,8 @@ pub data IsUncompiled (c : Option Command) (input : List ℕ) (status : ℕ) : T
   plain : IsPlain c → IsUncompiled c input status
   past : (d : Command) → c ≡ Some d → IsPastLimits d input → IsUncompiled c input status
   breaks_rule : status ≡ 1 → IsUncompiled c input status
-  misspelled : TakesScript c → (flat : Flat) → IsAccepted (source_of input) flat → (x : Fault) → read (length flat.threads) (rest_of input) ≡ Refused x →
+  misspelled : TakesScript c → (flat : Flat) → IsAccepted (source_of input) flat → (x : Fault) →
+      read command_log (length flat.threads) (rest_of input) ≡ Refused x →
       IsUncompiled c input status
 
 -- words and an input have at most one such answer: a status and an output
@@ -83,6 +85,6 @@ pub record IsAlone (source : List ℕ) : Type 0 where
 -- a journal of events of such a source, whose starts each of its translations may make, is answered by `play` with what is said of these events
 abbrev pub JournalsArePlayed : Type 0
 JournalsArePlayed = (source : List ℕ) (events : List Event) (flat : Flat) (status : ℕ) (output : List ℕ) → IsAlone source → IsAccepted source flat →
-    length events ≤ MOST_EVENTS → All (IsValidNow (length flat.threads) (IsEviction (length flat.threads)) true) events →
+    length events ≤ MOST_EVENTS → All (IsValidNow (length flat.threads) (IsEviction command_log (length flat.threads)) true) events →
     ((c : Translation) → IsTranslationOf flat c → MayStart living (beginning c) events) →
     PlayAnswer (journal_text source events) status output → (c : Translation) × IsTranslationOf flat c × IsRunBy c events status output

@@ -6,9 +6,11 @@ use Rattle.c_tree.specs.Flats.{flat_of}
 use Rattle.compiler_correctness.specs.Translations.{Translation}
 use Rattle.compiler_correctness.specs.Images.{Image, file_of, first_from, image_in, image_of, steps_from, world_from}
 use Rattle.ido_compile.specs.declared.compiler.Compiled.{Compiled}
-use Rattle.ido_compile.specs.CompileAnswers.{IsCompiled, translation_in}
+use Rattle.ido_compile.specs.CompileAnswers.{IsCompiledAs, translation_in}
 use Rattle.image_checks.specs.declared.error.ImageError.{ImageError}
+use Rattle.ido_base.specs.declared.log.Log.TheVariants.{V1}
 use Rattle.image_checks.specs.Checks.{IsThreadFault}
+use Rattle.image_checks.specs.Logs.{logs_of}
 use Rattle.image_checks.specs.RunImages.{file_state, left_by}
 use Rattle.rv64_isa.specs.Schedule.{schedules}
 use Rattle.run_tracker.specs.ObjectLives.{LifeConfig}
@@ -42,9 +44,9 @@ pub record IsRecovery (c : Translation) (file : Image) (turns status : ℕ) (out
 -- what is said of the image that a run of a translation has left
 pub data IsRecoveredRun (source : List ℕ) (c : Translation) (before : List Event) (turns status : ℕ) (output : List ℕ) : Type 0 where
   -- It is read as what was left, and the source compiled again. Where that is the same translation, its run goes on: `goes_on` says so of these events.
-  recovered : (again : Compiled) → IsCompiled source again → IsRecovery (translation_in again) (left_by c before) turns status output →
+  recovered : (again : Compiled) → IsCompiledAs V1 source again → IsRecovery (translation_in again) (left_by c before) turns status output →
       IsRecoveredRun source c before turns status output
   -- the source is compiled to another translation, and a thread can't be resumed by its places
-  refused : (other : Compiled) (error : ImageError) → IsCompiled source other → translation_in other ≢ c →
-      IsThreadFault (flat_of other.flat).variables other.translated.resumes.items (file_state c (left_by c before)).logs error → status ≡ 6 →
+  refused : (other : Compiled) (error : ImageError) → IsCompiledAs V1 source other → translation_in other ≢ c →
+      IsThreadFault (flat_of other.flat).variables other.translated.resumes.items (logs_of V1 (file_state c (left_by c before)).logs) error → status ≡ 6 →
       image_line error ≡ Some output → IsRecoveredRun source c before turns status output

@@ -3,6 +3,7 @@ use Rattle.std.specs.Prelude.{◌≡◌, ℕ, ◌+◌, ◌-◌, ◌<◌, ◌≤�
 use Rattle.std.specs.Prelude.{◌==◌, if◌then◌else◌}
 use Rattle.ido_base.specs.declared.event.Event.{Event}
 use Rattle.ido_base.specs.declared.event.Event.TheVariants.{Step, Evict, Crash, Start}
+use Rattle.ido_base.specs.declared.log.Log.{Log}
 use Rattle.ido_base.specs.Cores.{played}
 use Rattle.compiler_correctness.specs.Translations.{Translation}
 use Rattle.hart_driver.specs.Legs.{Leg, IsLeg}
@@ -59,14 +60,14 @@ module _ (opening : LifeConfig) (turns : ℕ) (stream : Option (ℕ → ℕ × �
     crashed : (word : ℕ) (words : List ℕ) (before leg rest : List Event) → IsLeg (leg_after before (Some word)) leg →
         AreLegs words (before ++ leg ++ Crash ∷ []) rest → AreLegs (word ∷ words) before (leg ++ Crash ∷ rest)
 
--- The evictions that a seed draws at so many threads and lines of variables, where there is a seed. Where there are no threads there is no worker, and none
--- for evictions.
-abbrev pub evictions_at : (threads lines : ℕ) → (seed : Option ℕ) → Option (ℕ → ℕ × ℕ)
-evictions_at threads lines seed = if threads == 0 then None else option_map (λ s. drawn_evictions s threads lines) seed
+-- The evictions that a seed draws at so many threads, which log so, and lines of variables, where there is a seed. Where there are no threads there is no
+-- worker, and none for evictions.
+abbrev pub evictions_at : Log → (threads lines : ℕ) → (seed : Option ℕ) → Option (ℕ → ℕ × ℕ)
+evictions_at log threads lines seed = if threads == 0 then None else option_map (λ s. drawn_evictions s log threads lines) seed
 
 -- those of a translation's machine
 abbrev pub evictions_by : Translation → (seed : Option ℕ) → Option (ℕ → ℕ × ℕ)
-evictions_by c seed = evictions_at (length c.runs.program) (variable_lines c) seed
+evictions_by c seed = evictions_at c.runs.log (length c.runs.program) (variable_lines c) seed
 
 -- ---- Rounds of the caller
 

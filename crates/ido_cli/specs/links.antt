@@ -5,3 +5,4 @@ pub mod LegRuns
 pub mod CountedSections
 pub mod CrashPoints
 pub mod PlayedLives
+pub mod BegunImages

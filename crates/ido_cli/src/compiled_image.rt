@@ -1,20 +1,27 @@
 //! Bytes read as an image, from which a machine can begin.
-ghost use Rattle.std.specs.Prelude.{◌≡◌, ◌+◌, ◌*◌, ◌/◌, ◌≤◌, ◌++◌, length, map, sum_by, Err, IfOk, OnOk, MatchResult};
-ghost use Rattle.ido_base.specs.declared.limits.TheConstants.{MOST_INPUT_BYTES, MOST_SOURCE_BYTES, MOST_STEPS};
+ghost use Rattle.std.specs.Prelude.{◌≡◌, ◌-◌, ◌≤◌, ◌++◌, ◌%◌, length, map, Err, OnOk, MatchResult, ℕ};
+ghost use Rattle.ido_base.specs.declared.limits.TheConstants.{MOST_INPUT_BYTES, MOST_SOURCE_BYTES};
 ghost use Rattle.run_scripts.specs.links.ReportViews.{steps_of};
-ghost use Rattle.crash_images.specs.Contents.{log_words, word_bytes};
-ghost use Rattle.ido_compile.specs.CompileAnswers.{IsCompiled, IsCompileAnswer};
-ghost use Rattle.ido_compile.specs.declared.error.CompileError.{CompileError};
+ghost use Rattle.crash_images.specs.Contents.{IsState, word_bytes};
+ghost use Rattle.crash_images.specs.ImageDecoder.{state_at};
+ghost use Rattle.crash_images.specs.links.Views.{state_of};
+ghost use Rattle.file_fields.specs.links.ReaderResults.{Fails};
+ghost use Rattle.ido_compile.specs.CompileAnswers.{IsCompiledAs, IsCompileAnswerAs};
 ghost use Rattle.ido_cli.specs.CompiledImages.{IsImageAnswer};
 ghost use Rattle.rv64_isa.specs.Schedule.{all_lives};
 ghost use Rattle.run_tracker.specs.links.EarlierLives.{lives_in};
+ghost use Rattle.ido_cli.specs.links.BegunImages.{HasBegun, IsBegun, of_state};
 ghost use Rattle.ido_cli.specs.links.CompileRefusals.{image_fault};
 
-use crash_images::reading::{read_source, read_state};
+use crash_images::reading::{read_source, read_state, read_version};
 use crash_images::state::State;
 use crash_images::version::ImageVersion;
+use file_fields::error::ReadError;
+use file_fields::reading::place_of;
+use ido_base::log::Log;
 use ido_base::memory::OutOfMemory;
-use ido_compile::{CompileError, Compiled, compile};
+use ido_base::place::Place;
+use ido_compile::{CompileError, Compiled, compile_as};
 use image_checks::error::ImageError;
 use image_checks::state::check_state;
 use std::alloc::Global;
@@ -31,7 +38,7 @@ pub struct KeptLives {
 #[derive(Drop)]
 pub struct Image {
     pub compiled: Compiled,
-    /// The durable words of the variables, and after them those of the logs, 128 for each thread.
+    /// The durable words of the variables, and after them those of the logs.
     pub words: Vec<u64>,
     pub lives: KeptLives,
 }
@@ -46,15 +53,55 @@ fn source_fault(error: CompileError) -> ImageError
     }
 }
 
-/// The source of an image, compiled, or the image's fault.
-fn compiled_source(alloc: Global, source: &[u8]) -> Result<Compiled, ImageError>
+/// The source of an image, compiled for its log, or the image's fault.
+fn compiled_source(alloc: Global, log: Log, source: &[u8]) -> Result<Compiled, ImageError>
     requires { length source.now ≤ MOST_SOURCE_BYTES }
-    ensures { MatchResult result (λ compiled. IsCompiled source.now compiled)
-        (λ fault. (error : CompileError) × (fault ≡ image_fault error) × IsCompileAnswer source.now (Err error)) }
+    ensures { MatchResult result (λ compiled. IsCompiledAs log source.now compiled)
+        (λ fault. (error : CompileError) × (fault ≡ image_fault error) × IsCompileAnswerAs log source.now (Err error)) }
 {
-    match compile(alloc, source) {
+    match compile_as(alloc, log, source) {
         Ok(compiled) => Ok(compiled),
         Err(error) => Err(source_fault(error)),
+    }
+}
+
+/// The fault of an image by a fault of what stands after its source, at whose beginning the number of bytes of the variables stands.
+fn state_fault(error: ReadError, size_place: Place) -> ImageError
+    ensures { result ≡ of_state size_place.0 error }
+{
+    match error {
+        ReadError::Magic => ImageError::Magic,
+        ReadError::Version => ImageError::Version,
+        ReadError::Cut(place) => ImageError::Cut(place),
+        ReadError::Field(place) => {
+            if place.0 == size_place.0 {
+                ImageError::Source
+            } else {
+                ImageError::Lives { life: 0 }
+            }
+        }
+        ReadError::Rest(place) => ImageError::Rest(place),
+        ReadError::Memory => ImageError::Memory,
+    }
+}
+
+/// What stands after the source of an image, or the image's fault.
+fn state_after(
+    alloc: Global,
+    total: u32,
+    rest: &[u8],
+    version: ImageVersion,
+    size: u32,
+    threads: u32,
+) -> Result<State, ImageError>
+    requires { size % word_bytes ≡ 0 }
+    ensures { MatchResult result
+        (λ state. (state_at version total size threads rest.now ≡ Ok (state_of state)) × IsState version size threads (state_of state))
+        (λ fault. (error : ReadError) × (fault ≡ of_state (total - length rest.now) error) × Fails error (state_at version total size threads rest.now)) }
+{
+    match read_state(alloc, total, rest, version, size, threads) {
+        Ok(state) => Ok(state),
+        Err(error) => Err(state_fault(error, place_of(total, rest))),
     }
 }
 
@@ -80,30 +127,51 @@ fn last_apart(mut lives: Vec<Vec<u32>>) -> KeptLives
     }
 }
 
-/// The image of version 1 that all bytes spell, of a source that the compiler accepts, where each thread can be resumed by its log, no two
-/// threads hold one mutex, and the source makes the steps of the schedule; or the first fault.
-///
-/// Numbers are of four bytes and words of eight, little-endian: 8 bytes `IDO-IMG` and LF, the version 1, the number of bytes of
-/// the source, at most 1,048,576, and these; the number of bytes of the variables, as the source's object has it, their durable
-/// words, and those of the logs, 128 for each thread; the number of runs, and of each run the thread and how many steps it took.
-///
-/// The order of faults: the bytes up to the end of the source; a refused source; the bytes after it; then by thread a point, a mask,
-/// a register; a mutex in two masks; a step of the schedule. An image that a run leaves has none (`laws::run_images_are_read`).
-pub fn read_image(alloc: Global, bytes: &[u8]) -> Result<Image, ImageError>
-    requires short { length bytes.now ≤ MOST_INPUT_BYTES }
-    ensures answer { IsImageAnswer bytes.now result }
-    // The image has as many words as the variables and the logs have, and at most 4,000,000 steps.
-    ensures words { IfOk result (λ image. length image.words.items ≡
-        length image.compiled.translated.object.initial.items / word_bytes + log_words * length image.compiled.translated.object.code.items) }
-    ensures steps { IfOk result (λ image. sum_by length (all_lives (lives_in image.lives.earlier.items image.lives.schedule.items)) ≤ MOST_STEPS) }
+/// What stands first in an image: its version, and its source, compiled for the log of that version; and the bytes after it.
+#[derive(Drop)]
+pub struct Begun<'a> {
+    pub version: ImageVersion,
+    pub compiled: Compiled,
+    pub rest: &'a [u8],
+}
+
+/// What stands first in the bytes of an image of a version up to the newest that is asked for, where the compiler accepts its source; or the first fault.
+pub fn begin<'a>(
+    alloc: Global,
+    bytes: &'a [u8],
+    newest: ImageVersion,
+) -> Result<Begun<'a>, ImageError>
+    requires { length bytes.now ≤ MOST_INPUT_BYTES }
+    ensures { IsBegun newest bytes.now result }
 {
-    let (source, rest) = read_source(bytes, ImageVersion::First)?;
-    let compiled = compiled_source(alloc, source)?;
-    let size = compiled.translated.object.initial.len() as u32;
-    let threads = compiled.translated.object.code.len() as u32;
+    let version = read_version(bytes, newest)?;
+    let (source, rest) = read_source(bytes, version)?;
+    let compiled = compiled_source(alloc, version.log(), source)?;
+    Ok(Begun {
+        version,
+        compiled,
+        rest,
+    })
+}
+
+/// The image whose bytes begin so, where each thread can be resumed by its log, no two threads hold one mutex, and the source makes the steps of the
+/// schedules; or the first fault.
+pub fn finish(alloc: Global, bytes: &[u8], begun: Begun<'_>) -> Result<Image, ImageError>
+    requires short { length bytes.now ≤ MOST_INPUT_BYTES }
+    requires begun { (newest : ImageVersion) × HasBegun newest bytes.now begun }
+    ensures { (newest : ImageVersion) → HasBegun newest bytes.now begun → IsImageAnswer newest bytes.now result }
+{
+    let size = begun.compiled.translated.object.initial.len() as u32;
+    let threads = begun.compiled.translated.object.code.len() as u32;
     let total = bytes.len() as u32;
-    let state = read_state(alloc, total, rest, ImageVersion::First, size, threads)?;
-    let lives = check_state(alloc, &compiled.flat, &compiled.translated.resumes, &state)?;
+    let state = state_after(alloc, total, begun.rest, begun.version, size, threads)?;
+    let lives = check_state(
+        alloc,
+        &begun.compiled.flat,
+        &begun.compiled.translated.resumes,
+        begun.version.log(),
+        &state,
+    )?;
     let State {
         variables: mut words,
         logs,
@@ -111,8 +179,27 @@ pub fn read_image(alloc: Global, bytes: &[u8]) -> Result<Image, ImageError>
     } = state;
     extend(&mut words, &logs)?;
     Ok(Image {
-        compiled,
+        compiled: begun.compiled,
         words,
         lives: last_apart(lives),
     })
+}
+
+/// The image that all bytes spell, of a version up to the newest that is asked for, of a source that the compiler accepts, where each thread can be resumed by
+/// its log, no two threads hold one mutex, and the source makes the steps of the schedules; or the first fault.
+///
+/// Numbers are of four bytes and words of eight, little-endian: 8 bytes `IDO-IMG` and LF, the version, the number of bytes of the source, at most 1,048,576,
+/// and these; the number of bytes of the variables, as the source's object has it, their durable words, and those of the logs, 128 for each thread in version
+/// 1, else 256; in version 3 the number of lives, else there is one; and of each life the number of runs, and of each run the thread and how many steps it
+/// took.
+///
+/// The order of faults: the bytes up to the end of the source; a refused source; the bytes after it; then by thread a point, and its locks and registers, in
+/// version 1 the locks first; a mutex that two threads hold; by life a step of its schedule, or that it leaves a thread inside a section and isn't the last.
+/// An image that a run leaves has none (`laws::run_images_are_read`).
+pub fn read_image(alloc: Global, bytes: &[u8], newest: ImageVersion) -> Result<Image, ImageError>
+    requires { length bytes.now ≤ MOST_INPUT_BYTES }
+    ensures { IsImageAnswer newest bytes.now result }
+{
+    let begun = begin(alloc, bytes, newest)?;
+    finish(alloc, bytes, begun)
 }

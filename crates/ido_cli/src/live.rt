@@ -1,5 +1,4 @@
 //! The command `live`: a run of a compiled source on threads.
-ghost use Rattle.ido_base.specs.declared.log.Log.TheVariants.{V1};
 ghost use Rattle.std.specs.Prelude.{◌≡◌, ◌+◌, ◌-◌, ◌/◌, ◌<◌, ◌≤◌, ◌^◌, ℕ, [], length, map, IfOk, IfSome};
 ghost use Rattle.ido_base.specs.declared.limits.TheConstants.{LINE_BYTES, MOST_SOURCE_BYTES, MOST_THREADS, MOST_VARIABLE_BYTES};
 ghost use Rattle.c_tree.specs.Flats.{flat_of};
@@ -59,8 +58,8 @@ fn evictor(seed: Option<u64>, object: &Object) -> Option<Evictor>
     requires threads { length object.now.code.items ≤ MOST_THREADS }
     requires bytes { length object.now.initial.items ≤ MOST_VARIABLE_BYTES }
     ensures drawn { coming_of evictions_of result ≡
-        evictions_at (length object.now.code.items) ((length object.now.initial.items + (LINE_BYTES - 1)) / LINE_BYTES) seed }
-    ensures valid { IfSome result (λ v. (n : ℕ) → IsEviction V1 (length object.now.code.items) (evictions_of v n).0 (evictions_of v n).1) }
+        evictions_at object.now.log (length object.now.code.items) ((length object.now.initial.items + (LINE_BYTES - 1)) / LINE_BYTES) seed }
+    ensures valid { IfSome result (λ v. (n : ℕ) → IsEviction object.now.log (length object.now.code.items) (evictions_of v n).0 (evictions_of v n).1) }
 {
     let threads = object.code.len() as u32;
     if threads == 0 {
@@ -69,7 +68,7 @@ fn evictor(seed: Option<u64>, object: &Object) -> Option<Evictor>
     let bytes = object.initial.len() as u64;
     let lines = ((bytes + (LINE_BYTES - 1)) / LINE_BYTES) as u32;
     match seed {
-        Some(seed) => Some(Evictor::new(seed, threads, lines)),
+        Some(seed) => Some(Evictor::new(seed, object.log, threads, lines)),
         None => None,
     }
 }

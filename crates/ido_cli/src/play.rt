@@ -1,5 +1,4 @@
 //! The commands `play` and `image`: a run of the compiled source by a script.
-ghost use Rattle.ido_base.specs.declared.log.Log.TheVariants.{V1};
 ghost use Rattle.ido_base.specs.declared.place.Place.{Place};
 ghost use Rattle.std.specs.Prelude.{◌≡◌, ◌+◌, ◌≤◌, All, None, length, map, option_map, IfOk, IfSome, IsSome};
 ghost use Rattle.ido_base.specs.declared.limits.TheConstants.{MOST_EVENTS, MOST_INPUT_BYTES, MOST_SOURCE_BYTES};
@@ -117,8 +116,8 @@ fn played_answer(
     requires compilation { IsCompilation (translation_in compiled.now) }
     requires short_source { length compiled.now.text.items ≤ MOST_SOURCE_BYTES }
     requires free { barred_start (takes_lives asked) (map scripts.line_of script.now.lines.items) ≡ None }
-    requires doable { let threads = length compiled.now.translated.object.code.items in
-        All (λ line. IsDoable threads (IsEviction V1 threads) line.command) script.now.lines.items }
+    requires doable { let object = compiled.now.translated.object in
+        All (λ line. IsDoable (length object.code.items) (IsEviction object.log (length object.code.items)) line.command) script.now.lines.items }
     ensures { IfOk result (λ said. ScriptAnswer (translation_in compiled.now) (takes_lives asked)
         (Says asked compiled.now.text.items (translation_in compiled.now))
         (record { lines = map scripts.line_of script.now.lines.items; input = input.now; begins = begins }) said.status said.output.items) }
@@ -150,8 +149,8 @@ fn script_answer(
     requires translated { IsTranslated (flat_of compiled.now.flat) compiled.now.translated.object compiled.now.translated.marks compiled.now.translated.cuts }
     requires compilation { IsCompilation (translation_in compiled.now) }
     requires short_source { length compiled.now.text.items ≤ MOST_SOURCE_BYTES }
-    requires doable { let threads = length compiled.now.translated.object.code.items in
-        All (λ line. IsDoable threads (IsEviction V1 threads) line.command) script.now.lines.items }
+    requires doable { let object = compiled.now.translated.object in
+        All (λ line. IsDoable (length object.code.items) (IsEviction object.log (length object.code.items)) line.command) script.now.lines.items }
     ensures { IfOk result (λ said. ScriptAnswer (translation_in compiled.now) (takes_lives asked)
         (Says asked compiled.now.text.items (translation_in compiled.now))
         (record { lines = map scripts.line_of script.now.lines.items; input = input.now; begins = begins }) said.status said.output.items) }
@@ -200,7 +199,12 @@ fn compiled_answer(
     ensures { IfOk result (λ said. ScriptedAnswer (takes_lives asked) (Says asked (source_of input.now)) input.now said.status said.output.items) }
 {
     let begins = (input.len() - rest.len()) as u64;
-    match read_script(alloc, rest, compiled.translated.object.code.len() as u32) {
+    match read_script(
+        alloc,
+        rest,
+        compiled.translated.object.log,
+        compiled.translated.object.code.len() as u32,
+    ) {
         Ok(script) => script_answer(alloc, asked, compiled, &script, input, begins),
         Err(error) => script_refused(alloc, input, begins, error),
     }

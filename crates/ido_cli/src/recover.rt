@@ -1,12 +1,11 @@
 //! The command `recover`: a run that goes on from what a crash has left.
-ghost use Rattle.ido_base.specs.declared.log.Log.TheVariants.{V1};
 ghost use Rattle.std.specs.Prelude.{◌≡◌, ◌+◌, ◌*◌, ◌/◌, ◌<◌, ◌≤◌, ◌^◌, length, min, sum_by, IfOk, Some};
 ghost use Rattle.ido_base.specs.declared.limits.TheConstants.{MOST_INPUT_BYTES, MOST_STEPS};
 ghost use Rattle.ido_base.specs.Layout.{log_words};
 ghost use Rattle.rv64_isa.specs.Schedule.{all_lives};
 ghost use Rattle.c_tree.specs.Flats.{flat_of};
 ghost use Rattle.compiler_correctness.specs.Compilations.{IsCompilation};
-ghost use Rattle.flat_compile.specs.TranslatedForms.{IsTranslated};
+ghost use Rattle.flat_compile.specs.TranslatedForms.{IsTranslatedAs};
 ghost use Rattle.ido_cli.specs.Answers.{RecoverAnswer, file_in};
 ghost use Rattle.ido_cli.specs.Recoveries.{IsRecovery};
 ghost use Rattle.ido_cli.specs.Refusals.{image_line};
@@ -22,6 +21,7 @@ use crate::refusal::{
 use crate::report::say_by_source;
 use crate::said::Said;
 use compiler_correctness::laws::images_are_crashes;
+use crash_images::version::ImageVersion;
 use hart_driver::drive::drive;
 use ido_base::memory::OutOfMemory;
 use ido_base::place::Place;
@@ -81,12 +81,12 @@ fn recovered<R: Threads + Wait + Sync, G: Gate + Sync>(
     gate: &G,
 ) -> Result<Said, OutOfMemory>
     requires translated { let made = image.now.compiled.translated in
-        IsTranslated (flat_of image.now.compiled.flat) made.object made.marks made.cuts }
+        IsTranslatedAs made.object.log (flat_of image.now.compiled.flat) made.object made.marks made.cuts }
     requires compilation { IsCompilation (translation_in image.now.compiled) }
     requires steps { sum_by length (all_lives (file_in image.now).kept) ≤ MOST_STEPS }
     requires lives { length image.now.lives.earlier.items < 2 ^ 32 }
     requires words { let object = image.now.compiled.translated.object in
-        length image.now.words.items ≡ length object.initial.items / 8 + log_words V1 * length object.code.items }
+        length image.now.words.items ≡ length object.initial.items / 8 + log_words object.log * length object.code.items }
     ensures { IfOk result (λ said. IsRecovery (translation_in image.now.compiled) (file_in image.now) turns said.status said.output.items) }
 {
     images_are_crashes();
@@ -119,7 +119,7 @@ pub fn recover_answer<R: Threads + Wait + Sync, G: Gate + Sync>(
     ensures { IfOk result (λ said. RecoverAnswer turns input.now said.status said.output.items) }
 {
     shapes_run_on();
-    match read_image(alloc, input) {
+    match read_image(alloc, input, ImageVersion::Third) {
         Ok(image) => recovered(rt, alloc, &image, turns, gate),
         Err(error) => image_refused(alloc, error),
     }

@@ -37,7 +37,15 @@ fn drawn_answer(
     let threads = object.code.len() as u32;
     let bytes = object.initial.len() as u64;
     let lines = ((bytes + (LINE_BYTES - 1)) / LINE_BYTES) as u32;
-    let events = draw(alloc, seed, u64::from(turns), crashes, threads, lines)?;
+    let events = draw(
+        alloc,
+        seed,
+        u64::from(turns),
+        crashes,
+        object.log,
+        threads,
+        lines,
+    )?;
     let count = events.len() as u64;
     let mut life = Life::new(alloc, object, &compiled.translated.marks, count)?;
     make_events(&mut life, &events);

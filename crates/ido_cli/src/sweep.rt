@@ -56,9 +56,10 @@ fn life_after(points: &CrashPoints, k: u32) -> Result<Life, OutOfMemory>
     ensures { IfOk result (λ life. HasLivedTo points.now k life) }
 {
     let translated = &points.translated;
-    let cap = u64::from(k) + MOST_ROUND_STEPS + 1;
+    let most = u64::from(k);
+    let cap = most + MOST_ROUND_STEPS + 1;
     let mut life = Life::new(points.alloc, &translated.object, &translated.marks, cap)?;
-    let _all = play(&points.script, &mut life, u64::from(k));
+    let _all = play(&points.script, &mut life, most);
     life.event(Event::Crash);
     make_rounds(&mut life, MOST_ROUND_STEPS);
     Ok(life)
@@ -257,7 +258,12 @@ fn compiled_answer<R: Threads + Sync, G: Gate + Sync>(
     ensures { IfOk result (λ said. SweepAnswer input.now said.status said.output.items) }
 {
     let begins = (input.len() - rest.len()) as u64;
-    match read_script(alloc, rest, compiled.translated.object.code.len() as u32) {
+    match read_script(
+        alloc,
+        rest,
+        compiled.translated.object.log,
+        compiled.translated.object.code.len() as u32,
+    ) {
         Ok(script) => script_answer(rt, alloc, compiled, script, input, begins, gate),
         Err(error) => script_refused(alloc, input, begins, error),
     }

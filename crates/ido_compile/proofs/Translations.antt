@@ -1,5 +1,6 @@
 -- What a compiled text is to its readers.
 use Rattle.std.proofs.Common.{◌≡◌, sym, ap, ap₂, ◌∙◌, subst}
+use Rattle.ido_base.specs.declared.log.Log.{Log}
 use Rattle.c_tree.specs.Flats as f
 use Rattle.rv64_isa.specs.declared.object.Object.{Object}
 use Rattle.rv64_isa.specs.declared.object.Marks.{Marks}
@@ -12,25 +13,25 @@ use Rattle.crash_simulation.specs.Systems.{flat_of}
 use Rattle.compiler_correctness.specs.Translations.{Translation, translation_to}
 use Rattle.compiler_correctness.specs.Compilations.{IsCompilation}
 use Rattle.compiler_correctness.specs.Laws.{SystemsAreCompilations, translation_of}
-use Rattle.flat_compile.specs.TranslatedForms.{IsTranslated}
+use Rattle.flat_compile.specs.TranslatedForms.{IsTranslatedAs}
 use Rattle.ido_compile.specs.CompileAnswers.{TranslationsAreCompilations}
 
 abbrev made : f.Flat → Executable → Boundaries → Translation
 made flat runs boundaries = record { flat = flat; runs = runs; boundaries = boundaries }
 
-same_translation : (flat : f.Flat) (object : Object) (marks : Marks) (cuts : Cuts) (t : IsTranslated flat object marks cuts) →
+same_translation : (flat : f.Flat) (object : Object) (marks : Marks) (cuts : Cuts) (log : Log) (t : IsTranslatedAs log flat object marks cuts) →
     translation_of t.system ≡ translation_to flat object marks cuts
-same_translation flat object marks cuts t =
+same_translation flat object marks cuts log t =
     ap (λ (x : f.Flat). made x t.system.runs t.system.plan.boundaries) t.of_flat
     ∙ ap₂ (made flat) t.runs t.at_cuts
 
 -- all that is promised of compiled programs holds of it
 pub are_compilations : SystemsAreCompilations → TranslationsAreCompilations
-are_compilations law flat object marks cuts t =
+are_compilations law log flat object marks cuts t =
     let minimal : IsMinimal (lowered (flat_of t.system)) t.system.plan.boundaries =
     subst (λ (x : f.Flat). IsMinimal (lowered x) t.system.plan.boundaries) (sym t.of_flat)
     (subst (λ (b : Boundaries). IsMinimal (lowered flat) b) (sym t.at_cuts) t.minimal) in
     let fewest : AreFewestCuts (lowered (flat_of t.system)) t.system.plan.boundaries =
     subst (λ (x : f.Flat). AreFewestCuts (lowered x) t.system.plan.boundaries) (sym t.of_flat)
     (subst (λ (b : Boundaries). AreFewestCuts (lowered flat) b) (sym t.at_cuts) t.fewest) in
-    subst IsCompilation (same_translation flat object marks cuts t) (law t.system t.is minimal fewest)
+    subst IsCompilation (same_translation flat object marks cuts log t) (law t.system t.is minimal fewest)

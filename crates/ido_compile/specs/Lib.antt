@@ -1,3 +1,4 @@
+pub mod LoggedTexts
 pub mod CompileAnswers
 pub mod Verdicts
 pub mod FormLaws

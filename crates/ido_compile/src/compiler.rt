@@ -37,7 +37,7 @@ fn object_of(alloc: Global, text: &[u8], flat: &Flat) -> Result<Translated, Comp
 }
 
 /// The text, as a value of its own.
-fn copied(alloc: Global, text: &[u8]) -> Result<Vec<u8>, OutOfMemory>
+pub(crate) fn copied(alloc: Global, text: &[u8]) -> Result<Vec<u8>, OutOfMemory>
     ensures { IfOk result (λ copy. copy.items ≡ text.now) }
 {
     let copy = text.to_vec(alloc)?;

@@ -5,7 +5,7 @@ use Rattle.std.proofs.lemmas.List.{get_or_default}
 use borrow.Author.Count.{below_more}
 use Rattle.ido_ints.specs.declared.kinds.Kind.TheVariants.{Char}
 use Rattle.flat_compile.specs.declared.resumes.LiveLocal.{LiveLocal}
-use Rattle.image_checks.specs.Logs.{slot_in}
+use Rattle.image_checks.specs.Logs.{Logs, slot_in}
 use Rattle.image_checks.specs.Checks.{IsForm, HasLocal, IsFirstWrong}
 
 -- ---- The first of some that is wrong
@@ -23,7 +23,7 @@ in_prefix live n k d within = grind (arith, common_steps)
 in_prefix_below : (live : List LiveLocal) (n k : ℕ) → k < length (take n live) → k < n
 in_prefix_below live n k within = grind (arith, common_steps)
 
-module _ (logs : List ℕ) (thread bank : ℕ) (live : List LiveLocal) (i : ℕ) {word : ℕ} (within : i < length live)
+module _ (logs : Logs) (thread bank : ℕ) (live : List LiveLocal) (i : ℕ) {word : ℕ} (within : i < length live)
     (word_is : word ≡ slot_in logs thread bank (get_or live i none).register)
     (before : (k : ℕ) (e : LiveLocal) → k < i → HasLocal logs thread bank (get_or live k e)) where
   pub first_wrong : ¬ (IsForm (get_or live i none).kind word) → IsFirstWrong logs thread bank live (get_or live i none).register

@@ -1,17 +1,18 @@
 -- What a crash leaves of a run has no fault.
-use Rattle.std.proofs.Common.{◌≡◌, refl, ap₂, ℕ, ◌+◌, ◌*◌, ◌≤◌, List, ◌++◌, length, map, take, drop, ap, sym, subst, ◌∙◌, arith, length-drop}
+use Rattle.std.proofs.Common.{◌≡◌, refl, ap₂, ℕ, ◌+◌, ◌-◌, ◌*◌, ◌≤◌, List, ◌++◌, length, map, take, drop, ap, sym, subst, ◌∙◌, arith, length-drop}
 use Rattle.std.specs.Prelude.{Vec, sum_by}
 use Rattle.std.specs.Global.{Global}
 use Rattle.std.proofs.Math.Seq.{take-append_seam, drop-append_seam}
 use Rattle.std.proofs.lemmas.List.{length-map, length-take-le}
-use Rattle.ido_base.specs.Layout.{word_count}
-use Rattle.ido_base.specs.declared.log.Log.TheVariants.{V1}
+use Rattle.ido_base.specs.Layout.{log_words, word_count}
+use Rattle.ido_base.specs.declared.log.Log.TheVariants.{V1, V2}
 use Rattle.ido_base.specs.declared.log.Log.{Log}
 use Rattle.ido_base.specs.declared.event.Event.{Event}
 use Rattle.ido_base.specs.declared.limits.TheConstants.{MOST_STEPS}
 use Rattle.ido_base.specs.Words.{Word, durable_value}
 use Rattle.c_tree.specs.Flats as f
 use Rattle.c_tree.specs.Source.{start}
+use Rattle.c_tree.specs.WellFormed.{ArePlain}
 use Rattle.rv64_isa.specs.declared.object.Object.{Object}
 use Rattle.rv64_isa.specs.declared.object.Marks.{Marks}
 use Rattle.rv64_isa.specs.Executables.{Executable}
@@ -27,10 +28,11 @@ use Rattle.compiler_correctness.specs.Laws.{MachinesRecord, translation_of}
 use Rattle.compiler_correctness.specs.Translations.{Translation, steps, world, translation_to}
 use Rattle.flat_compile.specs.declared.resumes.Resume.{Resume}
 use Rattle.flat_compile.specs.ResumePlaces.{IsResumeTable}
-use Rattle.flat_compile.specs.TranslatedForms.{IsTranslated}
+use Rattle.flat_compile.specs.TranslatedForms.{IsTranslatedAs}
 use Rattle.crash_images.specs.Contents.{State}
 use Rattle.image_checks.specs.Checks.{AreSound, IsUnshared, IsWellFormedState}
 use Rattle.image_checks.specs.Laws.{RunsLeaveNoFault}
+use Rattle.image_checks.specs.Logs.{logs_of}
 use Rattle.image_checks.specs.RunImages.{file_state, left_by}
 use Rattle.image_checks.specs.Schedules.{AreSchedules}
 use Rattle.image_checks.proofs.LeftLogs.{are_sound, are_unshared, logs_left}
@@ -39,14 +41,18 @@ use Rattle.image_checks.proofs.LivesLaws.{merged_lives}
 -- ---- What is so by whatever places threads are resumed
 
 -- words of the variables and of a log for each thread, no mutex that two threads hold, and schedules of lives that the source makes
-pub record IsWhole (flat : f.Flat) (threads size : ℕ) (x : State) : Type 0 where
+pub record IsWhole (log : Log) (flat : f.Flat) (threads size : ℕ) (x : State) : Type 0 where
   pub variables : 8 * length x.variables ≡ size
-  pub logs : length x.logs ≡ 128 * threads
-  pub unshared : (lock : ℕ) → IsUnshared x.logs threads lock
+  pub logs : length x.logs ≡ log_words log * threads
+  pub unshared : (lock : ℕ) → IsUnshared (logs_of log x.logs) threads lock
   pub schedules : AreSchedules flat (start flat) 0 x.lives
 
+word_total : (log : Log) (threads : ℕ) → word_count log threads ≡ 8192 + log_words log * threads
+word_total V1 threads = omega arith
+word_total V2 threads = omega arith
+
 module _ (machines : MachinesResume) (records : MachinesRecord) (y : System) (s : IsSystem y) (events : List Event)
-    (few : variable_words (translation_of y) ≤ 8192) (first : y.plan.log ≡ V1) where
+    (few : variable_words (translation_of y) ≤ 8192) (log : Log) (first : y.plan.log ≡ log) where
   abbrev c : Translation
   c = translation_of y
 
@@ -68,20 +74,19 @@ module _ (machines : MachinesResume) (records : MachinesRecord) (y : System) (s 
   stands : Simulates y s (world c events)
   stands = (machines y s events).is.stands
 
-  logs : (world c events).log ≡ V1
+  logs : (world c events).log ≡ log
   logs = sym stands.machine.log ∙ first
 
-  size : length ws ≡ 8192 + 128 * length y.runs.program
+  size : length ws ≡ 8192 + log_words log * length y.runs.program
   size =
-      let all : length words ≡ word_count V1 (length (world c events).harts) =
-      stands.machine.sound.size ∙ ap (λ (l : Log). word_count l (length (world c events).harts)) logs in
-      let count = stands.machine.count in
-      let programs = s.count in
-      let mapped = length-map words durable_value in
-      omega (arith, all, count, programs, mapped)
+      length-map words durable_value ∙ stands.machine.sound.size ∙ ap (λ (l : Log). word_count l (length (world c events).harts)) logs
+      ∙ ap (word_count log) (stands.machine.count ∙ sym s.count) ∙ word_total log (length y.runs.program)
+
+  within : (rest : ℕ) → length ws ≡ 8192 + rest → n ≤ length ws
+  within rest is = omega (arith, few, is)
 
   prefix : length (take n ws) ≡ n
-  prefix = length-take-le n ws (omega (arith, few, size))
+  prefix = length-take-le n ws (within (log_words log * length y.runs.program) size)
 
   logs_are : left.logs ≡ logs_left words
   logs_are = ap (λ (k : ℕ). drop k (take n ws ++ drop 8192 ws)) (sym prefix) ∙ drop-append_seam (take n ws) (drop 8192 ws)
@@ -89,32 +94,37 @@ module _ (machines : MachinesResume) (records : MachinesRecord) (y : System) (s 
   variables_are : left.variables ≡ take n ws
   variables_are = ap (λ (k : ℕ). take k (take n ws ++ drop 8192 ws)) (sym prefix) ∙ take-append_seam (take n ws) (drop 8192 ws)
 
-  unshared : (threads : ℕ) → threads ≡ length y.runs.program → (lock : ℕ) → IsUnshared left.logs threads lock
+  unshared : (threads : ℕ) → threads ≡ length y.runs.program → (lock : ℕ) → IsUnshared (logs_of log left.logs) threads lock
   unshared threads is lock =
-      subst (λ (logs : List ℕ). IsUnshared logs threads lock) (sym logs_are)
-      (subst (λ (k : ℕ). IsUnshared (logs_left words) k lock) (sym (is ∙ s.count)) (are_unshared y s (world c events) stands logs lock))
+      subst (λ (ls : List ℕ). IsUnshared (logs_of log ls) threads lock) (sym logs_are)
+      (subst (λ (k : ℕ). IsUnshared (logs_of log (logs_left words)) k lock) (sym (is ∙ s.count)) (are_unshared y s (world c events) stands log logs lock))
 
   scheduled : sum_by length kept ≤ MOST_STEPS → AreSchedules (flat_of y) (start (flat_of y)) 0 left.lives
   scheduled most = merged_lives (flat_of y) (start (flat_of y)) 0 kept (omega (arith, most)) (records y s events).kept
 
-  whole : sum_by length kept ≤ MOST_STEPS → IsWhole (flat_of y) (length y.runs.program) (8 * n) left
+  rest_of : (n : ℕ) → length ws ≡ 8192 + n → length ws - 8192 ≡ n
+  rest_of n is = omega (arith, is)
+
+  whole : sum_by length kept ≤ MOST_STEPS → IsWhole log (flat_of y) (length y.runs.program) (8 * n) left
   whole most = record {
     variables = omega (arith, ap length variables_are, prefix);
-    logs = omega (arith, ap length logs_are, length-drop 8192 ws, size);
+    logs = ap length logs_are ∙ length-drop 8192 ws ∙ rest_of (log_words log * length y.runs.program) size;
     unshared = unshared (length y.runs.program) refl;
     schedules = scheduled most;
   }
 
-  sound : (table : List (Vec Resume Global)) → IsResumeTable y.plan s.codes table → sum_by length kept ≤ MOST_STEPS → IsWellFormedState (flat_of y) table left
-  sound table is most = record {
-    logs = subst (λ (logs : List ℕ). AreSound (flat_of y).variables table logs) (sym logs_are) (are_sound y s (world c events) stands logs table is);
+  sound : ArePlain (flat_of y).mutexes → (table : List (Vec Resume Global)) → IsResumeTable y.plan s.codes table → sum_by length kept ≤ MOST_STEPS →
+      IsWellFormedState log (flat_of y) table left
+  sound plain table is most = record {
+    logs = subst (λ (ls : List ℕ). AreSound (flat_of y).variables table (logs_of log ls)) (sym logs_are)
+        (are_sound y s (world c events) stands log logs plain table is);
     mutexes = unshared (length table) (is.count ∙ sym s.count);
     schedules = scheduled most;
   }
 
 -- ---- As a translation of a flat form
 
-module _ (flat : f.Flat) (object : Object) (marks : Marks) (cuts : Cuts) (t : IsTranslated flat object marks cuts) (events : List Event) where
+module _ (flat : f.Flat) (object : Object) (marks : Marks) (cuts : Cuts) (log : Log) (t : IsTranslatedAs log flat object marks cuts) (events : List Event) where
   abbrev made : Translation
   made = translation_to flat object marks cuts
 
@@ -129,7 +139,7 @@ module _ (flat : f.Flat) (object : Object) (marks : Marks) (cuts : Cuts) (t : Is
   fits : variable_words (translation_of t.system) ≤ 8192
   fits = omega (arith, begins, t.limits.bytes)
 
-  first_of : t.system.plan.log ≡ V1
+  first_of : t.system.plan.log ≡ log
   first_of = t.is.log ∙ (ap (λ (x : Executable). x.log) t.runs ∙ t.log)
 
   few_of : sum_by length (all_lives (left_by made events).kept) ≤ MOST_STEPS →
@@ -140,22 +150,22 @@ module _ (flat : f.Flat) (object : Object) (marks : Marks) (cuts : Cuts) (t : Is
   programs = ap (λ (x : Executable). length x.program) t.runs ∙ length-map object.code.items (λ code. map slot_of code.items)
 
   pub left_is_whole : MachinesResume → MachinesRecord → sum_by length (all_lives (left_by made events).kept) ≤ MOST_STEPS →
-      IsWhole flat (length object.code.items) (length object.initial.items) (file_state made (left_by made events))
+      IsWhole log flat (length object.code.items) (length object.initial.items) (file_state made (left_by made events))
   left_is_whole machines records most =
       let size : 8 * variable_words (translation_of t.system) ≡ length object.initial.items = omega (arith, begins, t.limits.whole_words) in
-      subst (λ (c : Translation). IsWhole flat (length object.code.items) (length object.initial.items) (file_state c (left_by c events))) same
-      (subst (λ (x : f.Flat). IsWhole x (length object.code.items) (length object.initial.items)
+      subst (λ (c : Translation). IsWhole log flat (length object.code.items) (length object.initial.items) (file_state c (left_by c events))) same
+      (subst (λ (x : f.Flat). IsWhole log x (length object.code.items) (length object.initial.items)
       (file_state (translation_of t.system) (left_by (translation_of t.system) events))) t.of_flat
-      (subst (λ (k : ℕ). IsWhole (flat_of t.system) k (length object.initial.items)
+      (subst (λ (k : ℕ). IsWhole log (flat_of t.system) k (length object.initial.items)
       (file_state (translation_of t.system) (left_by (translation_of t.system) events))) programs
-      (subst (λ (k : ℕ). IsWhole (flat_of t.system) (length t.system.runs.program) k
+      (subst (λ (k : ℕ). IsWhole log (flat_of t.system) (length t.system.runs.program) k
       (file_state (translation_of t.system) (left_by (translation_of t.system) events))) size
-      (whole machines records t.system t.is events fits first_of (few_of most)))))
+      (whole machines records t.system t.is events fits log first_of (few_of most)))))
 
 pub runs_leave_no_fault : MachinesResume → MachinesRecord → RunsLeaveNoFault
-runs_leave_no_fault machines records flat object marks cuts table events r most =
+runs_leave_no_fault machines records log flat object marks cuts table events r plain most =
     let t = r.translated in
-    subst (λ (c : Translation). IsWellFormedState flat table (file_state c (left_by c events))) (same flat object marks cuts t events)
-    (subst (λ (x : f.Flat). IsWellFormedState x table (file_state (translation_of t.system) (left_by (translation_of t.system) events))) t.of_flat
-    (sound machines records t.system t.is events (fits flat object marks cuts t events) (first_of flat object marks cuts t events) table r.are
-    (few_of flat object marks cuts t events most)))
+    subst (λ (c : Translation). IsWellFormedState log flat table (file_state c (left_by c events))) (same flat object marks cuts log t events)
+    (subst (λ (x : f.Flat). IsWellFormedState log x table (file_state (translation_of t.system) (left_by (translation_of t.system) events))) t.of_flat
+    (sound machines records t.system t.is events (fits flat object marks cuts log t events) log (first_of flat object marks cuts log t events)
+    (subst (λ (x : f.Flat). ArePlain x.mutexes) (sym t.of_flat) plain) table r.are (few_of flat object marks cuts log t events most)))

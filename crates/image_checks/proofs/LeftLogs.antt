@@ -5,26 +5,23 @@ use Rattle.std.specs.Prelude.{slice_get, slice_index_or, Contains, ◌==◌, pos
 use Rattle.std.specs.Global.{Global}
 use Rattle.std.proofs.lemmas.Bool.{cases_Bool, cases_lt, cond-true, cond-false, eqb-true, eqb-false, ne_eqb, le-ltb}
 use Rattle.std.proofs.lemmas.List.{get_or-map, get_or_past, length-map}
-use Rattle.std.proofs.lemmas.List.Elements.{Contains-get_or}
+use Rattle.std.proofs.lemmas.List.Elements.{Contains-append_right, Contains-get_or}
 use Rattle.std.proofs.lemmas.Option.{same_Some, slice_get_within}
 use Rattle.rv64_isa.specs.Machine.{durable_point}
 use Rattle.rv64_isa.proofs.Public.{log_stays}
-use Rattle.ido_base.specs.declared.log.Log.TheVariants.{V1}
 use Rattle.ido_base.specs.declared.log.Log.{Log}
 use Rattle.ido_base.specs.declared.event.Event.TheVariants.{Crash}
 use Rattle.ido_base.specs.declared.location.Location.{Location}
-use Rattle.ido_base.specs.Layout.{variables_base, logs_base, word_number, point_at, slot_at, variable_at}
+use Rattle.ido_base.specs.Layout.{variables_base, logs_base, word_number, slot_at, variable_at}
 use Rattle.ido_base.specs.Locks.{has_lock, locks_in, mask_with}
-use Rattle.ido_base.proofs.Public.{no_locks}
 use Rattle.ido_base.specs.Words.{Word, word_of, word_at, durable_value}
 use Rattle.ido_ints.specs.declared.kinds.Kind.{Kind}
 use Rattle.c_tree.specs.Flats as f
 use Rattle.c_tree.specs.Source as m
 use Rattle.c_tree.specs.Source.{Pending}
-use Rattle.c_tree.specs.WellFormed.{shape_of}
+use Rattle.c_tree.specs.WellFormed.{shape_of, ArePlain}
 use Rattle.c_ranges.specs.RunInvariants.{IsThreadOf}
 use Rattle.c_ranges.proofs.Public.{zip_found}
-use Rattle.memory_layout.specs.declared.log.TheConstants.{MASK_SLOT}
 use Rattle.memory_layout.specs.declared.point.Point.{Point}
 use Rattle.memory_layout.specs.declared.point.Point.TheVariants.{Idle, At}
 use Rattle.memory_layout.specs.Points.{point_of}
@@ -41,12 +38,12 @@ use Rattle.flow_graph.proofs.Public.{ShapedAs, found_in, node_shaped, nodes_at}
 use Rattle.log_states.specs.LogInvariant.{LogInv}
 use Rattle.log_states.specs.Logs.{Record, IsRecord, IsRecorded, nothing_recorded, slots_of, value_of}
 use Rattle.log_states.specs.Machines.{config_of}
-use Rattle.log_states.proofs.Public.{contains_first, contains_later, crashes_standing, durable_is, ends}
+use Rattle.log_states.proofs.Public.{crashes_standing, durable_is, ends, scheme}
+use Rattle.boundary_code.specs.Boundaries.{kept_locks, slots_kept}
 use Rattle.hart_runs.proofs.Public.{crashes_step}
-use Rattle.thread_code.specs.Plans.{Plan, Thread, IsNodeOf, set_before, of_address, of_local}
+use Rattle.thread_code.specs.Plans.{Plan, Thread, IsNodeOf, locks_held, set_before, of_address, of_local}
 use Rattle.thread_code.proofs.Public.{mask_with_held}
 use Rattle.lock_discipline.specs.Masks.{mask_of}
-use Rattle.rv64_codegen.proofs.Public.{numbers_plain}
 use Rattle.thread_code.specs.RegistersAtNodes.{HasPending, IsPendingIn}
 use Rattle.recovered_threads.specs.RecordDescriptions.{Code, Describes, IsInside, ResumesAt, at_chosen, past_lock, past_unlock, between, inside, locks_of}
 use Rattle.recovered_threads.proofs.Public.{records_are_apart}
@@ -59,7 +56,9 @@ use Rattle.flat_compile.specs.declared.resumes.Resume.{Resume}
 use Rattle.flat_compile.specs.ResumePlaces.{Spot, Before, After, IsSpot, address_in, goes_on_at, IsLiveLocal, AreResumes, IsResumeTable, resumes_at}
 use Rattle.flat_compile.specs.ResumePlaces as places
 use Rattle.flat_compile.proofs.Public.{HasEntry, entry_at, node_there}
-use Rattle.image_checks.specs.Logs.{logged, point_in, slot_in, mask_by, mask_in}
+use Rattle.image_checks.specs.Logs.{Logs, locks_at_point, log_locks, logged, logs_of, point_in, slot_in}
+use Rattle.image_checks.proofs.HeldSets.{held_are_plain, locks_of_set}
+use Rattle.image_checks.proofs.LoggedWords.{HasEach, keeps_mask, kept_are_locks, lock_slot_kept, point_is, slot_there}
 use Rattle.image_checks.specs.Checks.{HasLocal, HasLocals, HasAddress, IsRight, resume_at, IsResumableLog, idle, resumed}
 use Rattle.image_checks.specs.Checks.{AreSound, IsUnshared}
 use Rattle.expr_code.specs.declared.home.Home.{Home}
@@ -106,17 +105,17 @@ place p code node address own (past_unlock from lock is from_own there unlocks h
 
 -- ---- The log of a thread
 
-module _ (y : System) (s : IsSystem y) (w : World) (stands : Simulates y s w) (first : w.log ≡ V1) where
-  abbrev logs : List ℕ
-  logs = logs_left w.words
+module _ (y : System) (s : IsSystem y) (w : World) (stands : Simulates y s w) (log : Log) (first : w.log ≡ log) where
+  abbrev logs : Logs
+  logs = logs_of log (logs_left w.words)
+
+  there : (address : ℕ) → logs_base ≤ address → durable_at w.words address ≡ logged (logs_left w.words) address
+  there address above = sym (logged_is w.words address above)
 
   abbrev after : World
   after = after_event y.runs.program w Crash
 
-  with_masks : y.plan.log ≡ V1
-  with_masks = stands.machine.log ∙ first
-
-  first_after : after.log ≡ V1
+  first_after : after.log ≡ log
   first_after = log_stays y.runs.program w Crash stands.machine.sound ∙ first
 
   abbrev kept : FlowState
@@ -137,52 +136,54 @@ module _ (y : System) (s : IsSystem y) (w : World) (stands : Simulates y s w) (f
         let c = stands.ghosts n in
         crashes_standing y.runs.program n c.old c.new w c.rest (s.count ∙ sym stands.machine.count) (log_of y s w stands n below)
 
-    recorded : IsRecorded V1 n r after.words
+    recorded : IsRecorded log n r after.words
     recorded =
         subst (λ (l : Log). IsRecorded l n r after.words) first_after
         (ends after.log n nothing_recorded r (config_of after standing.hart []) standing.log refl)
 
-    is_record : IsRecord V1 r
+    is_record : IsRecord log r
     is_record = subst (λ (l : Log). IsRecord l r) first_after standing.log.follows.new_is
 
-    logged_point : logged logs (point_at V1 n) ≡ r.point
-    logged_point = logged_is w.words (point_at V1 n) (omega arith) ∙ ap (λ (l : Log). durable_point l w.words n) (sym first)
-        ∙ left_point y s w stands n below
+    logged_point : durable_point log w.words n ≡ r.point
+    logged_point = ap (λ (l : Log). durable_point l w.words n) (sym first) ∙ left_point y s w stands n below
 
     is_idle : r.point ≡ 0 → point_in logs n ≡ Idle
-    is_idle none = ap point_of (logged_point ∙ none)
+    is_idle none = point_is log w.words (logs_left w.words) there n ∙ ap point_of (logged_point ∙ none)
 
     is_at : r.point ≢ 0 → point_in logs n ≡ At (resume_of r.point) (bank_of r.point)
-    is_at some = ap point_of logged_point ∙ cond-false (r.point == 0) Idle (At (resume_of r.point) (bank_of r.point)) (ne_eqb r.point 0 some)
+    is_at some = point_is log w.words (logs_left w.words) there n ∙ ap point_of logged_point
+        ∙ cond-false (r.point == 0) Idle (At (resume_of r.point) (bank_of r.point)) (ne_eqb r.point 0 some)
 
-    value_there : (slot : ℕ) → r.point ≢ 0 → Contains (0 ∷ r.live) slot → slot_in logs n (bank_of r.point) slot ≡ value_of V1 r slot
+    -- a slot that the record keeps has its value
+    value_there : (slot : ℕ) → r.point ≢ 0 → Contains (slots_kept log r.locks r.live) slot → slot_in logs n (bank_of r.point) slot ≡ value_of log r slot
     value_there slot some c =
-        let address = slot_at V1 n (bank_of r.point) slot in
-        let listed : Contains (slots_of V1 r) slot =
-        subst (λ (slots : List ℕ). Contains slots slot) (sym (cond-false (r.point == 0) [] (0 ∷ r.live) (ne_eqb r.point 0 some))) c in
+        let address = slot_at log n (bank_of r.point) slot in
+        let kept : Contains (slots_of log r) slot =
+        subst (λ (slots : List ℕ). Contains slots slot) (sym (cond-false (r.point == 0) [] (slots_kept log r.locks r.live) (ne_eqb r.point 0 some))) c in
         let same : durable_value (word_at after.words (word_number address)) ≡ durable_value (word_at w.words (word_number address)) =
         ap durable_value ((crashes_step y.runs.program w).words (word_number address)) in
-        logged_is w.words address (omega arith) ∙ sym same
-        ∙ durable_is (word_at after.words (word_number address)) (value_of V1 r slot) (recorded.bank slot listed)
+        sym (slot_there log w.words (logs_left w.words) there n (bank_of r.point) slot) ∙ sym same
+        ∙ durable_is (word_at after.words (word_number address)) (value_of log r slot) (recorded.bank slot kept)
 
-    mask_there : r.point ≢ 0 → slot_in logs n (bank_of r.point) MASK_SLOT ≡ mask_with r.locks
-    mask_there some = value_there 0 some (contains_first 0 r.live)
+    locks_kept : r.point ≢ 0 → HasEach (λ slot. slot_in logs n (bank_of r.point) slot) (kept_locks log r.locks)
+    locks_kept some one c =
+        value_there one.0 some (lock_slot_kept log r.locks r.live one c)
+        ∙ ((scheme log).keeps.locks r.locks one is_record.locks c).alone (read r.registers one.0)
 
     register_there : (register : ℕ) → r.point ≢ 0 → Contains r.live register → slot_in logs n (bank_of r.point) register ≡ read r.registers register
     register_there register some c =
-        let keepable = is_record.live register c in
-        value_there register some (contains_later 0 r.live register c)
-        ∙ cond-false (register == 0) (mask_with r.locks) (read r.registers register) (ne_eqb register 0 (λ e. omega (arith, e, keepable.is_register)))
+        value_there register some (Contains-append_right (map (λ (kept : ℕ × ℕ). kept.0) (kept_locks log r.locks)) r.live register c)
+        ∙ ((scheme log).keeps.registers register (is_record.live register c)).alone r.locks (read r.registers register)
 
     -- its locks are those of its record
-    logged_locks : locks_in (mask_in logs n) ≡ locks_of r
-    logged_locks = elim (cases_Bool (r.point == 0)) [
-      | inl none ↦ ap (λ (p : Point). locks_in (mask_by p logs n)) (is_idle (eqb-true r.point 0 none))
-          ∙ (no_locks ∙ sym (cond-true (r.point == 0) [] r.locks none))
+    locks_logged : log_locks logs n ≡ locks_of r
+    locks_logged = elim (cases_Bool (r.point == 0)) [
+      | inl none ↦ ap (λ (p : Point). locks_at_point logs n p) (is_idle (eqb-true r.point 0 none)) ∙ sym (cond-true (r.point == 0) [] r.locks none)
       | inr some ↦
           let is : r.point ≢ 0 = eqb-false r.point 0 some in
-          ap (λ (p : Point). locks_in (mask_by p logs n)) (is_at is)
-          ∙ (ap locks_in (mask_there is) ∙ (is_record.locks.read_back ∙ sym (cond-false (r.point == 0) [] r.locks some)))
+          ap (λ (p : Point). locks_at_point logs n p) (is_at is)
+          ∙ (kept_are_locks log (λ slot. slot_in logs n (bank_of r.point) slot) r.locks is_record.locks (locks_kept is)
+          ∙ sym (cond-false (r.point == 0) [] r.locks some))
     ]
 
     -- ---- In a section
@@ -261,8 +262,9 @@ module _ (y : System) (s : IsSystem y) (w : World) (stands : Simulates y s w) (f
 
       -- ---- By the entry of its table
 
-      resumable_inside : (rs : List Resume) → AreResumes y.plan t code.program code.is rs → IsResumableLog (flat_of y).variables rs logs n
-      resumable_inside rs are =
+      resumable_inside : ArePlain y.plan.flat.mutexes → (rs : List Resume) → AreResumes y.plan t code.program code.is rs →
+          IsResumableLog (flat_of y).variables rs logs n
+      resumable_inside plain rs are =
           let address = resume_of r.point in
           let bank = bank_of r.point in
           let q = place y.plan code at address i.own i.resumes in
@@ -276,9 +278,13 @@ module _ (y : System) (s : IsSystem y) (w : World) (stands : Simulates y s w) (f
           let locals : HasLocals logs n bank entry.live.items = λ k d within.
           let l : LiveLocal = get_or entry.live.items k d in
           local_right l (subst (λ (z : ℕ). IsLiveLocal y.plan t z l) node ((e.found.live l).0 (Contains-get_or entry.live.items k d within))) in
+          let held : r.locks ≡ locks_held (set_before y.plan t at) =
+          i.locks ∙ sym (held_are_plain y.plan s.plan t code.of plain i.graph_thread.locals at i.own) in
+          let masked : entry.mask ≡ mask_of (set_before y.plan t at) = e.found.mask_is ∙ ap (λ (n : ℕ). mask_of (set_before y.plan t n)) node in
           let right : IsRight (flat_of y).variables logs n bank entry = record {
-            mask = mask_there i.point ∙ (ap mask_with (i.locks ∙ sym (numbers_plain y.plan s.plan t code.of with_masks i.graph_thread.locals at i.own))
-                ∙ (mask_with_held (set_before y.plan t at) ∙ sym (e.found.mask_is ∙ ap (λ (n : ℕ). mask_of (set_before y.plan t n)) node)));
+            locks = keeps_mask log (λ slot. slot_in logs n bank slot) r.locks entry.mask (locks_kept i.point)
+                (ap mask_with held ∙ (mask_with_held (set_before y.plan t at) ∙ sym masked))
+                (ap locks_in masked ∙ (locks_of_set y.plan s.plan t code.of plain at ∙ sym held));
             locals = locals;
             address =
                 subst (λ (o : Option Location). HasAddress (flat_of y).variables logs n bank o) (sym pending)
@@ -286,26 +292,28 @@ module _ (y : System) (s : IsSystem y) (w : World) (stands : Simulates y s w) (f
           } in
           resumed address bank entry (is_at i.point) first right
 
-    resumable_by : (rs : List Resume) → AreResumes y.plan t code.program code.is rs → Describes y.plan code kept r →
+    resumable_by : ArePlain y.plan.flat.mutexes → (rs : List Resume) → AreResumes y.plan t code.program code.is rs → Describes y.plan code kept r →
         IsResumableLog (flat_of y).variables rs logs n
-    resumable_by rs are (between none point) = idle (is_idle point)
-    resumable_by rs are (inside some i) = resumable_inside i rs are
+    resumable_by plain rs are (between none point) = idle (is_idle point)
+    resumable_by plain rs are (inside some i) = resumable_inside i plain rs are
 
-    pub resumable : (rs : List Resume) → AreResumes y.plan t code.program code.is rs → IsResumableLog (flat_of y).variables rs logs n
-    resumable rs are = resumable_by rs are (left_describes y s w stands n below)
+    pub resumable : ArePlain y.plan.flat.mutexes → (rs : List Resume) → AreResumes y.plan t code.program code.is rs →
+        IsResumableLog (flat_of y).variables rs logs n
+    resumable plain rs are = resumable_by plain rs are (left_describes y s w stands n below)
 
   -- ---- All logs
 
-  pub are_sound : (table : List (Vec Resume Global)) → IsResumeTable y.plan s.codes table → AreSound (flat_of y).variables table logs
-  are_sound table is thread within =
+  pub are_sound : ArePlain y.plan.flat.mutexes → (table : List (Vec Resume Global)) → IsResumeTable y.plan s.codes table →
+      AreSound (flat_of y).variables table logs
+  are_sound plain table is thread within =
       let below : thread < thread_count y = subst (λ (k : ℕ). thread < k) is.count within in
-      resumable thread below (resumes_at table thread) (is.each thread below)
+      resumable thread below plain (resumes_at table thread) (is.each thread below)
 
   pub are_unshared : (lock : ℕ) → IsUnshared logs (thread_count y) lock
   are_unshared lock one other apart within here there =
       let below : one < thread_count y = omega (arith, apart, within) in
       let same = records_are_apart y.plan s.codes kept (left y s w stands) s.plan (orderly y s stands.abstract) (left_describes y s w stands)
       one other lock below within
-      (ap (λ (locks : List ℕ). has_lock locks lock) (sym (logged_locks one below)) ∙ here)
-      (ap (λ (locks : List ℕ). has_lock locks lock) (sym (logged_locks other within)) ∙ there) in
+      (ap (λ (locks : List ℕ). has_lock locks lock) (sym (locks_logged one below)) ∙ here)
+      (ap (λ (locks : List ℕ). has_lock locks lock) (sym (locks_logged other within)) ∙ there) in
       omega (arith, same, apart)

@@ -6,9 +6,11 @@ mod Forms
 mod Elements
 mod Banks
 mod Points
+mod HeldSets
 mod Tables
 mod Masks
 mod States
 mod OneFault
+mod LoggedWords
 mod LeftLogs
 mod LeftFiles

@@ -1,5 +1,5 @@
 -- What stands after a source has one fault at most, and none where it is well formed.
-use Rattle.std.proofs.Common.{◌≡◌, ⊎_elim, ℕ, ◌<◌, List, ◌∷◌, length, get_or, Some, None, refl, sym, ap, subst, ◌∙◌, arith}
+use Rattle.std.proofs.Common.{◌≡◌, ◌⊎◌, inl, inr, ⊎_elim, ℕ, ◌<◌, List, ◌∷◌, length, get_or, Some, None, refl, sym, ap, subst, ◌∙◌, arith}
 use Rattle.std.specs.Prelude.{Vec}
 use Rattle.std.specs.Global.{Global}
 use Rattle.std.proofs.lemmas.Bool.{cases_order}
@@ -13,8 +13,9 @@ use Rattle.image_checks.specs.declared.error.ImageError.{ImageError}
 use Rattle.image_checks.specs.declared.error.ImageError.TheVariants as e
 use Rattle.flat_compile.specs.ResumePlaces.{resumes_at}
 use Rattle.c_tree.specs.Source.{start}
-use Rattle.image_checks.specs.Logs.{point_in}
-use Rattle.image_checks.specs.Checks.{HasLocal, HasLocals, IsFirstWrong, IsRight, IsBankFault, other_mask, other_number, other_address}
+use Rattle.image_checks.specs.Logs.{Logs, logs_of, point_in}
+use Rattle.image_checks.specs.Checks.{AreLocksFirst, HasAddress, HasLocal, HasLocals, HasLocks, IsFirstWrong, IsRight, IsBankFault}
+use Rattle.image_checks.specs.Checks.{other_locks, other_number, other_address}
 use Rattle.image_checks.specs.Checks.{resume_at, IsResumableLog, idle, resumed, IsLogFault, nowhere, of_bank, AreSound, IsThreadFault}
 use Rattle.image_checks.specs.Checks.{AreFirstTwo, IsUnshared, IsMutexFault, shared, of_thread, of_mutexes, of_schedules}
 use Rattle.image_checks.proofs.LivesLaws.{none_in_lives, one_in_lives}
@@ -22,7 +23,7 @@ use Rattle.image_checks.specs.Laws.{OneFault, NoneIfSound}
 
 -- ---- Banks
 
-module _ (logs : List ℕ) (thread bank : ℕ) (live : List LiveLocal) where
+module _ (logs : Logs) (thread bank : ℕ) (live : List LiveLocal) where
   at_wrong : (register : ℕ) (f : IsFirstWrong logs thread bank live register) → get_or live (length f.before) f.local ≡ f.local
   at_wrong register f = ap (λ (ls : List LiveLocal). get_or ls (length f.before) f.local) f.parts ∙ get_or-append_seam f.before f.local f.after f.local
 
@@ -53,27 +54,44 @@ module _ (logs : List ℕ) (thread bank : ℕ) (live : List LiveLocal) where
       (⊎_elim (λ less. absurd (not_before one other f g less)) (λ more. absurd (not_before other one g f more)))
       (cases_order (length f.before) (length g.before))
 
-module _ (variables : List Variable) (logs : List ℕ) (thread bank : ℕ) (r : Resume) where
+module _ (variables : List Variable) (logs : Logs) (thread bank : ℕ) (r : Resume) where
   right_bank : (x : ImageError) → IsRight variables logs thread bank r → ¬ (IsBankFault variables logs thread bank r x)
-  right_bank x h (other_mask wrong) = wrong h.mask
-  right_bank x h (other_number register mask f) = none_wrong logs thread bank r.live.items register h.locals f
-  right_bank x h (other_address mask locals wrong) = wrong h.address
+  right_bank x h (other_locks before wrong) = wrong h.locks
+  right_bank x h (other_number register locks f) = none_wrong logs thread bank r.live.items register h.locals f
+  right_bank x h (other_address locks locals wrong) = wrong h.address
+
+  abbrev Before : Type 0
+  Before = AreLocksFirst logs.log
+      ⊎ (HasLocals logs thread bank r.live.items × HasAddress variables logs thread bank r.pending)
+
+  -- no register is wrong where locks are looked at, and no locks are where registers are
+  not_number : (register : ℕ) → Before → ¬ (HasLocks logs thread bank r) → (AreLocksFirst logs.log → HasLocks logs thread bank r) →
+      ¬ (IsFirstWrong logs thread bank r.live.items register)
+  not_number register (inl first) wrong locks f = wrong (locks first)
+  not_number register (inr rest) wrong locks f = none_wrong logs thread bank r.live.items register rest.0 f
+
+  not_address : Before → ¬ (HasLocks logs thread bank r) → (AreLocksFirst logs.log → HasLocks logs thread bank r) →
+      ¬ (¬ (HasAddress variables logs thread bank r.pending))
+  not_address (inl first) wrong locks none = wrong (locks first)
+  not_address (inr rest) wrong locks none = none rest.1
 
   one_in_bank : (x y : ImageError) → IsBankFault variables logs thread bank r x → IsBankFault variables logs thread bank r y → x ≡ y
-  one_in_bank x y (other_mask wrong) (other_mask wrong') = refl
-  one_in_bank x y (other_mask wrong) (other_number register mask f) = absurd (wrong mask)
-  one_in_bank x y (other_mask wrong) (other_address mask locals wrong') = absurd (wrong mask)
-  one_in_bank x y (other_number register mask f) (other_mask wrong) = absurd (wrong mask)
-  one_in_bank x y (other_number register mask f) (other_number other mask' g) =
+  one_in_bank x y (other_locks before wrong) (other_locks before' wrong') = refl
+  one_in_bank x y (other_locks before wrong) (other_number register locks f) = absurd (not_number register before wrong locks f)
+  one_in_bank x y (other_locks before wrong) (other_address locks locals wrong') = absurd (not_address before wrong locks wrong')
+  one_in_bank x y (other_number register locks f) (other_locks before wrong) = absurd (not_number register before wrong locks f)
+  one_in_bank x y (other_number register locks f) (other_number other locks' g) =
       ap (e.Slot thread) (one_register logs thread bank r.live.items register other f g)
-  one_in_bank x y (other_number register mask f) (other_address mask' locals wrong) = absurd (none_wrong logs thread bank r.live.items register locals f)
-  one_in_bank x y (other_address mask locals wrong) (other_mask wrong') = absurd (wrong' mask)
-  one_in_bank x y (other_address mask locals wrong) (other_number register mask' f) = absurd (none_wrong logs thread bank r.live.items register locals f)
-  one_in_bank x y (other_address mask locals wrong) (other_address mask' locals' wrong') = refl
+  one_in_bank x y (other_number register locks f) (other_address locks' locals wrong) =
+      absurd (none_wrong logs thread bank r.live.items register locals f)
+  one_in_bank x y (other_address locks locals wrong) (other_locks before wrong') = absurd (not_address before wrong' locks wrong)
+  one_in_bank x y (other_address locks locals wrong) (other_number register locks' f) =
+      absurd (none_wrong logs thread bank r.live.items register locals f)
+  one_in_bank x y (other_address locks locals wrong) (other_address locks' locals' wrong') = refl
 
 -- ---- Logs
 
-module _ (variables : List Variable) (resumes : List Resume) (logs : List ℕ) (thread : ℕ) where
+module _ (variables : List Variable) (resumes : List Resume) (logs : Logs) (thread : ℕ) where
   -- the bank and the place that a point names
   record IsNamed (address bank : ℕ) (r : Resume) (address' bank' : ℕ) (r' : Resume) : Type 0 where
     bank_is : bank ≡ bank'
@@ -116,7 +134,7 @@ module _ (variables : List Variable) (resumes : List Resume) (logs : List ℕ) (
 
 -- ---- Threads
 
-module _ (variables : List Variable) (table : List (Vec Resume Global)) (logs : List ℕ) where
+module _ (variables : List Variable) (table : List (Vec Resume Global)) (logs : Logs) where
   sound_threads : (x : ImageError) → AreSound variables table logs → ¬ (IsThreadFault variables table logs x)
   sound_threads x all f = sound_log variables (resumes_at table f.thread) logs f.thread x (all f.thread f.within) f.fault
 
@@ -132,7 +150,7 @@ module _ (variables : List Variable) (table : List (Vec Resume Global)) (logs : 
 
 -- ---- Mutexes
 
-module _ (logs : List ℕ) (threads : ℕ) where
+module _ (logs : Logs) (threads : ℕ) where
   two_shared : (lock first second : ℕ) → AreFirstTwo logs threads lock first second → ¬ (IsUnshared logs threads lock)
   two_shared lock first second two none = none first second two.apart two.within two.first_holds two.second_holds
 
@@ -164,17 +182,17 @@ module _ (logs : List ℕ) (threads : ℕ) where
 -- ---- All
 
 pub none_if_sound : NoneIfSound
-none_if_sound flat table s x h (of_thread y f) = sound_threads flat.variables table s.logs y h.logs f
-none_if_sound flat table s x h (of_mutexes y all f) = unshared s.logs (length table) y h.mutexes f
-none_if_sound flat table s x h (of_schedules y all none f) = none_in_lives flat 1 (start flat) 0 s.lives y h.schedules f
+none_if_sound log flat table s x h (of_thread y f) = sound_threads flat.variables table (logs_of log s.logs) y h.logs f
+none_if_sound log flat table s x h (of_mutexes y all f) = unshared (logs_of log s.logs) (length table) y h.mutexes f
+none_if_sound log flat table s x h (of_schedules y all none f) = none_in_lives flat 1 (start flat) 0 s.lives y h.schedules f
 
 pub one_fault : OneFault
-one_fault flat table s x y (of_thread a f) (of_thread b g) = one_in_threads flat.variables table s.logs a b f g
-one_fault flat table s x y (of_thread a f) (of_mutexes b all g) = absurd (sound_threads flat.variables table s.logs a all f)
-one_fault flat table s x y (of_thread a f) (of_schedules b all none g) = absurd (sound_threads flat.variables table s.logs a all f)
-one_fault flat table s x y (of_mutexes a all f) (of_thread b g) = absurd (sound_threads flat.variables table s.logs b all g)
-one_fault flat table s x y (of_mutexes a all f) (of_mutexes b all' g) = one_in_mutexes s.logs (length table) a b f g
-one_fault flat table s x y (of_mutexes a all f) (of_schedules b all' none g) = absurd (unshared s.logs (length table) a none f)
-one_fault flat table s x y (of_schedules a all none f) (of_thread b g) = absurd (sound_threads flat.variables table s.logs b all g)
-one_fault flat table s x y (of_schedules a all none f) (of_mutexes b all' g) = absurd (unshared s.logs (length table) b none g)
-one_fault flat table s x y (of_schedules a all none f) (of_schedules b all' none' g) = one_in_lives flat 1 (start flat) 0 s.lives a b f g
+one_fault log flat table s x y (of_thread a f) (of_thread b g) = one_in_threads flat.variables table (logs_of log s.logs) a b f g
+one_fault log flat table s x y (of_thread a f) (of_mutexes b all g) = absurd (sound_threads flat.variables table (logs_of log s.logs) a all f)
+one_fault log flat table s x y (of_thread a f) (of_schedules b all none g) = absurd (sound_threads flat.variables table (logs_of log s.logs) a all f)
+one_fault log flat table s x y (of_mutexes a all f) (of_thread b g) = absurd (sound_threads flat.variables table (logs_of log s.logs) b all g)
+one_fault log flat table s x y (of_mutexes a all f) (of_mutexes b all' g) = one_in_mutexes (logs_of log s.logs) (length table) a b f g
+one_fault log flat table s x y (of_mutexes a all f) (of_schedules b all' none g) = absurd (unshared (logs_of log s.logs) (length table) a none f)
+one_fault log flat table s x y (of_schedules a all none f) (of_thread b g) = absurd (sound_threads flat.variables table (logs_of log s.logs) b all g)
+one_fault log flat table s x y (of_schedules a all none f) (of_mutexes b all' g) = absurd (unshared (logs_of log s.logs) (length table) b none g)
+one_fault log flat table s x y (of_schedules a all none f) (of_schedules b all' none' g) = one_in_lives flat 1 (start flat) 0 s.lives a b f g

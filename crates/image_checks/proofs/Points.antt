@@ -1,6 +1,7 @@
 -- Points of logs.
-use Rattle.std.proofs.Common.{◌≡◌, ℕ, ◌<◌, List, [], ◌∷◌, length, Some, Result, Ok, Err, MatchResult, sym, ap, ◌∙◌, subst, arith, suc, get_or}
-use Rattle.std.specs.Prelude.{◌==◌, Vec}
+use Rattle.std.proofs.Common.{◌≡◌, ℕ, ◌+◌, ◌*◌, ◌<◌, ◌≤◌, List, [], ◌∷◌, length, Some, Result, Ok, Err, MatchResult, sym, ap, ◌∙◌, subst, arith}
+use Rattle.std.proofs.Common.{zero, suc, get_or}
+use Rattle.std.specs.Prelude.{All, ◌==◌, Vec}
 use Rattle.std.specs.Global.{Global}
 use Rattle.std.proofs.lemmas.Bool.{cond_both}
 use Rattle.std.proofs.lemmas.List.{get_or-map}
@@ -9,20 +10,23 @@ use Rattle.memory_layout.specs.declared.point.Point.TheVariants.{At}
 use Rattle.flat_compile.specs.declared.resumes.Resume.{Resume}
 use Rattle.image_checks.specs.declared.error.ImageError.{ImageError}
 use Rattle.flat_compile.specs.ResumePlaces.{resumes_at}
-use Rattle.image_checks.specs.Logs.{point_in}
+use Rattle.image_checks.specs.Logs.{Logs, point_in}
+use Rattle.ido_base.specs.Layout.{log_words}
+use Rattle.ido_base.specs.declared.log.Log.{Log}
+use Rattle.ido_base.specs.declared.log.Log.TheVariants.{V1, V2}
+use Rattle.image_checks.specs.ResumeSlots.{AllHaveRoom, TablesHaveRoom}
 use Rattle.image_checks.specs.Checks.{resume_at, IsRight, IsBankFault, IsResumableLog, IsLogFault, resumed, of_bank}
-use Rattle.image_checks.specs.ResumeSlots.{HaveSlots, AllHaveSlots}
 
 -- what holds of all places holds of the one that is found
-pub found_slots : (resumes : List Resume) (address : ℕ) (r : Resume) → AllHaveSlots resumes → resume_at resumes address ≡ Some r → HaveSlots r.live.items
-found_slots [] address r all found = cc
-found_slots (x ∷ xs) address r all found =
-    cond_both (x.address == address) (Some x) (resume_at xs address) (λ o. o ≡ Some r → HaveSlots r.live.items)
-    (λ _ is. let same : x ≡ r = cc in subst (λ (y : Resume). HaveSlots y.live.items) same (all 0 x (omega arith)))
-    (λ _ is. found_slots xs address r (λ k d l. all (suc k) d (omega (arith, l))) is)
+pub found_has : (P : Resume → Type 0) (resumes : List Resume) (address : ℕ) (r : Resume) → All P resumes → resume_at resumes address ≡ Some r → P r
+found_has P [] address r all found = cc
+found_has P (x ∷ xs) address r all found =
+    cond_both (x.address == address) (Some x) (resume_at xs address) (λ o. o ≡ Some r → P r)
+    (λ _ is. let same : x ≡ r = cc in subst P same (all 0 x (omega arith)))
+    (λ _ is. found_has P xs address r (λ k d l. all (suc k) d (omega (arith, l))) is)
     found
 
-module _ (variables : List Variable) (resumes : List Resume) (logs : List ℕ) (thread address bank : ℕ) (r : Resume) where
+module _ (variables : List Variable) (resumes : List Resume) (logs : Logs) (thread address bank : ℕ) (r : Resume) where
   pub bank_answer : (answer : Result (Unit {0}) ImageError) → point_in logs thread ≡ At address bank → resume_at resumes address ≡ Some r →
       MatchResult answer (λ _. IsRight variables logs thread bank r) (IsBankFault variables logs thread bank r) →
       MatchResult answer (λ _. IsResumableLog variables resumes logs thread) (IsLogFault variables resumes logs thread)
@@ -35,3 +39,18 @@ pub table_at : (table : List (Vec Resume Global)) (thread : ℕ) (rs : Vec Resum
 table_at table thread rs within is =
     let items : Vec Resume Global → List Resume = λ v. v.items in
     ap items is ∙ sym (get_or-map items table thread rs [] within)
+
+pub room_at : (log : Log) (table : List (Vec Resume Global)) (thread : ℕ) → thread < length table → TablesHaveRoom log table →
+    AllHaveRoom log (resumes_at table thread)
+room_at log (rs ∷ table) zero within all = all 0 rs (omega arith)
+room_at log (rs ∷ table) (suc thread) within all = room_at log table thread (omega (arith, within)) (λ k d below. all (suc k) d (omega (arith, below)))
+room_at log [] thread within all = absurd (omega (arith, within))
+
+-- the log of a thread lies among those of all
+pub log_within : (log : Log) (thread threads words : ℕ) → thread < threads → log_words log * threads ≤ words → log_words log * (thread + 1) ≤ words
+log_within V1 thread threads words below fits =
+    let all : 128 * threads ≤ words = fits in
+    let one : 128 * (thread + 1) ≤ words = omega (arith, below, all) in one
+log_within V2 thread threads words below fits =
+    let all : 256 * threads ≤ words = fits in
+    let one : 256 * (thread + 1) ≤ words = omega (arith, below, all) in one

@@ -1,8 +1,10 @@
 -- Whether threads can be resumed by their logs, and the first fault where one can't.
-use Rattle.std.specs.Prelude.{◌≡◌, ℕ, ◌<◌, ◌≤◌, ℤ, List, ◌∷◌, ◌++◌, length, map, find, All, Option, Some, None, ◌==◌, Vec}
+use Rattle.std.specs.Prelude.{◌≡◌, ◌⊎◌, ℕ, ◌<◌, ◌≤◌, ℤ, List, ◌∷◌, ◌++◌, length, map, find, All, Option, Some, None, ◌==◌, Vec}
 use Rattle.std.specs.Global.{Global}
 use Rattle.ido_base.specs.declared.location.Location.{Location}
 use Rattle.ido_base.specs.Layout.{variable_at}
+use Rattle.ido_base.specs.declared.log.Log.{Log}
+use Rattle.ido_base.specs.declared.log.Log.TheVariants.{V1, V2}
 use Rattle.ido_ints.specs.declared.kinds.Kind.{Kind}
 use Rattle.ido_ints.specs.Kinds.{Holds}
 use Rattle.ido_ints.specs.Reduction.{register_of}
@@ -10,7 +12,6 @@ use Rattle.c_tree.specs.Programs.{Variable}
 use Rattle.c_tree.specs.WellFormed.{shape_of}
 use Rattle.c_tree.specs.Flats.{Flat}
 use Rattle.c_tree.specs.Source.{start}
-use Rattle.memory_layout.specs.declared.log.TheConstants.{MASK_SLOT}
 use Rattle.memory_layout.specs.declared.roles.TheConstants.{PENDING_ADDRESS}
 use Rattle.memory_layout.specs.declared.point.Point.TheVariants.{Idle, At}
 use Rattle.flat_compile.specs.declared.resumes.LiveLocal.{LiveLocal}
@@ -19,7 +20,7 @@ use Rattle.flat_compile.specs.ResumePlaces.{resumes_at}
 use Rattle.image_checks.specs.declared.error.ImageError.{ImageError}
 use Rattle.image_checks.specs.declared.error.ImageError.TheVariants as e
 use Rattle.crash_images.specs.Contents.{State}
-use Rattle.image_checks.specs.Logs.{point_in, slot_in, HoldsLock}
+use Rattle.image_checks.specs.Logs.{Logs, logs_of, point_in, slot_in, HoldsLock, KeepsMask}
 use Rattle.image_checks.specs.Schedules.{AreSchedules, IsLivesFault}
 
 -- ---- Slots
@@ -40,10 +41,15 @@ pub record IsElementOf (variables : List Variable) (location : Location) (addres
 
 -- ---- A bank of the log of a thread that is resumed with it
 
-module _ (logs : List ℕ) (thread bank : ℕ) where
+-- with the first log locks are looked at before registers, with the second after them
+abbrev pub AreLocksFirst : Log → Type 0
+AreLocksFirst V1 = Unit {0}
+AreLocksFirst V2 = ⊥
+
+module _ (logs : Logs) (thread bank : ℕ) where
   -- the bank has the mutexes that the thread holds where it is resumed
-  abbrev pub HasMask : Resume → Type 0
-  HasMask r = slot_in logs thread bank MASK_SLOT ≡ r.mask
+  abbrev pub HasLocks : Resume → Type 0
+  HasLocks r = KeepsMask logs.log (λ slot. slot_in logs thread bank slot) r.mask
 
   -- the bank has a number of the local's kind in the local's register
   abbrev pub HasLocal : LiveLocal → Type 0
@@ -62,23 +68,24 @@ module _ (logs : List ℕ) (thread bank : ℕ) where
     pub wrong : ¬ (HasLocal local)
     pub register_is : register ≡ local.register
 
-module _ (variables : List Variable) (logs : List ℕ) (thread bank : ℕ) where
+module _ (variables : List Variable) (logs : Logs) (thread bank : ℕ) where
   -- where a store is pending, it has the address of an element that may be written
   abbrev pub HasAddress : (pending : Option Location) → Type 0
   HasAddress None = Unit {0}
   HasAddress (Some location) = IsElementOf variables location (slot_in logs thread bank PENDING_ADDRESS)
 
   pub record IsRight (r : Resume) : Type 0 where
-    pub mask : HasMask logs thread bank r
+    pub locks : HasLocks logs thread bank r
     pub locals : HasLocals logs thread bank r.live.items
     pub address : HasAddress r.pending
 
   -- the first fault of the bank
   pub data IsBankFault (r : Resume) : ImageError → Type 0 where
-    other_mask : ¬ (HasMask logs thread bank r) → IsBankFault r (e.Mask thread)
-    other_number : (register : ℕ) → HasMask logs thread bank r → IsFirstWrong logs thread bank r.live.items register →
+    other_locks : (AreLocksFirst logs.log ⊎ (HasLocals logs thread bank r.live.items × HasAddress r.pending)) → ¬ (HasLocks logs thread bank r) →
+        IsBankFault r (e.Mask thread)
+    other_number : (register : ℕ) → (AreLocksFirst logs.log → HasLocks logs thread bank r) → IsFirstWrong logs thread bank r.live.items register →
         IsBankFault r (e.Slot thread register)
-    other_address : HasMask logs thread bank r → HasLocals logs thread bank r.live.items → ¬ (HasAddress r.pending) →
+    other_address : (AreLocksFirst logs.log → HasLocks logs thread bank r) → HasLocals logs thread bank r.live.items → ¬ (HasAddress r.pending) →
         IsBankFault r (e.Slot thread PENDING_ADDRESS)
 
 -- ---- The log of a thread
@@ -88,7 +95,7 @@ abbrev pub resume_at : (resumes : List Resume) → (address : ℕ) → Option Re
 resume_at resumes address = find (λ (r : Resume). r.address == address) resumes
 
 -- the thread may be resumed at these places
-module _ (variables : List Variable) (resumes : List Resume) (logs : List ℕ) (thread : ℕ) where
+module _ (variables : List Variable) (resumes : List Resume) (logs : Logs) (thread : ℕ) where
   -- the thread stands between two sections, or is resumed where its point says
   pub data IsResumableLog : Type 0 where
     idle : point_in logs thread ≡ Idle → IsResumableLog
@@ -103,7 +110,7 @@ module _ (variables : List Variable) (resumes : List Resume) (logs : List ℕ) (
 
 -- ---- The logs of all threads, each of which may be resumed at its places in the table
 
-module _ (variables : List Variable) (table : List (Vec Resume Global)) (logs : List ℕ) where
+module _ (variables : List Variable) (table : List (Vec Resume Global)) (logs : Logs) where
   -- the log of each thread below that number is sound
   abbrev pub AreSoundBelow : ℕ → Type 0
   AreSoundBelow n = (thread : ℕ) → thread < n → IsResumableLog variables (resumes_at table thread) logs thread
@@ -120,7 +127,7 @@ module _ (variables : List Variable) (table : List (Vec Resume Global)) (logs : 
 
 -- ---- Mutexes
 
-module _ (logs : List ℕ) (threads : ℕ) where
+module _ (logs : Logs) (threads : ℕ) where
   -- two of so many threads hold the mutex, and these are the least two
   pub record AreFirstTwo (lock first second : ℕ) : Type 0 where
     pub apart : first < second
@@ -138,18 +145,21 @@ module _ (logs : List ℕ) (threads : ℕ) where
     shared : (lock first second : ℕ) → AreFirstTwo lock first second → ((less : ℕ) → less < lock → IsUnshared less) →
         IsMutexFault (e.Shared lock first second)
 
--- ---- All that stands after the source
+-- ---- All that stands after the source, whose threads log so
 
-module _ (flat : Flat) (table : List (Vec Resume Global)) (s : State) where
+module _ (log : Log) (flat : Flat) (table : List (Vec Resume Global)) (s : State) where
+  abbrev pub logs_in : Logs
+  logs_in = logs_of log s.logs
+
   -- nothing is at fault
   pub record IsWellFormedState : Type 0 where
-    pub logs : AreSound flat.variables table s.logs
-    pub mutexes : (lock : ℕ) → IsUnshared s.logs (length table) lock
+    pub logs : AreSound flat.variables table logs_in
+    pub mutexes : (lock : ℕ) → IsUnshared logs_in (length table) lock
     pub schedules : AreSchedules flat (start flat) 0 s.lives
 
   -- the first fault: of a thread's log, else of the mutexes that threads hold, else of the schedules of lives
   pub data IsStateFault : ImageError → Type 0 where
-    of_thread : (error : ImageError) → IsThreadFault flat.variables table s.logs error → IsStateFault error
-    of_mutexes : (error : ImageError) → AreSound flat.variables table s.logs → IsMutexFault s.logs (length table) error → IsStateFault error
-    of_schedules : (error : ImageError) → AreSound flat.variables table s.logs → ((lock : ℕ) → IsUnshared s.logs (length table) lock) →
+    of_thread : (error : ImageError) → IsThreadFault flat.variables table logs_in error → IsStateFault error
+    of_mutexes : (error : ImageError) → AreSound flat.variables table logs_in → IsMutexFault logs_in (length table) error → IsStateFault error
+    of_schedules : (error : ImageError) → AreSound flat.variables table logs_in → ((lock : ℕ) → IsUnshared logs_in (length table) lock) →
         IsLivesFault flat 1 (start flat) 0 s.lives error → IsStateFault error

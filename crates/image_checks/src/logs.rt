@@ -1,11 +1,16 @@
 //! The durable words of logs.
-ghost use Rattle.std.specs.Prelude.{◌≡◌, ◌+◌, ◌-◌, ◌*◌, ◌/◌, ◌<◌, ◌≤◌, length};
-ghost use Rattle.crash_images.specs.Contents.{word_bytes, log_words};
-ghost use Rattle.image_checks.specs.Logs.{logged, point_in, slot_in, mask_in};
+ghost use Rattle.std.specs.Prelude.{◌≡◌, ◌==◌, ◌+◌, ◌-◌, ◌*◌, ◌/◌, ◌<◌, ◌≤◌, length};
+ghost use Rattle.ido_base.specs.declared.log.Log.TheVariants.{V1, V2};
+ghost use Rattle.ido_base.specs.Layout.{log_words};
+ghost use Rattle.ido_base.specs.Locks.{has_lock, locks_in};
+ghost use Rattle.crash_images.specs.Contents.{word_bytes};
+ghost use Rattle.image_checks.specs.Logs.{log_locks, logged, logs_of, point_in, slot_in, slot_locks};
 
-use crate::limits::BANK_SLOTS;
+use crate::limits::{BANK_SLOTS, MASK_BITS};
 use ido_base::log::Log;
-use memory_layout::log::{LOGS_BASE, MASK_SLOT, SLOT_BYTES, point_at, slot_at};
+use memory_layout::log::{
+    COUNT_SLOT, FIRST_LOCK_SLOT, LOGS_BASE, MASK_SLOT, MOST_LISTED, SLOT_BYTES, point_at, slot_at,
+};
 use memory_layout::point::{Point, read_point};
 
 /// The word at an address of the logs.
@@ -17,31 +22,132 @@ fn logged(logs: &[u64], address: u64) -> u64
     logs[((address - LOGS_BASE) / SLOT_BYTES) as usize]
 }
 
-/// Where the thread is resumed.
-pub fn point_in(logs: &[u64], thread: u32) -> Point
-    requires { log_words * (thread + 1) ≤ length logs.now }
-    ensures { result ≡ point_in logs.now thread }
+/// Where the thread is resumed, by a log with masks.
+fn masked_point(logs: &[u64], thread: u32) -> Point
+    requires { log_words V1 * (thread + 1) ≤ length logs.now }
+    ensures { result ≡ point_in (logs_of V1 logs.now) thread }
 {
     read_point(logged(logs, point_at(Log::V1, thread)))
 }
 
-/// What is in a slot of a bank, 0 or 1, of the thread's log.
-pub fn slot_in(logs: &[u64], thread: u32, bank: u32, slot: u8) -> u64
-    requires log { log_words * (thread + 1) ≤ length logs.now }
+/// Where the thread is resumed, by a log with lists.
+fn listed_point(logs: &[u64], thread: u32) -> Point
+    requires { log_words V2 * (thread + 1) ≤ length logs.now }
+    ensures { result ≡ point_in (logs_of V2 logs.now) thread }
+{
+    read_point(logged(logs, point_at(Log::V2, thread)))
+}
+
+/// Where the thread is resumed.
+pub fn point_in(log: Log, logs: &[u64], thread: u32) -> Point
+    requires { log_words log * (thread + 1) ≤ length logs.now }
+    ensures { result ≡ point_in (logs_of log logs.now) thread }
+{
+    match log {
+        Log::V1 => masked_point(logs, thread),
+        Log::V2 => listed_point(logs, thread),
+    }
+}
+
+/// What is in a slot of a bank, 0 or 1, of the thread's log, which has masks.
+fn masked_slot(logs: &[u64], thread: u32, bank: u32, slot: u8) -> u64
+    requires log { log_words V1 * (thread + 1) ≤ length logs.now }
     requires bank { bank < 2 }
     requires slot { slot < BANK_SLOTS }
-    ensures { result ≡ slot_in logs.now thread bank slot }
+    ensures { result ≡ slot_in (logs_of V1 logs.now) thread bank slot }
 {
     logged(logs, slot_at(Log::V1, thread, bank, u32::from(slot)))
 }
 
-/// The mutexes that the thread holds: bit i is set where it holds mutex i.
-pub fn mask_in(logs: &[u64], thread: u32) -> u64
-    requires { log_words * (thread + 1) ≤ length logs.now }
-    ensures { result ≡ mask_in logs.now thread }
+/// What is in a slot of a bank, 0 or 1, of the thread's log, which has lists.
+fn listed_slot(logs: &[u64], thread: u32, bank: u32, slot: u8) -> u64
+    requires log { log_words V2 * (thread + 1) ≤ length logs.now }
+    requires bank { bank < 2 }
+    requires slot { slot < BANK_SLOTS }
+    ensures { result ≡ slot_in (logs_of V2 logs.now) thread bank slot }
 {
-    match point_in(logs, thread) {
-        Point::Idle => 0,
-        Point::At { bank, .. } => slot_in(logs, thread, bank, MASK_SLOT as u8),
+    logged(logs, slot_at(Log::V2, thread, bank, u32::from(slot)))
+}
+
+/// What is in the slot of a register, or in slot 0, of a bank, 0 or 1, of the thread's log.
+pub fn slot_in(log: Log, logs: &[u64], thread: u32, bank: u32, slot: u8) -> u64
+    requires log { log_words log * (thread + 1) ≤ length logs.now }
+    requires bank { bank < 2 }
+    requires slot { slot < BANK_SLOTS }
+    ensures { result ≡ slot_in (logs_of log logs.now) thread bank slot }
+{
+    match log {
+        Log::V1 => masked_slot(logs, thread, bank, slot),
+        Log::V2 => listed_slot(logs, thread, bank, slot),
+    }
+}
+
+/// What is in a slot of those that list locks.
+pub fn listed_in(logs: &[u64], thread: u32, bank: u32, index: u32) -> u64
+    requires log { log_words V2 * (thread + 1) ≤ length logs.now }
+    requires bank { bank < 2 }
+    requires index { index < MOST_LISTED }
+    ensures { result ≡ slot_in (logs_of V2 logs.now) thread bank (FIRST_LOCK_SLOT + index) }
+{
+    logged(
+        logs,
+        slot_at(Log::V2, thread, bank, FIRST_LOCK_SLOT + index),
+    )
+}
+
+// ---- Locks
+
+/// Whether the word is the number of the mutex.
+pub fn is_number(word: u64, lock: u32) -> bool
+    ensures { result ≡ (word == lock) }
+{
+    word == u64::from(lock)
+}
+
+/// Whether the mask has the mutex.
+fn has_lock(mask: u64, lock: u32) -> bool
+    requires { lock < MASK_BITS }
+    ensures { result ≡ has_lock (locks_in mask) lock }
+{
+    (mask >> lock) % 2 == 1
+}
+
+/// Whether the bank lists the mutex, among as many as it says, 16 at most.
+fn is_listed(logs: &[u64], thread: u32, bank: u32, lock: u32) -> bool
+    requires log { log_words V2 * (thread + 1) ≤ length logs.now }
+    requires bank { bank < 2 }
+    ensures { result ≡ has_lock (slot_locks V2 (λ slot. slot_in (logs_of V2 logs.now) thread bank slot)) lock }
+{
+    let count = slot_in(Log::V2, logs, thread, bank, COUNT_SLOT as u8).min(MOST_LISTED);
+    for index in 0..count as u32 {
+        if is_number(listed_in(logs, thread, bank, index), lock) {
+            return true;
+        }
+    }
+    false
+}
+
+/// Whether the bank has the mutex.
+fn bank_has(log: Log, logs: &[u64], thread: u32, bank: u32, lock: u32) -> bool
+    requires lock { lock < MASK_BITS }
+    requires log { log_words log * (thread + 1) ≤ length logs.now }
+    requires bank { bank < 2 }
+    ensures { result ≡ has_lock (slot_locks log (λ slot. slot_in (logs_of log logs.now) thread bank slot)) lock }
+{
+    match log {
+        Log::V1 => has_lock(slot_in(log, logs, thread, bank, MASK_SLOT as u8), lock),
+        Log::V2 => is_listed(logs, thread, bank, lock),
+    }
+}
+
+/// Whether the thread holds the mutex.
+pub fn holds(log: Log, logs: &[u64], thread: u32, lock: u32) -> bool
+    requires lock { lock < MASK_BITS }
+    requires log { log_words log * (thread + 1) ≤ length logs.now }
+    ensures { result ≡ has_lock (log_locks (logs_of log logs.now) thread) lock }
+{
+    match point_in(log, logs, thread) {
+        Point::Idle => false,
+        Point::At { bank, .. } => bank_has(log, logs, thread, bank, lock),
     }
 }

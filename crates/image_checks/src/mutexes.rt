@@ -1,31 +1,23 @@
 //! Mutexes that two threads hold.
 ghost use Rattle.std.specs.Prelude.{◌≡◌, ◌↔◌, ◌*◌, ◌<◌, ◌≤◌, ◌^◌, ℕ, length, IsTrue, MatchOption, MatchResult};
-ghost use Rattle.ido_base.specs.Locks.{has_lock, locks_in};
-ghost use Rattle.crash_images.specs.Contents.{log_words};
-ghost use Rattle.image_checks.specs.Logs.{HoldsLock};
+ghost use Rattle.ido_base.specs.Layout.{log_words};
+ghost use Rattle.image_checks.specs.Logs.{HoldsLock, logs_of};
 ghost use Rattle.image_checks.specs.Checks.{AreFirstTwo, IsUnshared, IsMutexFault};
 ghost use Rattle.image_checks.specs.links.Holders.{IsNextHolder, HasNoHolder};
 
 use crate::error::ImageError;
 use crate::limits::MASK_BITS;
-use crate::logs::mask_in;
-
-/// Whether the mask has the mutex.
-fn has_lock(mask: u64, lock: u32) -> bool
-    requires { lock < MASK_BITS }
-    ensures { result ≡ has_lock (locks_in mask) lock }
-{
-    (mask >> lock) % 2 == 1
-}
+use crate::logs::holds;
+use ido_base::log::Log;
 
 /// The least of so many threads, from one on, that holds the mutex.
-fn holder_from(logs: &[u64], threads: u32, from: u32, lock: u32) -> Option<u32>
+fn holder_from(log: Log, logs: &[u64], threads: u32, from: u32, lock: u32) -> Option<u32>
     requires lock { lock < MASK_BITS }
-    requires logs { log_words * threads ≤ length logs.now }
-    ensures { MatchOption result (HasNoHolder logs.now threads from lock) (IsNextHolder logs.now threads from lock) }
+    requires logs { log_words log * threads ≤ length logs.now }
+    ensures { MatchOption result (HasNoHolder (logs_of log logs.now) threads from lock) (IsNextHolder (logs_of log logs.now) threads from lock) }
 {
     for thread in from..threads {
-        if has_lock(mask_in(logs, thread), lock) {
+        if holds(log, logs, thread, lock) {
             return Some(thread);
         }
     }
@@ -33,23 +25,25 @@ fn holder_from(logs: &[u64], threads: u32, from: u32, lock: u32) -> Option<u32>
 }
 
 /// The least two of so many threads that hold the mutex.
-fn holders(logs: &[u64], threads: u32, lock: u32) -> Option<(u32, u32)>
+fn holders(log: Log, logs: &[u64], threads: u32, lock: u32) -> Option<(u32, u32)>
     requires lock { lock < MASK_BITS }
-    requires logs { log_words * threads ≤ length logs.now }
-    ensures { MatchOption result (IsUnshared logs.now threads lock) (λ two. AreFirstTwo logs.now threads lock two.0 two.1) }
+    requires logs { log_words log * threads ≤ length logs.now }
+    ensures { MatchOption result (IsUnshared (logs_of log logs.now) threads lock) (λ two. AreFirstTwo (logs_of log logs.now) threads lock two.0 two.1) }
 {
-    let first = holder_from(logs, threads, 0, lock)?;
-    let second = holder_from(logs, threads, first + 1, lock)?;
+    let first = holder_from(log, logs, threads, 0, lock)?;
+    let second = holder_from(log, logs, threads, first + 1, lock)?;
     Some((first, second))
 }
 
 /// The least mutex that two of so many threads hold.
-pub fn check_mutexes(logs: &[u64], threads: u32) -> Result<(), ImageError>
-    requires { log_words * threads ≤ length logs.now }
-    ensures { MatchResult result (λ _. (lock : ℕ) → IsUnshared logs.now threads lock) (IsMutexFault logs.now threads) }
+pub fn check_mutexes(log: Log, logs: &[u64], threads: u32) -> Result<(), ImageError>
+    requires logs { log_words log * threads ≤ length logs.now }
+    // No number is too high for a mask.
+    requires low { (thread lock : ℕ) → thread < threads → HoldsLock (logs_of log logs.now) thread lock → lock < MASK_BITS }
+    ensures { MatchResult result (λ _. (lock : ℕ) → IsUnshared (logs_of log logs.now) threads lock) (IsMutexFault (logs_of log logs.now) threads) }
 {
     for lock in 0..MASK_BITS {
-        if let Some((first, second)) = holders(logs, threads, lock) {
+        if let Some((first, second)) = holders(log, logs, threads, lock) {
             return Err(ImageError::Shared {
                 lock,
                 first,

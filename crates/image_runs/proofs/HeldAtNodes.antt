@@ -36,7 +36,7 @@ use Rattle.recovered_threads.proofs.Public.{left_at, standing_at}
 use Rattle.flat_compile.proofs.Public.{node_there}
 use Rattle.image_runs.proofs.LeftReferences.{are_right}
 use Rattle.image_runs.proofs.LeftStatements.{are_left}
-use Rattle.image_runs.proofs.ResumedLocals.{part_is}
+use Rattle.image_checks.proofs.Public.{part_is}
 
 -- ---- Two lists, one against the other
 

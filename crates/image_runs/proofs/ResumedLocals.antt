@@ -1,30 +1,26 @@
 -- A log can keep the registers of locals and the locks before a node.
-use Rattle.std.proofs.Common.{◌≡◌, ℕ, zero, suc, ◌+◌, ◌-◌, ◌<◌, ◌≤◌, ◌^◌, List, [], ◌∷◌, length, get_or, refl, ap, arith, sym, ◌∙◌, subst, true, Some, inl, inr}
-use Rattle.std.specs.Prelude.{Contains, slice_get, slice_index, slice_index_or, ℤ}
+use Rattle.std.proofs.Common.{◌≡◌, ℕ, zero, suc, ◌+◌, ◌<◌, ◌^◌, List, [], ◌∷◌, length, get_or, refl, ap, arith, sym, ◌∙◌, subst, true, Some}
+use Rattle.std.specs.Prelude.{Contains, slice_get, slice_index, ℤ}
 use Rattle.boundary_code.specs.Boundaries.{HaveRoom}
 use Rattle.std.specs.List.{list_all}
-use Rattle.std.proofs.lemmas.Bool.{and_parts, cases_lt}
-use Rattle.std.proofs.lemmas.List.{get_or-map, get_or_past}
+use Rattle.std.proofs.lemmas.Bool.{and_parts}
+use Rattle.std.proofs.lemmas.List.{get_or-map}
 use Rattle.std.proofs.lemmas.List.Elements.{Contains-get_or}
-use Rattle.std.proofs.lemmas.Option.{none-some, same_Some, slice_get_within, slice_get-get_or, get_or_from_slice_get}
+use Rattle.std.proofs.lemmas.Option.{none-some, same_Some, slice_get_within}
 use Rattle.ido_ints.specs.declared.kinds.Kind.{Kind}
 use Rattle.c_tree.specs.Flats as f
-use Rattle.c_tree.specs.Exprs.{LockName}
 use Rattle.c_tree.specs.LockNames.{Held, holds}
 use Rattle.source_machine.proofs.Public.{holds_within}
-use Rattle.c_tree.proofs.Public.{length-plain_names, names_are_plain}
 use Rattle.memory_layout.specs.declared.roles.TheConstants.{LOCALS}
 use Rattle.memory_layout.specs.Roles.{is_kept}
 use Rattle.flow_graph.specs.declared.graph.Part.{Part}
-use Rattle.flow_graph.specs.Nodes.{Graph}
 use Rattle.flow_graph.specs.Lowering.{thread_count, part, parts}
-use Rattle.flow_graph.proofs.Public.{found_in, lowered_threads}
-use Rattle.lock_discipline.proofs.Public.{held_length}
 use Rattle.log_states.specs.Logs.{AreLoggable, IsKeepable}
 use Rattle.log_states.proofs.Public.{kept_are_keepable, scheme}
 use Rattle.thread_code.specs.Plans.{Plan, Thread, IsThread, IsPlan, locks_before, locks_held, set_before, home_of_colour}
 use Rattle.thread_code.proofs.Public.{has_held}
 use Rattle.recovered_threads.proofs.Public.{has_there}
+use Rattle.image_checks.proofs.Public.{few_set, part_is}
 use Rattle.expr_code.specs.declared.home.Home.{Home}
 use Rattle.expr_code.specs.declared.home.Home.TheVariants.{InRegister}
 use Rattle.expr_code.specs.EvaluationCode.{home_of}
@@ -46,14 +42,18 @@ locals_of (u ∷ us) first zero p t g i =
 locals_of (u ∷ us) first (suc k) p t g i = locals_of us (first + thread_count u) k p t g i
 
 module _ (p : Plan) (plan : IsPlan p) (t : Thread) (is : IsThread p t) where
-  pub part_is : slice_get (parts p.flat.threads 0) t.number ≡ Some t.part
-  part_is = ap (λ (ps : List Part). slice_get ps t.number) (sym (ap (λ (g : Graph). g.threads) plan.lowered ∙ lowered_threads p.flat)) ∙ is.nodes
-
   local_kept : (local register : ℕ) → local < length t.kinds → home_of t.locals local ≡ InRegister register → is_kept register ≡ true
   local_kept local register below there =
       let count = plan.registers.locals t.number t.part is.colours is.nodes is.of_colours in
       let inside : local < length is.colours =
-      omega (arith, below, count, locals_of p.flat.threads 0 t.number t.part is.text part_is is.of_text, ap (λ (ks : List Kind). length ks) is.kinds) in
+      omega (
+        arith,
+        below,
+        count,
+        locals_of p.flat.threads 0 t.number t.part is.text (part_is p plan t is) is.of_text,
+        ap (λ (ks : List Kind). length ks)
+            is.kinds,
+      ) in
       let colour = get_or is.colours local 0 in
       let exists : colour < 18 = plan.registers.exist t.number colour is.colours is.of_colours (Contains-get_or is.colours local 0 inside) in
       let at : home_of t.locals local ≡ home_of_colour colour =
@@ -66,28 +66,11 @@ module _ (p : Plan) (plan : IsPlan p) (t : Thread) (is : IsThread p t) where
 
   -- ---- Locks before a node
 
-  few_set : ArePlain p.flat.mutexes → (node : ℕ) → length (set_before p t node) ≤ 64
-  few_set plain node =
-      let table = found_in p.held t.number (let l = slice_get_within p.flat.threads t.number is.text is.of_text in omega (arith, l, plan.held.each_thread)) in
-      let of = plan.held.sets t.number is.text table.0 is.of_text table.1 in
-      let step = node - t.part.first in
-      let most = plain.few in
-      subst (λ (sets : List Held). length (slice_index_or sets step []) ≤ 64) (sym (get_or_from_slice_get p.held t.number table.0 [] table.1))
-      (elim (cases_lt step (length table.0)) [
-        | inl within ↦
-            let long = held_length p.flat is.text step (get_or table.0 step [])
-            ((of.exactly step (get_or table.0 step [])).0 (slice_get-get_or table.0 step [] within)) in
-            let names = ap (λ (ns : List LockName). length ns) (names_are_plain p.flat is.text plain.single)
-            ∙ length-plain_names (length p.flat.mutexes) in
-            omega (arith, long, names, most)
-        | inr past ↦ subst (λ (held : Held). length held ≤ 64) (sym (get_or_past table.0 step [] past)) (omega arith)
-      ])
-
   fit : ArePlain p.flat.mutexes → (node lock : ℕ) → Contains (locks_held (set_before p t node)) lock → lock < 2 ^ 64
   fit plain node lock c =
       let set : Held = set_before p t node in
       let held : holds set lock ≡ true = sym (has_held set lock) ∙ has_there (locks_held set) lock c in
-      omega (arith, holds_within set lock held, few_set plain node)
+      omega (arith, holds_within set lock held, few_set p plan t is plain node)
 
   pub loggable : ArePlain p.flat.mutexes → (locals : List ℤ) (node : ℕ) → locks_held (set_before p t node) ≡ locks_before p t locals node →
       AreLoggable p.log (locks_held (set_before p t node))

@@ -1,15 +1,18 @@
 -- A machine that begins with words that have the shape runs on.
-use Rattle.std.proofs.Common.{◌≡◌, ◌∙◌, ap, ap₂, subst}
+use Rattle.std.proofs.Common.{◌≡◌, ◌∙◌, ap, ap₂, subst, sym}
+use Rattle.ido_base.specs.declared.log.Log.{Log}
 use Rattle.c_tree.specs.Flats.{Flat}
+use Rattle.c_tree.specs.WellFormed.{ArePlain}
 use Rattle.rv64_isa.specs.Executables.{Executable}
 use Rattle.rv64_isa.specs.declared.object.Object.{Object}
 use Rattle.rv64_isa.specs.declared.object.Marks.{Marks}
 use Rattle.flow_graph.specs.declared.cuts.Cuts.{Cuts}
 use Rattle.flow_graph.specs.IdempotentCuts.{Boundaries}
-use Rattle.flat_compile.specs.TranslatedForms.{IsTranslated}
+use Rattle.flat_compile.specs.TranslatedForms.{IsTranslatedAs}
 use Rattle.compiler_correctness.specs.Laws.{RecoveredWordsRunOn, translation_of}
 use Rattle.compiler_correctness.specs.Translations.{Translation, translation_to}
 use Rattle.compiler_correctness.specs.WordRuns.{RunsOn}
+use Rattle.crash_images.specs.Contents.{log_of}
 use Rattle.image_runs.specs.Laws.{AcceptedHaveShape, AcceptedRunOn, ShapesAreStates, ShapesRunOn}
 use Rattle.image_runs.specs.StateImages.{image_of_state}
 
@@ -20,14 +23,14 @@ shapes_run_on states run y s plain image shape = let from = states y s plain ima
 abbrev seen_as : Flat → Executable → Boundaries → Translation
 seen_as flat runs boundaries = record { flat = flat; runs = runs; boundaries = boundaries }
 
-same_translation : (flat : Flat) (object : Object) (marks : Marks) (cuts : Cuts) (t : IsTranslated flat object marks cuts) →
+same_translation : (flat : Flat) (object : Object) (marks : Marks) (cuts : Cuts) (log : Log) (t : IsTranslatedAs log flat object marks cuts) →
     translation_of t.system ≡ translation_to flat object marks cuts
-same_translation flat object marks cuts t =
+same_translation flat object marks cuts log t =
     ap (λ (x : Flat). seen_as x t.system.runs t.system.plan.boundaries) t.of_flat ∙ ap₂ (seen_as flat) t.runs t.at_cuts
 
 pub accepted_run_on : AcceptedHaveShape → ShapesRunOn → AcceptedRunOn
-accepted_run_on have run flat object marks cuts table state kept r is formed =
+accepted_run_on have run version flat object marks cuts table state kept r plain is formed =
     let t = r.translated in
-    subst (λ (c : Translation). RunsOn c (image_of_state state kept)) (same_translation flat object marks cuts t)
-    (run t.system t.is (t.is.plan.plain (t.is.log ∙ (ap (λ (x : Executable). x.log) t.runs ∙ t.log))) (image_of_state state kept)
-    (have flat object marks cuts table state r is formed))
+    subst (λ (c : Translation). RunsOn c (image_of_state state kept)) (same_translation flat object marks cuts (log_of version) t)
+    (run t.system t.is (subst (λ (x : Flat). ArePlain x.mutexes) (sym t.of_flat) plain) (image_of_state state kept)
+    (have version flat object marks cuts table state r plain is formed))

@@ -12,24 +12,25 @@ use Rattle.region_attempts.specs.Origins.{Origin}
 use Rattle.crash_simulation.specs.RecoveredWords.{IsRecoveredFrom}
 use Rattle.crash_simulation.specs.Systems.{System, IsSystem, flat_of}
 use Rattle.flat_compile.specs.declared.resumes.Resume.{Resume}
-use Rattle.flat_compile.specs.TranslatedForms.{IsResumable}
+use Rattle.flat_compile.specs.TranslatedForms.{IsResumableAs}
 use Rattle.compiler_correctness.specs.Images.{Image, image_of}
 use Rattle.compiler_correctness.specs.Laws.{translation_of}
 use Rattle.compiler_correctness.specs.Translations.{translation_to}
 use Rattle.compiler_correctness.specs.WordRuns.{RunsOn}
-use Rattle.crash_images.specs.Contents.{State, IsState}
-use Rattle.crash_images.specs.declared.version.ImageVersion.TheVariants.{First}
+use Rattle.crash_images.specs.Contents.{State, IsState, log_of}
+use Rattle.crash_images.specs.declared.version.ImageVersion.{ImageVersion}
 use Rattle.image_checks.specs.Checks.{IsWellFormedState}
 use Rattle.image_runs.specs.Shapes.{HasShape}
 use Rattle.image_runs.specs.StateImages.{image_of_state, state_words}
 
 -- ---- Which words have it
 
--- what stands after an image's source, where it has no fault
+-- what stands after an image's source, where it has no fault and no mutex is in an array
 abbrev pub AcceptedHaveShape : Type 0
-AcceptedHaveShape = (flat : Flat) (object : Object) (marks : Marks) (cuts : Cuts) (table : List (Vec Resume Global)) (state : State) →
-    (r : IsResumable flat object marks cuts table) → IsState First (length object.initial.items) (length object.code.items) state →
-    IsWellFormedState flat table state → HasShape r.translated.system.plan r.translated.is.codes (state_words state)
+AcceptedHaveShape = (version : ImageVersion) (flat : Flat) (object : Object) (marks : Marks) (cuts : Cuts) (table : List (Vec Resume Global)) (state : State) →
+    (r : IsResumableAs (log_of version) flat object marks cuts table) → ArePlain flat.mutexes →
+    IsState version (length object.initial.items) (length object.code.items) state →
+    IsWellFormedState (log_of version) flat table state → HasShape r.translated.system.plan r.translated.is.codes (state_words state)
 
 -- what a crash leaves of a run of a program in which no mutex is in an array
 abbrev pub CrashesLeaveShape : Type 0
@@ -50,8 +51,10 @@ abbrev pub ShapesRunOn : Type 0
 ShapesRunOn =
     (y : System) (s : IsSystem y) → ArePlain (flat_of y).mutexes → (image : Image) → HasShape y.plan s.codes image.words → RunsOn (translation_of y) image
 
--- an image without a fault is run on by the program that it is checked against, whatever its schedules are
+-- an image without a fault is run on by the program that it is checked against, where no mutex of it is in an array, whatever its schedules are
 abbrev pub AcceptedRunOn : Type 0
-AcceptedRunOn = (flat : Flat) (object : Object) (marks : Marks) (cuts : Cuts) (table : List (Vec Resume Global)) (state : State) (kept : LifeSchedules) →
-    IsResumable flat object marks cuts table → IsState First (length object.initial.items) (length object.code.items) state →
-    IsWellFormedState flat table state → RunsOn (translation_to flat object marks cuts) (image_of_state state kept)
+AcceptedRunOn = (version : ImageVersion) (flat : Flat) (object : Object) (marks : Marks) (cuts : Cuts) (table : List (Vec Resume Global)) (state : State)
+    (kept : LifeSchedules) →
+    IsResumableAs (log_of version) flat object marks cuts table → ArePlain flat.mutexes →
+    IsState version (length object.initial.items) (length object.code.items) state →
+    IsWellFormedState (log_of version) flat table state → RunsOn (translation_to flat object marks cuts) (image_of_state state kept)

@@ -1,24 +1,27 @@
 -- The two laws: what is read is spelled so, and what is spelled so is read.
 use Rattle.std.proofs.Common.{◌≡◌, ℕ, ◌-◌, ◌%◌, ◌^◌, ◌<◌, ◌≤◌, List, [], ◌∷◌, ◌++◌, length}
 use Rattle.std.proofs.Common.{All, map, Result, Ok, Err, refl, sym, ap, subst, ◌∙◌, append_assoc, arith}
-use Rattle.std.specs.Prelude.{IfOk, is_some, ◌==◌}
+use Rattle.std.specs.Prelude.{Bool, IfOk, cond, false, is_some, true, ◌==◌}
 use Rattle.std.specs.Global.{Vec}
 use Rattle.std.specs.List.{flat_map, AllByRecursion}
 use Rattle.std.proofs.lemmas.Bool.{eqb-true}
 use Rattle.std.proofs.lemmas.List.{append-nil, nil_from_length}
 use Rattle.std.proofs.lemmas.List.Elements.{All-from_recursion}
-use Rattle.ido_base.specs.declared.limits.TheConstants.{MOST_THREADS, MOST_MUTEXES, MOST_VARIABLE_BYTES, MOST_CODE_WORDS}
+use Rattle.ido_base.specs.declared.limits.TheConstants.{MOST_THREADS, MOST_VARIABLE_BYTES, MOST_CODE_WORDS}
+use Rattle.ido_base.specs.declared.log.Log.{Log}
+use Rattle.ido_base.specs.declared.log.Log.TheVariants.{V1, V2}
 use Rattle.rv64_isa.specs.Formats.{decoded}
 use Rattle.rv64_isa.specs.declared.object.Object.{Object}
 use Rattle.file_fields.specs.declared.error.ReadError.{ReadError}
-use Rattle.file_fields.specs.Fields.{Rest, ◌>>=◌, bytes_at, number_at, kept, number_within, repeated, magic_at, version_at, ended}
+use Rattle.file_fields.specs.Fields.{Fault, Rest, Version, ◌>>=◌, bytes_at, number_at, kept, number_within, repeated, magic_at, ended}
 use Rattle.file_fields.specs.Numbers.{number}
 use Rattle.file_fields.specs.links.ReaderResults.{Gives}
 use Rattle.file_fields.proofs.Public.{IsBytes, bind_ok, test_ok, kept_ok, ok_is, Takes, then, bytes_take, bytes_again, number_takes, number_again}
-use Rattle.file_fields.proofs.Public.{within_takes, within_again, magic_takes, magic_again, version_takes, version_again, repeated_take, repeated_again}
-use Rattle.object_format.specs.Contents.{Contents, contents_of, items_of, IsInstructionWord, IsThreadCode, IsWithinLimits, word_bytes, least_words}
-use Rattle.object_format.specs.ObjectEncoder.{magic, version, thread_text, spelling}
-use Rattle.object_format.specs.ObjectDecoder.{Head, initial_at, word_at, thread_at, head_at, read}
+use Rattle.file_fields.proofs.Public.{within_takes, within_again, magic_takes, magic_again, repeated_take, repeated_again}
+use Rattle.object_format.specs.Contents.{Contents, contents_of, items_of, IsInstructionWord, IsThreadCode, IsWithinLimits, least_words, most_locks}
+use Rattle.object_format.specs.Contents.{version_of, word_bytes}
+use Rattle.object_format.specs.ObjectEncoder.{magic, thread_text, spelling}
+use Rattle.object_format.specs.ObjectDecoder.{Head, initial_at, log_at, word_at, thread_at, head_at, read}
 
 -- ---- The head
 
@@ -46,52 +49,94 @@ initial_again total text rest good =
     rw (within_again total 0 MOST_VARIABLE_BYTES (length text) (text ++ rest) (omega arith) good.few (omega (arith, good.few)), good.whole)
     (bytes_again total (length text) text rest refl)
 
+-- ---- The version
+
+abbrev chosen : (first second : Bool) → (rest : List ℕ) → Result (Log × List ℕ) Fault
+chosen first second rest = cond first (Ok (V1, rest)) (cond second (Ok (V2, rest)) (Err Version))
+
+told : (bytes : List ℕ) (n : ℕ) (rest : List ℕ) (x : Log × List ℕ) (first second : Bool) → (n == 1) ≡ first → (n == 2) ≡ second →
+    chosen first second rest ≡ Ok x → Takes bytes (number n) rest → Takes bytes (number (version_of x.0)) x.1
+told bytes n rest x true second one two e t =
+    let made : Log × List ℕ = (V1, rest) in
+    subst (λ (y : Log × List ℕ). Takes bytes (number (version_of y.0)) y.1) (ok_is made x e)
+    (subst (λ (m : ℕ). Takes bytes (number m) rest) (eqb-true n 1 one) t)
+told bytes n rest x false true one two e t =
+    let made : Log × List ℕ = (V2, rest) in
+    subst (λ (y : Log × List ℕ). Takes bytes (number (version_of y.0)) y.1) (ok_is made x e)
+    (subst (λ (m : ℕ). Takes bytes (number m) rest) (eqb-true n 2 two) t)
+told bytes n rest x false false one two e t = absurd (cc e)
+
+log_takes : (total : ℕ) (bytes : List ℕ) (x : Log × List ℕ) → IsBytes bytes → log_at total bytes ≡ Ok x → Takes bytes (number (version_of x.0)) x.1
+unfolding log_at
+log_takes total bytes x fits e =
+    let a = bind_ok (number_at total bytes) (λ n. chosen (n.0 == 1) (n.0 == 2) n.1) x e in
+    told bytes a.0.0 a.0.1 x (a.0.0 == 1) (a.0.0 == 2) refl refl a.2 (number_takes total bytes a.0 fits a.1).0
+
+log_again : (total : ℕ) (log : Log) (rest : List ℕ) → log_at total (number (version_of log) ++ rest) ≡ Ok (log, rest)
+unfolding log_at
+log_again total V1 rest =
+    ap (λ (read : Result (ℕ × List ℕ) Fault). read >>= λ n. chosen (n.0 == 1) (n.0 == 2) n.1) (number_again total 1 rest (omega arith))
+log_again total V2 rest =
+    ap (λ (read : Result (ℕ × List ℕ) Fault). read >>= λ n. chosen (n.0 == 1) (n.0 == 2) n.1) (number_again total 2 rest (omega arith))
+
+mutexes_fit : (log : Log) → most_locks log < 2 ^ 32
+mutexes_fit V1 = omega arith
+mutexes_fit V2 = omega arith
+
+-- ---- What stands before the code
+
 pub record IsHead (h : Head) : Type 0 where
   pub threads : h.threads ≤ MOST_THREADS
-  pub mutexes : h.mutexes ≤ MOST_MUTEXES
+  pub mutexes : h.mutexes ≤ most_locks h.log
   pub initial : IsInitial h.initial
 
 abbrev head_text : Head → List ℕ
-head_text h = magic ++ (number version ++ (number h.threads ++ (number h.mutexes ++ (number (length h.initial) ++ h.initial))))
+head_text h = magic ++ (number (version_of h.log) ++ (number h.threads ++ (number h.mutexes ++ (number (length h.initial) ++ h.initial))))
 
 head_takes : (total : ℕ) (bytes : List ℕ) (x : Head × List ℕ) → IsBytes bytes → head_at total bytes ≡ Ok x → Takes bytes (head_text x.0) x.1 × IsHead x.0
 unfolding head_at
 head_takes total bytes x fits e =
     let a = bind_ok (magic_at total magic bytes)
-    (λ m. version_at total version m >>= λ v. number_within total 0 MOST_THREADS v >>= λ threads. number_within total 0 MOST_MUTEXES threads.1 >>= λ mutexes.
-    initial_at total mutexes.1 >>= λ initial. Ok (record { threads = threads.0; mutexes = mutexes.0; initial = initial.0 }, initial.1)) x e in
-    let b = bind_ok (version_at total version a.0)
-    (λ v. number_within total 0 MOST_THREADS v >>= λ threads. number_within total 0 MOST_MUTEXES threads.1 >>= λ mutexes.
-    initial_at total mutexes.1 >>= λ initial. Ok (record { threads = threads.0; mutexes = mutexes.0; initial = initial.0 }, initial.1)) x a.2 in
-    let c = bind_ok (number_within total 0 MOST_THREADS b.0)
-    (λ threads. number_within total 0 MOST_MUTEXES threads.1 >>= λ mutexes. initial_at total mutexes.1 >>= λ initial.
-    Ok (record { threads = threads.0; mutexes = mutexes.0; initial = initial.0 }, initial.1)) x b.2 in
-    let d = bind_ok (number_within total 0 MOST_MUTEXES c.0.1)
-    (λ mutexes. initial_at total mutexes.1 >>= λ initial. Ok (record { threads = c.0.0; mutexes = mutexes.0; initial = initial.0 }, initial.1)) x c.2 in
-    let f = bind_ok (initial_at total d.0.1) (λ initial. Ok (record { threads = c.0.0; mutexes = d.0.0; initial = initial.0 }, initial.1)) x d.2 in
+    (λ m. log_at total m >>= λ log. number_within total 0 MOST_THREADS log.1 >>= λ threads. number_within total 0 (most_locks log.0) threads.1 >>= λ mutexes.
+    initial_at total mutexes.1 >>= λ initial.
+    Ok (record { log = log.0; threads = threads.0; mutexes = mutexes.0; initial = initial.0 }, initial.1)) x e in
+    let b = bind_ok (log_at total a.0)
+    (λ log. number_within total 0 MOST_THREADS log.1 >>= λ threads. number_within total 0 (most_locks log.0) threads.1 >>= λ mutexes.
+    initial_at total mutexes.1 >>= λ initial.
+    Ok (record { log = log.0; threads = threads.0; mutexes = mutexes.0; initial = initial.0 }, initial.1)) x a.2 in
+    let c = bind_ok (number_within total 0 MOST_THREADS b.0.1)
+    (λ threads. number_within total 0 (most_locks b.0.0) threads.1 >>= λ mutexes. initial_at total mutexes.1 >>= λ initial.
+    Ok (record { log = b.0.0; threads = threads.0; mutexes = mutexes.0; initial = initial.0 }, initial.1)) x b.2 in
+    let d = bind_ok (number_within total 0 (most_locks b.0.0) c.0.1)
+    (λ mutexes. initial_at total mutexes.1 >>= λ initial.
+    Ok (record { log = b.0.0; threads = c.0.0; mutexes = mutexes.0; initial = initial.0 }, initial.1)) x c.2 in
+    let f = bind_ok (initial_at total d.0.1)
+    (λ initial. Ok (record { log = b.0.0; threads = c.0.0; mutexes = d.0.0; initial = initial.0 }, initial.1)) x d.2 in
     let t0 = magic_takes total magic bytes a.0 fits a.1 in
-    let t1 = version_takes total version a.0 b.0 t0.rest_fits b.1 in
-    let t2 = within_takes total 0 MOST_THREADS b.0 c.0 t1.rest_fits c.1 in
-    let t3 = within_takes total 0 MOST_MUTEXES c.0.1 d.0 t2.0.rest_fits d.1 in
+    let t1 = log_takes total a.0 b.0 t0.rest_fits b.1 in
+    let t2 = within_takes total 0 MOST_THREADS b.0.1 c.0 t1.rest_fits c.1 in
+    let t3 = within_takes total 0 (most_locks b.0.0) c.0.1 d.0 t2.0.rest_fits d.1 in
     let t4 = initial_takes total d.0.1 f.0 t3.0.rest_fits f.1 in
     let e34 = then c.0.1 (number d.0.0) d.0.1 (number (length f.0.0) ++ f.0.0) f.0.1 t3.0 t4.0 in
-    let e24 = then b.0 (number c.0.0) c.0.1 (number d.0.0 ++ (number (length f.0.0) ++ f.0.0)) f.0.1 t2.0 e34 in
-    let e14 = then a.0 (number version) b.0 (number c.0.0 ++ (number d.0.0 ++ (number (length f.0.0) ++ f.0.0))) f.0.1 t1 e24 in
-    let e04 = then bytes magic a.0 (number version ++ (number c.0.0 ++ (number d.0.0 ++ (number (length f.0.0) ++ f.0.0)))) f.0.1 t0 e14 in
-    let made : Head × List ℕ = (record { threads = c.0.0; mutexes = d.0.0; initial = f.0.0 }, f.0.1) in
+    let e24 = then b.0.1 (number c.0.0) c.0.1 (number d.0.0 ++ (number (length f.0.0) ++ f.0.0)) f.0.1 t2.0 e34 in
+    let e14 = then a.0 (number (version_of b.0.0)) b.0.1 (number c.0.0 ++ (number d.0.0 ++ (number (length f.0.0) ++ f.0.0))) f.0.1 t1 e24 in
+    let e04 = then bytes magic a.0 (number (version_of b.0.0) ++ (number c.0.0 ++ (number d.0.0 ++ (number (length f.0.0) ++ f.0.0)))) f.0.1 t0 e14 in
+    let made : Head × List ℕ = (record { log = b.0.0; threads = c.0.0; mutexes = d.0.0; initial = f.0.0 }, f.0.1) in
     subst (λ (y : Head × List ℕ). Takes bytes (head_text y.0) y.1 × IsHead y.0) (ok_is made x f.2)
     (e04, record { threads = t2.2; mutexes = t3.2; initial = t4.1 })
 
 head_again : (total : ℕ) (h : Head) (rest : List ℕ) → IsHead h →
-    head_at total (magic ++ (number version ++ (number h.threads ++ (number h.mutexes ++ (number (length h.initial) ++ (h.initial ++ rest)))))) ≡ Ok (h, rest)
+    head_at total (magic ++ (number (version_of h.log) ++ (number h.threads ++ (number h.mutexes ++ (number (length h.initial) ++ (h.initial ++ rest)))))) ≡
+    Ok (h, rest)
 unfolding head_at
 head_again total h rest good =
     rw (
-      magic_again total magic (number version ++ (number h.threads ++ (number h.mutexes ++ (number (length h.initial) ++ (h.initial ++ rest))))),
-      version_again total version (number h.threads ++ (number h.mutexes ++ (number (length h.initial) ++ (h.initial ++ rest)))) (omega arith),
+      magic_again total magic (number (version_of h.log) ++ (number h.threads ++ (number h.mutexes ++ (number (length h.initial) ++ (h.initial ++ rest))))),
+      log_again total h.log (number h.threads ++ (number h.mutexes ++ (number (length h.initial) ++ (h.initial ++ rest)))),
       within_again total 0 MOST_THREADS h.threads (number h.mutexes ++ (number (length h.initial) ++ (h.initial ++ rest))) (omega arith) good.threads
           (omega (arith, good.threads)),
-      within_again total 0 MOST_MUTEXES h.mutexes (number (length h.initial) ++ (h.initial ++ rest)) (omega arith) good.mutexes (omega (arith, good.mutexes)),
+      within_again total 0 (most_locks h.log) h.mutexes (number (length h.initial) ++ (h.initial ++ rest)) (omega arith) good.mutexes
+          (omega (arith, good.mutexes, mutexes_fit h.log)),
       initial_again total h.initial rest good.initial,
     ) refl
 
@@ -132,7 +177,8 @@ thread_again total words rest good =
 
 abbrev body_text : Contents → List ℕ
 body_text o =
-    magic ++ (number version ++ (number (length o.code) ++ (number o.mutexes ++ (number (length o.initial) ++ (o.initial ++ flat_map thread_text o.code)))))
+    magic ++ (number (version_of o.log) ++ (number (length o.code) ++ (number o.mutexes ++
+    (number (length o.initial) ++ (o.initial ++ flat_map thread_text o.code)))))
 
 object_takes : (bytes : List ℕ) (o : Contents) → IsBytes bytes → read bytes ≡ Ok o → IsWithinLimits o × (bytes ≡ spelling o)
 unfolding read
@@ -140,10 +186,10 @@ object_takes bytes o fits e =
     let total = length bytes in
     let a = bind_ok (head_at total bytes)
     (λ head. repeated (thread_at total) head.0.threads head.1 >>= λ code.
-    ended total code.1 (record { code = code.0; initial = head.0.initial; mutexes = head.0.mutexes })) o e in
+    ended total code.1 (record { log = head.0.log; code = code.0; initial = head.0.initial; mutexes = head.0.mutexes })) o e in
     let b = bind_ok (repeated (thread_at total) a.0.0.threads a.0.1)
-    (λ code. ended total code.1 (record { code = code.0; initial = a.0.0.initial; mutexes = a.0.0.mutexes })) o a.2 in
-    let made : Contents = record { code = b.0.0; initial = a.0.0.initial; mutexes = a.0.0.mutexes } in
+    (λ code. ended total code.1 (record { log = a.0.0.log; code = code.0; initial = a.0.0.initial; mutexes = a.0.0.mutexes })) o a.2 in
+    let made : Contents = record { log = a.0.0.log; code = b.0.0; initial = a.0.0.initial; mutexes = a.0.0.mutexes } in
     let g = test_ok (length b.0.1 == 0) (Rest (total - length b.0.1)) made o b.2 in
     let t = head_takes total bytes a.0 fits a.1 in
     let u = repeated_take thread_text IsThreadCode (thread_at total) (thread_takes total) a.0.0.threads a.0.1 b.0 t.0.rest_fits b.1 in
@@ -151,12 +197,14 @@ object_takes bytes o fits e =
     let both = (then bytes (head_text a.0.0) a.0.1 (flat_map thread_text b.0.0) b.0.1 t.0 u.0).parts in
     let whole : bytes ≡ head_text a.0.0 ++ flat_map thread_text b.0.0 =
     both ∙ ap (λ rest. (head_text a.0.0 ++ flat_map thread_text b.0.0) ++ rest) nothing ∙ append-nil (head_text a.0.0 ++ flat_map thread_text b.0.0) in
-    let counted : bytes ≡ head_text (record { threads = length b.0.0; mutexes = a.0.0.mutexes; initial = a.0.0.initial }) ++ flat_map thread_text b.0.0 =
-    whole ∙ ap (λ n. head_text (record { threads = n; mutexes = a.0.0.mutexes; initial = a.0.0.initial }) ++ flat_map thread_text b.0.0) (sym u.1) in
+    let counted : bytes ≡ head_text (record { log = a.0.0.log; threads = length b.0.0; mutexes = a.0.0.mutexes; initial = a.0.0.initial }) ++ flat_map
+    thread_text b.0.0 =
+    whole ∙ ap (λ n. head_text (record { log = a.0.0.log; threads = n; mutexes = a.0.0.mutexes; initial = a.0.0.initial }) ++ flat_map thread_text b.0.0)
+    (sym u.1) in
     subst (λ v. IsWithinLimits v × (bytes ≡ spelling v)) g.1
     (record { threads = rw u.1 t.1.threads; mutexes = t.1.mutexes; initial = t.1.initial.few; whole = t.1.initial.whole; code = u.2 }, counted ∙ regrouped made)
   where
-    regrouped : (v : Contents) → head_text (record { threads = length v.code; mutexes = v.mutexes; initial = v.initial })
+    regrouped : (v : Contents) → head_text (record { log = v.log; threads = length v.code; mutexes = v.mutexes; initial = v.initial })
         ++ flat_map thread_text v.code ≡ spelling v
     regrouped v = simp append_assoc
 
@@ -164,7 +212,7 @@ pub object_again : (o : Contents) → IsWithinLimits o → read (spelling o) ≡
 unfolding read
 object_again o good =
     let total = length (spelling o) in
-    let head : Head = record { threads = length o.code; mutexes = o.mutexes; initial = o.initial } in
+    let head : Head = record { log = o.log; threads = length o.code; mutexes = o.mutexes; initial = o.initial } in
     let is_head : IsHead head = record { threads = good.threads; mutexes = good.mutexes; initial = record { few = good.initial; whole = good.whole } } in
     let begins : head_at total (spelling o) ≡ Ok (head, flat_map thread_text o.code) = head_again total head (flat_map thread_text o.code) is_head in
     let code : repeated (thread_at total) (length o.code) (flat_map thread_text o.code) ≡ Ok (o.code, []) =

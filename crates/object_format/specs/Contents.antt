@@ -2,11 +2,15 @@
 use Rattle.std.specs.Prelude.{◌≡◌, ℕ, ◌%◌, ◌^◌, ◌<◌, ◌≤◌, List, length, map, IsTrue, is_some}
 use Rattle.std.specs.List.{AllByRecursion}
 use Rattle.std.specs.Global.{Vec}
-use Rattle.ido_base.specs.declared.limits.TheConstants.{MOST_THREADS, MOST_MUTEXES, MOST_VARIABLE_BYTES, MOST_CODE_WORDS, WORD_BYTES}
+use Rattle.ido_base.specs.declared.limits.TheConstants.{MOST_THREADS, MOST_LOCKS, MOST_MUTEXES, MOST_VARIABLE_BYTES, MOST_CODE_WORDS, WORD_BYTES}
+use Rattle.ido_base.specs.declared.log.Log.{Log}
+use Rattle.ido_base.specs.declared.log.Log.TheVariants.{V1, V2}
 use Rattle.rv64_isa.specs.Formats.{decoded}
 use Rattle.rv64_isa.specs.declared.object.Object.{Object}
 
 pub record Contents : Type 0 where
+  -- how its threads log
+  pub log : Log
   -- the code words of each thread
   pub code : List (List ℕ)
   -- the initial bytes of the variables
@@ -18,13 +22,23 @@ abbrev pub items_of : Vec ℕ → List ℕ
 items_of v = v.items
 
 abbrev pub contents_of : Object → Contents
-contents_of object = record { code = map items_of object.code.items; initial = object.initial.items; mutexes = object.mutexes }
+contents_of object = record { log = object.log; code = map items_of object.code.items; initial = object.initial.items; mutexes = object.mutexes }
+
+-- the version of objects whose threads log so
+abbrev pub version_of : Log → ℕ
+version_of V1 = 1
+version_of V2 = 2
 
 -- ---- Limits
 
 -- initial bytes are whole words
 abbrev pub word_bytes : ℕ
 word_bytes = WORD_BYTES
+
+-- mutexes at most: a mask has a bit for each, and a list numbers
+abbrev pub most_locks : Log → ℕ
+most_locks V1 = MOST_MUTEXES
+most_locks V2 = MOST_LOCKS
 
 abbrev pub least_words : ℕ
 least_words = 1
@@ -40,7 +54,7 @@ pub record IsThreadCode (words : List ℕ) : Type 0 where
 
 pub record IsWithinLimits (o : Contents) : Type 0 where
   pub threads : length o.code ≤ MOST_THREADS
-  pub mutexes : o.mutexes ≤ MOST_MUTEXES
+  pub mutexes : o.mutexes ≤ most_locks o.log
   pub initial : length o.initial ≤ MOST_VARIABLE_BYTES
   pub whole : length o.initial % word_bytes ≡ 0
   pub code : AllByRecursion IsThreadCode o.code

@@ -1,10 +1,18 @@
 -- Bytes read in their order, as an object, with the first fault and its place. `total` is how many bytes there are in all.
-use Rattle.std.specs.Prelude.{ℕ, ◌%◌, List, length, Result, Ok, is_some, ◌==◌}
-use Rattle.ido_base.specs.declared.limits.TheConstants.{MOST_THREADS, MOST_MUTEXES, MOST_VARIABLE_BYTES, MOST_CODE_WORDS}
+use Rattle.std.specs.Prelude.{ℕ, ◌%◌, List, length, Result, Ok, Err, is_some, ◌==◌, if◌then◌else◌}
+use Rattle.ido_base.specs.declared.limits.TheConstants.{MOST_THREADS, MOST_VARIABLE_BYTES, MOST_CODE_WORDS}
+use Rattle.ido_base.specs.declared.log.Log.{Log}
+use Rattle.ido_base.specs.declared.log.Log.TheVariants.{V1, V2}
 use Rattle.rv64_isa.specs.Formats.{decoded}
-use Rattle.file_fields.specs.Fields.{Fault, Reads, ◌>>=◌, bytes_at, number_at, kept, number_within, repeated, magic_at, version_at, ended}
-use Rattle.object_format.specs.Contents.{Contents, word_bytes, least_words}
-use Rattle.object_format.specs.ObjectEncoder.{magic, version}
+use Rattle.file_fields.specs.Fields.{Fault, Reads, Version, ◌>>=◌, bytes_at, number_at, kept, number_within, repeated, magic_at, ended}
+use Rattle.object_format.specs.Contents.{Contents, least_words, most_locks, word_bytes}
+use Rattle.object_format.specs.ObjectEncoder.{magic}
+
+-- the log of a version
+unfoldable pub log_at : (total : ℕ) → List ℕ → Reads Log
+log_at total bytes = do
+  n ← number_at total bytes
+  if n.0 == 1 then Ok (V1, n.1) else if n.0 == 2 then Ok (V2, n.1) else Err Version
 
 -- how many initial bytes there are, and these
 unfoldable pub initial_at : (total : ℕ) → List ℕ → Reads (List ℕ)
@@ -25,6 +33,7 @@ thread_at total bytes = do
 
 -- what stands before the code
 pub record Head : Type 0 where
+  pub log : Log
   pub threads : ℕ
   pub mutexes : ℕ
   pub initial : List ℕ
@@ -32,15 +41,15 @@ pub record Head : Type 0 where
 unfoldable pub head_at : (total : ℕ) → List ℕ → Reads Head
 head_at total bytes = do
   after_magic ← magic_at total magic bytes
-  after_version ← version_at total version after_magic
-  threads ← number_within total 0 MOST_THREADS after_version
-  mutexes ← number_within total 0 MOST_MUTEXES threads.1
+  log ← log_at total after_magic
+  threads ← number_within total 0 MOST_THREADS log.1
+  mutexes ← number_within total 0 (most_locks log.0) threads.1
   initial ← initial_at total mutexes.1
-  Ok (record { threads = threads.0; mutexes = mutexes.0; initial = initial.0 }, initial.1)
+  Ok (record { log = log.0; threads = threads.0; mutexes = mutexes.0; initial = initial.0 }, initial.1)
 
 -- the object that the bytes spell, all of them, or their first fault
 unfoldable pub read : List ℕ → Result Contents Fault
 read bytes = do
   head ← head_at (length bytes) bytes
   code ← repeated (thread_at (length bytes)) head.0.threads head.1
-  ended (length bytes) code.1 (record { code = code.0; initial = head.0.initial; mutexes = head.0.mutexes })
+  ended (length bytes) code.1 (record { log = head.0.log; code = code.0; initial = head.0.initial; mutexes = head.0.mutexes })

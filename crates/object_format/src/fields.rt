@@ -1,11 +1,27 @@
 //! Fields of an object. Each reader answers what it has read and the bytes after it.
 ghost use Rattle.file_fields.specs.links.ReaderResults.{ViewsFault};
-ghost use Rattle.object_format.specs.ObjectDecoder.{initial_at, word_at};
+ghost use Rattle.object_format.specs.ObjectDecoder.{initial_at, log_at, word_at};
 
 use file_fields::error::ReadError;
 use file_fields::reading::{bytes_at, number_at, number_within, place_of};
 use ido_base::limits::{MOST_VARIABLE_BYTES, WORD_BYTES};
+use ido_base::log::Log;
 use rv64_isa::word::decode;
+
+/// The log of a version.
+#[tactic(auto, unfolding(crate::specs::ObjectDecoder::log_at))]
+pub fn log_at(total: u32, bytes: &[u8]) -> Result<(Log, &[u8]), ReadError>
+    ensures { ViewsFault (λ x. (x.0, x.1.now)) result (log_at total bytes.now) }
+{
+    let (version, rest) = number_at(total, bytes)?;
+    if version == 1 {
+        Ok((Log::V1, rest))
+    } else if version == 2 {
+        Ok((Log::V2, rest))
+    } else {
+        Err(ReadError::Version)
+    }
+}
 
 /// How many initial bytes there are, and these.
 #[tactic(auto, unfolding(crate::specs::ObjectDecoder::initial_at))]

@@ -1,6 +1,5 @@
 //! Bytes read as an object.
 ghost use Rattle.std.specs.Prelude.{◌≡◌, ◌≤◌, ℕ, List, length, map, IfOk, Ok};
-ghost use Rattle.ido_base.specs.declared.log.Log.TheVariants.{V1};
 ghost use Rattle.ido_base.specs.declared.limits.TheConstants.{MOST_INPUT_BYTES};
 ghost use Rattle.file_fields.specs.Fields.{repeated};
 ghost use Rattle.file_fields.specs.links.ReaderResults.{Gives};
@@ -9,11 +8,11 @@ ghost use Rattle.object_format.specs.ObjectEncoder.{spelling};
 ghost use Rattle.object_format.specs.ObjectDecoder.{word_at, thread_at, head_at, read};
 ghost use Rattle.object_format.specs.links.Heads.{head_of};
 
-use crate::fields::{initial_at, word_at};
-use crate::limits::LEAST_WORDS;
+use crate::fields::{initial_at, log_at, word_at};
+use crate::limits::{LEAST_WORDS, most_locks};
 use file_fields::error::ReadError;
-use file_fields::reading::{Reader, magic_at, number_within, place_of, repeated, version_at};
-use ido_base::limits::{MOST_CODE_WORDS, MOST_MUTEXES, MOST_THREADS};
+use file_fields::reading::{Reader, magic_at, number_within, place_of, repeated};
+use ido_base::limits::{MOST_CODE_WORDS, MOST_THREADS};
 use ido_base::log::Log;
 use ido_base::memory::OutOfMemory;
 use rv64_isa::object::Object;
@@ -22,6 +21,7 @@ use std::alloc::Global;
 /// What stands before the code.
 #[derive(Drop)]
 struct Head<'a> {
+    log: Log,
     threads: u32,
     mutexes: u32,
     initial: &'a [u8],
@@ -32,11 +32,12 @@ fn head_at(total: u32, bytes: &[u8]) -> Result<(Head<'_>, &[u8]), ReadError>
     ensures { Gives (λ x. (head_of x.0, x.1.now)) result (head_at total bytes.now) }
 {
     let rest = magic_at(total, b"IDO-OBJ\n", bytes)?;
-    let rest = version_at(total, 1, rest)?;
+    let (log, rest) = log_at(total, rest)?;
     let (threads, rest) = number_within(total, 0, MOST_THREADS, rest)?;
-    let (mutexes, rest) = number_within(total, 0, MOST_MUTEXES, rest)?;
+    let (mutexes, rest) = number_within(total, 0, most_locks(log), rest)?;
     let (initial, rest) = initial_at(total, rest)?;
     let head = Head {
+        log,
         threads,
         mutexes,
         initial,
@@ -135,8 +136,7 @@ fn copy(alloc: Global, bytes: &[u8]) -> Result<Vec<u8>, OutOfMemory>
 #[tactic(auto, unfolding(crate::specs::ObjectDecoder::read))]
 fn read(alloc: Global, bytes: &[u8]) -> Result<Object, ReadError>
     requires { length bytes.now ≤ MOST_INPUT_BYTES }
-    ensures exact { Gives contents_of result (read bytes.now) }
-    ensures log { IfOk result (λ object. object.log ≡ V1) }
+    ensures { Gives contents_of result (read bytes.now) }
 {
     let total = bytes.len() as u32;
     let (head, rest) = head_at(total, bytes)?;
@@ -148,16 +148,15 @@ fn read(alloc: Global, bytes: &[u8]) -> Result<Object, ReadError>
         code,
         initial: copy(alloc, head.initial)?,
         mutexes: head.mutexes,
-        log: Log::V1,
+        log: head.log,
     })
 }
 
 /// The object that bytes spell.
 ///
-/// Numbers are of four bytes, little-endian: 8 bytes `IDO-OBJ` and LF, the version 1, the numbers of
-/// threads, of mutexes and of initial bytes, these bytes, and of each thread the number of its words
-/// and the words. There are at most 8 threads of 1 to 65,536 words that instructions have, 64 mutexes,
-/// and 65,536 initial bytes, a multiple of 8.
+/// Numbers are of four bytes, little-endian: 8 bytes `IDO-OBJ` and LF, the version, which is 1 where threads log a mask of their locks and 2 where they list
+/// them, the numbers of threads, of mutexes and of initial bytes, these bytes, and of each thread the number of its words and the words. There are at most 8
+/// threads of 1 to 65,536 words that instructions have, 64 mutexes, in version 2 1,024, and 65,536 initial bytes, a multiple of 8.
 pub fn read_object(alloc: Global, bytes: &[u8]) -> Result<Object, ReadError>
     requires short { length bytes.now ≤ MOST_INPUT_BYTES }
     // What is read is spelled so, and within the limits.
@@ -166,7 +165,6 @@ pub fn read_object(alloc: Global, bytes: &[u8]) -> Result<Object, ReadError>
     ensures only { (o : Contents) → IsWithinLimits o → bytes.now ≡ spelling o → Gives contents_of result (Ok o) }
     // Which fault it is: the first in the order of the bytes.
     ensures exact { Gives contents_of result (read bytes.now) }
-    ensures log { IfOk result (λ object. object.log ≡ V1) }
 {
     read(alloc, bytes)
 }

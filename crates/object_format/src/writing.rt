@@ -4,6 +4,7 @@ ghost use Rattle.file_fields.specs.Numbers.{number};
 ghost use Rattle.object_format.specs.Contents.{contents_of, items_of};
 ghost use Rattle.object_format.specs.ObjectEncoder.{HasLengths, magic, thread_text, spelling};
 
+use crate::limits::version_of;
 use file_fields::writing::{put, put_number, put_numbers};
 use ido_base::memory::OutOfMemory;
 use rv64_isa::object::Object;
@@ -38,7 +39,7 @@ pub fn write_object(alloc: Global, object: &Object) -> Result<Vec<u8>, OutOfMemo
 {
     let mut out = Vec::new(alloc);
     put(&mut out, b"IDO-OBJ\n")?;
-    put_number(&mut out, 1)?;
+    put_number(&mut out, version_of(object.log))?;
     put_number(&mut out, object.code.len() as u32)?;
     put_number(&mut out, object.mutexes)?;
     put_number(&mut out, object.initial.len() as u32)?;

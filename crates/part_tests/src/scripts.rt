@@ -1,6 +1,7 @@
 //! A script that is played on a small core.
 use crate::counter::Counter;
 use ido_base::limits::MOST_EVENTS;
+use ido_base::log::Log;
 use ido_base::machine::Core;
 use ido_base::place::Place;
 use run_scripts::play::{PlayError, play};
@@ -10,7 +11,7 @@ use std::test::Fail;
 #[test]
 fn a_play(rt: HostRuntime) -> Result<(), Fail> {
     let alloc = rt.alloc();
-    let Ok(script) = read_script(alloc, b"b 0\nf 0\nc\nf 0\ns 0 9\nb 0\n", 1) else {
+    let Ok(script) = read_script(alloc, b"b 0\nf 0\nc\nf 0\ns 0 9\nb 0\n", Log::V1, 1) else {
         return Err("refused".into());
     };
     let mut core = Counter::new(alloc, MOST_EVENTS as u32)?;
@@ -25,7 +26,7 @@ fn a_play(rt: HostRuntime) -> Result<(), Fail> {
 #[test]
 fn a_start_too_soon(rt: HostRuntime) -> Result<(), Fail> {
     let alloc = rt.alloc();
-    let Ok(script) = read_script(alloc, b"s 0 1\nr\nc\n", 1) else {
+    let Ok(script) = read_script(alloc, b"s 0 1\nr\nc\n", Log::V1, 1) else {
         return Err("refused".into());
     };
     let mut core = Counter::new(alloc, MOST_EVENTS as u32)?;

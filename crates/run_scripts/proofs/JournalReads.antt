@@ -18,6 +18,9 @@ use Rattle.ido_base.specs.declared.event.Event.{Event}
 use Rattle.ido_base.specs.declared.event.Event.TheVariants as events
 use Rattle.ido_base.specs.Cores.{Behaviour, IsValid, IsValidNow, played}
 use Rattle.ido_base.specs.declared.limits.TheConstants.{MOST_THREADS}
+use Rattle.ido_base.specs.declared.log.Log.{Log}
+use Rattle.ido_base.specs.declared.log.Log.TheVariants.{V1, V2}
+use Rattle.ido_base.specs.Layout.{line_count}
 use Rattle.run_scripts.specs.declared.script.Command.{Command}
 use Rattle.run_scripts.specs.declared.script.Command.TheVariants.{Steps, Point, Fence, Enabled, Evict, Crash, Start}
 use Rattle.run_scripts.specs.Journals.{command_text, commands_of, with_step}
@@ -37,14 +40,14 @@ placed place (c ∷ cs) = record { place = place; command = c } ∷ placed (plac
 -- ---- The events of the lines
 
 -- it is a line of a journal of so many harts, which makes at most so many events
-abbrev pub Fits : (harts most : ℕ) → Command → Type 0
-Fits harts most (Steps hart count) = (hart < harts) × (count ≤ most)
-Fits harts most (Point hart) = ⊥
-Fits harts most (Fence hart) = ⊥
-Fits harts most (Enabled count) = ⊥
-Fits harts most (Evict evicted mask) = IsEviction harts evicted mask
-Fits harts most Crash = Unit {0}
-Fits harts most Start = Unit {0}
+abbrev pub Fits : Log → (harts most : ℕ) → Command → Type 0
+Fits log harts most (Steps hart count) = (hart < harts) × (count ≤ most)
+Fits log harts most (Point hart) = ⊥
+Fits log harts most (Fence hart) = ⊥
+Fits log harts most (Enabled count) = ⊥
+Fits log harts most (Evict evicted mask) = IsEviction log harts evicted mask
+Fits log harts most Crash = Unit {0}
+Fits log harts most Start = Unit {0}
 
 abbrev made : List Command → List Event
 made [] = []
@@ -80,13 +83,13 @@ made-commands_of (events.Evict evicted mask ∷ es) = ap (λ xs. events.Evict ev
 made-commands_of (events.Crash ∷ es) = ap (λ xs. events.Crash ∷ xs) (made-commands_of es)
 made-commands_of (events.Start ∷ es) = ap (λ xs. events.Start ∷ xs) (made-commands_of es)
 
-module _ {M : Type 0} (b : Behaviour M) (harts most : ℕ) where
+module _ {M : Type 0} (b : Behaviour M) (log : Log) (harts most : ℕ) where
   -- of events after events
   starts_after : (m : M) (es more : List Event) → MayStart b m (es ++ more) → MayStart b (played b m es) more
   starts_after m [] more may = may
   starts_after m (e ∷ es) more may = starts_after (b.next m e) es more may.1
 
-  script_made : (m : M) (place : ℕ) (cs : List Command) → AllByRecursion (Fits harts most) cs → MayStart b m (made cs) →
+  script_made : (m : M) (place : ℕ) (cs : List Command) → AllByRecursion (Fits log harts most) cs → MayStart b m (made cs) →
       script_events b harts m (placed place cs) ≡ made cs
   script_made m place [] fit may = refl
   script_made m place (Steps hart count ∷ cs) fit may =
@@ -119,7 +122,7 @@ module _ {M : Type 0} (b : Behaviour M) (harts most : ℕ) where
           if past then Some (TooMany line.place) else if refused then Some (BadStart line.place) else if over then Some (PastFew line.place)
           else play_fault b harts (played b m (line_events b harts m line.command)) (room - length (line_events b harts m line.command)) lines
 
-  faultless : (m : M) (place : ℕ) (cs : List Command) (room : ℕ) → AllByRecursion (Fits harts most) cs → MayStart b m (made cs) → length (made cs) ≤ room →
+  faultless : (m : M) (place : ℕ) (cs : List Command) (room : ℕ) → AllByRecursion (Fits log harts most) cs → MayStart b m (made cs) → length (made cs) ≤ room →
       play_fault b harts m room (placed place cs) ≡ None
   faultless m place [] room fit may fits = refl
   faultless m place (Steps hart count ∷ cs) room fit may fits =
@@ -144,8 +147,8 @@ module _ {M : Type 0} (b : Behaviour M) (harts most : ℕ) where
       goes m (record { place = place; command = Start }) (placed after cs) room (ap not (may.0 refl)) (omega (arith, fits))
       ∙ faultless (b.next m events.Start) after cs (room - 1) fit.1 may.1 (omega (arith, fits))
 
-module _ (harts : ℕ) where
-  fits_more : (most more : ℕ) → most ≤ more → (c : Command) → Fits harts most c → Fits harts more c
+module _ (log : Log) (harts : ℕ) where
+  fits_more : (most more : ℕ) → most ≤ more → (c : Command) → Fits log harts most c → Fits log harts more c
   fits_more most more h (Steps hart count) fit = (fit.0, let few = fit.1 in omega (arith, few, h))
   fits_more most more h (Point hart) fit = fit
   fits_more most more h (Fence hart) fit = fit
@@ -154,12 +157,12 @@ module _ (harts : ℕ) where
   fits_more most more h Crash fit = fit
   fits_more most more h Start fit = fit
 
-  all_fit_more : (most more : ℕ) → most ≤ more → (cs : List Command) → AllByRecursion (Fits harts most) cs → AllByRecursion (Fits harts more) cs
+  all_fit_more : (most more : ℕ) → most ≤ more → (cs : List Command) → AllByRecursion (Fits log harts most) cs → AllByRecursion (Fits log harts more) cs
   all_fit_more most more h [] fit = tt
   all_fit_more most more h (c ∷ cs) fit = (fits_more most more h c fit.0, all_fit_more most more h cs fit.1)
 
-  with_step_fits : (most hart : ℕ) → hart < harts → (cs : List Command) → AllByRecursion (Fits harts most) cs →
-      AllByRecursion (Fits harts (suc most)) (with_step hart cs)
+  with_step_fits : (most hart : ℕ) → hart < harts → (cs : List Command) → AllByRecursion (Fits log harts most) cs →
+      AllByRecursion (Fits log harts (suc most)) (with_step hart cs)
   with_step_fits most hart below [] fit = ((below, omega arith), tt)
   with_step_fits most hart below (Point other ∷ cs) fit = absurd fit.0
   with_step_fits most hart below (Fence other ∷ cs) fit = absurd fit.0
@@ -172,19 +175,20 @@ module _ (harts : ℕ) where
       few : count ≤ most
       few = fit.0.1
 
-      rest : AllByRecursion (Fits harts (suc most)) cs
+      rest : AllByRecursion (Fits log harts (suc most)) cs
       rest = all_fit_more most (suc most) (omega arith) cs fit.1
 
-      by : (b : Bool) → AllByRecursion (Fits harts (suc most)) (if b then Steps hart (count + 1) ∷ cs else Steps hart 1 ∷ Steps other count ∷ cs)
+      by : (b : Bool) → AllByRecursion (Fits log harts (suc most)) (if b then Steps hart (count + 1) ∷ cs else Steps hart 1 ∷ Steps other count ∷ cs)
       by true = ((below, omega (arith, few)), rest)
       by false = ((below, omega arith), ((fit.0.0, omega (arith, few)), rest))
 
   -- what may be asked where another life may begin, and is no start, may be asked at any time
-  at_any_time : (e : Event) → IsValidNow harts (IsEviction harts) true e → (e ≡ events.Start → ⊥) → IsValid harts (IsEviction harts) e
+  at_any_time : (e : Event) → IsValidNow harts (IsEviction log harts) true e → (e ≡ events.Start → ⊥) → IsValid harts (IsEviction log harts) e
   at_any_time e (inl valid) other = valid
   at_any_time e (inr start) other = absurd (other start.0)
 
-  pub journal_fits : (es : List Event) → AllByRecursion (IsValidNow harts (IsEviction harts) true) es → AllByRecursion (Fits harts (length es)) (commands_of es)
+  pub journal_fits : (es : List Event) → AllByRecursion (IsValidNow harts (IsEviction log harts) true) es →
+      AllByRecursion (Fits log harts (length es)) (commands_of es)
   journal_fits [] valid = tt
   journal_fits (events.Step hart ∷ es) valid =
       with_step_fits (length es) hart (at_any_time (events.Step hart) valid.0 (λ e. cc e)) (commands_of es) (journal_fits es valid.1)
@@ -297,21 +301,31 @@ line_text Start = refl
 two_numbers : (a b : ℕ) → decimal a ++ codes " " ++ decimal b ≡ decimal a ++ 32 ∷ (decimal b ++ [])
 two_numbers a b = append_assoc (decimal a) (codes " ") (decimal b) ∙ ap (λ xs. decimal a ++ 32 ∷ xs) (sym (append-nil (decimal b)))
 
-module _ (harts most : ℕ) (machine : harts ≤ MOST_THREADS) (few : most < 4294967296) where
+lines_few : (log : Log) (harts : ℕ) → harts ≤ MOST_THREADS → line_count log harts ≤ 2048
+lines_few V1 harts machine = omega (arith, machine)
+lines_few V2 harts machine = omega (arith, machine)
+
+under : (n lines : ℕ) → n < lines → lines ≤ 2048 → n < 4294967296
+under n lines below most = omega (arith, below, most)
+
+module _ (log : Log) (harts most : ℕ) (machine : harts ≤ MOST_THREADS) (few : most < 4294967296) where
   hart_allowed : (place hart : ℕ) → hart < harts → hart_number harts place hart ≡ None
   hart_allowed place hart below = rw (lt-ltb hart 4294967296 (omega (arith, below, machine)), lt-ltb hart harts below) refl
 
   count_allowed : (place count : ℕ) → count ≤ most → any_number place count ≡ None
   count_allowed place count within = rw (lt-ltb count 4294967296 (omega (arith, within, few))) refl
 
-  line_allowed : (place evicted : ℕ) → evicted < 1024 + 16 * harts → line_number harts place evicted ≡ None
-  line_allowed place evicted below = rw (lt-ltb evicted 4294967296 (omega (arith, below, machine)), lt-ltb evicted (1024 + 16 * harts) below) refl
+  line_small : (evicted : ℕ) → evicted < line_count log harts → evicted < 4294967296
+  line_small evicted below = under evicted (line_count log harts) below (lines_few log harts machine)
+
+  line_allowed : (place evicted : ℕ) → evicted < line_count log harts → line_number log harts place evicted ≡ None
+  line_allowed place evicted below = rw (lt-ltb evicted 4294967296 (line_small evicted below), lt-ltb evicted (line_count log harts) below) refl
 
   mask_allowed : (place mask : ℕ) → mask ≤ 255 → mask_number place mask ≡ None
   mask_allowed place mask within = rw (le-leb mask 255 within) refl
 
   -- each line is read as what it was written for
-  line_read : (place : ℕ) (c : Command) → Fits harts most c → line_of harts place (body c) ≡ Says c
+  line_read : (place : ℕ) (c : Command) → Fits log harts most c → line_of log harts place (body c) ≡ Says c
   line_read place (Steps hart count) fit =
       let below : hart < harts = fit.0 in let within : count ≤ most = fit.1 in
       let ends : (h c : ℕ) (q : ℕ) → List ℕ → LineRead = λ h c q end. end_then q end (Steps h c) in
@@ -325,11 +339,12 @@ module _ (harts most : ℕ) (machine : harts ≤ MOST_THREADS) (few : most < 429
   line_read place (Fence hart) fit = absurd fit
   line_read place (Enabled count) fit = absurd fit
   line_read place (Evict evicted mask) fit =
-      let below : evicted < 1024 + 16 * harts = fit.0 in let within : mask ≤ 255 = fit.1 in
+      let below : evicted < line_count log harts = fit.0 in let within : mask ≤ 255 = fit.1 in
+      let small : evicted < 4294967296 = line_small evicted below in
       let ends : (l m : ℕ) (q : ℕ) → List ℕ → LineRead = λ l m q end. end_then q end (Evict l m) in
       let more : (l p : ℕ) → List ℕ → LineRead = λ l p after. argument_then mask_number p after (ends l) in
-      ap (λ xs. number_then (line_number harts) (place + 1 + 1) xs more) (two_numbers evicted mask)
-      ∙ number_read (line_number harts) (place + 1 + 1) evicted (32 ∷ (decimal mask ++ [])) more (omega (arith, below, machine))
+      ap (λ xs. number_then (line_number log harts) (place + 1 + 1) xs more) (two_numbers evicted mask)
+      ∙ number_read (line_number log harts) (place + 1 + 1) evicted (32 ∷ (decimal mask ++ [])) more (omega (arith, small))
       (line_allowed (place + 1 + 1) evicted below) refl
       ∙ number_read mask_number (place + 1 + 1 + length (decimal evicted) + 1) mask [] (ends evicted) (omega (arith, within))
       (mask_allowed (place + 1 + 1 + length (decimal evicted) + 1) mask within) tt
@@ -347,27 +362,28 @@ module _ (harts most : ℕ) (machine : harts ≤ MOST_THREADS) (few : most < 429
       (plain_digits (decimal b) (decimal_is_IsNumeral b less).0.1)
 
   -- a line that is written comes first, and then what is written after it
-  line_first : (place : ℕ) (c : Command) (first : ℕ) (tail rest : List ℕ) → body c ≡ first ∷ tail → AllByRecursion Plain (first ∷ tail) → Fits harts most c →
-      lines_of harts (lines_at place (command_text c ++ rest))
-      ≡ before_lines (record { place = place; command = c }) (lines_of harts (lines_at (place + length (command_text c)) rest))
+  line_first : (place : ℕ) (c : Command) (first : ℕ) (tail rest : List ℕ) → body c ≡ first ∷ tail → AllByRecursion Plain (first ∷ tail) →
+      Fits log harts most c →
+      lines_of log harts (lines_at place (command_text c ++ rest))
+      ≡ before_lines (record { place = place; command = c }) (lines_of log harts (lines_at (place + length (command_text c)) rest))
   line_first place c first tail rest is plain fit =
       let text : command_text c ≡ line (first ∷ tail) = line_text c ∙ ap line is in
       let size = ap length text ∙ length-append (first ∷ tail) (10 ∷ []) in
       let after : place + length (first ∷ tail) + 1 ≡ place + length (command_text c) = omega (arith, size) in
-      let says : line_of harts place (first ∷ tail) ≡ Says c = ap (line_of harts place) (sym is) ∙ line_read place c fit in
-      ap (λ xs. lines_of harts (lines_at place xs)) (ap (λ xs. xs ++ rest) text ∙ append_assoc (first ∷ tail) (10 ∷ []) rest)
-      ∙ ap (lines_of harts) (first_line place first tail rest (place + length (command_text c)) after plain)
-      ∙ ap (λ r. with_line place r (lines_of harts (lines_at (place + length (command_text c)) rest))) says
+      let says : line_of log harts place (first ∷ tail) ≡ Says c = ap (line_of log harts place) (sym is) ∙ line_read place c fit in
+      ap (λ xs. lines_of log harts (lines_at place xs)) (ap (λ xs. xs ++ rest) text ∙ append_assoc (first ∷ tail) (10 ∷ []) rest)
+      ∙ ap (lines_of log harts) (first_line place first tail rest (place + length (command_text c)) after plain)
+      ∙ ap (λ r. with_line place r (lines_of log harts (lines_at (place + length (command_text c)) rest))) says
 
-  lines_read : (place : ℕ) (cs : List Command) → AllByRecursion (Fits harts most) cs →
-      lines_of harts (lines_at place (flat_map command_text cs)) ≡ Lines (placed place cs)
+  lines_read : (place : ℕ) (cs : List Command) → AllByRecursion (Fits log harts most) cs →
+      lines_of log harts (lines_at place (flat_map command_text cs)) ≡ Lines (placed place cs)
   lines_read place [] fit = refl
   lines_read place (c ∷ cs) fit =
-      ap (λ xs. lines_of harts (lines_at place xs)) (flat_map-cons command_text c cs) ∙ by c fit.0
+      ap (λ xs. lines_of log harts (lines_at place xs)) (flat_map-cons command_text c cs) ∙ by c fit.0
       ∙ ap (before_lines (record { place = place; command = c })) (lines_read (place + length (command_text c)) cs fit.1)
     where
-      by : (d : Command) → Fits harts most d → lines_of harts (lines_at place (command_text d ++ flat_map command_text cs))
-          ≡ before_lines (record { place = place; command = d }) (lines_of harts (lines_at (place + length (command_text d)) (flat_map command_text cs)))
+      by : (d : Command) → Fits log harts most d → lines_of log harts (lines_at place (command_text d ++ flat_map command_text cs))
+          ≡ before_lines (record { place = place; command = d }) (lines_of log harts (lines_at (place + length (command_text d)) (flat_map command_text cs)))
       by (Steps hart count) f =
           let below : hart < harts = f.0 in let within : count ≤ most = f.1 in
           line_first place (Steps hart count) 115 (32 ∷ (decimal hart ++ codes " " ++ decimal count)) (flat_map command_text cs) refl
@@ -376,9 +392,9 @@ module _ (harts most : ℕ) (machine : harts ≤ MOST_THREADS) (few : most < 429
       by (Fence hart) f = absurd f
       by (Enabled count) f = absurd f
       by (Evict evicted mask) f =
-          let below : evicted < 1024 + 16 * harts = f.0 in let within : mask ≤ 255 = f.1 in
+          let small : evicted < 4294967296 = line_small evicted f.0 in let within : mask ≤ 255 = f.1 in
           line_first place (Evict evicted mask) 101 (32 ∷ (decimal evicted ++ codes " " ++ decimal mask)) (flat_map command_text cs) refl
-          ((refl, refl), ((refl, refl), plain_numbers evicted mask (omega (arith, below, machine)) (omega (arith, within)))) f
+          ((refl, refl), ((refl, refl), plain_numbers evicted mask (omega (arith, small)) (omega (arith, within)))) f
       by Crash f = line_first place Crash 99 [] (flat_map command_text cs) refl ((refl, refl), tt) f
       by Start f = line_first place Start 114 [] (flat_map command_text cs) refl ((refl, refl), tt) f
 
@@ -387,13 +403,13 @@ module _ (harts most : ℕ) (machine : harts ≤ MOST_THREADS) (few : most < 429
 -- the lines that make events are read as such, and make these events at each core
 pub journal_plays : {M : Type 0} (b : Behaviour M) → ArePlayedBack b
 unfolding read
-journal_plays b harts es machine few valid =
-    let fit = journal_fits harts es (recursion_from_All (IsValidNow harts (IsEviction harts) true) es valid) in record {
+journal_plays b log harts es machine few valid =
+    let fit = journal_fits log harts es (recursion_from_All (IsValidNow harts (IsEviction log harts) true) es valid) in record {
       lines = placed 0 (commands_of es);
-      read_is = lines_read harts (length es) machine few 0 (commands_of es) fit;
+      read_is = lines_read log harts (length es) machine few 0 (commands_of es) fit;
       events_are = λ m may.
-          script_made b harts (length es) m 0 (commands_of es) fit (subst (MayStart b m) (sym (made-commands_of es)) may) ∙ made-commands_of es;
+          script_made b log harts (length es) m 0 (commands_of es) fit (subst (MayStart b m) (sym (made-commands_of es)) may) ∙ made-commands_of es;
       faultless = λ m may room fits.
           let same = ap length (made-commands_of es) in
-          faultless b harts (length es) m 0 (commands_of es) room fit (subst (MayStart b m) (sym (made-commands_of es)) may) (omega (arith, same, fits));
+          faultless b log harts (length es) m 0 (commands_of es) room fit (subst (MayStart b m) (sym (made-commands_of es)) may) (omega (arith, same, fits));
     }

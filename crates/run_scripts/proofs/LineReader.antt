@@ -4,6 +4,7 @@ use Rattle.std.proofs.Common.{◌++◌, Result, Ok, Err, refl, sym, ◌∙◌, a
 use Rattle.std.specs.Prelude.{◌==◌, if◌then◌else◌, IfOk, IfErr, IsErrAnd}
 use Rattle.std.proofs.lemmas.List.{at_drop_more}
 use Rattle.std.specs.List.{prefix_len}
+use Rattle.ido_base.specs.declared.log.Log.{Log}
 use Rattle.run_scripts.specs.Schedules.{is_digit}
 use Rattle.run_scripts.specs.Scripts.{Rule, LineRead, Says, Fails, BadWord, Line, Read, Lines, Refused, before_lines}
 use Rattle.run_scripts.specs.Scripts.{with_line, lines_of, number_then, argument_then, end_then, line_of}
@@ -46,20 +47,20 @@ pub after_no_line : (r : Read) → after_lines [] r ≡ r
 after_no_line (Lines lines) = refl
 after_no_line (Refused fault) = refl
 
-pub script_goes_on : (harts : ℕ) (text bytes : List ℕ) (done new : List Line) (whole : Read) (place middle next : ℕ) (command : Command)
-    → whole ≡ after_lines done (lines_of harts (lines_at place (drop place text)))
+pub script_goes_on : (log : Log) (harts : ℕ) (text bytes : List ℕ) (done new : List Line) (whole : Read) (place middle next : ℕ) (command : Command)
+    → whole ≡ after_lines done (lines_of log harts (lines_at place (drop place text)))
     → lines_at place (drop place text) ≡ record { place = place; bytes = bytes } ∷ lines_at middle (drop middle text)
-    → line_of harts place bytes ≡ Says command
+    → line_of log harts place bytes ≡ Says command
     → lines_at middle (drop middle text) ≡ lines_at next (drop next text)
     → new ≡ done ++ record { place = place; command = command } ∷ []
-    → whole ≡ after_lines new (lines_of harts (lines_at next (drop next text)))
-script_goes_on harts text bytes done new whole place middle next command reached piece says after added =
+    → whole ≡ after_lines new (lines_of log harts (lines_at next (drop next text)))
+script_goes_on log harts text bytes done new whole place middle next command reached piece says after added =
     let line : Line = record { place = place; command = command } in
-    reached ∙ ap (λ ps. after_lines done (lines_of harts ps)) piece
-    ∙ ap (λ r. after_lines done (with_line place r (lines_of harts (lines_at middle (drop middle text))))) says
-    ∙ after_line done line (lines_of harts (lines_at middle (drop middle text)))
-    ∙ ap (λ ps. after_lines (done ++ line ∷ []) (lines_of harts ps)) after
-    ∙ ap (λ ls. after_lines ls (lines_of harts (lines_at next (drop next text)))) (sym added)
+    reached ∙ ap (λ ps. after_lines done (lines_of log harts ps)) piece
+    ∙ ap (λ r. after_lines done (with_line place r (lines_of log harts (lines_at middle (drop middle text))))) says
+    ∙ after_line done line (lines_of log harts (lines_at middle (drop middle text)))
+    ∙ ap (λ ps. after_lines (done ++ line ∷ []) (lines_of log harts ps)) after
+    ∙ ap (λ ls. after_lines ls (lines_of log harts (lines_at next (drop next text)))) (sym added)
 
 -- ---- The letter of a line
 

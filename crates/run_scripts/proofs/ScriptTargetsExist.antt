@@ -3,7 +3,7 @@ use Rattle.std.proofs.Common.{◌≡◌, ℕ, ◌+◌, ◌<◌, ◌≤◌, List,
 use Rattle.std.specs.Prelude.{◌==◌, if◌then◌else◌}
 use Rattle.std.specs.List.{AllByRecursion, prefix_len}
 use Rattle.std.proofs.lemmas.Bool.{ltb-true, leb-true}
-use Rattle.ido_base.specs.declared.log.Log.TheVariants.{V1}
+use Rattle.ido_base.specs.declared.log.Log.{Log}
 use Rattle.ido_base.specs.Layout.{line_count}
 use Rattle.run_scripts.specs.Pieces.{Piece, lines_at}
 use Rattle.run_scripts.specs.Schedules.{is_digit, number_limit}
@@ -27,10 +27,10 @@ hart_fits harts place n e =
     let inner = kept (nat_lt n number_limit) _ _ e in
     ltb-true n harts (kept (nat_lt n harts) _ _ inner.1).0
 
-line_fits : (harts place n : ℕ) → line_number harts place n ≡ None → n < line_count V1 harts
-line_fits harts place n e =
+line_fits : (log : Log) (harts place n : ℕ) → line_number log harts place n ≡ None → n < line_count log harts
+line_fits log harts place n e =
     let inner = kept (nat_lt n number_limit) _ _ e in
-    ltb-true n (line_count V1 harts) (kept (nat_lt n (line_count V1 harts)) _ _ inner.1).0
+    ltb-true n (line_count log harts) (kept (nat_lt n (line_count log harts)) _ _ inner.1).0
 
 mask_fits : (place n : ℕ) → mask_number place n ≡ None → n ≤ 255
 mask_fits place n e = leb-true n 255 (kept (nat_le n 255) _ _ e).0
@@ -76,44 +76,45 @@ ended place (c ∷ cs) y x e = cc
 
 -- ---- A line that is read
 
-module _ (harts : ℕ) where
+module _ (log : Log) (harts : ℕ) where
   Doable : Command → Type 0
-  Doable = IsDoable harts (IsEviction harts)
+  Doable = IsDoable harts (IsEviction log harts)
 
-  one_line : (make : ℕ → Command) (place : ℕ) (bytes : List ℕ) (x : Command) → ((n : ℕ) → n < harts → IsDoable harts (IsEviction harts) (make n)) →
-      argument_then (hart_number harts) place bytes (λ hart p after. end_then p after (make hart)) ≡ Says x → IsDoable harts (IsEviction harts) x
+  one_line : (make : ℕ → Command) (place : ℕ) (bytes : List ℕ) (x : Command) → ((n : ℕ) → n < harts → IsDoable harts (IsEviction log harts) (make n)) →
+      argument_then (hart_number harts) place bytes (λ hart p after. end_then p after (make hart)) ≡ Says x → IsDoable harts (IsEviction log harts) x
   one_line make place bytes x given e =
       let hart = argument_taken (hart_number harts) place bytes (λ hart p after. end_then p after (make hart)) x e in
-      subst (IsDoable harts (IsEviction harts)) (ended hart.next hart.rest (make hart.number) x hart.says)
+      subst (IsDoable harts (IsEviction log harts)) (ended hart.next hart.rest (make hart.number) x hart.says)
       (given hart.number (hart_fits harts hart.place hart.number hart.fits))
 
-  steps_doable : (place : ℕ) (bytes : List ℕ) (x : Command) → steps_line harts place bytes ≡ Says x → IsDoable harts (IsEviction harts) x
+  steps_doable : (place : ℕ) (bytes : List ℕ) (x : Command) → steps_line harts place bytes ≡ Says x → IsDoable harts (IsEviction log harts) x
   steps_doable place bytes x e =
       let hart = argument_taken (hart_number harts) place bytes
       (λ hart p after. argument_then any_number p after (λ count q end. end_then q end (Steps hart count))) x e in
       let count = argument_taken any_number hart.next hart.rest (λ count q end. end_then q end (Steps hart.number count)) x hart.says in
-      subst (IsDoable harts (IsEviction harts)) (ended count.next count.rest (Steps hart.number count.number) x count.says)
+      subst (IsDoable harts (IsEviction log harts)) (ended count.next count.rest (Steps hart.number count.number) x count.says)
       (hart_fits harts hart.place hart.number hart.fits)
 
-  enabled_doable : (place : ℕ) (bytes : List ℕ) (x : Command) → enabled_line place bytes ≡ Says x → IsDoable harts (IsEviction harts) x
+  enabled_doable : (place : ℕ) (bytes : List ℕ) (x : Command) → enabled_line place bytes ≡ Says x → IsDoable harts (IsEviction log harts) x
   enabled_doable place bytes x e =
       let count = argument_taken any_number place bytes (λ count p after. end_then p after (Enabled count)) x e in
-      subst (IsDoable harts (IsEviction harts)) (ended count.next count.rest (Enabled count.number) x count.says) tt
+      subst (IsDoable harts (IsEviction log harts)) (ended count.next count.rest (Enabled count.number) x count.says) tt
 
-  evict_doable : (place : ℕ) (bytes : List ℕ) (x : Command) → evict_line harts place bytes ≡ Says x → IsDoable harts (IsEviction harts) x
+  evict_doable : (place : ℕ) (bytes : List ℕ) (x : Command) → evict_line log harts place bytes ≡ Says x → IsDoable harts (IsEviction log harts) x
   evict_doable place bytes x e =
-      let line = argument_taken (line_number harts) place bytes
+      let line = argument_taken (line_number log harts) place bytes
       (λ line p after. argument_then mask_number p after (λ mask q end. end_then q end (Evict line mask))) x e in
       let mask = argument_taken mask_number line.next line.rest (λ mask q end. end_then q end (Evict line.number mask)) x line.says in
-      subst (IsDoable harts (IsEviction harts)) (ended mask.next mask.rest (Evict line.number mask.number) x mask.says)
-      (line_fits harts line.place line.number line.fits, mask_fits mask.place mask.number mask.fits)
+      subst (IsDoable harts (IsEviction log harts)) (ended mask.next mask.rest (Evict line.number mask.number) x mask.says)
+      (line_fits log harts line.place line.number line.fits, mask_fits mask.place mask.number mask.fits)
 
-  either : (b : Bool) (y z : LineRead) (x : Command) → (y ≡ Says x → IsDoable harts (IsEviction harts) x) → (z ≡ Says x → IsDoable harts (IsEviction harts) x) →
-      (if b then y else z) ≡ Says x → IsDoable harts (IsEviction harts) x
+  either : (b : Bool) (y z : LineRead) (x : Command) → (y ≡ Says x → IsDoable harts (IsEviction log harts) x) →
+      (z ≡ Says x → IsDoable harts (IsEviction log harts) x) →
+      (if b then y else z) ≡ Says x → IsDoable harts (IsEviction log harts) x
   either true y z x one other e = one e
   either false y z x one other e = other e
 
-  line_doable : (place : ℕ) (bytes : List ℕ) (x : Command) → line_of harts place bytes ≡ Says x → IsDoable harts (IsEviction harts) x
+  line_doable : (place : ℕ) (bytes : List ℕ) (x : Command) → line_of log harts place bytes ≡ Says x → IsDoable harts (IsEviction log harts) x
   line_doable place [] x e = cc
   line_doable place (c ∷ cs) x e =
       either (c == 115) _ _ x (steps_doable (place + 1) cs x)
@@ -121,8 +122,8 @@ module _ (harts : ℕ) where
       (either (c == 102) _ _ x (one_line Fence (place + 1) cs x (λ n h. h))
       (either (c == 103) _ _ x (enabled_doable (place + 1) cs x)
       (either (c == 101) _ _ x (evict_doable (place + 1) cs x)
-      (either (c == 99) _ _ x (λ s. subst (IsDoable harts (IsEviction harts)) (ended (place + 1) cs Crash x s) tt)
-      (either (c == 114) _ _ x (λ s. subst (IsDoable harts (IsEviction harts)) (ended (place + 1) cs Start x s) tt) (λ s. cc))))))) e
+      (either (c == 99) _ _ x (λ s. subst (IsDoable harts (IsEviction log harts)) (ended (place + 1) cs Crash x s) tt)
+      (either (c == 114) _ _ x (λ s. subst (IsDoable harts (IsEviction log harts)) (ended (place + 1) cs Start x s) tt) (λ s. cc))))))) e
 
   -- ---- All lines
 
@@ -138,14 +139,14 @@ module _ (harts : ℕ) where
   said_first place (Says command) got xs e = (command, refl, e)
   said_first place (Fails f) got xs e = cc
 
-  pub lines_doable : (ps : List Piece) (xs : List Line) → lines_of harts ps ≡ Lines xs →
-      AllByRecursion (λ (l : Line). IsDoable harts (IsEviction harts) l.command) xs
+  pub lines_doable : (ps : List Piece) (xs : List Line) → lines_of log harts ps ≡ Lines xs →
+      AllByRecursion (λ (l : Line). IsDoable harts (IsEviction log harts) l.command) xs
   lines_doable [] [] e = tt
   lines_doable [] (x ∷ xs) e = cc
   lines_doable (p ∷ ps) xs e =
-      let said = said_first p.place (line_of harts p.place p.bytes) (lines_of harts ps) xs e in
-      let first = line_first (record { place = p.place; command = said.0 }) (lines_of harts ps) xs said.2 in
-      subst (AllByRecursion (λ (l : Line). IsDoable harts (IsEviction harts) l.command)) first.2
+      let said = said_first p.place (line_of log harts p.place p.bytes) (lines_of log harts ps) xs e in
+      let first = line_first (record { place = p.place; command = said.0 }) (lines_of log harts ps) xs said.2 in
+      subst (AllByRecursion (λ (l : Line). IsDoable harts (IsEviction log harts) l.command)) first.2
       (line_doable p.place p.bytes said.0 said.1, lines_doable ps first.0 first.1)
 
 shown_doable : (P : Command → Type 0) (items : List declared.Line) → AllByRecursion (λ (l : Line). P l.command) (map shown items) →
@@ -153,9 +154,9 @@ shown_doable : (P : Command → Type 0) (items : List declared.Line) → AllByRe
 shown_doable P [] h = tt
 shown_doable P (x ∷ xs) h = (h.0, shown_doable P xs h.1)
 
-pub script_doable : (harts : ℕ) (text : List ℕ) (items : List declared.Line) → read harts text ≡ Lines (map shown items) →
-    All (λ (l : declared.Line). IsDoable harts (IsEviction harts) l.command) items
+pub script_doable : (log : Log) (harts : ℕ) (text : List ℕ) (items : List declared.Line) → read log harts text ≡ Lines (map shown items) →
+    All (λ (l : declared.Line). IsDoable harts (IsEviction log harts) l.command) items
 unfolding read
-script_doable harts text items e =
-    All-from_recursion (λ (l : declared.Line). IsDoable harts (IsEviction harts) l.command) items
-    (shown_doable (IsDoable harts (IsEviction harts)) items (lines_doable harts (lines_at 0 text) (map shown items) e))
+script_doable log harts text items e =
+    All-from_recursion (λ (l : declared.Line). IsDoable harts (IsEviction log harts) l.command) items
+    (shown_doable (IsDoable harts (IsEviction log harts)) items (lines_doable log harts (lines_at 0 text) (map shown items) e))

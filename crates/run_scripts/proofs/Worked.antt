@@ -4,6 +4,7 @@ use Rattle.std.specs.Fmt.{digits}
 use Rattle.rand_core.specs.Steps.{first_words}
 use Rattle.ido_base.specs.declared.event.Event.TheVariants as events
 use Rattle.ido_base.specs.declared.event.Reply.TheVariants.{Moved}
+use Rattle.ido_base.specs.declared.log.Log.TheVariants.{V1, V2}
 use Rattle.ido_base.specs.Cores.{Behaviour}
 use Rattle.run_scripts.specs.Draws.{drawn_event, drawn_evictions, drawn_run, events_from}
 use Rattle.run_scripts.specs.GeneratedSources.{generated_source, mutex_item, section_line, thread_head, thread_item, variable_item}
@@ -97,45 +98,53 @@ too_many_steps = refl
 
 -- ---- Scripts
 
-lines_are_read : s.read 1 (codes "b 0\r\n\ne 1024 01\ns 0 100000") ≡ s.Lines (
+lines_are_read : s.read V1 1 (codes "b 0\r\n\ne 1024 01\ns 0 100000") ≡ s.Lines (
     record { place = 0; command = Point 0 } ∷ record { place = 6; command = Evict 1024 1 } ∷ record { place = 16; command = StepsOf 0 100000 } ∷ []
     )
 unfolding s.read
 lines_are_read = refl
 
-hart_before_word : s.read 1 (codes "s 9x 1") ≡ s.Refused (s.NoHart 2)
+hart_before_word : s.read V1 1 (codes "s 9x 1") ≡ s.Refused (s.NoHart 2)
 unfolding s.read
 hart_before_word = refl
 
-number_before_word : s.read 9 (codes "c\ns 4294967296x") ≡ s.Refused (s.BadNumber 4)
+number_before_word : s.read V1 9 (codes "c\ns 4294967296x") ≡ s.Refused (s.BadNumber 4)
 unfolding s.read
 number_before_word = refl
 
-great_mask : s.read 1 (codes "e 0 256") ≡ s.Refused (s.BadNumber 4)
+great_mask : s.read V1 1 (codes "e 0 256") ≡ s.Refused (s.BadNumber 4)
 unfolding s.read
 great_mask = refl
 
-no_line : s.read 1 (codes "e 1040 1") ≡ s.Refused (s.NoLine 2)
+no_line : s.read V1 1 (codes "e 1040 1") ≡ s.Refused (s.NoLine 2)
 unfolding s.read
 no_line = refl
 
-too_short : s.read 1 (codes "s 0\r\nc") ≡ s.Refused (s.BadWord 3)
+line_of_lists : s.read V2 1 (codes "e 1055 1") ≡ s.Lines (record { place = 0; command = Evict 1055 1 } ∷ [])
+unfolding s.read
+line_of_lists = refl
+
+no_line_of_lists : s.read V2 1 (codes "e 1056 1") ≡ s.Refused (s.NoLine 2)
+unfolding s.read
+no_line_of_lists = refl
+
+too_short : s.read V1 1 (codes "s 0\r\nc") ≡ s.Refused (s.BadWord 3)
 unfolding s.read
 too_short = refl
 
-return_at_the_end : s.read 1 (codes "c\r") ≡ s.Refused (s.BadWord 1)
+return_at_the_end : s.read V1 1 (codes "c\r") ≡ s.Refused (s.BadWord 1)
 unfolding s.read
 return_at_the_end = refl
 
-two_spaces : s.read 1 (codes "s  0 1") ≡ s.Refused (s.BadWord 2)
+two_spaces : s.read V1 1 (codes "s  0 1") ≡ s.Refused (s.BadWord 2)
 unfolding s.read
 two_spaces = refl
 
-start_is_read : s.read 1 (codes "r\r\nr") ≡ s.Lines (record { place = 0; command = Start } ∷ record { place = 3; command = Start } ∷ [])
+start_is_read : s.read V1 1 (codes "r\r\nr") ≡ s.Lines (record { place = 0; command = Start } ∷ record { place = 3; command = Start } ∷ [])
 unfolding s.read
 start_is_read = refl
 
-start_with_number : s.read 1 (codes "r 1") ≡ s.Refused (s.BadWord 1)
+start_with_number : s.read V1 1 (codes "r 1") ≡ s.Refused (s.BadWord 1)
 unfolding s.read
 start_with_number = refl
 
@@ -180,32 +189,40 @@ start_past_few = refl
 
 -- ---- Drawn runs
 
-nothing_is_drawn : drawn_run 7 0 [] 1 1 ≡ []
+nothing_is_drawn : drawn_run 7 0 [] V1 1 1 ≡ []
 unfolding drawn_run events_from first_words
 nothing_is_drawn = refl
 
-steps_and_evictions : drawn_run 0 4 [] 2 3 ≡ events.Evict 1046 168 ∷ events.Step 1 ∷ events.Evict 0 93 ∷ events.Step 1 ∷ []
+steps_and_evictions : drawn_run 0 4 [] V1 2 3 ≡ events.Evict 1046 168 ∷ events.Step 1 ∷ events.Evict 0 93 ∷ events.Step 1 ∷ []
 unfolding drawn_run events_from first_words drawn_event
 steps_and_evictions = refl
 
-crashes_among_draws : drawn_run 7 3 (0 ∷ 2 ∷ 3 ∷ 2 ∷ 4 ∷ []) 2 3
+draws_of_more_lines : drawn_run 0 4 [] V2 2 3 ≡ events.Evict 1080 168 ∷ events.Step 1 ∷ events.Evict 1051 93 ∷ events.Step 1 ∷ []
+unfolding drawn_run events_from first_words drawn_event
+draws_of_more_lines = refl
+
+crashes_among_draws : drawn_run 7 3 (0 ∷ 2 ∷ 3 ∷ 2 ∷ 4 ∷ []) V1 2 3
     ≡ events.Crash ∷ events.Step 1 ∷ events.Step 0 ∷ events.Crash ∷ events.Crash ∷ events.Step 0 ∷ events.Crash ∷ []
 unfolding drawn_run events_from first_words drawn_event
 crashes_among_draws = refl
 
-nothing_without_threads : drawn_run 7 3 (0 ∷ []) 0 3 ≡ []
+nothing_without_threads : drawn_run 7 3 (0 ∷ []) V1 0 3 ≡ []
 unfolding drawn_run
 nothing_without_threads = refl
 
-first_eviction : drawn_evictions 7 1 1 0 ≡ (1029, 225)
+first_eviction : drawn_evictions 7 V1 1 1 0 ≡ (1029, 225)
 unfolding drawn_evictions first_words
 first_eviction = refl
 
-fourth_eviction : drawn_evictions 7 1 1 3 ≡ (1035, 235)
+first_of_more_lines : drawn_evictions 7 V2 1 1 0 ≡ (1051, 225)
+unfolding drawn_evictions first_words
+first_of_more_lines = refl
+
+fourth_eviction : drawn_evictions 7 V1 1 1 3 ≡ (1035, 235)
 unfolding drawn_evictions first_words
 fourth_eviction = refl
 
-evictions_of_many_lines : drawn_evictions 7 8 1024 0 ≡ (397, 225)
+evictions_of_many_lines : drawn_evictions 7 V1 8 1024 0 ≡ (397, 225)
 unfolding drawn_evictions first_words
 evictions_of_many_lines = refl
 

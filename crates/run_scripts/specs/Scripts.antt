@@ -2,7 +2,7 @@
 use Rattle.std.specs.Prelude.{ℕ, ◌+◌, ◌<◌, ◌≤◌, List, [], ◌∷◌, Bool, true, false, Option, Some, None, nat_lt, nat_le, ◌==◌, if◌then◌else◌, take, drop}
 use Rattle.std.specs.List.{prefix_len}
 use Rattle.std.specs.Str.Parse.{digits_value}
-use Rattle.ido_base.specs.declared.log.Log.TheVariants.{V1}
+use Rattle.ido_base.specs.declared.log.Log.{Log}
 use Rattle.ido_base.specs.Layout.{line_count}
 use Rattle.run_scripts.specs.Pieces.{Piece, lines_at}
 use Rattle.run_scripts.specs.Schedules.{is_digit, number_limit}
@@ -37,8 +37,9 @@ any_number place n = if nat_lt n number_limit then None else Some (BadNumber pla
 abbrev pub hart_number : (harts : ℕ) → Rule
 hart_number harts place n = if nat_lt n number_limit then (if nat_lt n harts then None else Some (NoHart place)) else Some (BadNumber place)
 
-abbrev pub line_number : (harts : ℕ) → Rule
-line_number harts place n = if nat_lt n number_limit then (if nat_lt n (line_count V1 harts) then None else Some (NoLine place)) else Some (BadNumber place)
+abbrev pub line_number : Log → (harts : ℕ) → Rule
+line_number log harts place n =
+    if nat_lt n number_limit then (if nat_lt n (line_count log harts) then None else Some (NoLine place)) else Some (BadNumber place)
 
 abbrev pub mask_number : Rule
 mask_number place n = if nat_le n 255 then None else Some (BadNumber place)
@@ -79,19 +80,19 @@ fence_line harts place bytes = argument_then (hart_number harts) place bytes (λ
 abbrev pub enabled_line : (place : ℕ) → List ℕ → LineRead
 enabled_line place bytes = argument_then any_number place bytes (λ count p after. end_then p after (Enabled count))
 
-abbrev pub evict_line : (harts place : ℕ) → List ℕ → LineRead
-evict_line harts place bytes =
-    argument_then (line_number harts) place bytes (λ line p after. argument_then mask_number p after (λ mask q end. end_then q end (Evict line mask)))
+abbrev pub evict_line : Log → (harts place : ℕ) → List ℕ → LineRead
+evict_line log harts place bytes =
+    argument_then (line_number log harts) place bytes (λ line p after. argument_then mask_number p after (λ mask q end. end_then q end (Evict line mask)))
 
--- a line by its letter, at a machine of so many harts
-abbrev pub line_of : (harts place : ℕ) → List ℕ → LineRead
-line_of harts place [] = Fails (BadWord place)
-line_of harts place (c ∷ cs) =
+-- a line by its letter, at a machine of so many harts, which log so
+abbrev pub line_of : Log → (harts place : ℕ) → List ℕ → LineRead
+line_of log harts place [] = Fails (BadWord place)
+line_of log harts place (c ∷ cs) =
     if c == 115 then steps_line harts (place + 1) cs
     else if c == 98 then point_line harts (place + 1) cs
     else if c == 102 then fence_line harts (place + 1) cs
     else if c == 103 then enabled_line (place + 1) cs
-    else if c == 101 then evict_line harts (place + 1) cs
+    else if c == 101 then evict_line log harts (place + 1) cs
     else if c == 99 then end_then (place + 1) cs Crash
     else if c == 114 then end_then (place + 1) cs Start
     else Fails (BadWord place)
@@ -116,12 +117,12 @@ abbrev pub with_line : (place : ℕ) → LineRead → Read → Read
 with_line place (Says command) after = before_lines (record { place = place; command = command }) after
 with_line place (Fails fault) after = Refused fault
 
-abbrev pub lines_of : (harts : ℕ) → List Piece → Read
-lines_of harts [] = Lines []
-lines_of harts (p ∷ ps) = with_line p.place (line_of harts p.place p.bytes) (lines_of harts ps)
+abbrev pub lines_of : Log → (harts : ℕ) → List Piece → Read
+lines_of log harts [] = Lines []
+lines_of log harts (p ∷ ps) = with_line p.place (line_of log harts p.place p.bytes) (lines_of log harts ps)
 
-unfoldable pub read : (harts : ℕ) → List ℕ → Read
-read harts text = lines_of harts (lines_at 0 text)
+unfoldable pub read : Log → (harts : ℕ) → List ℕ → Read
+read log harts text = lines_of log harts (lines_at 0 text)
 
 -- the line is a start
 abbrev pub is_start : Command → Bool
@@ -144,5 +145,5 @@ IsDoable harts evictable Crash = Unit {0}
 IsDoable harts evictable Start = Unit {0}
 
 -- the line exists, and the mask has eight bits
-abbrev pub IsEviction : (harts line mask : ℕ) → Type 0
-IsEviction harts line mask = (line < line_count V1 harts) × (mask ≤ 255)
+abbrev pub IsEviction : Log → (harts line mask : ℕ) → Type 0
+IsEviction log harts line mask = (line < line_count log harts) × (mask ≤ 255)

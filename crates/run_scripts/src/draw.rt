@@ -1,7 +1,8 @@
 //! Drawn runs: events by the words of a generator.
-ghost use Rattle.std.specs.Prelude.{◌≡◌, ◌+◌, ◌<◌, ◌≤◌, ◌^◌, ◌++◌, ◌∷◌, [], ◌==◌, ℕ, count_by, replicate, OnOk, IfOk};
+ghost use Rattle.std.specs.Prelude.{◌≡◌, ◌+◌, ◌*◌, ◌<◌, ◌≤◌, ◌^◌, ◌++◌, ◌∷◌, [], ◌==◌, ℕ, count_by, replicate, OnOk, IfOk};
 ghost use Rattle.ido_base.specs.declared.event.Event.TheVariants as e;
 ghost use Rattle.ido_base.specs.declared.limits.TheConstants.{MOST_THREADS, VARIABLE_LINES};
+ghost use Rattle.ido_base.specs.Layout.{log_lines};
 ghost use Rattle.run_scripts.specs.Draws.{crashes_at, drawn_event, drawn_line, drawn_mask, drawn_run};
 
 use ido_base::event::Event;
@@ -13,15 +14,27 @@ use rand_core::utils::NextWord;
 use rand_xoshiro::SplitMix64;
 use std::alloc::Global;
 
+/// Lines of the logs of so many threads.
+pub(crate) fn log_lines(log: Log, threads: u32) -> u64
+    ensures is { result ≡ log_lines log * threads }
+    ensures some { threads ≤ result }
+    ensures few { result ≤ 32 * threads }
+{
+    match log {
+        Log::V1 => u64::from(Log::V1.lines()) * u64::from(threads),
+        Log::V2 => u64::from(Log::V2.lines()) * u64::from(threads),
+    }
+}
+
 /// The line that a word draws.
-pub(crate) fn drawn_line(word: u64, threads: u32, lines: u32) -> u32
+pub(crate) fn drawn_line(word: u64, log: Log, threads: u32, lines: u32) -> u32
     requires some { 0 < threads }
     requires threads { threads ≤ MOST_THREADS }
     requires lines { lines ≤ VARIABLE_LINES }
-    ensures { result ≡ drawn_line threads lines word }
+    ensures { result ≡ drawn_line log threads lines word }
 {
     let own = u64::from(lines);
-    let drawn = (word >> 8) % (own + u64::from(Log::V1.lines()) * u64::from(threads));
+    let drawn = (word >> 8) % (own + log_lines(log, threads));
     let line = if drawn < own {
         drawn
     } else {
@@ -39,15 +52,15 @@ pub(crate) fn drawn_mask(word: u64) -> u32
 
 /// The event that a word draws.
 #[tactic(auto, unfolding(crate::specs::Draws::drawn_event))]
-fn drawn_event(word: u64, threads: u32, lines: u32) -> Event
+fn drawn_event(word: u64, log: Log, threads: u32, lines: u32) -> Event
     requires some { 0 < threads }
     requires threads { threads ≤ MOST_THREADS }
     requires lines { lines ≤ VARIABLE_LINES }
-    ensures { result ≡ drawn_event threads lines word }
+    ensures { result ≡ drawn_event log threads lines word }
 {
     if word % 16 == 15 {
         Event::Evict {
-            line: drawn_line(word, threads, lines),
+            line: drawn_line(word, log, threads, lines),
             mask: drawn_mask(word),
         }
     } else {
@@ -112,20 +125,22 @@ fn push_due_crashes(
     Ok(next_crash(crashes, draws + 1))
 }
 
-/// The events of a drawn run of so many threads, at so many lines of variables, by the words of SplitMix64 that the seed gives: so many draws, and
-/// after draw k a crash for each crash word k, those of the words 0 before the first draw. Without threads there are none.
+/// The events of a drawn run of so many threads, which log so, at so many lines of variables, by the words of SplitMix64 that the seed
+/// gives: so many draws, and after draw k a crash for each crash word k, those of the words 0 before the first draw. Without threads
+/// there are none.
 #[tactic(auto, unfolding(crate::specs::Draws::drawn_run))]
 pub fn draw(
     alloc: Global,
     seed: u64,
     turns: u64,
     crashes: &[u64],
+    log: Log,
     threads: u32,
     lines: u32,
 ) -> Result<Vec<Event>, OutOfMemory>
     requires threads { threads ≤ MOST_THREADS }
     requires lines { lines ≤ VARIABLE_LINES }
-    ensures { IfOk result (λ events. events.items ≡ drawn_run seed turns crashes.now threads lines) }
+    ensures { IfOk result (λ events. events.items ≡ drawn_run seed turns crashes.now log threads lines) }
 {
     let mut events = Vec::new(alloc);
     if threads == 0 {
@@ -136,7 +151,7 @@ pub fn draw(
     for draws in 0..turns {
         next = push_due_crashes(&mut events, crashes, draws, next)?;
         let word = words.next_word();
-        push(&mut events, drawn_event(word, threads, lines))?;
+        push(&mut events, drawn_event(word, log, threads, lines))?;
     }
     push_crashes(&mut events, count_at(crashes, turns))?;
     Ok(events)

@@ -4,17 +4,19 @@ ghost use Rattle.ido_base.specs.declared.limits.TheConstants.{MOST_THREADS, VARI
 
 use crate::draw::{drawn_line, drawn_mask};
 use ido_base::evictions::Evictions;
+use ido_base::log::Log;
 use rand_core::SeedableRng;
 use rand_core::utils::NextWord;
 use rand_xoshiro::SplitMix64;
 
-/// The evictions of a seed, in a machine of so many threads and so many lines of variables: each word of SplitMix64 draws one.
+/// The evictions of a seed, in a machine of so many threads, which log so, and so many lines of variables: each word of SplitMix64 draws one.
 #[derive(Debug, PartialEq, Eq, Drop)]
 pub struct Evictor {
     /// The word that draws the next one.
     word: u64,
     /// The words after it.
     words: SplitMix64,
+    log: Log,
     threads: u32,
     lines: u32,
     ghost some: { 0 < threads },
@@ -29,19 +31,20 @@ impl Evictor {
     ghost use Rattle.run_scripts.specs.links.Evictors.{evictions_of};
 
     /// The evictions of a seed, from the first on.
-    pub fn new(seed: u64, threads: u32, lines: u32) -> Self
+    pub fn new(seed: u64, log: Log, threads: u32, lines: u32) -> Self
         requires some { 0 < threads }
         requires threads { threads ≤ MOST_THREADS }
         requires lines { lines ≤ VARIABLE_LINES }
-        ensures drawn { (n : ℕ) → evictions_of result n ≡ drawn_evictions seed threads lines n }
+        ensures drawn { (n : ℕ) → evictions_of result n ≡ drawn_evictions seed log threads lines n }
         // each is one of a machine of so many threads
-        ensures valid { (n : ℕ) → IsEviction threads (evictions_of result n).0 (evictions_of result n).1 }
+        ensures valid { (n : ℕ) → IsEviction log threads (evictions_of result n).0 (evictions_of result n).1 }
     {
         let mut words = SplitMix64::seed_from_u64(seed);
         let word = words.next_word();
         Evictor {
             word,
             words,
+            log,
             threads,
             lines,
         }
@@ -55,7 +58,7 @@ impl Evictions for Evictor {
 
     fn now(&self) -> (u32, u32) {
         (
-            drawn_line(self.word, self.threads, self.lines),
+            drawn_line(self.word, self.log, self.threads, self.lines),
             drawn_mask(self.word),
         )
     }

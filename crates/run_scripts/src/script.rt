@@ -1,6 +1,7 @@
 //! Scripts, as they are written.
 ghost use Rattle.std.specs.Prelude.{◌≡◌, ◌+◌, ◌<◌, ◌≤◌, ◌^◌, ℕ, List, All, drop, length, map, min, option_map, OnOk, IfOk, IfErr, IfSome, ◌++◌, ◌∷◌, []};
 ghost use Rattle.ido_base.specs.declared.limits.TheConstants.{MOST_INPUT_BYTES};
+ghost use Rattle.ido_base.specs.Layout.{line_count};
 ghost use Rattle.run_scripts.specs.Scripts.{LineRead, Says, Fails, number_then, argument_then, end_then, steps_line, point_line};
 ghost use Rattle.run_scripts.specs.Scripts.{fence_line, enabled_line, evict_line, line_of, read, Lines, Refused, IsDoable, IsEviction};
 ghost use Rattle.run_scripts.specs.declared.script.Command.{Command};
@@ -8,6 +9,7 @@ ghost use Rattle.run_scripts.specs.declared.script.Command.TheVariants as c;
 ghost use Rattle.run_scripts.specs.links.ScriptViews as views;
 ghost use Rattle.run_scripts.specs.links.ScriptViews.{ending};
 
+use crate::draw::log_lines;
 use crate::number::{NUMBER_LIMIT, leading_digits};
 use crate::piece::{Gap, next_piece, piece_at};
 use ido_base::limits::VARIABLE_LINES;
@@ -106,9 +108,16 @@ enum Rule {
     Any,
     /// A hart, of so many.
     Hart(u32),
-    /// A line of memory, at so many harts.
-    Line(u32),
+    /// A line of memory, at so many harts, which log so.
+    Line(Log, u32),
     Mask,
+}
+
+/// How many lines of memory there are.
+fn line_count(log: Log, harts: u32) -> u64
+    ensures { result ≡ line_count log harts }
+{
+    VARIABLE_LINES + log_lines(log, harts)
 }
 
 /// What the rule refuses of a number, which stands for all from the limit on.
@@ -121,9 +130,8 @@ fn refused(rule: Rule, place: Place, number: u64) -> Option<ScriptFault>
     match rule {
         Rule::Any => None,
         Rule::Hart(harts) => (number >= u64::from(harts)).then_some(ScriptFault::Hart(place)),
-        Rule::Line(harts) => {
-            let lines = VARIABLE_LINES + u64::from(Log::V1.lines()) * u64::from(harts);
-            (number >= lines).then_some(ScriptFault::Line(place))
+        Rule::Line(log, harts) => {
+            (number >= line_count(log, harts)).then_some(ScriptFault::Line(place))
         }
         Rule::Mask => (number > GREATEST_MASK).then_some(ScriptFault::Number(place)),
     }
@@ -271,12 +279,12 @@ fn enabled_line(line: &[u8], place: u32) -> Result<Command, ScriptFault>
 }
 
 /// The line `e LINE MASK`.
-fn evict_line(line: &[u8], place: u32, harts: u32) -> Result<Command, ScriptFault>
+fn evict_line(line: &[u8], place: u32, log: Log, harts: u32) -> Result<Command, ScriptFault>
     requires within { 1 ≤ length line.now }
     requires short { place + length line.now < 2 ^ 32 }
-    ensures { views.IsLineRead (evict_line harts (place + 1) (drop 1 line.now)) result }
+    ensures { views.IsLineRead (evict_line log harts (place + 1) (drop 1 line.now)) result }
 {
-    let (evicted, mask) = two_arguments(line, place, Rule::Line(harts), Rule::Mask)?;
+    let (evicted, mask) = two_arguments(line, place, Rule::Line(log, harts), Rule::Mask)?;
     Ok(Command::Evict {
         line: evicted,
         mask,
@@ -303,10 +311,10 @@ fn start_line(line: &[u8], place: u32) -> Result<Command, ScriptFault>
     Ok(Command::Start)
 }
 
-/// What a line says that stands at a place, at a machine of so many harts.
-fn command_of(line: &[u8], place: u32, harts: u32) -> Result<Command, ScriptFault>
+/// What a line says that stands at a place, at a machine of so many harts, which log so.
+fn command_of(line: &[u8], place: u32, log: Log, harts: u32) -> Result<Command, ScriptFault>
     requires { place + length line.now < 2 ^ 32 }
-    ensures { views.IsLineRead (line_of harts place line.now) result }
+    ensures { views.IsLineRead (line_of log harts place line.now) result }
 {
     if line.is_empty() {
         return Err(ScriptFault::Word(Place(place)));
@@ -316,7 +324,7 @@ fn command_of(line: &[u8], place: u32, harts: u32) -> Result<Command, ScriptFaul
         b'b' => point_line(line, place, harts),
         b'f' => fence_line(line, place, harts),
         b'g' => enabled_line(line, place),
-        b'e' => evict_line(line, place, harts),
+        b'e' => evict_line(line, place, log, harts),
         b'c' => crash_line(line, place),
         b'r' => start_line(line, place),
         _ => Err(ScriptFault::Word(Place(place))),
@@ -334,19 +342,19 @@ fn push_line(lines: &mut Vec<Line>, place: u32, command: Command) -> Result<(), 
     Ok(())
 }
 
-/// The script of a text, for a machine of so many harts. A line ends with an LF, which may have a CR before it, or
+/// The script of a text, for a machine of so many harts, which log so. A line ends with an LF, which may have a CR before it, or
 /// with the text; empty lines are passed over. Where it is refused, the fault is the first one by place.
-pub fn read_script(alloc: Global, text: &[u8], harts: u32) -> Result<Script, ScriptError>
+pub fn read_script(alloc: Global, text: &[u8], log: Log, harts: u32) -> Result<Script, ScriptError>
     requires { length text.now ≤ MOST_INPUT_BYTES }
-    ensures lines { IfOk result (λ script. read harts text.now ≡ Lines (map views.line_of script.lines.items)) }
-    ensures doable { IfOk result (λ script. All (λ line. IsDoable harts (IsEviction harts) line.command) script.lines.items) }
-    ensures refused { IfErr result (λ e. IfSome (views.refused_fault e) (λ f. read harts text.now ≡ Refused f)) }
+    ensures lines { IfOk result (λ script. read log harts text.now ≡ Lines (map views.line_of script.lines.items)) }
+    ensures doable { IfOk result (λ script. All (λ line. IsDoable harts (IsEviction log harts) line.command) script.lines.items) }
+    ensures refused { IfErr result (λ e. IfSome (views.refused_fault e) (λ f. read log harts text.now ≡ Refused f)) }
 {
     let mut lines = Vec::new(alloc);
     let mut at = next_piece(Gap::LineEnd, text, 0);
     while at < text.len() {
         let line = piece_at(Gap::LineEnd, text, at);
-        let command = command_of(line, at as u32, harts)?;
+        let command = command_of(line, at as u32, log, harts)?;
         push_line(&mut lines, at as u32, command)?;
         at = next_piece(Gap::LineEnd, text, at + line.len());
     }

@@ -10,7 +10,7 @@
 //! leaves (locks that do nothing, thread after thread; signed sums wrap, `char` is unsigned). Of the commands that run harts on threads
 //! it has only what is the same in whatever order they come.
 //!
-//! Of `list` it has 2,273 rows at its end: an object of one thread and two words; all its beginnings; it with one byte more, and with
+//! Of `list` it has 2,276 rows at its end: an object of one thread and two words; all its beginnings; it with one byte more, and with
 //! one field replaced; an object of two threads; an object of one word for each word that GNU as and objdump 2.40 were asked for at
 //! address 00010000, and then for near misses of every such word and for words of other extensions; and another object of two
 //! threads with one field replaced. Those tools' texts are what is wanted of the words that are instructions, in the spelling of the

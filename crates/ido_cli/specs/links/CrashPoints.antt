@@ -1,6 +1,5 @@
 -- The points of a script at which power may be lost, and what a life comes to from there.
 use Rattle.std.specs.Prelude.{◌≡◌, ℕ, ◌≤◌, List, [], ◌∷◌, ◌++◌, length, map, take, All, Option, Some, None, Result, Ok, Err}
-use Rattle.ido_base.specs.declared.log.Log.TheVariants.{V1}
 use Rattle.ido_base.specs.declared.event.Event.{Event}
 use Rattle.ido_base.specs.declared.event.Event.TheVariants.{Crash}
 use Rattle.ido_base.specs.Cores.{played}
@@ -28,7 +27,8 @@ use Rattle.ido_cli.specs.Sweeps.{IsOutcomeOf, most_round_steps, most_sweep_event
 pub record CanSweep (flat : Flat) (translated : Translated) (script : Script) : Type 0 where
   pub translated_is : IsTranslated (flat_of flat) translated.object translated.marks translated.cuts
   pub compilation : IsCompilation (translation_to (flat_of flat) translated.object translated.marks translated.cuts)
-  pub doable : let threads = length translated.object.code.items in All (λ line. IsDoable threads (IsEviction V1 threads) line.command) script.lines.items
+  pub doable : let threads = length translated.object.code.items in
+      All (λ line. IsDoable threads (IsEviction translated.object.log threads) line.command) script.lines.items
 
 abbrev pub lines_in : Script → List Line
 lines_in script = map scripts.line_of script.lines.items

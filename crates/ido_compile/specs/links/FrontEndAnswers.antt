@@ -1,5 +1,6 @@
 -- What is answered to a text: its flat form, or the first rule that it breaks.
 use Rattle.std.specs.Prelude.{ℕ, List, Result, Ok, Err}
+use Rattle.ido_base.specs.declared.log.Log.{Log}
 use Rattle.c_tree.specs.declared.language.Language.TheVariants.{Plain}
 use Rattle.c_tree.specs.AcceptedTexts.{IsFlattened}
 use Rattle.c_tree.specs.Flats as f
@@ -18,7 +19,8 @@ use Rattle.flow_graph.specs.Refusals.{IsAccepted, IsRefusedBy}
 use Rattle.flat_analysis.specs.declared.analyses.Analysis.{Analysis}
 use Rattle.flat_compile.specs.declared.compile.Translated.{Translated}
 use Rattle.flat_analysis.specs.Analyses.{IsAnalysis}
-use Rattle.flat_compile.specs.TranslatedForms.{IsTranslated, IsResumable}
+use Rattle.flat_compile.specs.TranslatedForms.{IsTranslated, IsTranslatedAs, IsResumable, IsResumableAs}
+use Rattle.ido_compile.specs.LoggedTexts.{IsAcceptedAs, IsFlattenedAs, IsRefusedAs}
 use Rattle.ido_compile.specs.declared.error.CompileError.{CompileError}
 use Rattle.ido_compile.specs.declared.error.CompileError.TheVariants as e
 
@@ -46,6 +48,21 @@ abbrev pub IsTranslationAnswer : (text : List ℕ) → f.Flat → Result Transla
 IsTranslationAnswer text flat (Ok t) =
     IsAccepted text flat × (IsTranslated flat t.object t.marks t.cuts × IsResumable flat t.object t.marks t.cuts t.resumes.items)
 IsTranslationAnswer text flat (Err x) = IsRefusal text x
+
+-- ---- Of a text that is compiled for a log
+
+abbrev pub IsRefusalAs : Log → (text : List ℕ) → CompileError → Type 0
+IsRefusalAs log text (e.Refused x) = IsRefusedAs log text x.rule x.place
+IsRefusalAs log text e.Memory = Unit {0}
+
+abbrev pub IsFlatAnswerAs : Log → (text : List ℕ) → Result Flat CompileError → Type 0
+IsFlatAnswerAs log text (Ok flat) = IsFlattenedAs log text (flat_of flat)
+IsFlatAnswerAs log text (Err x) = IsRefusalAs log text x
+
+abbrev pub IsTranslationAnswerAs : Log → (text : List ℕ) → f.Flat → Result Translated CompileError → Type 0
+IsTranslationAnswerAs log text flat (Ok t) =
+    IsAcceptedAs log text flat × (IsTranslatedAs log flat t.object t.marks t.cuts × IsResumableAs log flat t.object t.marks t.cuts t.resumes.items)
+IsTranslationAnswerAs log text flat (Err x) = IsRefusalAs log text x
 
 -- ---- The same error, of each check
 

@@ -1,8 +1,8 @@
 -- Threads that hold a mutex, from one on.
-use Rattle.std.specs.Prelude.{ℕ, ◌<◌, ◌≤◌, List}
-use Rattle.image_checks.specs.Logs.{HoldsLock}
+use Rattle.std.specs.Prelude.{ℕ, ◌<◌, ◌≤◌}
+use Rattle.image_checks.specs.Logs.{HoldsLock, Logs}
 
-module _ (logs : List ℕ) (threads from lock : ℕ) where
+module _ (logs : Logs) (threads from lock : ℕ) where
   -- none of so many threads, from the given one on, holds the lock
   abbrev pub HasNoHolder : Type 0
   HasNoHolder = (thread : ℕ) → from ≤ thread → thread < threads → ¬ (HoldsLock logs thread lock)

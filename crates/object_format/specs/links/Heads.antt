@@ -3,4 +3,4 @@ use Rattle.object_format.specs.ObjectDecoder as r
 use Rattle.object_format.specs.declared.reading.Head.{Head}
 
 abbrev pub head_of : Head → r.Head
-head_of x = record { threads = x.threads; mutexes = x.mutexes; initial = x.initial.now }
+head_of x = record { log = x.log; threads = x.threads; mutexes = x.mutexes; initial = x.initial.now }

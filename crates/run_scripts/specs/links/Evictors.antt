@@ -10,4 +10,4 @@ word_then word state (suc n) = drawn_word state n
 
 -- its evictions, the next one first
 abbrev pub evictions_of : Evictor → ℕ → ℕ × ℕ
-evictions_of e n = drawn_eviction e.threads e.lines (word_then e.word e.words n)
+evictions_of e n = drawn_eviction e.log e.threads e.lines (word_then e.word e.words n)

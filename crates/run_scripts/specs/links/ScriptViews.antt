@@ -21,7 +21,7 @@ line_of line = record { place = line.place.0; command = line.command }
 abbrev pub rule_of : Rule → s.Rule
 rule_of r.Any = s.any_number
 rule_of (r.Hart harts) = s.hart_number harts
-rule_of (r.Line harts) = s.line_number harts
+rule_of (r.Line log harts) = s.line_number log harts
 rule_of r.Mask = s.mask_number
 
 abbrev pub fault_of : ScriptFault → s.Fault

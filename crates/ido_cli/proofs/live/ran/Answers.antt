@@ -13,7 +13,7 @@ pub run_legs-requires-clause-can : goal.run_legs-requires-clause-can
 run_legs-requires-clause-can g c κs within =
     let y = c.args.compiled.now.translated in
     new_can y.object y.marks (3999000 + length c.args.asked.crashes.now) c.in_ok-life.life c.in_ok-life.ensures c.evictor.result
-    c.requires.translated.limits.threads c.requires.translated.log c.evictor.ensures.valid
+    c.requires.translated.limits.threads c.evictor.ensures.valid
 
 pub told-requires-clause-counted : goal.told-requires-clause-counted
 told-requires-clause-counted g c =
@@ -35,7 +35,7 @@ returns g c =
     let threads = length-map y.object.code.items (λ code. map slot_of code.items) in
     let drawn =
     c.evictor.ensures.drawn
-    ∙ ap (λ (n : ℕ). evictions_at n ((length y.object.initial.items + (LINE_BYTES - 1)) / LINE_BYTES) asked.evict) (sym threads) in
+    ∙ ap (λ (n : ℕ). evictions_at y.object.log n ((length y.object.initial.items + (LINE_BYTES - 1)) / LINE_BYTES) asked.evict) (sym threads) in
     IfOk-weaker c.told.result _ _
     (λ said told.
     live_run (flat_of x.flat) y.object y.marks y.cuts (3999000 + length asked.crashes.now) (record { life = c.in_ok-life.life; evict = c.evictor.result })

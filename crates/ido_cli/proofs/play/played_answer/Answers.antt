@@ -17,8 +17,8 @@ use Rattle.ido_cli.proofs.play.played_answer.Goals as goal
 pub play-requires-clause-lines : goal.play-requires-clause-lines
 play-requires-clause-lines c = λ _.
     let object = c.args.compiled.now.translated.object in
-    all_doable c.in_ok-life.life.runs.log (length object.code.items) (length c.in_ok-life.life.runs.program) c.args.script.now.lines.items
-    (sym (ap (λ (life : Course). life.runs.log) c.in_ok-life.ensures ∙ c.requires.translated.log))
+    all_doable c.in_ok-life.life.runs.log object.log (length object.code.items) (length c.in_ok-life.life.runs.program) c.args.script.now.lines.items
+    (sym (ap (λ (life : Course). life.runs.log) c.in_ok-life.ensures))
     (sym (length-map object.code.items (λ code. map slot_of code.items)) ∙ ap (λ (life : Course). length life.runs.program) (sym c.in_ok-life.ensures))
     c.requires.doable
 

@@ -1,5 +1,6 @@
 -- The boundaries are those of the object.
 use Rattle.std.proofs.Common.{◌≡◌, ◌∙◌, List, ap, refl, subst, sym}
+use Rattle.ido_base.specs.declared.log.Log.TheVariants.{V1}
 use Rattle.c_tree.specs.Flats.{flat_of}
 use Rattle.c_tree.specs.declared.flat.Flat.{Flat}
 use Rattle.flow_graph.specs.IdempotentCuts.{boundaries_of}
@@ -86,7 +87,7 @@ returns c =
       marks = made.marks;
       cuts = made.cuts;
       translated = is;
-      compilation = c.translations_are_compilations.ensures flat made.object made.marks made.cuts is;
+      compilation = c.translations_are_compilations.ensures V1 flat made.object made.marks made.cuts is;
       is = refl;
     }) refl
     (record {

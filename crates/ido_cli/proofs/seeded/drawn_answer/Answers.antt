@@ -30,10 +30,10 @@ make_events-requires-clause-valid c = λ _.
     let few : c.len-threads.result ≤ 8 = omega (arith, many, c.requires.translated.limits.threads) in
     let bytes : c.len-bytes.result ≤ 65536 = omega (arith, c.len-bytes.ensures, y.object.initial.ok, c.requires.translated.limits.bytes) in
     let within : (c.len-bytes.result + 63) / 64 ≤ 1024 = omega (arith, bytes) in
-    all_valid c.in_ok-life.life.runs.log (length c.in_ok-life.life.runs.program) c.len-threads.result c.deref.result.now _
-    (sym (ap (λ (life : Course). life.runs.log) c.in_ok-life.ensures ∙ c.requires.translated.log)) (c.deref.ensures.value ∙ c.in_ok-events.ensures)
+    all_valid c.in_ok-life.life.runs.log y.object.log (length c.in_ok-life.life.runs.program) c.len-threads.result c.deref.result.now _
+    (sym (ap (λ (life : Course). life.runs.log) c.in_ok-life.ensures)) (c.deref.ensures.value ∙ c.in_ok-events.ensures)
     (many ∙ sym harts)
-    (run_valid c.args.seed c.from.result c.args.crashes.now c.len-threads.result ((c.len-bytes.result + 63) / 64) few within)
+    (run_valid c.args.seed c.from.result c.args.crashes.now y.object.log c.len-threads.result ((c.len-bytes.result + 63) / 64) few within)
 
 pub make_events-requires-clause-room : goal.make_events-requires-clause-room
 make_events-requires-clause-room c = λ _.
@@ -81,8 +81,8 @@ returns c =
     let bytes : c.len-bytes.result ≡ length y.object.initial.items = omega (arith, c.len-bytes.ensures, y.object.initial.ok) in
     let drawn : c.deref.result.now ≡ drawn_by (translation_in x) c.args.seed c.args.turns crashes =
     c.deref.ensures.value ∙ c.in_ok-events.ensures
-    ∙ ap (λ (n : ℕ). drawn_run c.args.seed n crashes c.len-threads.result ((c.len-bytes.result + 63) / 64)) c.from.ensures
-    ∙ ap₂ (λ (t b : ℕ). drawn_run c.args.seed c.args.turns crashes t ((b + 63) / 64)) threads bytes in
+    ∙ ap (λ (n : ℕ). drawn_run c.args.seed n crashes y.object.log c.len-threads.result ((c.len-bytes.result + 63) / 64)) c.from.ensures
+    ∙ ap₂ (λ (t b : ℕ). drawn_run c.args.seed c.args.turns crashes y.object.log t ((b + 63) / 64)) threads bytes in
     IfOk-weaker c.say.result _ _
     (λ said is.
     subst (λ (es : List Event). IsRunBy (translation_in x) es said.status said.output.items) drawn

@@ -1,4 +1,5 @@
 -- What is translated of the flat form of an accepted text is a compilation of it.
+use Rattle.ido_base.specs.declared.log.Log.TheVariants.{V1}
 use Rattle.c_tree.specs.Flats.{flat_of}
 use Rattle.ido_compile.specs.CompileAnswers.{IsCompileAnswer}
 use Rattle.ido_compile.specs.declared.error.CompileError.TheVariants as error
@@ -31,5 +32,5 @@ returns c =
       accepted = is.0;
       translated = is.1.0;
       resumable = is.1.1;
-      compilation = c.translations_are_compilations.ensures flat made.object made.marks made.cuts is.1.0;
+      compilation = c.translations_are_compilations.ensures V1 flat made.object made.marks made.cuts is.1.0;
     }

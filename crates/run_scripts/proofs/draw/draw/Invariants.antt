@@ -6,6 +6,6 @@ use Rattle.run_scripts.proofs.draw.draw.Given as goal
 
 abbrev pub invariant-loop-draws : goal.invariant-loop-draws
 invariant-loop-draws l =
-    (events_from l.crashes l.threads l.lines 0 (drawn_words l.seed l.turns)
-    ≡ l.events.items ++ events_from l.crashes l.threads l.lines l.draws (first_words mix_u64 (l.turns - l.draws) l.words))
+    (events_from l.crashes l.log l.threads l.lines 0 (drawn_words l.seed l.turns)
+    ≡ l.events.items ++ events_from l.crashes l.log l.threads l.lines l.draws (first_words mix_u64 (l.turns - l.draws) l.words))
     × ((k : ℕ) → l.draws ≤ k → k < l.next → count_by (λ c. c == k) l.crashes ≡ 0)

@@ -6,7 +6,7 @@ use Rattle.run_scripts.proofs.script.read_script.Given as goal
 
 abbrev pub invariant-loop-at : goal.invariant-loop-at
 invariant-loop-at l =
-    (read l.harts l.text ≡ after_lines (map line_of l.lines.items) (lines_of l.harts (lines_at l.at (drop l.at l.text))))
+    (read l.log l.harts l.text ≡ after_lines (map line_of l.lines.items) (lines_of l.log l.harts (lines_at l.at (drop l.at l.text))))
     × (l.at ≤ length l.text)
     × (l.at < length l.text → begins_line_end (drop l.at l.text) ≡ false)
 

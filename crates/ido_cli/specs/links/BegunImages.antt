@@ -1,0 +1,27 @@
+-- What stands first in an image, and faults of what stands after it.
+use Rattle.std.specs.Prelude.{◌≡◌, ◌==◌, ℕ, List, if◌then◌else◌, Result, Ok, Err}
+use Rattle.file_fields.specs.declared.error.ReadError.{ReadError}
+use Rattle.file_fields.specs.declared.error.ReadError.TheVariants as read
+use Rattle.image_checks.specs.declared.error.ImageError.{ImageError}
+use Rattle.image_checks.specs.declared.error.ImageError.TheVariants as e
+use Rattle.crash_images.specs.declared.version.ImageVersion.{ImageVersion}
+use Rattle.ido_cli.specs.declared.compiled_image.Begun.{Begun}
+use Rattle.ido_cli.specs.CompiledImages.{BeginsCompiled, IsImageAnswer}
+
+-- the fault of a field, where the number of bytes of the variables stands at this place
+abbrev pub of_state : (size_place : ℕ) → ReadError → ImageError
+of_state size_place read.Magic = e.Magic
+of_state size_place read.Version = e.Version
+of_state size_place (read.Cut place) = e.Cut place
+of_state size_place (read.Field place) = if place.0 == size_place then e.Source else e.Lives 0
+of_state size_place (read.Rest place) = e.Rest place
+of_state size_place read.Memory = e.Memory
+
+pub record HasBegun (newest : ImageVersion) (bytes : List ℕ) (b : Begun) : Type 0 where
+  pub is : BeginsCompiled newest bytes b.version b.compiled
+  pub rest : is.rest ≡ b.rest.now
+
+-- a fault there is one of the image
+abbrev pub IsBegun : ImageVersion → (bytes : List ℕ) → Result Begun ImageError → Type 0
+IsBegun newest bytes (Ok b) = HasBegun newest bytes b
+IsBegun newest bytes (Err error) = IsImageAnswer newest bytes (Err error)
