@@ -5,7 +5,7 @@ _ido() {
     [[ ${COMP_WORDS[1]} == --explain ]] && ((COMP_CWORD > 1)) && at=2
     COMPREPLY=()
     if ((COMP_CWORD == at)); then
-        words='compile list regions order play image recover source seeded live make load sweep'
+        words='compile list regions order play image recover upgrade source seeded live make load sweep'
         ((at == 1)) && words+=' --explain --help --version'
     elif [[ ${COMP_WORDS[at]} == regions ]]; then
         words='--least'

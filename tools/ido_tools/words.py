@@ -24,6 +24,7 @@ COMMANDS = (
     ("play", "", "a source, a line `%%`, a script", "the report of a run of the compiled source"),
     ("image", "", "a source, a line `%%`, a script", "the image file that a crash after that run would leave"),
     ("recover", "TURNS", "an image file", "the report of the run that goes on from it, on threads"),
+    ("upgrade", "TURNS", "an image file of an older version", "the image file of the newest that is left of that run, where it is settled"),
     ("source", "", "a source, a line `%%`, a schedule", "the report of the source's own run"),
     ("seeded", "SEED TURNS [CRASH]...", "a source", "the report of a run of it that is drawn from the seed"),
     ("live", "TURNS [CRASH]... [--evict SEED] [--journal]", "a source", "the report of a run of it on threads, or with `--journal` that run, as an input of `play`"),

@@ -29,7 +29,7 @@ fn source_with(alloc: Global, input: &[u8], read: u64) -> Result<MemSource, Allo
 /// A sink whose write of this number fails, counted from 1.
 fn sink_with(alloc: Global, write: u64) -> Result<MemSink, OutOfMemory> {
     let fails = vec![in alloc; write]?;
-    MemSink::new(alloc, 2_000, 8, fails)
+    MemSink::new(alloc, 3_000, 8, fails)
 }
 
 /// What a call comes to where its read and its write of these numbers fail, counted from 1.
@@ -152,12 +152,18 @@ fn faults_outside_an_object(rt: HostRuntime) -> Result<(), Fail> {
     fail_each(&rt, rt.alloc(), &["ido", "list"], &object, 226)
 }
 
-/// That of a recovery by an image.
+/// That of a recovery by an image, and of the image that is made of it.
 #[test]
 fn faults_outside_an_image(rt: HostRuntime) -> Result<(), Fail> {
     let played = joined(rt.alloc(), ADD_ONE, b"s 0 100000\n")?;
     let (_, image) = call(&rt, rt.alloc(), &["ido", "image"], &played)?;
-    fail_each(&rt, rt.alloc(), &["ido", "recover", "1000"], &image, 4)
+    for (texts, writes) in [
+        (["ido", "recover", "1000"], 4),
+        (["ido", "upgrade", "1000"], 272),
+    ] {
+        fail_each(&rt, rt.alloc(), &texts, &image, writes)?;
+    }
+    Ok(())
 }
 
 /// Words that name no command, and none at all.
@@ -234,6 +240,7 @@ fn left_to_threads(rt: HostRuntime) -> Result<(), Fail> {
     for texts in [
         ["ido", "live", "5"].as_slice(),
         &["ido", "recover", "5"],
+        &["ido", "upgrade", "5"],
         &["ido", "load", "1", "0"],
         &["ido", "sweep"],
     ] {
@@ -478,10 +485,7 @@ fn swept_beside(rt: HostRuntime) -> Result<(), Fail> {
     assert_eq!(rt; gate.meeting.second.load(Ordering::SeqCst), 1);
     assert_eq!(rt;
         (status, output.as_slice()),
-        (
-            0,
-            b"from 0 to 3\nx = 5\nended 0 0\nschedule\n".as_slice()
-        )
+        (0, b"from 0 to 3\nx = 5\nended 0 0\nschedule\n".as_slice())
     );
     Ok(())
 }

@@ -8,6 +8,7 @@ use Rattle.ido_base.specs.declared.event.Event.{Event}
 use Rattle.ido_base.specs.declared.event.Event.TheVariants.{Step, Evict, Crash, Start}
 use Rattle.hart_driver.specs.declared.stop.Stop.TheVariants.{Ended, Turns, Moment}
 use Rattle.hart_driver.specs.Legs.{Leg, AreTurns, IsTurn, has_ended, is_event_of, made, stop_of}
+use Rattle.rv64_isa.specs.Schedule.{HaveNoStart}
 use Rattle.ido_cli.specs.ThreadedRuns.{is_crash, is_eviction}
 
 count_more : (p : Event → Bool) (x : Event) (xs : List Event) → count_by p (x ∷ xs) ≡ cond (p x) 1 0 + count_by p xs
@@ -54,6 +55,17 @@ module _ {M : Type 0} (leg : Leg M) where
         none Crash turn = absurd turn
         none Start turn = absurd turn
 
+    startless_from : (before rest : List Event) → journal ≡ before ++ rest → HaveNoStart rest
+    startless_from before [] is = tt
+    startless_from before (x ∷ xs) is =
+        none x (turns before xs x is) (startless_from (before ++ x ∷ []) xs (is ∙ sym (append_assoc before (x ∷ []) xs)))
+      where
+        none : (x : Event) → IsTurn leg before x → HaveNoStart xs → HaveNoStart (x ∷ xs)
+        none (Step hart) turn rest = rest
+        none (Evict line mask) turn rest = rest
+        none Crash turn rest = absurd turn
+        none Start turn rest = absurd turn
+
     evictions_from : (before rest : List Event) → journal ≡ before ++ rest → made leg leg.harts rest ≡ count_by is_eviction rest
     evictions_from before [] is = refl
     evictions_from before (x ∷ xs) is =
@@ -74,6 +86,10 @@ module _ {M : Type 0} (leg : Leg M) where
 
     pub leg_crashless : count_by is_crash journal ≡ 0
     leg_crashless = crashless_from [] journal refl
+
+    -- no life begins in it
+    pub leg_startless : HaveNoStart journal
+    leg_startless = startless_from [] journal refl
 
     -- its worker for evictions makes all of them
     pub leg_evictions : made leg leg.harts journal ≡ count_by is_eviction journal

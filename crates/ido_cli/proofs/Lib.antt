@@ -34,6 +34,8 @@ mod ThreadedAnswers
 mod CompiledLimits
 mod CompiledImages
 mod RecoveredRuns
+mod RecoveredLives
+mod UpgradedImages
 mod DrawnLives
 mod SweptTables
 mod CrashRuns

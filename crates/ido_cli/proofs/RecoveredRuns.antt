@@ -20,7 +20,7 @@ use Rattle.rv64_isa.specs.declared.object.Marks.{Marks}
 use Rattle.rv64_isa.specs.Frames.{IsWellFormedWorld}
 use Rattle.rv64_isa.specs.Machine.{World, after_events, machine_from}
 use Rattle.rv64_isa.specs.Programs.{program_of, slot_of}
-use Rattle.rv64_isa.specs.Schedule.{Steps, first_steps, steps_along, LifeSchedules, all_lives, schedules}
+use Rattle.rv64_isa.specs.Schedule.{first_steps, steps_along, LifeSchedules, all_lives, schedules}
 use Rattle.rv64_isa.proofs.Public.{crashes_simulate}
 use Rattle.flow_graph.specs.declared.cuts.Cuts.{Cuts}
 use Rattle.flat_compile.specs.TranslatedForms.{IsTranslatedAs}
@@ -46,11 +46,12 @@ use Rattle.run_scripts.specs.Runs.{schedule_of}
 use Rattle.run_tracker.specs.ObjectLives.{Course, LifeConfig, life_from, living, opening_of, steps_in, world_of}
 use Rattle.run_tracker.specs.links.EarlierLives.{lives_in}
 use Rattle.ido_cli.specs.Plays.{IsRunBy}
-use Rattle.ido_cli.specs.Recoveries.{IsRecovery, recovering}
+use Rattle.ido_cli.specs.Recoveries.{recovering}
 use Rattle.ido_cli.specs.Reports.{machine_state}
 use Rattle.ido_cli.specs.Runs.{IsReport}
 use Rattle.ido_cli.specs.ThreadedRuns.{leg_after, moment_after, most_leg_events}
 use Rattle.ido_cli.specs.links.LegRuns.{leg_from}
+use Rattle.ido_cli.specs.links.RecoveredLives.{HasRecovered}
 use Rattle.ido_cli.proofs.LastLifeApart.{as_many_lives}
 use Rattle.ido_cli.proofs.KeptStepsBounded.{all_kept_few}
 use Rattle.ido_cli.proofs.LegEvents.{leg_bounded}
@@ -70,7 +71,7 @@ begun_from object marks words words' earlier earlier' schedule schedule' cap lif
 
 -- ---- A run from a file of the same translation
 
-after_crash : ImagesAreCrashes → (c : Translation) → IsCompilation c → (file : Image) (journal : List Event) (status : ℕ) (output : List ℕ) →
+pub after_crash : ImagesAreCrashes → (c : Translation) → IsCompilation c → (file : Image) (journal : List Event) (status : ℕ) (output : List ℕ) →
     IsReport (machine_state c.flat (world_from c (image_in c file) journal) (schedules (steps_from c (image_in c file) journal))) status output →
     (before : List Event) → file ≡ file_of c (image_of c before) → IsRunBy c (before ++ Crash ∷ journal) status output
 after_crash crashes c is file journal status output told before left =
@@ -114,8 +115,7 @@ spread_size : (log : Log) (n threads : ℕ) (words : List ℕ) → n ≤ VARIABL
 spread_size log n threads words few size = spread_long n (log_words log * threads) words few size ∙ all_words log threads
 
 module _ (flat : f.Flat) (object : Object) (marks : Marks) (cuts : Cuts) (t : IsTranslatedAs object.log flat object marks cuts) (file : Image) (cap : ℕ)
-    (begun : Course)
-    (is : begun ≡ life_from object marks file.words file.kept cap) where
+    (begun : Course) (is : begun ≡ life_from object marks file.words file.kept cap) where
   abbrev made : Translation
   made = translation_to flat object marks cuts
 
@@ -184,6 +184,12 @@ module _ (flat : f.Flat) (object : Object) (marks : Marks) (cuts : Cuts) (t : Is
   -- ---- After its leg
 
   module _ (life : Course) (same : opening_of life ≡ opening_of begun) where
+    sound_after : length file.words ≡ length object.initial.items / 8 + log_words object.log * length object.code.items → IsWellFormedWorld (world_of life)
+    sound_after size =
+        let first = stands size in
+        subst (λ (m : LifeConfig). IsWellFormedWorld (after_events m.runs.program m.world life.journal)) (sym (same ∙ ap opening_of is))
+        (sound_along (program_of object) (machine_from object file.words []) life.journal (sym first.1) first.0).0
+
     pub harts_after : length file.words ≡ length object.initial.items / 8 + log_words object.log * length object.code.items →
         length (world_of life).harts ≡ length life.runs.program
     harts_after size =
@@ -205,24 +211,23 @@ module _ (flat : f.Flat) (object : Object) (marks : Marks) (cuts : Cuts) (t : Is
       same_steps =
           ap (λ (m : LifeConfig). steps_along m.runs.marks m.runs.program m.world life.journal (first_steps (length m.runs.program) m.kept_before)) opens
 
-      pub recovery : ImagesAreCrashes → IsCompilation made → (turns moment status : ℕ) (output : List ℕ) (stops : List Stop) (evict : Option Evictor) →
+      pub has_recovered : (turns moment : ℕ) (stops : List Stop) (evict : Option Evictor) →
           moment ≡ min most_leg_events (length object.code.items * turns + 1) → IsLifeDriven begun turns moment None life stops evict →
-          IsReport (machine_state flat (world_of life) (schedules (steps_in life))) status output → IsRecovery made file turns status output
-      recovery crashes compilation turns moment status output stops evict room d told =
+          length file.words ≡ length object.initial.items / 8 + log_words object.log * length object.code.items →
+          sum_by length (all_lives file.kept) ≤ MOST_STEPS → HasRecovered made file turns life
+      has_recovered turns moment stops evict room d size few =
           let journal_is = d.plays.events_are ∙ ap (λ (es : List Event). es ++ d.journal) none_made in
           let driven = subst (λ (es : List Event). IsLeg (leg_from turns moment begun None) es) (sym journal_is) d.leg in
           let leg = whole_leg turns moment room life.journal driven in
-          let of_world = subst (λ (w : World). IsReport (machine_state flat w (schedules (steps_in life))) status output) same_world told in
-          let reported = subst (λ (s : Steps). IsReport (machine_state flat (world_from made (image_in made file) life.journal) (schedules s)) status output)
-          same_steps of_world in
           record {
-            journal = life.journal;
+            opens = opens;
             leg =
                 subst (λ (es : List Event). IsLeg (leg_after (recovering made file) turns None es None) life.journal) none_made
                 (is_leg_after turns None None most_leg_events begun None (sym same ∙ opens)
                 (sym (ap (λ (es : List Event). moment_after es None) none_made)) tt life.journal leg);
-            reported = reported;
-            goes_on = after_crash crashes made compilation file life.journal status output reported;
+            sound = sound_after size;
+            harts = harts_after size;
+            steps = omega (arith, kept_after turns moment MOST_STEPS life stops evict d few, room);
           }
 
 -- ---- What is read

@@ -12,6 +12,7 @@ use Rattle.ido_cli.specs.declared.top.Unsaid.TheVariants.{Failed, Memory}
 use Rattle.ido_base.specs.declared.event.Event.{Event}
 use Rattle.ido_base.specs.declared.limits.TheConstants.{MOST_INPUT_BYTES}
 use Rattle.c_tree.specs.Flats as f
+use Rattle.rv64_isa.specs.Machine.{World}
 use Rattle.compiler_correctness.specs.Translations.{Translation}
 use Rattle.ido_cli.specs.declared.command.Command.{Command}
 use Rattle.ido_cli.specs.declared.command.Command.TheVariants as command
@@ -25,6 +26,9 @@ use Rattle.ido_cli.specs.Answers.{unplayed, no_script, of_script, SourceAnswer, 
 use Rattle.ido_cli.specs.Answers.{OrderAnswer, unlocked, unordered, ordered}
 use Rattle.ido_cli.specs.Answers.{CommandAnswer, ListAnswer, no_object, of_object, RecoverAnswer, no_image, of_image, SeededAnswer, undrawn, drawn}
 use Rattle.ido_cli.specs.Answers.{SweepAnswer, no_points, of_points, unswept}
+use Rattle.ido_cli.specs.Answers.{UpgradeAnswer, not_older, of_older}
+use Rattle.ido_cli.specs.Upgrades.{IsUpgradeSaid, renewed, too_long, unfinished}
+use Rattle.ido_compile.specs.CompileAnswers.{translation_in}
 use Rattle.ido_cli.specs.Sweeps.{status_of, swept, faulty as unswept_script}
 use Rattle.ido_cli.specs.Answers.{LiveAnswer, unrun, ran as ran_on_threads, LoadAnswer, unloaded, loaded}
 use Rattle.ido_cli.specs.Answers.{IsPastLimits, AnswerToInput, past_limits, within_limits, Refuses, wrong_words, taken_words}
@@ -45,6 +49,7 @@ long_is_past command.List input reads long = long
 long_is_past command.Image input reads long = inl long
 long_is_past command.Order input reads long = omega (arith, long)
 long_is_past (command.Recover turns) input reads long = long
+long_is_past (command.Upgrade turns) input reads long = long
 long_is_past (command.Make rounds seed) input reads long = cc reads
 long_is_past (command.Seeded seed turns crashes) input reads long = omega (arith, long)
 long_is_past (command.Live turns crashes evict journal) input reads long = omega (arith, long)
@@ -75,6 +80,7 @@ any_input command.List input other status output unread answer = cc unread
 any_input command.Image input other status output unread answer = cc unread
 any_input command.Order input other status output unread answer = cc unread
 any_input (command.Recover turns) input other status output unread answer = cc unread
+any_input (command.Upgrade turns) input other status output unread answer = cc unread
 any_input (command.Make rounds seed) input other status output unread (past_limits past refused) = absurd past
 any_input (command.Make rounds seed) input other status output unread (within_limits within answer) = within_limits (λ past. past) answer
 any_input (command.Seeded seed turns crashes) input other status output unread answer = cc unread
@@ -176,6 +182,17 @@ of_recover : (turns : ℕ) (input : List ℕ) (status : ℕ) (output : List ℕ)
 of_recover turns input status output (no_image error is e told) h = not_four_or_seven status 6 e (inr refl) h
 of_recover turns input status output (of_image image is on recovery) h = by_unsettled _ status recovery.reported.status_is h
 
+of_upgraded : (source : List ℕ) (c : Translation) (w : World) (kept : List (List ℕ)) (status : ℕ) (output : List ℕ) →
+    IsUpgradeSaid source c w kept status output → (status ≡ 4) ⊎ (status ≡ 7) → ⊥
+of_upgraded source c w kept status output (unfinished goes_on told) h = by_unsettled _ status told.status_is h
+of_upgraded source c w kept status output (too_long settled many e told) h = not_four_or_seven status 6 e (inr refl) h
+of_upgraded source c w kept status output (renewed settled fits e told read) h = not_four_or_seven status 0 e (inl (omega arith)) h
+
+of_upgrade : (turns : ℕ) (input : List ℕ) (status : ℕ) (output : List ℕ) → UpgradeAnswer turns input status output → (status ≡ 4) ⊎ (status ≡ 7) → ⊥
+of_upgrade turns input status output (not_older error is e told) h = not_four_or_seven status 6 e (inr refl) h
+of_upgrade turns input status output (of_older image source is on upgrade) h =
+    of_upgraded source (translation_in image.compiled) _ _ status output upgrade.said h
+
 of_seeded : (seed turns : ℕ) (crashes source : List ℕ) (status : ℕ) (output : List ℕ) → SeededAnswer seed turns crashes source status output →
     (status ≡ 4) ⊎ (status ≡ 7) → ⊥
 of_seeded seed turns crashes source status output (undrawn found place is refused) h = not_four_or_seven status 1 refused.0 (inl (omega arith)) h
@@ -208,6 +225,7 @@ of_command command.Image input status output answer h =
     answer h
 of_command command.Order input status output answer h = of_order input status output answer h
 of_command (command.Recover turns) input status output answer h = of_recover turns input status output answer h
+of_command (command.Upgrade turns) input status output answer h = of_upgrade turns input status output answer h
 of_command (command.Make rounds seed) input status output answer h = not_four_or_seven status 0 answer.status_is (inl (omega arith)) h
 of_command (command.Seeded seed turns crashes) input status output answer h = of_seeded seed turns crashes input status output answer h
 of_command (command.Live turns crashes evict journal) input status output answer h = of_live turns crashes evict journal input status output answer h

@@ -13,6 +13,7 @@ use Rattle.ido_cli.specs.declared.command.Command.TheVariants as command
 use Rattle.c_tree.specs.declared.rule.Rule as r
 use Rattle.flow_graph.specs.Refusals.{IsAccepted, IsRefusedBy}
 use Rattle.flat_compile.specs.TranslatedForms.{command_log}
+use Rattle.rv64_isa.specs.Machine.{World}
 use Rattle.compiler_correctness.specs.Translations.{Translation}
 use Rattle.ido_cli.specs.Draws.{IsGenerated}
 use Rattle.ido_cli.specs.Images.{IsImageAfter}
@@ -30,7 +31,9 @@ use Rattle.ido_cli.specs.Answers.{ScriptedAnswer, unplayed, no_script, of_script
 use Rattle.ido_cli.specs.Answers.{OrderAnswer, unlocked, unordered, ordered}
 use Rattle.lock_order.specs.LockOrder.{OrderFault, order_fault}
 use Rattle.ido_cli.specs.Answers.{SeededAnswer, undrawn, drawn, LiveAnswer, unrun, ran as ran_on_threads, LoadAnswer, unloaded, loaded}
-use Rattle.ido_cli.specs.Answers.{SweepAnswer, no_points, of_points, unswept}
+use Rattle.ido_cli.specs.Answers.{SweepAnswer, no_points, of_points, unswept, UpgradeAnswer, not_older, of_older}
+use Rattle.ido_cli.specs.Upgrades.{IsUpgradeSaid, renewed, too_long, unfinished}
+use Rattle.ido_compile.specs.CompileAnswers.{translation_in}
 use Rattle.ido_cli.specs.Sweeps.{SweptScript, status_of, swept, faulty as unswept_script}
 use Rattle.run_scripts.specs.GeneratedSources.{generated_source}
 use Rattle.ido_cli.specs.Answers.{SourceAnswer, unaccepted, no_schedule, of_schedules, rest_begins, ListAnswer, no_object}
@@ -227,6 +230,17 @@ module _ (one_flat : OneFlat) (one_fault : OneFault) (not_both : NotBoth) (one_s
   not_of_recover turns input status output (no_image error is e told) one = omega (arith, e, one)
   not_of_recover turns input status output (of_image image is on recovery) one = not_by_unsettled _ status recovery.reported.status_is one
 
+  not_of_upgraded : (source : List ℕ) (c : Translation) (w : World) (kept : List (List ℕ)) (status : ℕ) (output : List ℕ) →
+      IsUpgradeSaid source c w kept status output → status ≡ 1 → ⊥
+  not_of_upgraded source c w kept status output (unfinished goes_on told) one = not_by_unsettled _ status told.status_is one
+  not_of_upgraded source c w kept status output (too_long settled many e told) one = omega (arith, e, one)
+  not_of_upgraded source c w kept status output (renewed settled fits e told read) one = omega (arith, e, one)
+
+  not_of_upgrade : (turns : ℕ) (input : List ℕ) (status : ℕ) (output : List ℕ) → UpgradeAnswer turns input status output → status ≡ 1 → ⊥
+  not_of_upgrade turns input status output (not_older error is e told) one = omega (arith, e, one)
+  not_of_upgrade turns input status output (of_older image source is on upgrade) one =
+      not_of_upgraded source (translation_in image.compiled) _ _ status output upgrade.said one
+
   -- ---- A script that isn't spelled as one
 
   module _ (lives : Bool) (Says : Translation → List Event → ℕ → List ℕ → Type 0) (input : List ℕ) (flat : f.Flat) (is : IsAccepted (source_of input) flat)
@@ -307,6 +321,10 @@ module _ (one_flat : OneFlat) (one_fault : OneFault) (not_both : NotBoth) (one_s
   one_within (command.Recover turns) input status other output written within (breaks_rule one) told more =
       absurd (not_of_recover turns input status output told one)
   one_within (command.Recover turns) input status other output written within (misspelled takes flat is x bad) told more = absurd takes
+  one_within (command.Upgrade turns) input status other output written within (plain n) told more = absurd n
+  one_within (command.Upgrade turns) input status other output written within (breaks_rule one) told more =
+      absurd (not_of_upgrade turns input status output told one)
+  one_within (command.Upgrade turns) input status other output written within (misspelled takes flat is x bad) told more = absurd takes
   one_within (command.Make rounds seed) input status other output written within (plain n) told more =
       one_generated rounds seed status other output written told more
   one_within (command.Make rounds seed) input status other output written within (breaks_rule one) told more =

@@ -85,6 +85,10 @@ recover_is_taken : command_of (codes "ido" ∷ codes "recover" ∷ codes "100000
 unfolding command_of clap_on_literals
 recover_is_taken = refl
 
+upgrade_is_taken : command_of (codes "ido" ∷ codes "upgrade" ∷ codes "1000000" ∷ []) ≡ Some (command.Upgrade 1000000)
+unfolding command_of clap_on_literals
+upgrade_is_taken = refl
+
 zeros_are_taken : command_of (codes "ido" ∷ codes "recover" ∷ codes "+007" ∷ []) ≡ Some (command.Recover 7)
 unfolding command_of clap_on_literals
 zeros_are_taken = refl
@@ -96,6 +100,10 @@ no_more_turns = refl
 turns_are_wanted : command_of (codes "ido" ∷ codes "recover" ∷ []) ≡ None
 unfolding command_of clap_on_literals
 turns_are_wanted = refl
+
+turns_are_wanted_too : command_of (codes "ido" ∷ codes "upgrade" ∷ []) ≡ None
+unfolding command_of clap_on_literals
+turns_are_wanted_too = refl
 
 no_minus : command_of (codes "ido" ∷ codes "recover" ∷ codes "-0" ∷ []) ≡ None
 unfolding command_of clap_on_literals

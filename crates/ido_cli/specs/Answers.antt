@@ -43,6 +43,7 @@ use Rattle.ido_cli.specs.Regions.{IsListing}
 use Rattle.ido_cli.specs.Runs.{RunAnswer}
 use Rattle.ido_cli.specs.Sweeps.{SweptScript}
 use Rattle.ido_cli.specs.ThreadedRuns.{AreLegs, IsLoadedRun, evictions_by}
+use Rattle.ido_cli.specs.Upgrades.{IsOlderFault, IsOlderImage, IsUpgrade}
 use Rattle.run_tracker.specs.links.EarlierLives.{lives_in}
 
 -- the whole input, or the source text in it
@@ -58,6 +59,7 @@ IsPastLimits command.List input = MOST_INPUT_BYTES < length input
 IsPastLimits command.Image input = IsSourcePastLimits input
 IsPastLimits command.Order input = MOST_SOURCE_BYTES < length input
 IsPastLimits (command.Recover turns) input = MOST_INPUT_BYTES < length input
+IsPastLimits (command.Upgrade turns) input = MOST_INPUT_BYTES < length input
 IsPastLimits (command.Make rounds seed) input = ⊥
 IsPastLimits (command.Seeded seed turns crashes) input = MOST_SOURCE_BYTES < length input
 IsPastLimits (command.Live turns crashes evict journal) input = MOST_SOURCE_BYTES < length input
@@ -196,6 +198,16 @@ pub data RecoverAnswer (turns : ℕ) (input : List ℕ) (status : ℕ) (output :
       RunsOn (translation_in image.compiled) (image_in (translation_in image.compiled) (file_in image)) →
       IsRecovery (translation_in image.compiled) (file_in image) turns status output → RecoverAnswer turns input status output
 
+-- ---- `upgrade`
+
+-- What an input of an image of an older version is answered: its first fault, where it is one too that the source is refused for the newest log; or what is
+-- said of a run that goes on from it, which is the same as with `recover`.
+pub data UpgradeAnswer (turns : ℕ) (input : List ℕ) (status : ℕ) (output : List ℕ) : Type 0 where
+  not_older : (error : ImageError) → IsOlderFault input error → status ≡ 6 → image_line error ≡ Some output → UpgradeAnswer turns input status output
+  of_older : (image : i.Image) (source : List ℕ) → IsOlderImage input image source →
+      RunsOn (translation_in image.compiled) (image_in (translation_in image.compiled) (file_in image)) →
+      IsUpgrade source (translation_in image.compiled) (file_in image) turns status output → UpgradeAnswer turns input status output
+
 -- ---- `list`
 
 -- what an input of an object is answered: its listing, or its first fault
@@ -216,6 +228,7 @@ CommandAnswer command.List input status output = ListAnswer input status output
 CommandAnswer command.Image input status output = ImageAnswer input status output
 CommandAnswer command.Order input status output = OrderAnswer input status output
 CommandAnswer (command.Recover turns) input status output = RecoverAnswer turns input status output
+CommandAnswer (command.Upgrade turns) input status output = UpgradeAnswer turns input status output
 CommandAnswer (command.Make rounds seed) input status output = IsGenerated rounds seed status output
 CommandAnswer (command.Seeded seed turns crashes) input status output = SeededAnswer seed turns crashes input status output
 CommandAnswer (command.Live turns crashes evict journal) input status output = LiveAnswer turns crashes evict journal input status output

@@ -15,7 +15,7 @@ use Rattle.ido_cli.specs.declared.command.Command.TheVariants as command
 
 -- ---- What `clap` takes
 
--- turns that `recover`, `seeded` and `live` take at most
+-- turns that `recover`, `upgrade`, `seeded` and `live` take at most
 abbrev pub most_turns : ℕ
 most_turns = 1000000
 
@@ -56,8 +56,9 @@ flag_rule name = record (new_rule name) { long = Some name; action = Some SetTru
 abbrev pub regions_shape : Shape
 regions_shape = record (new_shape (codes "regions")) { rules = flag_rule (codes "least") ∷ [] }
 
-abbrev pub recover_shape : Shape
-recover_shape = record (new_shape (codes "recover")) { rules = turns_rule ∷ [] }
+-- a command that takes a number of turns
+abbrev pub turns_shape : (name : List ℕ) → Shape
+turns_shape name = record (new_shape name) { rules = turns_rule ∷ [] }
 
 abbrev pub make_shape : Shape
 make_shape = record (new_shape (codes "make")) {
@@ -85,7 +86,7 @@ table =
     let two = with_subcommand (with_subcommand one (new_shape (codes "list"))) regions_shape in
     let three = with_subcommand (with_subcommand two (new_shape (codes "play"))) (new_shape (codes "source")) in
     let order = with_subcommand (with_subcommand three (new_shape (codes "image"))) (new_shape (codes "order")) in
-    let four = with_subcommand order recover_shape in
+    let four = with_subcommand (with_subcommand order (turns_shape (codes "recover"))) (turns_shape (codes "upgrade")) in
     let five = with_subcommand (with_subcommand four make_shape) seeded_shape in
     with_subcommand (with_subcommand (with_subcommand five live_shape) load_shape) (new_shape (codes "sweep"))
 
@@ -128,6 +129,9 @@ regions_in rows = command.Regions (is_set (codes "least") rows)
 abbrev pub recover_in : List Row → Option c.Command
 recover_in rows = option_map (λ turns. command.Recover turns) (number_in 32 (codes "TURNS") rows)
 
+abbrev pub upgrade_in : List Row → Option c.Command
+upgrade_in rows = option_map (λ turns. command.Upgrade turns) (number_in 32 (codes "TURNS") rows)
+
 abbrev pub make_in : List Row → Option c.Command
 make_in rows =
     option_and_then (λ rounds. option_map (λ seed. command.Make rounds seed) (number_in 32 (codes "SEED") rows)) (number_in 32 (codes "N") rows)
@@ -157,6 +161,7 @@ command_by_name name rows =
     else if is_named (codes "image") name then Some command.Image
     else if is_named (codes "order") name then Some command.Order
     else if is_named (codes "recover") name then recover_in rows
+    else if is_named (codes "upgrade") name then upgrade_in rows
     else if is_named (codes "make") name then make_in rows
     else if is_named (codes "seeded") name then seeded_in rows
     else if is_named (codes "live") name then live_in rows
@@ -187,6 +192,7 @@ is_unread (Some command) = not (reads_input command)
 abbrev pub needs_threads : c.Command → Bool
 needs_threads (command.Live turns crashes evict journal) = true
 needs_threads (command.Recover turns) = true
+needs_threads (command.Upgrade turns) = true
 needs_threads (command.Load rounds seed) = true
 needs_threads command.Sweep = true
 needs_threads _ = false

@@ -13,6 +13,7 @@ pub mod ThreadedRuns
 pub mod Loads
 pub mod Sweeps
 pub mod Recoveries
+pub mod Upgrades
 pub mod Regions
 pub mod Deliveries
 pub mod Instructions

@@ -6,3 +6,4 @@ pub mod CountedSections
 pub mod CrashPoints
 pub mod PlayedLives
 pub mod BegunImages
+pub mod RecoveredLives

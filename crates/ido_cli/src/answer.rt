@@ -23,6 +23,7 @@ use crate::said::Said;
 use crate::seeded::seeded_answer;
 use crate::source::source_answer;
 use crate::sweep::sweep_answer;
+use crate::upgrade::upgrade_answer;
 use ido_base::limits::MOST_SOURCE_BYTES;
 use ido_base::memory::OutOfMemory;
 use ido_outside::Gate;
@@ -157,8 +158,11 @@ pub fn answer(alloc: Global, command: Command, input: &[u8]) -> Result<Said, Out
             turns,
             crashes,
         } => seeded_input(alloc, input, seed, turns, &crashes),
-        Command::Live { .. } | Command::Recover { .. } | Command::Load { .. } | Command::Sweep =>
-            unreachable!(),
+        Command::Live { .. }
+        | Command::Recover { .. }
+        | Command::Upgrade { .. }
+        | Command::Load { .. }
+        | Command::Sweep => unreachable!(),
     }
 }
 
@@ -190,6 +194,7 @@ pub fn threaded_answer<R: Threads + Wait + Sync, G: Gate + Sync>(
             live_input(rt, alloc, input, asked, gate)
         }
         Command::Recover { turns } => recover_answer(rt, alloc, input, turns, gate),
+        Command::Upgrade { turns } => upgrade_answer(rt, alloc, input, turns, gate),
         Command::Load { rounds, seed } => load_answer(rt, alloc, rounds, seed, gate),
         Command::Sweep => sweep_input(rt, alloc, input, gate),
         Command::Compile

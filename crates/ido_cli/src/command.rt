@@ -8,7 +8,7 @@ ghost use Rattle.clap.specs.Words.{app_of, rule_of, with_subcommand};
 ghost use Rattle.ido_cli.specs.Commands.{command_by_name, command_of, crash_rule, crashes_in, crashes_of, evict_rule, flag_rule, is_set};
 ghost use Rattle.ido_cli.specs.Commands.{live_in, live_shape, load_in, load_shape, make_in, make_shape, most_crash, most_loaded_rounds};
 ghost use Rattle.ido_cli.specs.Commands.{most_rounds, most_turns, needs_threads, number_in, number_of, number_rule, numbers_of, reads_input};
-ghost use Rattle.ido_cli.specs.Commands.{recover_in, recover_shape, regions_in, regions_shape, seeded_in, seeded_shape, table};
+ghost use Rattle.ido_cli.specs.Commands.{recover_in, regions_in, regions_shape, seeded_in, seeded_shape, table, turns_shape, upgrade_in};
 
 use crate::crashes::Crashes;
 use clap::builder::ValueParser;
@@ -41,6 +41,10 @@ pub enum Command {
     Order,
     /// Resumes what a crash has left, by so many turns of each hart, 0 to 1,000,000.
     Recover {
+        turns: u32,
+    },
+    /// Resumes so what a crash has left of an older version, and writes what is left then in the newest.
+    Upgrade {
         turns: u32,
     },
     /// Writes the source of a seed, whose threads make so many rounds, 1 to 10,000.
@@ -85,7 +89,11 @@ impl Command {
     {
         matches!(
             self,
-            Command::Live { .. } | Command::Recover { .. } | Command::Load { .. } | Command::Sweep
+            Command::Live { .. }
+                | Command::Recover { .. }
+                | Command::Upgrade { .. }
+                | Command::Load { .. }
+                | Command::Sweep
         )
     }
 }
@@ -190,15 +198,16 @@ fn with_regions<'a>(
     table.subcommand(clap::Command::new(alloc, "regions").arg(least)?)
 }
 
-/// A table with the command `recover` more, which takes a number.
-fn with_recover<'a>(
+/// A table with one command more, which takes a number of turns.
+fn with_turns<'a>(
     alloc: Global,
     table: clap::Command<'a>,
+    name: &'a str,
 ) -> Result<clap::Command<'a>, AllocError>
-    ensures { IfOk result (λ c. app_of c ≡ with_subcommand (app_of table.entry) recover_shape) }
+    ensures { IfOk result (λ c. app_of c ≡ with_subcommand (app_of table.entry) (turns_shape name.entry.now)) }
 {
     let turns = number_word(alloc, "TURNS", turns_parser());
-    table.subcommand(clap::Command::new(alloc, "recover").arg(turns)?)
+    table.subcommand(clap::Command::new(alloc, name).arg(turns)?)
 }
 
 /// A table with the command `make` more, which takes two numbers.
@@ -263,12 +272,13 @@ fn table<'a>(alloc: Global) -> Result<clap::Command<'a>, AllocError>
     let five = with_command(alloc, four, "source")?;
     let six = with_command(alloc, five, "image")?;
     let seven = with_command(alloc, six, "order")?;
-    let eight = with_recover(alloc, seven)?;
-    let nine = with_make(alloc, eight)?;
-    let ten = with_seeded(alloc, nine)?;
-    let eleven = with_live(alloc, ten)?;
-    let twelve = with_load(alloc, eleven)?;
-    with_command(alloc, twelve, "sweep")
+    let eight = with_turns(alloc, seven, "recover")?;
+    let nine = with_turns(alloc, eight, "upgrade")?;
+    let ten = with_make(alloc, nine)?;
+    let eleven = with_seeded(alloc, ten)?;
+    let twelve = with_live(alloc, eleven)?;
+    let thirteen = with_load(alloc, twelve)?;
+    with_command(alloc, thirteen, "sweep")
 }
 
 /// The number of 32 bits that a word of this name is.
@@ -362,6 +372,14 @@ fn recover_in(matches: &ArgMatches) -> Option<Command>
     Some(Command::Recover { turns })
 }
 
+/// The command `upgrade` by its words.
+fn upgrade_in(matches: &ArgMatches) -> Option<Command>
+    ensures { result ≡ upgrade_in (rows_of (found_of matches.now)) }
+{
+    let turns = short_number(matches, "TURNS")?;
+    Some(Command::Upgrade { turns })
+}
+
 /// The command `make` by its words.
 fn make_in(matches: &ArgMatches) -> Option<Command>
     ensures { result ≡ make_in (rows_of (found_of matches.now)) }
@@ -437,6 +455,7 @@ fn command_by_name(
         "image" => Ok(Some(Command::Image)),
         "order" => Ok(Some(Command::Order)),
         "recover" => Ok(recover_in(matches)),
+        "upgrade" => Ok(upgrade_in(matches)),
         "make" => Ok(make_in(matches)),
         "seeded" => seeded_in(alloc, matches),
         "live" => live_in(alloc, matches),

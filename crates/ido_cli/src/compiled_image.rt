@@ -1,5 +1,5 @@
 //! Bytes read as an image, from which a machine can begin.
-ghost use Rattle.std.specs.Prelude.{◌≡◌, ◌-◌, ◌≤◌, ◌++◌, ◌%◌, length, map, Err, OnOk, MatchResult, ℕ};
+ghost use Rattle.std.specs.Prelude.{◌≡◌, ◌-◌, ◌≤◌, ◌++◌, ◌%◌, length, map, Err, OnOk, MatchResult};
 ghost use Rattle.ido_base.specs.declared.limits.TheConstants.{MOST_INPUT_BYTES, MOST_SOURCE_BYTES};
 ghost use Rattle.run_scripts.specs.links.ReportViews.{steps_of};
 ghost use Rattle.crash_images.specs.Contents.{IsState, word_bytes};
@@ -53,8 +53,8 @@ fn source_fault(error: CompileError) -> ImageError
     }
 }
 
-/// The source of an image, compiled for its log, or the image's fault.
-fn compiled_source(alloc: Global, log: Log, source: &[u8]) -> Result<Compiled, ImageError>
+/// The source of an image, compiled for a log, or the image's fault.
+pub fn compiled_source(alloc: Global, log: Log, source: &[u8]) -> Result<Compiled, ImageError>
     requires { length source.now ≤ MOST_SOURCE_BYTES }
     ensures { MatchResult result (λ compiled. IsCompiledAs log source.now compiled)
         (λ fault. (error : CompileError) × (fault ≡ image_fault error) × IsCompileAnswerAs log source.now (Err error)) }
@@ -127,10 +127,11 @@ fn last_apart(mut lives: Vec<Vec<u32>>) -> KeptLives
     }
 }
 
-/// What stands first in an image: its version, and its source, compiled for the log of that version; and the bytes after it.
+/// What stands first in an image: its version, and its source, which is compiled for the log of that version; and the bytes after it.
 #[derive(Drop)]
 pub struct Begun<'a> {
     pub version: ImageVersion,
+    pub source: &'a [u8],
     pub compiled: Compiled,
     pub rest: &'a [u8],
 }
@@ -149,6 +150,7 @@ pub fn begin<'a>(
     let compiled = compiled_source(alloc, version.log(), source)?;
     Ok(Begun {
         version,
+        source,
         compiled,
         rest,
     })
@@ -159,7 +161,7 @@ pub fn begin<'a>(
 pub fn finish(alloc: Global, bytes: &[u8], begun: Begun<'_>) -> Result<Image, ImageError>
     requires short { length bytes.now ≤ MOST_INPUT_BYTES }
     requires begun { (newest : ImageVersion) × HasBegun newest bytes.now begun }
-    ensures { (newest : ImageVersion) → HasBegun newest bytes.now begun → IsImageAnswer newest bytes.now result }
+    ensures { (newest : ImageVersion) → HasBegun newest bytes.now begun.entry → IsImageAnswer newest bytes.now result }
 {
     let size = begun.compiled.translated.object.initial.len() as u32;
     let threads = begun.compiled.translated.object.code.len() as u32;

@@ -18,7 +18,7 @@ use rv64_isa::object::Object;
 use std::alloc::Global;
 
 /// The schedule of the one life of an image.
-fn only(alloc: Global, schedule: &[u32]) -> Result<Vec<Vec<u32>>, OutOfMemory>
+pub fn only(alloc: Global, schedule: &[u32]) -> Result<Vec<Vec<u32>>, OutOfMemory>
     ensures { IfOk result (λ schedules. map steps_of schedules.items ≡ schedule.now ∷ []) }
 {
     let mut schedules = Vec::new(alloc);

@@ -29,6 +29,7 @@ mod source;
 mod sweep;
 mod table;
 mod top;
+mod upgrade;
 
 pub use compiled_image::{Image, KeptLives, read_image};
 pub use top::{alone, ido};

@@ -10,6 +10,7 @@ ghost use Rattle.ido_cli.specs.Answers.{RecoverAnswer, file_in};
 ghost use Rattle.ido_cli.specs.Recoveries.{IsRecovery};
 ghost use Rattle.ido_cli.specs.Refusals.{image_line};
 ghost use Rattle.ido_cli.specs.ThreadedRuns.{most_leg_events};
+ghost use Rattle.ido_cli.specs.links.RecoveredLives.{HasRecovered};
 ghost use Rattle.ido_compile.specs.CompileAnswers.{translation_in};
 
 use crate::compiled_image::{Image, read_image};
@@ -36,7 +37,7 @@ use std::sync::Wait;
 use std::thread::Threads;
 
 /// The refusal of bytes that are no image from which a run can go on.
-fn image_refused(alloc: Global, error: ImageError) -> Result<Said, OutOfMemory>
+pub fn image_refused(alloc: Global, error: ImageError) -> Result<Said, OutOfMemory>
     ensures status { IfOk result (λ said. said.status ≡ 6) }
     ensures output { IfOk result (λ said. image_line error ≡ Some said.output.items) }
 {
@@ -72,6 +73,39 @@ fn leg_room(harts: u64, turns: u32) -> u64
         .min(MOST_LEG_EVENTS)
 }
 
+/// The life that goes on from an image, after a leg on threads, by so many turns of each hart.
+pub fn recovered_life<R: Threads + Wait + Sync, G: Gate + Sync>(
+    rt: &R,
+    alloc: Global,
+    image: &Image,
+    turns: u32,
+    gate: &G,
+) -> Result<Life, OutOfMemory>
+    requires translated { let made = image.now.compiled.translated in
+        IsTranslatedAs made.object.log (flat_of image.now.compiled.flat) made.object made.marks made.cuts }
+    requires steps { sum_by length (all_lives (file_in image.now).kept) ≤ MOST_STEPS }
+    requires lives { length image.now.lives.earlier.items < 2 ^ 32 }
+    requires words { let object = image.now.compiled.translated.object in
+        length image.now.words.items ≡ length object.initial.items / 8 + log_words object.log * length object.code.items }
+    ensures { IfOk result (λ life. HasRecovered (translation_in image.now.compiled) (file_in image.now) turns life) }
+{
+    files_begin();
+    let compiled = &image.compiled;
+    let most = leg_room(compiled.translated.object.code.len() as u64, turns);
+    let life = Life::of_words(
+        alloc,
+        &compiled.translated.object,
+        &compiled.translated.marks,
+        &image.words,
+        &image.lives.earlier,
+        &image.lives.schedule,
+        most,
+    )?;
+    let none: Option<Evictor> = None;
+    let driven = drive(rt, alloc, life, u64::from(turns), most, none, gate)?;
+    Ok(driven.core)
+}
+
 /// What is said of a run that goes on from an image, on threads, by so many turns of each hart.
 fn recovered<R: Threads + Wait + Sync, G: Gate + Sync>(
     rt: &R,
@@ -90,21 +124,8 @@ fn recovered<R: Threads + Wait + Sync, G: Gate + Sync>(
     ensures { IfOk result (λ said. IsRecovery (translation_in image.now.compiled) (file_in image.now) turns said.status said.output.items) }
 {
     images_are_crashes();
-    files_begin();
-    let compiled = &image.compiled;
-    let most = leg_room(compiled.translated.object.code.len() as u64, turns);
-    let life = Life::of_words(
-        alloc,
-        &compiled.translated.object,
-        &compiled.translated.marks,
-        &image.words,
-        &image.lives.earlier,
-        &image.lives.schedule,
-        most,
-    )?;
-    let none: Option<Evictor> = None;
-    let driven = drive(rt, alloc, life, u64::from(turns), most, none, gate)?;
-    say_by_source(alloc, &compiled.flat, &driven.core)
+    let life = recovered_life(rt, alloc, image, turns, gate)?;
+    say_by_source(alloc, &image.compiled.flat, &life)
 }
 
 /// The answer to an input of `recover`.

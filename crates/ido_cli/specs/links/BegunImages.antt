@@ -1,12 +1,17 @@
 -- What stands first in an image, and faults of what stands after it.
-use Rattle.std.specs.Prelude.{◌≡◌, ◌==◌, ℕ, List, if◌then◌else◌, Result, Ok, Err}
+use Rattle.std.specs.Prelude.{◌≡◌, ◌==◌, ◌≤◌, ℕ, List, length, if◌then◌else◌, Result, Ok, Err}
+use Rattle.ido_base.specs.declared.limits.TheConstants.{MOST_SOURCE_BYTES}
 use Rattle.file_fields.specs.declared.error.ReadError.{ReadError}
 use Rattle.file_fields.specs.declared.error.ReadError.TheVariants as read
 use Rattle.image_checks.specs.declared.error.ImageError.{ImageError}
 use Rattle.image_checks.specs.declared.error.ImageError.TheVariants as e
 use Rattle.crash_images.specs.declared.version.ImageVersion.{ImageVersion}
 use Rattle.ido_cli.specs.declared.compiled_image.Begun.{Begun}
+use Rattle.ido_base.specs.declared.log.Log.TheVariants.{V2}
+use Rattle.ido_compile.specs.declared.error.CompileError.{CompileError}
+use Rattle.ido_compile.specs.CompileAnswers.{IsCompileAnswerAs}
 use Rattle.ido_cli.specs.CompiledImages.{BeginsCompiled, IsImageAnswer}
+use Rattle.ido_cli.specs.links.CompileRefusals.{image_fault}
 
 -- the fault of a field, where the number of bytes of the variables stands at this place
 abbrev pub of_state : (size_place : ℕ) → ReadError → ImageError
@@ -19,7 +24,13 @@ of_state size_place read.Memory = e.Memory
 
 pub record HasBegun (newest : ImageVersion) (bytes : List ℕ) (b : Begun) : Type 0 where
   pub is : BeginsCompiled newest bytes b.version b.compiled
+  pub source : is.source ≡ b.source.now
+  pub short : length b.source.now ≤ MOST_SOURCE_BYTES
   pub rest : is.rest ≡ b.rest.now
+
+-- the fault of an image whose source isn't compiled for the newest log
+abbrev pub IsAnewFault : (source : List ℕ) → ImageError → Type 0
+IsAnewFault source fault = (error : CompileError) × (fault ≡ image_fault error) × IsCompileAnswerAs V2 source (Err error)
 
 -- a fault there is one of the image
 abbrev pub IsBegun : ImageVersion → (bytes : List ℕ) → Result Begun ImageError → Type 0

@@ -2,7 +2,7 @@ use Rattle.std.proofs.Common.{◌≡◌, List, [], ℕ, true, ap, codes, ◌∙�
 use Rattle.std.proofs.lemmas.Result.{IfOk-weaker}
 use Rattle.clap.specs.Simple.{App, app_of_fields, new_shape}
 use Rattle.clap.specs.Words.{app_of, with_subcommand}
-use Rattle.ido_cli.specs.Commands.{live_shape, load_shape, make_shape, recover_shape, regions_shape, seeded_shape}
+use Rattle.ido_cli.specs.Commands.{live_shape, load_shape, make_shape, regions_shape, seeded_shape, turns_shape}
 use Rattle.ido_cli.proofs.command.table.Goals as goal
 
 -- a table with a command of this name more
@@ -27,9 +27,10 @@ returns c =
     let five = c.in_ok-five.ensures ∙ ap (named (codes "source")) four in
     let six = c.in_ok-six.ensures ∙ ap (named (codes "image")) five in
     let seven = c.in_ok-seven.ensures ∙ ap (named (codes "order")) six in
-    let eight = c.in_ok-eight.ensures ∙ ap (λ (a : App). with_subcommand a recover_shape) seven in
-    let nine = c.in_ok-nine.ensures ∙ ap (λ (a : App). with_subcommand a make_shape) eight in
-    let ten = c.in_ok-ten.ensures ∙ ap (λ (a : App). with_subcommand a seeded_shape) nine in
-    let eleven = c.in_ok-eleven.ensures ∙ ap (λ (a : App). with_subcommand a live_shape) ten in
-    let twelve = c.in_ok-twelve.ensures ∙ ap (λ (a : App). with_subcommand a load_shape) eleven in
-    IfOk-weaker c.with_command-7.result _ _ (λ made is. is ∙ ap (named (codes "sweep")) twelve) c.with_command-7.ensures
+    let eight = c.in_ok-eight.ensures ∙ ap (λ (a : App). with_subcommand a (turns_shape (codes "recover"))) seven in
+    let nine = c.in_ok-nine.ensures ∙ ap (λ (a : App). with_subcommand a (turns_shape (codes "upgrade"))) eight in
+    let ten = c.in_ok-ten.ensures ∙ ap (λ (a : App). with_subcommand a make_shape) nine in
+    let eleven = c.in_ok-eleven.ensures ∙ ap (λ (a : App). with_subcommand a seeded_shape) ten in
+    let twelve = c.in_ok-twelve.ensures ∙ ap (λ (a : App). with_subcommand a live_shape) eleven in
+    let thirteen = c.in_ok-thirteen.ensures ∙ ap (λ (a : App). with_subcommand a load_shape) twelve in
+    IfOk-weaker c.with_command-7.result _ _ (λ made is. is ∙ ap (named (codes "sweep")) thirteen) c.with_command-7.ensures

@@ -38,5 +38,7 @@ returns c =
         begins = c.in_ok-source.ensures.exact;
         compiled = subst (λ (log : Log). IsCompiledAs log source c.in_ok-compiled.compiled) c.log.ensures c.in_ok-compiled.ensures;
       };
+      source = refl;
+      short = c.in_ok-source.ensures.found.0;
       rest = refl;
     }
