@@ -216,7 +216,7 @@ fn life_of(alloc: Global, log: Log, text: &[u8]) -> Result<Life, Fail>
 }
 
 /// What the life of a text is when power is lost, if it is, and what it comes to.
-fn run(
+fn seen(
     alloc: Global,
     log: Log,
     text: &[u8],
@@ -316,7 +316,7 @@ const ROWS: [(Log, &[u8], Option<u64>, Option<Seen>, Seen); 6] = [
 #[test]
 fn lives(rt: HostRuntime) -> Result<(), Fail> {
     for (log, text, fences, before, after) in ROWS {
-        let found = run(rt.alloc(), log, text, fences)?;
+        let found = seen(rt.alloc(), log, text, fences)?;
         assert_eq!(rt; found, (before, after), "{log:?}, {fences:?}");
     }
     Ok(())
@@ -334,10 +334,10 @@ const CROSSED_GIVEN: Seen = Seen {
 /// lock's point to the last unlock's, the section is ended.
 #[test]
 fn two_keys_at_once(rt: HostRuntime) -> Result<(), Fail> {
-    let (_, whole) = run(rt.alloc(), Log::V2, CROSSED, None)?;
+    let (_, whole) = seen(rt.alloc(), Log::V2, CROSSED, None)?;
     assert_eq!(rt; whole, CROSSED_GIVEN);
     for fences in 2..8 {
-        let (_, after) = run(rt.alloc(), Log::V2, CROSSED, Some(fences))?;
+        let (_, after) = seen(rt.alloc(), Log::V2, CROSSED, Some(fences))?;
         assert_eq!(rt; after, CROSSED_GIVEN, "{fences}");
     }
     Ok(())

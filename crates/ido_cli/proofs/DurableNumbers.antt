@@ -54,7 +54,7 @@ elements_more g xs ys new n k x h e is so_far =
     ap (λ (zs : List ℤ). zs ++ rest) is ∙ append_assoc xs (x ∷ []) rest
     ∙ ap (λ (zs : List ℤ). xs ++ zs) (ap (λ (z : ℤ). z ∷ rest) e ∙ ap (map g) (sym (numbers_more k n h))) ∙ so_far
 
-same_from : (f g : ℕ → ℤ) (from count : ℕ) → ((e : ℕ) → e < from + count → f e ≡ g e) → map f (numbers_from from count) ≡ map g (numbers_from from count)
+pub same_from : (f g : ℕ → ℤ) (from count : ℕ) → ((e : ℕ) → e < from + count → f e ≡ g e) → map f (numbers_from from count) ≡ map g (numbers_from from count)
 same_from f g from zero same = refl
 same_from f g from (suc count) same =
     ap₂ (λ (x : ℤ) (xs : List ℤ). x ∷ xs) (same from (omega arith)) (same_from f g (from + 1) count (λ e l. same e (omega (arith, l))))

@@ -36,6 +36,9 @@ mod CompiledImages
 mod RecoveredRuns
 mod RecoveredLives
 mod UpgradedImages
+mod SameVariables
+mod IdleWorlds
+mod UpgradedRuns
 mod DrawnLives
 mod SweptTables
 mod CrashRuns

@@ -17,7 +17,7 @@ ordered_lives compiled none_deadlocks text c cap life is ordered begins =
     let now : LifeConfig = record (opening_of life) { world = world_of life } in
     let stops : (least_enabled living now (length life.runs.program) ≡ None) ↔ HaveStopped (world_of life) =
     subst (λ (w : World). (least_enabled living now (length life.runs.program) ≡ None) ↔ HaveStopped w) (sym of_life.world_is)
-    (none_deadlocks translation of_life.compilation (of_life.compilation.form.single is.translated.log) ordered life.journal now
+    (none_deadlocks translation of_life.compilation is.plain.single ordered life.journal now
     (ap (λ (o : LifeConfig). o.runs) begins) of_life.world_is) in
     subst (λ (m : LifeConfig). (least_enabled living m (length life.runs.program) ≡ None) ↔ HaveStopped (world_of life))
     (sym (played_is (opening_of life) life.journal)) stops

@@ -110,7 +110,7 @@ all_words : (log : Log) (threads : ℕ) → VARIABLE_WORDS + log_words log * thr
 all_words V1 threads = omega arith
 all_words V2 threads = omega arith
 
-spread_size : (log : Log) (n threads : ℕ) (words : List ℕ) → n ≤ VARIABLE_WORDS → length words ≡ n + log_words log * threads →
+pub spread_size : (log : Log) (n threads : ℕ) (words : List ℕ) → n ≤ VARIABLE_WORDS → length words ≡ n + log_words log * threads →
     length (spread_words n words) ≡ word_count log threads
 spread_size log n threads words few size = spread_long n (log_words log * threads) words few size ∙ all_words log threads
 

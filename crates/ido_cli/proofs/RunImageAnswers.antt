@@ -26,7 +26,7 @@ use Rattle.compiler_correctness.specs.Images as left
 use Rattle.compiler_correctness.specs.Laws.{MachinesRecord}
 use Rattle.compiler_correctness.specs.Images.{variable_words}
 use Rattle.compiler_correctness.specs.Translations.{Translation, translation_to}
-use Rattle.flat_compile.specs.TranslatedForms.{IsTranslated}
+use Rattle.flat_compile.specs.TranslatedForms.{IsTranslated, IsTranslatedAs}
 use Rattle.ido_compile.specs.declared.compiler.Compiled.{Compiled}
 use Rattle.ido_compile.specs.CompileAnswers.{IsCompiledAs, translation_in}
 use Rattle.ido_compile.specs.FormLaws.{FlattenedIsFormed, FlattenedIsPlain}
@@ -48,6 +48,7 @@ use Rattle.ido_cli.specs.CompiledImages.{no_state, no_version, state_error, unso
 use Rattle.ido_cli.specs.CompiledImages as answers
 use Rattle.c_tree.specs.declared.rule.Rule.{Rule}
 use Rattle.ido_base.specs.declared.place.Place.{Place}
+use Rattle.ido_base.specs.declared.log.Log.{Log}
 use Rattle.ido_base.specs.declared.log.Log.TheVariants.{V1}
 use Rattle.image_checks.specs.Laws.{RunsLeaveNoFault}
 use Rattle.image_checks.specs.Logs.{logs_of}
@@ -57,7 +58,7 @@ use Rattle.ido_cli.specs.ImagesReadAgain.{IsReadAgain, again, elsewhere, RunImag
 use Rattle.ido_cli.specs.ImagesReadAgain as reads
 use Rattle.image_checks.proofs.Public.{IsWhole, left_is_whole, none_if_sound, none_in_lives, told_again, unshared}
 
-not_both_ways : {A : Type 0} (found : Result A Fault) (x : A) (fault : Fault) → found ≡ Ok x → found ≡ Err fault → ⊥
+pub not_both_ways : {A : Type 0} (found : Result A Fault) (x : A) (fault : Fault) → found ≡ Ok x → found ≡ Err fault → ⊥
 not_both_ways {A = A} found x fault ok err = let both : ◌≡◌ {A = Result A Fault} (Ok x) (Err fault) = sym ok ∙ err in cc
 
 few_lives : (kept : LifeSchedules) → kept.earlier ≡ [] → length kept.schedule ≤ MOST_STEPS → sum_by length (all_lives kept) ≤ MOST_STEPS
@@ -67,13 +68,13 @@ few_lives kept none few =
 
 -- ---- What all translations of a flat form have in common
 
-module _ (flat : Flat) (object : Object) (marks : Marks) (cuts : Cuts) (t : IsTranslated flat object marks cuts) where
-  initial_size : length object.initial.items ≡ aligned_up (end_from 0 (map shape_of flat.variables)) 8
+module _ {log : Log} (flat : Flat) (object : Object) (marks : Marks) (cuts : Cuts) (t : IsTranslatedAs log flat object marks cuts) where
+  pub initial_size : length object.initial.items ≡ aligned_up (end_from 0 (map shape_of flat.variables)) 8
   initial_size =
       ap (λ (x : Executable). length x.initial) (sym t.runs) ∙ t.is.initial.size
       ∙ ap (λ (x : Flat). aligned_up (end_from 0 (map shape_of x.variables)) 8) t.of_flat
 
-  thread_number : length object.code.items ≡ length (lowered flat).threads
+  pub thread_number : length object.code.items ≡ length (lowered flat).threads
   thread_number =
       sym (length-map object.code.items (λ code. map slot_of code.items)) ∙ sym (ap (λ (x : Executable). length x.program) t.runs) ∙ t.is.count
       ∙ ap (λ (g : Graph). length g.threads) t.is.plan.lowered ∙ ap (λ (x : Flat). length (lowered x).threads) t.of_flat

@@ -1,7 +1,7 @@
 -- Where a machine is settled, its report is that of the source's own run of its kept schedules.
 use Rattle.std.proofs.Common.{◌≡◌, ◌⊎◌, inl, inr, refl, ℕ, zero, suc, ◌+◌, ◌<◌, ◌≤◌, List, [], ◌∷◌, length}
 use Rattle.std.proofs.Common.{map, filter, not, Bool, true, false, sym, ap, ap₂, ◌∙◌, subst, ℤ, arith}
-use Rattle.std.proofs.lemmas.Bool.{cases_lt}
+use Rattle.std.proofs.lemmas.Bool.{and_parts, cases_lt}
 use Rattle.ido_base.specs.declared.event.Event.{Event}
 use Rattle.c_tree.specs.Flats as f
 use Rattle.c_tree.specs.Source as m
@@ -21,7 +21,7 @@ use Rattle.ido_cli.proofs.GatheredReports.{chosen, left_out}
 
 -- ---- Harts and threads between sections
 
-none_chosen : (p : ℕ → Bool) (k n : ℕ) → ((t : ℕ) → p t ≡ false) → filter p (numbers_from k n) ≡ []
+pub none_chosen : (p : ℕ → Bool) (k n : ℕ) → ((t : ℕ) → p t ≡ false) → filter p (numbers_from k n) ≡ []
 none_chosen p k zero h = refl
 none_chosen p k (suc n) h = left_out p k (numbers_from (k + 1) n) (h k) ∙ none_chosen p (k + 1) n h
 
@@ -56,6 +56,26 @@ settled_by_none w none =
 pub none_by_status : (unsettled : List ℕ) (status : ℕ) → status ≡ status_by unsettled → status ≡ 0 → unsettled ≡ []
 none_by_status [] status e settled = refl
 none_by_status (h ∷ hs) status e settled = absurd (omega (arith, e, settled))
+
+-- where all are settled, none isn't
+none_below : (p : ℕ → Bool) (k n : ℕ) → ((h : ℕ) → k ≤ h → h < k + n → p h ≡ false) → filter p (numbers_from k n) ≡ []
+none_below p k zero each = refl
+none_below p k (suc n) each =
+    left_out p k (numbers_from (k + 1) n) (each k (omega arith) (omega arith))
+    ∙ none_below p (k + 1) n (λ h from below. each h (omega (arith, from)) (omega (arith, below)))
+
+each_settled : (w : World) (n h : ℕ) → are_settled w n ≡ true → h < n → is_settled_hart w h ≡ true
+each_settled w zero h all below = absurd (omega (arith, below))
+each_settled w (suc n) h all below =
+    let parts = and_parts (are_settled w n) (is_settled_hart w n) all in
+    elim (cases_lt h n) [
+      | inl less ↦ each_settled w n h parts.0 less
+      | inr not ↦ let last : n ≡ h = omega (arith, below, not) in subst (λ (k : ℕ). is_settled_hart w k ≡ true) last parts.1
+    ]
+
+pub none_by_settled : (w : World) → is_settled w ≡ true → unsettled_harts w ≡ []
+none_by_settled w all =
+    none_below (λ h. not (is_settled_hart w h)) 0 (length w.harts) (λ h from below. ap not (each_settled w (length w.harts) h all (omega (arith, below))))
 
 -- ---- The report
 

@@ -18,8 +18,15 @@ use Rattle.ido_cli.specs.Inputs.{source_of, rest_of}
 use Rattle.ido_cli.specs.Plays.{IsRunBy, IsTranslationOf, beginning}
 use Rattle.run_tracker.specs.ObjectLives.{living}
 use Rattle.ido_cli.specs.Recoveries.{IsRecoveredRun}
-use Rattle.ido_cli.specs.Answers.{Answer, IsPastLimits, PlayAnswer, RecoverAnswer}
-use Rattle.rv64_isa.specs.Schedule.{HaveNoStart}
+use Rattle.ido_cli.specs.Answers.{Answer, IsPastLimits, PlayAnswer, RecoverAnswer, file_in}
+use Rattle.rv64_isa.specs.Schedule.{HaveNoStart, schedules}
+use Rattle.compiler_correctness.specs.Images.{image_in, steps_from, world_from}
+use Rattle.ido_compile.specs.CompileAnswers.{translation_in}
+use Rattle.image_checks.specs.RunImages.{left_by}
+use Rattle.ido_cli.specs.declared.compiled_image.Image.{Image}
+use Rattle.ido_cli.specs.Reports.{machine_state}
+use Rattle.ido_cli.specs.Runs.{IsReport}
+use Rattle.ido_cli.specs.Upgrades.{IsOlderImage, IsUpgrade}
 
 -- what is written stands on no compilation, nor on how threads ran
 abbrev pub IsPlain : Option Command → Type 0
@@ -78,6 +85,15 @@ abbrev pub RunsAreRecovered : Type 0
 RunsAreRecovered = (source image : List ℕ) (flat : Flat) (c : Translation) (before : List Event) (turns status answer : ℕ) (output : List ℕ) →
     IsAccepted source flat → IsTranslationOf flat c → HaveNoStart before → length before ≤ MOST_EVENTS → IsImageAfter source c before status image →
     RecoverAnswer turns image answer output → IsRecoveredRun source c before turns answer output
+
+-- What `upgrade` writes of an image that a run of the translation to which its source is compiled has left, is recovered as what it is: with no turn more the
+-- report is that of the machine and of the schedules to which `upgrade` came.
+abbrev pub UpgradesAreRecovered : Type 0
+UpgradesAreRecovered = (input output : List ℕ) (image : Image) (source : List ℕ) (before : List Event) (turns status : ℕ) (report : List ℕ) →
+    IsOlderImage input image source → let c = translation_in image.compiled in file_in image ≡ left_by c before →
+    (u : IsUpgrade source c (file_in image) turns 0 output) → RecoverAnswer 0 output status report →
+    IsReport (machine_state c.flat (world_from c (image_in c (file_in image)) u.journal) (schedules (steps_from c (image_in c (file_in image)) u.journal)))
+    status report
 
 -- a source that ends with an LF, and in which no line is `%%`
 pub record IsAlone (source : List ℕ) : Type 0 where

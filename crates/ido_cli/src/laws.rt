@@ -2,7 +2,7 @@
 ghost use Rattle.ido_cli.specs.CompiledLives.{LivesAreCompiled, LivesOfFilesAreCompiled};
 ghost use Rattle.ido_cli.specs.ImagesReadAgain.{RunImagesAreRead};
 ghost use Rattle.ido_cli.specs.OrderedLives.{OrderedLivesGoOn};
-ghost use Rattle.ido_cli.specs.Laws.{JournalsArePlayed, OneAnswer, RunsAreRecovered};
+ghost use Rattle.ido_cli.specs.Laws.{JournalsArePlayed, OneAnswer, RunsAreRecovered, UpgradesAreRecovered};
 
 use compiler_correctness::laws::machines_record;
 use crash_simulation::laws::machines_resume;
@@ -64,6 +64,17 @@ pub fn runs_are_recovered()
     ensures { RunsAreRecovered }
 {
     run_images_are_read();
+}
+
+/// What `upgrade` writes of an image that a run has left, where its source was compiled to the translation of that run again, is read by `recover` as what
+/// it is: it is never refused, and with no turn more the report is that of the machine and of the schedules to which `upgrade` came.
+pub fn upgrades_are_recovered()
+    ensures { UpgradesAreRecovered }
+{
+    walk_is_discipline();
+    flattened_is_formed();
+    flattened_is_plain();
+    one_verdict();
 }
 
 /// What `live --journal` writes of a source that ends with an LF and has no line `%%` is an input of `play`, which answers it with the report of the very

@@ -1,6 +1,7 @@
 -- A text is accepted and has one flat form, or it is refused by one rule, at one place: check after check.
 use Rattle.std.proofs.Common.{◌≡◌, refl, ℕ, ◌<◌, ◌≤◌, List, [], length, Option, Some, None, true, false, sym, ap, ap₂, ◌∙◌, subst, arith}
 use Rattle.ido_base.specs.declared.place.Place.{Place}
+use Rattle.c_tree.specs.declared.language.Language.{Language}
 use Rattle.c_tree.specs.declared.language.Language.TheVariants.{Plain}
 use Rattle.c_tree.specs.AcceptedTexts.{HasNoBack, IsTyped, IsRanged, IsFlattened, IsChecked, IsFaulty}
 use Rattle.c_tree.specs.AcceptedTexts.{unread, mistyped, outside, leads_back, too_long, undisciplined}
@@ -26,6 +27,9 @@ use Rattle.flow_graph.specs.Liveness.{NodeAt, HasRoom, IsFirstCrowded}
 use Rattle.flow_graph.specs.Lowering.{lowered}
 use Rattle.flow_graph.specs.Nodes.{Node, Graph}
 use Rattle.flow_graph.specs.Refusals.{IsAccepted, IsRefusedBy, faulty, crowded, too_deep}
+use Rattle.ido_base.specs.declared.log.Log.{Log}
+use Rattle.thread_code.specs.Plans.{language_of}
+use Rattle.ido_compile.specs.LoggedTexts as logged
 use Rattle.ido_compile.specs.Verdicts as laws
 
 -- ---- Verdicts
@@ -95,31 +99,31 @@ one_by_room flat = one_check (RoomStop flat) (HasRoom (lowered flat)) (ByTempora
 
 -- ---- The lock discipline
 
-abbrev LockStop : f.Flat → Verdict → Type 0
-LockStop flat v = (x : l.Fault) × (lock_fault Plain flat ≡ Some x) × (v ≡ Refused x.rule x.place)
+abbrev LockStop : Language → f.Flat → Verdict → Type 0
+LockStop lang flat v = (x : l.Fault) × (lock_fault lang flat ≡ Some x) × (v ≡ Refused x.rule x.place)
 
-abbrev ByLocks : f.Flat → Verdict → Type 0
-ByLocks flat = Check (LockStop flat) (lock_fault Plain flat ≡ None) (ByRoom flat)
+abbrev ByLocks : Language → f.Flat → Verdict → Type 0
+ByLocks lang flat = Check (LockStop lang flat) (lock_fault lang flat ≡ None) (ByRoom flat)
 
-one_by_locks : (flat : f.Flat) → IsOne (ByLocks flat)
-one_by_locks flat = one_check (LockStop flat) (lock_fault Plain flat ≡ None) (ByRoom flat)
-    (λ v w s t. s.2 ∙ ap (λ (x : l.Fault). Refused x.rule x.place) (one_some (lock_fault Plain flat) s.0 t.0 s.1 t.1) ∙ sym t.2)
-    (λ v s e. not_none (lock_fault Plain flat) s.0 s.1 e)
+one_by_locks : (lang : Language) (flat : f.Flat) → IsOne (ByLocks lang flat)
+one_by_locks lang flat = one_check (LockStop lang flat) (lock_fault lang flat ≡ None) (ByRoom flat)
+    (λ v w s t. s.2 ∙ ap (λ (x : l.Fault). Refused x.rule x.place) (one_some (lock_fault lang flat) s.0 t.0 s.1 t.1) ∙ sym t.2)
+    (λ v s e. not_none (lock_fault lang flat) s.0 s.1 e)
     (one_by_room flat)
 
 -- ---- The price
 
-abbrev PriceStop : f.Flat → Verdict → Type 0
-PriceStop flat v = (place : Place) × (price_fault Plain flat ≡ Some place) × (v ≡ Refused rule.Code place)
+abbrev PriceStop : Language → f.Flat → Verdict → Type 0
+PriceStop lang flat v = (place : Place) × (price_fault lang flat ≡ Some place) × (v ≡ Refused rule.Code place)
 
-abbrev ByPrice : f.Flat → Verdict → Type 0
-ByPrice flat = Check (PriceStop flat) (price_fault Plain flat ≡ None) (ByLocks flat)
+abbrev ByPrice : Language → f.Flat → Verdict → Type 0
+ByPrice lang flat = Check (PriceStop lang flat) (price_fault lang flat ≡ None) (ByLocks lang flat)
 
-one_by_price : (flat : f.Flat) → IsOne (ByPrice flat)
-one_by_price flat = one_check (PriceStop flat) (price_fault Plain flat ≡ None) (ByLocks flat)
-    (λ v w s t. s.2 ∙ ap (Refused rule.Code) (one_some (price_fault Plain flat) s.0 t.0 s.1 t.1) ∙ sym t.2)
-    (λ v s e. not_none (price_fault Plain flat) s.0 s.1 e)
-    (one_by_locks flat)
+one_by_price : (lang : Language) (flat : f.Flat) → IsOne (ByPrice lang flat)
+one_by_price lang flat = one_check (PriceStop lang flat) (price_fault lang flat ≡ None) (ByLocks lang flat)
+    (λ v w s t. s.2 ∙ ap (Refused rule.Code) (one_some (price_fault lang flat) s.0 t.0 s.1 t.1) ∙ sym t.2)
+    (λ v s e. not_none (price_fault lang flat) s.0 s.1 e)
+    (one_by_locks lang flat)
 
 -- ---- Calls
 
@@ -129,8 +133,8 @@ same_place x y e = let place : ℕ → Place = λ n. record { 0 = n } in ap plac
 abbrev CallStop : p.Program → Verdict → Type 0
 CallStop x v = (place : Place) × IsFirstBack x.functions place × (v ≡ Refused rule.Recursion place)
 
-abbrev ByCalls : p.Program → Verdict → Type 0
-ByCalls x = Check (CallStop x) (HasNoBack x) (ByPrice (flat_form x))
+abbrev ByCalls : Language → p.Program → Verdict → Type 0
+ByCalls lang x = Check (CallStop x) (HasNoBack x) (ByPrice lang (flat_form x))
 
 one_back : (fs : List p.Function) (place other : Place) → IsFirstBack fs place → IsFirstBack fs other → place ≡ other
 one_back fs place other x y =
@@ -140,11 +144,11 @@ one_back fs place other x y =
     let there : y.call.place.0 ≡ other.0 = ap (λ (q : Place). q.0) y.stands in
     same_place place other (omega (arith, sooner, later, here, there))
 
-one_by_calls : (x : p.Program) → IsOne (ByCalls x)
-one_by_calls x = one_check (CallStop x) (HasNoBack x) (ByPrice (flat_form x))
+one_by_calls : (lang : Language) (x : p.Program) → IsOne (ByCalls lang x)
+one_by_calls lang x = one_check (CallStop x) (HasNoBack x) (ByPrice lang (flat_form x))
     (λ v w s t. s.2 ∙ ap (Refused rule.Recursion) (one_back x.functions s.0 t.0 s.1 t.1) ∙ sym t.2)
     (λ v s ends. ends s.1.call s.1.back)
-    (one_by_price (flat_form x))
+    (one_by_price lang (flat_form x))
 
 -- ---- Indexes and references
 
@@ -154,8 +158,8 @@ OutsideStop x v = (found : r.Rule) × (place : Place) × IsFirstOutside x found 
 abbrev IsInside : p.Program → Type 0
 IsInside x = AllFit x × (program_nulls x ≡ [])
 
-abbrev ByIndexes : p.Program → Verdict → Type 0
-ByIndexes x = Check (OutsideStop x) (IsInside x) (ByCalls x)
+abbrev ByIndexes : Language → p.Program → Verdict → Type 0
+ByIndexes lang x = Check (OutsideStop x) (IsInside x) (ByCalls lang x)
 
 one_place : (x : p.Program) (found other : r.Rule) (place at : Place) → IsFirstOutside x found place → IsFirstOutside x other at → place ≡ at
 one_place x found other place at h k = same_place place at (omega (arith, h.first other at k.outside, k.first found place h.outside))
@@ -178,19 +182,19 @@ none_inside : (x : p.Program) (found : r.Rule) (place : Place) → IsOutside x f
 none_inside x found place (by_index i c u f e) inside = let both : true ≡ false = sym (inside.0 i c) ∙ u in cc both
 none_inside x found place (by_null c f) inside = let within : c.0 < length (program_nulls x) = c.1 in omega (arith, within, ap length inside.1)
 
-one_by_indexes : (x : p.Program) → IsOne (ByIndexes x)
-one_by_indexes x = one_check (OutsideStop x) (IsInside x) (ByCalls x)
+one_by_indexes : (lang : Language) (x : p.Program) → IsOne (ByIndexes lang x)
+one_by_indexes lang x = one_check (OutsideStop x) (IsInside x) (ByCalls lang x)
     (λ v w s t. s.3 ∙ one_stop x s.0 t.0 s.1 t.1 s.2 t.2 ∙ sym t.3)
     (λ v s inside. none_inside x s.0 s.1 s.2.outside inside)
-    (one_by_calls x)
+    (one_by_calls lang x)
 
 -- ---- Names and kinds
 
 abbrev TypeStop : List Item → Verdict → Type 0
 TypeStop xs v = (x : Fault) × IsFirst (type_faults Plain xs) x × (v ≡ Refused x.rule x.place)
 
-abbrev ByTypes : List Item → Verdict → Type 0
-ByTypes xs = Check (TypeStop xs) (type_faults Plain xs ≡ []) (ByIndexes (typed_program xs))
+abbrev ByTypes : Language → List Item → Verdict → Type 0
+ByTypes lang xs = Check (TypeStop xs) (type_faults Plain xs ≡ []) (ByIndexes lang (typed_program xs))
 
 no_first : (fs : List Fault) (x : Fault) → fs ≡ [] → IsFirst fs x → ⊥
 no_first fs x e first = let within : first.found.0 < length fs = first.found.1 in absurd (omega (arith, within, ap length e))
@@ -200,67 +204,102 @@ no_first fs x e first = let within : first.found.0 < length fs = first.found.1 i
 abbrev ReadStop : (text : List ℕ) → Verdict → Type 0
 ReadStop text v = (found : r.Rule) × (place : Place) × IsRefused Plain text found place × (v ≡ Refused found place)
 
-data ByReading (text : List ℕ) (v : Verdict) : Type 0 where
-  no_tree : ReadStop text v → ByReading text v
-  tree : (xs : List Item) → IsRead Plain text xs → ByTypes xs v → ByReading text v
+data ByReading (lang : Language) (text : List ℕ) (v : Verdict) : Type 0 where
+  no_tree : ReadStop text v → ByReading lang text v
+  tree : (xs : List Item) → IsRead Plain text xs → ByTypes lang xs v → ByReading lang text v
 
-typed_then : (text : List ℕ) (x : p.Program) (v : Verdict) → IsTyped Plain text x → ByIndexes x v → ByReading text v
-typed_then text x v is by = tree is.items is.read (passes is.faultless (subst (λ y. ByIndexes y v) is.typed by))
+typed_then : (lang : Language) (text : List ℕ) (x : p.Program) (v : Verdict) → IsTyped Plain text x → ByIndexes lang x v → ByReading lang text v
+typed_then lang text x v is by = tree is.items is.read (passes is.faultless (subst (λ y. ByIndexes lang y v) is.typed by))
 
-ranged_then : (text : List ℕ) (x : p.Program) (v : Verdict) → IsRanged Plain text x → ByCalls x v → ByReading text v
-ranged_then text x v is by = typed_then text x v is.typed (passes (is.fits, is.never_null) by)
+ranged_then : (lang : Language) (text : List ℕ) (x : p.Program) (v : Verdict) → IsRanged Plain text x → ByCalls lang x v → ByReading lang text v
+ranged_then lang text x v is by = typed_then lang text x v is.typed (passes (is.fits, is.never_null) by)
 
-flattened_then : (text : List ℕ) (flat : f.Flat) (v : Verdict) → IsFlattened Plain text flat → ByLocks flat v → ByReading text v
-flattened_then text flat v is by = ranged_then text is.program v is.ranged (passes is.ends (passes is.short (subst (λ y. ByLocks y v) is.flattened by)))
+flattened_then : (text : List ℕ) (flat : f.Flat) (v : Verdict) → IsFlattened Plain text flat → ByLocks Plain flat v → ByReading Plain text v
+flattened_then text flat v is by =
+    ranged_then Plain text is.program v is.ranged (passes is.ends (passes is.short (subst (λ y. ByLocks Plain y v) is.flattened by)))
 
-checked_then : (text : List ℕ) (flat : f.Flat) (v : Verdict) → IsChecked Plain text flat → ByRoom flat v → ByReading text v
+checked_then : (text : List ℕ) (flat : f.Flat) (v : Verdict) → IsChecked Plain text flat → ByRoom flat v → ByReading Plain text v
 checked_then text flat v is by = flattened_then text flat v is.flattened (passes is.disciplined by)
 
-accepted_by : (text : List ℕ) (flat : f.Flat) → IsAccepted text flat → ByReading text (Accepted flat)
+accepted_by : (text : List ℕ) (flat : f.Flat) → IsAccepted text flat → ByReading Plain text (Accepted flat)
 accepted_by text flat is = checked_then text flat (Accepted flat) is.checked (passes is.room (passes is.shallow refl))
 
-faulty_by : (text : List ℕ) (found : r.Rule) (place : Place) → IsFaulty Plain text found place → ByReading text (Refused found place)
+faulty_by : (text : List ℕ) (found : r.Rule) (place : Place) → IsFaulty Plain text found place → ByReading Plain text (Refused found place)
 faulty_by text found place (unread is) = no_tree (found, place, is, refl)
 faulty_by text found place (mistyped xs is first) = tree xs is (stops (record { rule = found; place = place }, first, refl))
-faulty_by text found place (outside x is first) = typed_then text x (Refused found place) is (stops (found, place, first, refl))
-faulty_by text found place (leads_back x is first e) = ranged_then text x (Refused found place) is (stops (place, first, ap (λ y. Refused y place) e))
+faulty_by text found place (outside x is first) = typed_then Plain text x (Refused found place) is (stops (found, place, first, refl))
+faulty_by text found place (leads_back x is first e) = ranged_then Plain text x (Refused found place) is (stops (place, first, ap (λ y. Refused y place) e))
 faulty_by text found place (too_long x is ends long e) =
-    ranged_then text x (Refused found place) is (passes ends (stops (place, long, ap (λ y. Refused y place) e)))
+    ranged_then Plain text x (Refused found place) is (passes ends (stops (place, long, ap (λ y. Refused y place) e)))
 faulty_by text found place (undisciplined flat x is broken e at) = flattened_then text flat (Refused found place) is (stops (x, broken, ap₂ Refused e at))
 
-refused_by : (text : List ℕ) (found : r.Rule) (place : Place) → IsRefusedBy text found place → ByReading text (Refused found place)
+refused_by : (text : List ℕ) (found : r.Rule) (place : Place) → IsRefusedBy text found place → ByReading Plain text (Refused found place)
 refused_by text found place (faulty is) = faulty_by text found place is
 refused_by text found place (crowded flat wanted is first e) =
     checked_then text flat (Refused found place) is (stops (place, wanted, first, ap (λ y. Refused y place) e))
 refused_by text found place (too_deep flat is room deep e) =
     checked_then text flat (Refused found place) is (passes room (stops (place, deep, ap (λ y. Refused y place) e)))
 
+-- ---- For a log, whose language says what locks and prices are
+
+logged_then : (log : Log) (text : List ℕ) (flat : f.Flat) (v : Verdict) → logged.IsFlattenedAs log text flat → ByLocks (language_of log) flat v →
+    ByReading (language_of log) text v
+logged_then log text flat v is by =
+    ranged_then (language_of log) text is.program v is.ranged
+    (passes is.ends (passes is.short (subst (λ y. ByLocks (language_of log) y v) is.flattened by)))
+
+logged_accepted : (log : Log) (text : List ℕ) (flat : f.Flat) → logged.IsAcceptedAs log text flat → ByReading (language_of log) text (Accepted flat)
+logged_accepted log text flat is = logged_then log text flat (Accepted flat) is.form (passes is.disciplined (passes is.room (passes is.shallow refl)))
+
+logged_refused : (log : Log) (text : List ℕ) (found : r.Rule) (place : Place) → logged.IsRefusedAs log text found place →
+    ByReading (language_of log) text (Refused found place)
+logged_refused log text found place (logged.unread is) = no_tree (found, place, is, refl)
+logged_refused log text found place (logged.mistyped xs is first) = tree xs is (stops (record { rule = found; place = place }, first, refl))
+logged_refused log text found place (logged.outside x is first) =
+    typed_then (language_of log) text x (Refused found place) is (stops (found, place, first, refl))
+logged_refused log text found place (logged.leads_back x is first e) =
+    ranged_then (language_of log) text x (Refused found place) is (stops (place, first, ap (λ y. Refused y place) e))
+logged_refused log text found place (logged.too_long x is ends long e) =
+    ranged_then (language_of log) text x (Refused found place) is (passes ends (stops (place, long, ap (λ y. Refused y place) e)))
+logged_refused log text found place (logged.undisciplined flat x is broken e at) =
+    logged_then log text flat (Refused found place) is (stops (x, broken, ap₂ Refused e at))
+logged_refused log text found place (logged.crowded flat wanted is locks first e) =
+    logged_then log text flat (Refused found place) is (passes locks (stops (place, wanted, first, ap (λ y. Refused y place) e)))
+logged_refused log text found place (logged.too_deep flat is locks room deep e) =
+    logged_then log text flat (Refused found place) is (passes locks (passes room (stops (place, deep, ap (λ y. Refused y place) e))))
+
 module _ (one_tree : reader.OneTree) (one_refusal : reader.OneRefusal) (not_both : reader.NotBoth) (one_first : OneFirst) where
-  one_by_types : (xs : List Item) → IsOne (ByTypes xs)
-  one_by_types xs = one_check (TypeStop xs) (type_faults Plain xs ≡ []) (ByIndexes (typed_program xs))
+  one_by_types : (lang : Language) (xs : List Item) → IsOne (ByTypes lang xs)
+  one_by_types lang xs = one_check (TypeStop xs) (type_faults Plain xs ≡ []) (ByIndexes lang (typed_program xs))
       (λ v w s t. s.2 ∙ ap (λ (x : Fault). Refused x.rule x.place) (one_first Plain xs s.0 t.0 s.1 t.1) ∙ sym t.2)
       (λ v s e. no_first (type_faults Plain xs) s.0 e s.1)
-      (one_by_indexes (typed_program xs))
+      (one_by_indexes lang (typed_program xs))
 
-  one_by_reading : (text : List ℕ) → IsOne (ByReading text)
-  one_by_reading text v w (no_tree (found, place, is, e)) (no_tree (other, elsewhere, also, h)) =
+  one_by_reading : (lang : Language) (text : List ℕ) → IsOne (ByReading lang text)
+  one_by_reading lang text v w (no_tree (found, place, is, e)) (no_tree (other, elsewhere, also, h)) =
       let both = one_refusal Plain text found other place elsewhere is also in e ∙ ap₂ Refused both.0 both.1 ∙ sym h
-  one_by_reading text v w (no_tree (found, place, is, e)) (tree xs read by) = absurd (not_both Plain text xs found place read is)
-  one_by_reading text v w (tree xs read by) (no_tree (found, place, is, e)) = absurd (not_both Plain text xs found place read is)
-  one_by_reading text v w (tree xs read by) (tree ys also as_well) =
-      one_by_types ys v w (subst (λ zs. ByTypes zs v) (one_tree Plain text xs ys read also) by) as_well
+  one_by_reading lang text v w (no_tree (found, place, is, e)) (tree xs read by) = absurd (not_both Plain text xs found place read is)
+  one_by_reading lang text v w (tree xs read by) (no_tree (found, place, is, e)) = absurd (not_both Plain text xs found place read is)
+  one_by_reading lang text v w (tree xs read by) (tree ys also as_well) =
+      one_by_types lang ys v w (subst (λ zs. ByTypes lang zs v) (one_tree Plain text xs ys read also) by) as_well
 
   pub one_flat : laws.OneFlat
   one_flat text x y is also =
-      let both : Accepted x ≡ Accepted y = one_by_reading text (Accepted x) (Accepted y) (accepted_by text x is) (accepted_by text y also) in cc both
+      let both : Accepted x ≡ Accepted y = one_by_reading Plain text (Accepted x) (Accepted y) (accepted_by text x is) (accepted_by text y also) in cc both
 
   pub one_fault : laws.OneFault
   one_fault text found other place elsewhere is also =
       let both : Refused found place ≡ Refused other elsewhere =
-      one_by_reading text (Refused found place) (Refused other elsewhere) (refused_by text found place is) (refused_by text other elsewhere also) in
+      one_by_reading Plain text (Refused found place) (Refused other elsewhere) (refused_by text found place is) (refused_by text other elsewhere also) in
       (cc both, cc both)
 
   pub never_both : laws.NotBoth
   never_both text x found place is also =
       let both : Accepted x ≡ Refused found place =
-      one_by_reading text (Accepted x) (Refused found place) (accepted_by text x is) (refused_by text found place also) in cc both
+      one_by_reading Plain text (Accepted x) (Refused found place) (accepted_by text x is) (refused_by text found place also) in cc both
+
+  pub never_both_logged : laws.NotBothAs
+  never_both_logged log text x found place is also =
+      let both : Accepted x ≡ Refused found place =
+      one_by_reading (language_of log) text (Accepted x) (Refused found place) (logged_accepted log text x is) (logged_refused log text found place also) in
+      cc both

@@ -12,5 +12,6 @@ mod Masks
 mod States
 mod OneFault
 mod LoggedWords
+mod IdleLogs
 mod LeftLogs
 mod LeftFiles

@@ -1,3 +1,4 @@
+pub mod Public
 mod SpreadWords
 mod ResumedLocals
 mod AcceptedShapes

@@ -47,7 +47,7 @@ module _ (variables logs : List ℕ) (few : length variables ≤ 8192) where
   abbrev zeros : List ℕ
   zeros = replicate (8192 - length variables) 0
 
-  words_are : words ≡ variables ++ zeros ++ logs
+  pub words_are : words ≡ variables ++ zeros ++ logs
   unfolding spread_words
   words_are = ap₂ (λ (us vs : List ℕ). us ++ zeros ++ vs) (take-append_seam variables logs) (drop-append_seam variables logs)
 

@@ -1,0 +1,380 @@
+-- What `recover` says of an image that `upgrade` wrote.
+use Rattle.std.proofs.Common.{◌≡◌, Bool, ℕ, ◌+◌, ◌-◌, ◌*◌, ◌≤◌, List, [], ◌∷◌, ◌++◌, length, map, take, Some, None, true, false}
+use Rattle.std.proofs.Common.{refl, ap, ap₂, sym, subst, ◌∙◌, arith, Ok, Err, ℤ}
+use Rattle.std.specs.Prelude.{if◌then◌else◌, sum_by}
+use Rattle.std.proofs.lemmas.List.{length-map, length-replicate, length-take-le}
+use Rattle.std.proofs.lemmas.Option.{none-some}
+use Rattle.ido_base.specs.declared.event.Event.{Event}
+use Rattle.ido_base.specs.declared.event.Event.TheVariants.{Step, Evict, Crash, Start}
+use Rattle.ido_base.specs.declared.limits.TheConstants.{MOST_STEPS, VARIABLE_WORDS}
+use Rattle.ido_base.specs.declared.log.Log.{Log}
+use Rattle.ido_base.specs.declared.log.Log.TheVariants.{V1, V2}
+use Rattle.ido_base.specs.declared.place.Place.{Place}
+use Rattle.ido_base.specs.Layout.{aligned_up, end_from, log_words, spread_words, word_count}
+use Rattle.ido_base.specs.Words.{durable_value}
+use Rattle.c_tree.specs.declared.rule.Rule.{Rule}
+use Rattle.c_tree.specs.Flats.{Flat, flat_of}
+use Rattle.c_tree.specs.Source.{start}
+use Rattle.c_tree.specs.WellFormed.{shape_of}
+use Rattle.source_machine.specs.Lives.{ended_lives, runs_lives}
+use Rattle.rv64_isa.specs.Frames.{IsWellFormedWorld}
+use Rattle.rv64_isa.specs.Machine.{World, after_crash_of, is_settled, numbers_from}
+use Rattle.rv64_isa.specs.Programs.{slot_of}
+use Rattle.rv64_isa.specs.Schedule.{all_lives, schedules}
+use Rattle.rv64_isa.proofs.Public.{crashes_simulate}
+use Rattle.flow_graph.specs.Lowering.{lowered}
+use Rattle.file_fields.specs.Fields.{Fault, ◌>>=◌}
+use Rattle.file_fields.proofs.Public.{bind_ok, ok_is}
+use Rattle.lock_discipline.specs.Discipline.{WalkIsDiscipline}
+use Rattle.variable_words.specs.Variables.{durable_variables}
+use Rattle.hart_driver.specs.Legs.{IsLeg, IsTurn, has_ended}
+use Rattle.hart_driver.specs.declared.stop.Stop.TheVariants.{Ended, Turns}
+use Rattle.compiler_correctness.specs.Images as files
+use Rattle.compiler_correctness.specs.Images.{IsResumedAsKept, first_from, image_in, steps_from, variable_words, world_from}
+use Rattle.compiler_correctness.specs.Translations.{Translation}
+use Rattle.run_scripts.specs.Reports as r
+use Rattle.ido_compile.specs.declared.compiler.Compiled.{Compiled}
+use Rattle.ido_compile.specs.CompileAnswers.{IsCompiledAs, translation_in}
+use Rattle.ido_compile.specs.FormLaws.{FlattenedIsFormed, FlattenedIsPlain}
+use Rattle.ido_compile.specs.LoggedTexts.{IsRefusedAs}
+use Rattle.ido_compile.specs.Verdicts.{NotBothAs, OneFlat}
+use Rattle.ido_compile.proofs.Public.{as_accepted}
+use Rattle.crash_images.specs.Contents.{Contents, State, log_of, word_bytes}
+use Rattle.crash_images.specs.ImageDecoder.{IsReadAs, image_at, source_at, state_at, version_in}
+use Rattle.crash_images.specs.declared.version.ImageVersion.{ImageVersion}
+use Rattle.crash_images.specs.declared.version.ImageVersion.TheVariants.{Second, Third}
+use Rattle.crash_images.proofs.Public.{source_version}
+use Rattle.image_checks.specs.declared.error.ImageError.{ImageError}
+use Rattle.image_checks.specs.declared.error.ImageError.TheVariants as e
+use Rattle.image_checks.specs.Checks.{IsStateFault}
+use Rattle.image_checks.specs.Schedules.{schedules_of}
+use Rattle.image_checks.proofs.Public.{idle_state_sound, none_if_sound, told_again}
+use Rattle.ido_cli.specs.declared.compiled_image.Image.{Image}
+use Rattle.ido_cli.specs.Answers.{RecoverAnswer, file_in, no_image, of_image}
+use Rattle.ido_cli.specs.CompiledImages.{BeginsCompiled, HasState, IsImage, IsImageAnswer, no_source, no_state, no_version, refused, size_of}
+use Rattle.ido_cli.specs.CompiledImages.{threads_of, unsound, whole}
+use Rattle.ido_cli.specs.CompiledImages as answers
+use Rattle.ido_cli.specs.Laws.{UpgradesAreRecovered}
+use Rattle.ido_cli.specs.Recoveries.{IsRecovery, recovering}
+use Rattle.ido_cli.specs.Refusals.{image_line}
+use Rattle.ido_cli.specs.Reports.{machine_state, unsettled_harts}
+use Rattle.ido_cli.specs.Runs.{IsReport, named}
+use Rattle.ido_cli.specs.ThreadedRuns.{leg_after}
+use Rattle.ido_cli.specs.Upgrades.{IsUpgradeSaid, idle_logs, renewed, renewed_contents, too_long, unfinished}
+use Rattle.ido_cli.proofs.CompiledLimits.{ready}
+use Rattle.ido_cli.proofs.IdleWorlds.{all_settled, own_stays}
+use Rattle.ido_cli.proofs.PlayedRuns.{has_room, sound_along}
+use Rattle.ido_cli.proofs.RecoveredRuns.{spread_size, words_in}
+use Rattle.ido_cli.proofs.RunImageAnswers.{initial_size, not_both_ways, thread_number}
+use Rattle.ido_cli.proofs.SameVariables.{same_variables}
+use Rattle.ido_cli.proofs.SettledReports.{none_by_settled, none_by_status, settled_by_none}
+
+-- ---- A leg without turns
+
+stopped_now : (ended : Bool) → (if ended then Some Ended else Some Turns) ≡ None → ⊥
+stopped_now true none = cc none
+stopped_now false none = cc none
+
+module _ (c : Translation) (file : files.Image) where
+  no_first : (event : Event) → IsTurn (leg_after (recovering c file) 0 None [] None) [] event → ⊥
+  no_first (Step hart) turn = stopped_now (has_ended (leg_after (recovering c file) 0 None [] None) hart []) turn.1
+  no_first (Evict line mask) turn =
+      stopped_now (has_ended (leg_after (recovering c file) 0 None [] None) (length (recovering c file).runs.program) []) turn.2
+  no_first Crash turn = turn
+  no_first Start turn = turn
+
+  no_event : (journal : List Event) → IsLeg (leg_after (recovering c file) 0 None [] None) journal → journal ≡ []
+  no_event [] leg = refl
+  no_event (event ∷ events) leg = absurd (no_first event (leg.each [] events event refl))
+
+-- ---- Status 0
+
+settled_out : (source : List ℕ) (c : Translation) (w : World) (kept : List (List ℕ)) (output : List ℕ) → IsUpgradeSaid source c w kept 0 output →
+    (is_settled w ≡ true) × (sum_by length kept ≤ MOST_STEPS) × IsReadAs Third (renewed_contents source c w kept) output
+unfolding machine_state
+settled_out source c w kept output (unfinished goes_on told) =
+    let none : unsettled_harts w ≡ [] = none_by_status (unsettled_harts w) 0 told.status_is refl in
+    let both : true ≡ false = sym (settled_by_none w none) ∙ goes_on in cc both
+settled_out source c w kept output (too_long settled many six told) = absurd (omega (arith, six))
+settled_out source c w kept output (renewed settled fits done told read) = (settled, fits, read)
+
+-- ---- An image of a settled world, read again
+
+module _ (walk : WalkIsDiscipline) (formed : FlattenedIsFormed) (plain : FlattenedIsPlain) (one_flat : OneFlat) (never_both : NotBothAs) (output source : List ℕ) (made : Compiled)
+    (version : ImageVersion) (compiled : IsCompiledAs (log_of version) source made) (again : Compiled) (accepted : IsCompiledAs V2 source again) (w : World)
+    (long : variable_words (translation_in made) ≤ length w.words) (kept : List (List ℕ)) (fits : sum_by length kept ≤ MOST_STEPS)
+    (runs : runs_lives (flat_of made.flat) (start (flat_of made.flat)) kept ≡ true) (settled : is_settled w ≡ true)
+    (spelled : IsReadAs Third (renewed_contents source (translation_in made) w kept) output) where
+  abbrev c : Translation
+  c = translation_in made
+
+  abbrev flat : Flat
+  flat = flat_of made.flat
+
+  abbrev n : ℕ
+  n = variable_words c
+
+  abbrev variables : List ℕ
+  variables = take n (map durable_value w.words)
+
+  abbrev threads : ℕ
+  threads = length c.runs.program
+
+  abbrev contents : Contents
+  contents = renewed_contents source c w kept
+
+  abbrev state : State
+  state = contents.state
+
+  variables_long : length variables ≡ n
+  variables_long = length-take-le n (map durable_value w.words) (omega (arith, long, length-map w.words durable_value))
+
+  few : length variables ≤ 8192
+  few = omega (arith, variables_long, compiled.translated.limits.bytes)
+
+  made_size : word_bytes * length variables ≡ length made.translated.object.initial.items
+  made_size = omega (arith, variables_long, (ready (log_of version) source made compiled).limits.whole_words)
+
+  -- ---- The bytes
+
+  record Begins : Type 0 where
+    rest : List ℕ
+    begins : source_at Third output ≡ Ok (source, rest)
+    after : state_at Third (length output) (word_bytes * length variables) threads rest ≡ Ok state
+
+  begun : Begins
+  unfolding image_at
+  begun =
+      let all : image_at Third (word_bytes * length variables) threads output ≡ Ok contents =
+      spelled threads (length-replicate {A = ℕ} (log_words V2 * threads) 0) in
+      let a = bind_ok (source_at Third output)
+      (λ x. state_at Third (length output) (word_bytes * length variables) threads x.1 >>= λ s. Ok (record { source = x.0; state = s })) contents all in
+      let b = bind_ok (state_at Third (length output) (word_bytes * length variables) threads a.0.1) (λ s. Ok (record { source = a.0.0; state = s })) contents
+      a.2 in
+      let read : Contents = record { source = a.0.0; state = b.0 } in
+      let same : read ≡ contents = ok_is read contents b.2 in
+      record {
+        rest = a.0.1;
+        begins = a.1 ∙ ap (λ (x : Contents). Ok (x.source, a.0.1)) same;
+        after = b.1 ∙ ap (λ (x : Contents). Ok x.state) same;
+      }
+
+  known : version_in Third output ≡ Ok Third
+  known = source_version Third Third output source begun.rest (omega arith) begun.begins
+
+  -- what is so of images of the newest version is so of this one
+  at_third : (P : ImageVersion → Type 0) (v : ImageVersion) → version_in Third output ≡ Ok v → P Third → P v
+  at_third P v is third = subst P (ok_is Third v (sym known ∙ is)) third
+
+  -- ---- The source, compiled
+
+  module _ (d : Compiled) (b : BeginsCompiled Third output Third d) where
+    same_bytes : ◌≡◌ {A = List ℕ × List ℕ} (b.source, b.rest) (source, begun.rest)
+    same_bytes = ok_is (b.source, b.rest) (source, begun.rest) (sym b.begins ∙ begun.begins)
+
+    here : IsCompiledAs V2 source d
+    here = subst (λ (text : List ℕ). IsCompiledAs V2 text d) (ap (λ (x : List ℕ × List ℕ). x.0) same_bytes) b.compiled
+
+    same_rest : b.rest ≡ begun.rest
+    same_rest = ap (λ (x : List ℕ × List ℕ). x.1) same_bytes
+
+    same_flat : flat_of d.flat ≡ flat
+    same_flat =
+        one_flat source (flat_of d.flat) flat (as_accepted walk formed plain V2 source (flat_of d.flat) here.accepted)
+        (as_accepted walk formed plain (log_of version) source flat compiled.accepted)
+
+    same_size : size_of d ≡ word_bytes * length variables
+    same_size =
+        let x = d.translated in
+        let y = made.translated in
+        initial_size (flat_of d.flat) x.object x.marks x.cuts here.translated
+        ∙ ap (λ (z : Flat). aligned_up (end_from 0 (map shape_of z.variables)) 8) same_flat
+        ∙ sym (initial_size flat y.object y.marks y.cuts compiled.translated) ∙ sym made_size
+
+    same_threads : threads_of d ≡ threads
+    same_threads =
+        let x = d.translated in
+        let y = made.translated in
+        thread_number (flat_of d.flat) x.object x.marks x.cuts here.translated ∙ ap (λ (z : Flat). length (lowered z).threads) same_flat
+        ∙ sym (thread_number flat y.object y.marks y.cuts compiled.translated) ∙ sym (length-map y.object.code.items (λ code. map slot_of code.items))
+
+    found : state_at Third (length output) (size_of d) (threads_of d) b.rest ≡ Ok state
+    found =
+        ap (λ (k : ℕ). state_at Third (length output) k (threads_of d) b.rest) same_size
+        ∙ ap (λ (k : ℕ). state_at Third (length output) (word_bytes * length variables) k b.rest) same_threads
+        ∙ ap (state_at Third (length output) (word_bytes * length variables) threads) same_rest ∙ begun.after
+
+  state_is : (d : Compiled) (x : State) (has : HasState Third output Third d x) → x ≡ state
+  state_is d x has = ok_is x state (sym has.state ∙ found d has.source)
+
+  -- ---- Nothing is at fault
+
+  sound : (d : Compiled) → flat_of d.flat ≡ flat → (error : ImageError) → ¬ (IsStateFault V2 (flat_of d.flat) d.translated.resumes.items state error)
+  sound d same error =
+      none_if_sound V2 (flat_of d.flat) d.translated.resumes.items state error
+      (idle_state_sound V2 (log_words V2 * threads) (flat_of d.flat) d.translated.resumes.items variables kept fits
+      (subst (λ (x : Flat). runs_lives x (start x) kept ≡ true) (sym same) runs))
+
+  not_here : (v : ImageVersion) (fault : Fault) → version_in Third output ≡ Ok v → source_at v output ≡ Err fault → ⊥
+  not_here v fault is =
+      at_third (λ (x : ImageVersion). source_at x output ≡ Err fault → ⊥) v is
+      (λ err. not_both_ways (source_at Third output) (source, begun.rest) fault begun.begins err)
+
+  not_refused : (v : ImageVersion) (other rest : List ℕ) (rule : Rule) (place : Place) → version_in Third output ≡ Ok v →
+      source_at v output ≡ Ok (other, rest) → IsRefusedAs (log_of v) other rule place → ⊥
+  not_refused v other rest rule place is =
+      at_third (λ (x : ImageVersion). source_at x output ≡ Ok (other, rest) → IsRefusedAs (log_of x) other rule place → ⊥) v is
+      (λ begins broken.
+      let same : ◌≡◌ {A = List ℕ × List ℕ} (other, rest) (source, begun.rest) = ok_is (other, rest) (source, begun.rest) (sym begins ∙ begun.begins) in
+      never_both V2 source (flat_of again.flat) rule place accepted.accepted
+      (subst (λ (text : List ℕ). IsRefusedAs V2 text rule place) (ap (λ (x : List ℕ × List ℕ). x.0) same) broken))
+
+  not_after : (v : ImageVersion) (d : Compiled) (begins : BeginsCompiled Third output v d) (fault : Fault) →
+      state_at v (length output) (size_of d) (threads_of d) begins.rest ≡ Err fault → ⊥
+  not_after v d begins fault =
+      at_third (λ (x : ImageVersion). (b : BeginsCompiled Third output x d) → state_at x (length output) (size_of d) (threads_of d) b.rest ≡ Err fault → ⊥)
+      v begins.known
+      (λ b err. not_both_ways (state_at Third (length output) (size_of d) (threads_of d) b.rest) state fault (found d b) err) begins
+
+  not_unsound : (v : ImageVersion) (d : Compiled) (x : State) (error : ImageError) → HasState Third output v d x →
+      IsStateFault (log_of v) (flat_of d.flat) d.translated.resumes.items x error → ⊥
+  not_unsound v d x error has =
+      at_third (λ (y : ImageVersion). HasState Third output y d x → IsStateFault (log_of y) (flat_of d.flat) d.translated.resumes.items x error → ⊥)
+      v has.source.known
+      (λ at fault. sound d (same_flat d at.source) error
+      (subst (λ (z : State). IsStateFault V2 (flat_of d.flat) d.translated.resumes.items z error) (state_is d x at) fault)) has
+
+  -- whatever is told of the bytes as a fault, is want of memory
+  none_told : (error : ImageError) → IsImageAnswer Third output (Err error) → error ≡ e.Memory
+  none_told error (no_version fault err) = absurd (not_both_ways (version_in Third output) Third fault known err)
+  none_told error (no_source v fault is err) = absurd (not_here v fault is err)
+  none_told error (refused v other rest rule place is begins broken) = absurd (not_refused v other rest rule place is begins broken)
+  none_told error (no_state v d fault begins err) = absurd (not_after v d begins fault err)
+  none_told error (unsound v d x fault has wrong) = absurd (not_unsound v d x fault has wrong)
+  none_told error answers.no_memory = refl
+
+  -- ---- The run from it, which makes no event
+
+  module _ (image : Image) (is : IsImage Third output image) where
+    abbrev d : Compiled
+    d = image.compiled
+
+    abbrev it : Translation
+    it = translation_in d
+
+    has : HasState Third output Third d is.state
+    has = subst (λ (v : ImageVersion). HasState Third output v d is.state) (sym (ok_is Third is.version (sym known ∙ is.is.source.known))) is.is
+
+    same_form : flat_of d.flat ≡ flat
+    same_form = same_flat d has.source
+
+    words_same : image.words.items ≡ variables ++ idle_logs threads
+    words_same = is.words ∙ ap (λ (x : State). x.variables ++ x.logs) (state_is d is.state has)
+
+    lives_same : all_lives (file_in image).kept ≡ kept
+    lives_same = sym is.lives ∙ ap (λ (x : State). schedules_of x.lives) (state_is d is.state has) ∙ told_again kept
+
+    count_same : variable_words it ≡ length variables
+    count_same = omega (arith, same_size d has.source)
+
+    spread_same : (image_in it (file_in image)).words ≡ spread_words (length variables) (variables ++ idle_logs threads)
+    spread_same = ap₂ spread_words count_same words_same
+
+    -- the world that it begins with
+    abbrev first : World
+    first = after_crash_of it.runs.log it.runs.program it.runs.mutexes (spread_words (length variables) (variables ++ idle_logs threads))
+
+    first_is : first_from it (image_in it (file_in image)) ≡ first
+    first_is = ap (after_crash_of it.runs.log it.runs.program it.runs.mutexes) spread_same
+
+    same_unsettled : unsettled_harts first ≡ unsettled_harts w
+    same_unsettled =
+        all_settled variables (log_words V2 * threads) few it.runs.log it.runs.program it.runs.mutexes ∙ sym (none_by_settled w settled)
+
+    ends_within : end_from 0 (map shape_of flat.variables) ≤ 8 * n
+    ends_within =
+        let y = made.translated in
+        omega (arith, initial_size flat y.object y.marks y.cuts compiled.translated, made_size, variables_long)
+
+    same_values : durable_variables first.words flat.variables ≡ durable_variables w.words flat.variables
+    same_values =
+        let y = made.translated in
+        same_variables first.words w.words n
+        (own_stays variables (log_words V2 * threads) few it.runs.log it.runs.program it.runs.mutexes w.words n refl variables_long)
+        flat.variables (has_room flat y.object y.marks y.cuts compiled.translated) ends_within
+
+    same_reports : machine_state flat first kept ≡ machine_state flat w kept
+    unfolding machine_state
+    same_reports =
+        ap₂ (λ (us : List ℕ) (numbers : List (List ℤ)). let s : r.ReportedState =
+        record {
+          unsettled = us;
+          variables = named flat.variables numbers;
+          ended = map (ended_lives flat (start flat) kept) (numbers_from 0 (length flat.threads));
+          schedules = kept;
+        } in s)
+        same_unsettled same_values
+
+    report_same : (status : ℕ) (report : List ℕ) → IsRecovery it (file_in image) 0 status report → IsReport (machine_state flat w kept) status report
+    report_same status report recovery =
+        let im = image_in it (file_in image) in
+        let at_once = subst (λ (es : List Event). IsReport (machine_state it.flat (world_from it im es) (schedules (steps_from it im es))) status report)
+        (no_event it (file_in image) recovery.journal recovery.leg) recovery.reported in
+        let of_world = subst (λ (x : World). IsReport (machine_state it.flat x (all_lives (file_in image).kept)) status report) first_is at_once in
+        let of_lives = subst (λ (ls : List (List ℕ)). IsReport (machine_state it.flat first ls) status report) lives_same of_world in
+        let of_form = subst (λ (x : Flat). IsReport (machine_state x first kept) status report) same_form of_lives in
+        subst (λ (s : r.ReportedState). IsReport s status report) same_reports of_form
+
+  not_told : (status : ℕ) (report : List ℕ) (error : ImageError) → IsImageAnswer Third output (Err error) → image_line error ≡ Some report → ⊥
+  not_told status report error told line =
+      let none : image_line e.Memory ≡ Some report = subst (λ (x : ImageError). image_line x ≡ Some report) (none_told error told) line in
+      none-some report none
+
+  recovered_as : (status : ℕ) (report : List ℕ) → RecoverAnswer 0 output status report → IsReport (machine_state flat w kept) status report
+  recovered_as status report (no_image error told six line) = absurd (not_told status report error told line)
+  recovered_as status report (of_image image (whole read is) on recovery) = report_same image is status report recovery
+
+-- ---- A world that a run from an image comes to
+
+many_words : (log : Log) (threads : ℕ) → 8192 ≤ word_count log threads
+many_words V1 threads = omega arith
+many_words V2 threads = omega arith
+
+module _ (input : List ℕ) (image : Image) (is : IsImage Second input image) (journal : List Event) where
+  abbrev came : Translation
+  came = translation_in image.compiled
+
+  abbrev from : files.Image
+  from = image_in came (file_in image)
+
+  came_few : variable_words came ≤ VARIABLE_WORDS
+  came_few = omega (arith, is.is.source.compiled.translated.limits.bytes)
+
+  came_sound : IsWellFormedWorld (world_from came from journal)
+  came_sound =
+      let x = image.compiled.translated.object in
+      let count : length came.runs.program ≡ length x.code.items = length-map x.code.items (λ code. map slot_of code.items) in
+      let size = words_in Second input image (whole image is) ∙ ap (λ (k : ℕ). variable_words came + log_words x.log * k) (sym count) in
+      let first = crashes_simulate came.runs.log came.runs.program came.runs.mutexes from.words
+      (spread_size came.runs.log (variable_words came) (length came.runs.program) image.words.items came_few size) in
+      (sound_along came.runs.program (first_from came from) journal (sym first.1) first.0).0
+
+  came_long : variable_words came ≤ length (world_from came from journal).words
+  came_long =
+      let w = world_from came from journal in
+      let many : 8192 ≤ length w.words = subst (λ (k : ℕ). 8192 ≤ k) (sym came_sound.size) (many_words w.log (length w.harts)) in
+      omega (arith, came_few, many)
+
+pub upgrades_are_recovered : WalkIsDiscipline → FlattenedIsFormed → FlattenedIsPlain → OneFlat → NotBothAs → UpgradesAreRecovered
+upgrades_are_recovered walk formed plain one_flat never_both input output image source before turns status report older same u told =
+    let made = image.compiled in
+    let c = translation_in made in
+    let im = image_in c (file_in image) in
+    let w = world_from c im u.journal in
+    let kept = schedules (steps_from c im u.journal) in
+    let out = settled_out source c w kept output u.said in
+    let v = older.is.version in
+    let compiled = subst (λ (text : List ℕ). IsCompiledAs (log_of v) text made) older.source_is older.is.is.source.compiled in
+    let resumed = subst (λ (file : files.Image). IsResumedAsKept c (image_in c file) u.journal) (sym same) (compiled.compilation.files before u.journal) in
+    recovered_as walk formed plain one_flat never_both output source made v compiled older.again older.accepted w
+    (came_long input image older.is u.journal) kept out.1 resumed.runs out.0 out.2 status report told
