@@ -14,9 +14,9 @@ from ido_tools.fault import BadInput
 Told = collections.namedtuple("Told", "number kind place is_cut")
 Word = collections.namedtuple("Word", "address word name operands")
 
-# A boundary: its words from `start` to `end`, the mutexes and registers that it keeps, and where it is resumed (None where it
+# A boundary: its words from `start` to `end`, the numbers of the mutexes and registers that it keeps, and where it is resumed (None where it
 # ends a section).
-Boundary = collections.namedtuple("Boundary", "start end mask live resume")
+Boundary = collections.namedtuple("Boundary", "start end locks live resume")
 
 # The words from `start` to `end` of the nodes from `first` to `last`, numbered within their thread.
 Piece = collections.namedtuple("Piece", "first last start end boundary")
@@ -32,7 +32,9 @@ PENDING = frozenset(("x28", "x29"))
 LOCALS = frozenset(f"x{it}" for it in [*range(8, 28)] if it not in (10, 17))
 
 # The first words of boundaries and calls.
-FLIP = ("xori", ["x3", "x3", "256"])
+FLIP = ("xori", ["x3", "x3", "1024"])
+# Where the first lock of a bank's list stands in the log's first bank.
+FIRST_LISTED = 320
 CALL_NUMBERS = {"lock": "1", "unlock": "2", "end": "3"}
 
 # No more ways to give words to nodes than this are told apart.
@@ -155,16 +157,22 @@ class ThreadCode:
         self.need(at + 1, "sd", ["x0", "0(x31)"])
         self.need(at + 2, "cbo.clean", ["(x31)"])
         self.need(at + 3, "fence")
-        return Boundary(start, at + 4, 0, [], None)
+        return Boundary(start, at + 4, [], [], None)
 
     def keeping(self, start):
         """A boundary that keeps registers."""
         at = self.past(start + 1, "x31")
         self.need(at, "add", ["x30", "x31", "x3"])
         slot = self.past(at + 1, "x7")
-        mask = constant(self.words[at + 1 : slot], "x7")
+        count = constant(self.words[at + 1 : slot], "x7")
         self.need(slot, "sd", ["x7", "64(x30)"])
         at = slot + 1
+        locks = []
+        for it in range(count):
+            past = self.past(at, "x5")
+            locks.append(constant(self.words[at:past], "x5"))
+            self.need(past, "sd", ["x5", f"{FIRST_LISTED + 8 * it}(x30)"])
+            at = past + 1
         live = []
         while self.is_at(at, "sd") and memory_operand(self.words[at])[1] == "x30":
             live.append(int(self.words[at].operands[0][1:]))
@@ -177,7 +185,7 @@ class ThreadCode:
         resume = (upper.address + high + int(lower.operands[2])) % (1 << 32)
         self.need(at + 5, "sd", ["x30", "0(x31)"])
         self.need(at + 7, "fence")
-        return Boundary(start, at + 8, mask, live, resume)
+        return Boundary(start, at + 8, locks, live, resume)
 
     def give_all(self):
         """Gives each word to a node."""

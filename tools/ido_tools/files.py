@@ -15,6 +15,7 @@ LOG_BYTES = {1: 1024, 2: 2048, 3: 2048}
 # Where the banks stand in a log of so many bytes. The first word of a bank is a mask of locks in the first kind, and in the other how many there are in a list.
 BANKS = {1024: (64, 320), 2048: (64, 1088)}
 LIST_SLOT, MOST_LISTED = 32, 16
+BANK_SLOTS = LIST_SLOT + MOST_LISTED
 SLOT_BYTES = 8
 
 # The registers of the store that a boundary before it keeps.
@@ -175,8 +176,9 @@ def variable_lines(source):
 
 def bank_lines(thread):
     """The lines of memory that the banks of a thread's log stand in."""
-    last = point_line(thread) + (BANKS[LOG_BYTES[1]][1] + 32 * SLOT_BYTES) // LINE_BYTES
-    return list(range(point_line(thread) + 1, last))
+    lines = BANK_SLOTS * SLOT_BYTES // LINE_BYTES
+    starts = [point_line(thread) + start // LINE_BYTES for start in BANKS[LOG_BYTES[3]]]
+    return [start + it for start in starts for it in range(lines)]
 
 
 def lines_in_use(source):

@@ -25,6 +25,7 @@ VARIABLES_FROM = 0x1000_0000
 # What a node costs, and each number, name, element, operator or cast of its expressions.
 NODE_PRICE = 96
 EXPRESSION_PRICE = 16
+HELD_PRICE = 8
 
 Token = collections.namedtuple("Token", "kind text start end")
 Kind = collections.namedtuple("Kind", "bytes signed")
@@ -44,8 +45,8 @@ Do = collections.namedtuple("Do", "place end parts body")
 Locking = collections.namedtuple("Locking", "kind place end mutex")
 Arm = collections.namedtuple("Arm", "end parts body")
 
-# A node: its kind, its place, the end of its text, and the parts of its expressions.
-Node = collections.namedtuple("Node", "kind place end parts")
+# A node: its kind, its place, the end of its text, the parts of its expressions, and how many mutexes are held there.
+Node = collections.namedtuple("Node", "kind place end parts held")
 
 
 def tokens_of(text):
@@ -71,7 +72,7 @@ def literal(text):
 
 def price_of(node):
     """What a node adds to its thread's price."""
-    return NODE_PRICE + EXPRESSION_PRICE * node.parts
+    return NODE_PRICE + EXPRESSION_PRICE * node.parts + HELD_PRICE * node.held
 
 
 class Reader:
@@ -435,8 +436,9 @@ class Source:
     def nodes(self, thread):
         """The nodes of a thread, in their order."""
         found = []
+        self.held = 0
         self.add_statements(thread.body, found)
-        found.append(Node("end", thread.closing, thread.closing + 1, 0))
+        found.append(Node("end", thread.closing, thread.closing + 1, 0, self.held))
         return found
 
     def add_statements(self, statements, found):
@@ -453,26 +455,31 @@ class Source:
         elif isinstance(statement, If):
             self.add_choice(statement, found)
         elif isinstance(statement, While):
-            found.append(Node("test", statement.place, statement.end, statement.parts))
+            found.append(Node("test", statement.place, statement.end, statement.parts, self.held))
             self.add_statements(statement.body, found)
         elif isinstance(statement, Do):
             self.add_statements(statement.body, found)
-            found.append(Node("test", statement.place, statement.end, statement.parts))
+            found.append(Node("test", statement.place, statement.end, statement.parts, self.held))
         else:
-            found.append(Node(statement.kind, statement.place, statement.end, 0))
+            self.held += statement.kind == "lock"
+            found.append(Node(statement.kind, statement.place, statement.end, 0, self.held))
+            self.held -= statement.kind == "unlock"
 
     def add_choice(self, statement, found):
         """Adds the nodes of an `if`."""
+        before = self.held
         for arm in statement.arms:
-            found.append(Node("test", statement.place, arm.end, arm.parts))
+            self.held = before
+            found.append(Node("test", statement.place, arm.end, arm.parts, before))
             self.add_statements(arm.body, found)
+        self.held = before
         self.add_statements(statement.otherwise, found)
 
     def add_assignment(self, place, end, target, parts, found):
         """Adds the nodes of an assignment."""
-        found.append(Node("eval", place, end, parts + (target.index_parts or 0)))
+        found.append(Node("eval", place, end, parts + (target.index_parts or 0), self.held))
         if not target.is_local:
-            found.append(Node("store", place, end, 0))
+            found.append(Node("store", place, end, 0, self.held))
 
     def add_call(self, call, found):
         """Adds the nodes that a call becomes."""
@@ -480,7 +487,7 @@ class Source:
             return
         function = self.functions[call.name]
         for parts in call.arguments:
-            found.append(Node("eval", call.place, call.end, parts))
+            found.append(Node("eval", call.place, call.end, parts, self.held))
         self.add_statements(function.body, found)
         if call.target is not None:
             self.add_assignment(call.place, call.end, call.target, function.result or 0, found)

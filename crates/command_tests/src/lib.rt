@@ -1,5 +1,5 @@
 //! Tests of the top call: reads and writes that fail in turn, an input at its limit, and runs on threads that wait for each other; and rows of
-//! the second log and of keyed locks, which no command takes yet: programs that are compiled for it, and their lives through a loss of power; and
+//! either log, and of keyed locks, which no command takes yet: programs that are compiled for it, and their lives through a loss of power; and
 //! texts with keys that the checks of flat forms refuse. They stand in a crate of their own, so that `ido_cli` is not proved twice.
 #![tactic(auto)]
 

@@ -21,7 +21,7 @@ use flat_compile::{Translated, translate};
 use ido_base::event::Event;
 use ido_base::limits::MOST_SOURCE_BYTES;
 use ido_base::log::Log;
-use ido_compile::{Compiled, compile};
+use ido_compile::{Compiled, compile, compile_as};
 use lock_discipline::have_few_names;
 use lock_discipline::laws::few_have_names;
 use run_tracker::life::Life;
@@ -116,7 +116,7 @@ fn with_masks(alloc: Global, text: &[u8]) -> Result<Translated, Fail>
     ensures limits { IfOk result (λ made. IsWithinLimits made.object) }
     ensures marks { IfOk result (λ made. length made.marks.threads.items ≡ length made.object.code.items) }
 {
-    let compiled = compile(alloc, text)?;
+    let compiled = compile_as(alloc, Log::V1, text)?;
     let Compiled { translated, .. } = compiled;
     Ok(translated)
 }
@@ -216,7 +216,7 @@ fn life_of(alloc: Global, log: Log, text: &[u8]) -> Result<Life, Fail>
 }
 
 /// What the life of a text is when power is lost, if it is, and what it comes to.
-fn seen(
+fn run(
     alloc: Global,
     log: Log,
     text: &[u8],
@@ -242,7 +242,8 @@ fn are_of_two_logs(first: &Translated, second: &Translated) -> bool {
 fn each_log_has_its_code(rt: HostRuntime) -> Result<(), Fail> {
     let first = with_masks(rt.alloc(), NESTED)?;
     let second = with_lists(rt.alloc(), NESTED)?;
-    assert!(rt; are_of_two_logs(&first, &second));
+    let compiled = compile(rt.alloc(), NESTED)?;
+    assert!(rt; are_of_two_logs(&first, &second) && compiled.translated.object == second.object);
     Ok(())
 }
 
@@ -316,7 +317,7 @@ const ROWS: [(Log, &[u8], Option<u64>, Option<Seen>, Seen); 6] = [
 #[test]
 fn lives(rt: HostRuntime) -> Result<(), Fail> {
     for (log, text, fences, before, after) in ROWS {
-        let found = seen(rt.alloc(), log, text, fences)?;
+        let found = run(rt.alloc(), log, text, fences)?;
         assert_eq!(rt; found, (before, after), "{log:?}, {fences:?}");
     }
     Ok(())
@@ -334,10 +335,10 @@ const CROSSED_GIVEN: Seen = Seen {
 /// lock's point to the last unlock's, the section is ended.
 #[test]
 fn two_keys_at_once(rt: HostRuntime) -> Result<(), Fail> {
-    let (_, whole) = seen(rt.alloc(), Log::V2, CROSSED, None)?;
+    let (_, whole) = run(rt.alloc(), Log::V2, CROSSED, None)?;
     assert_eq!(rt; whole, CROSSED_GIVEN);
     for fences in 2..8 {
-        let (_, after) = seen(rt.alloc(), Log::V2, CROSSED, Some(fences))?;
+        let (_, after) = run(rt.alloc(), Log::V2, CROSSED, Some(fences))?;
         assert_eq!(rt; after, CROSSED_GIVEN, "{fences}");
     }
     Ok(())

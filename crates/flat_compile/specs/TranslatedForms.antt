@@ -1,7 +1,7 @@
 -- What the machine runs for a flat form.
 use Rattle.std.specs.Prelude.{◌≡◌, List, length}
 use Rattle.ido_base.specs.declared.log.Log.{Log}
-use Rattle.ido_base.specs.declared.log.Log.TheVariants.{V1}
+use Rattle.ido_base.specs.declared.log.Log.TheVariants.{V2}
 use Rattle.c_tree.specs.Flats.{Flat}
 use Rattle.rv64_isa.specs.declared.object.Object.{Object}
 use Rattle.rv64_isa.specs.declared.object.Marks.{Marks}
@@ -51,7 +51,7 @@ pub record IsResumableAs (wanted : Log) (flat : Flat) (object : Object) (marks :
 -- ---- With the log for which commands compile
 
 abbrev pub command_log : Log
-command_log = V1
+command_log = V2
 
 abbrev pub IsTranslated : Flat → Object → Marks → Cuts → Type 0
 IsTranslated flat object marks cuts = IsTranslatedAs command_log flat object marks cuts

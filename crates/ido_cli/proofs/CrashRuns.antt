@@ -10,7 +10,7 @@ use Rattle.c_tree.specs.Flats as f
 use Rattle.c_tree.specs.Flats.{flat_of}
 use Rattle.rv64_isa.specs.declared.object.Object.{Object}
 use Rattle.rv64_isa.specs.declared.object.Marks.{Marks}
-use Rattle.flow_graph.specs.Refusals.{IsAccepted, IsRefusedBy}
+use Rattle.ido_compile.specs.LoggedTexts.{IsAcceptedAs, IsRefusedAs}
 use Rattle.flat_compile.specs.TranslatedForms.{command_log}
 use Rattle.ido_compile.specs.CompileAnswers.{IsCompileAnswer}
 use Rattle.ido_compile.specs.declared.error.CompileError.{CompileError}
@@ -135,12 +135,12 @@ module _ (source input : List ℕ) (is : source ≡ source_of input) where
   pub sweep_refused : (found : CompileError) → IsCompileAnswer source (Err found) → (status : ℕ) (output : List ℕ) → TellsRefusal found source status output →
       SweepAnswer input status output
   sweep_refused (error.Refused x) refused status output (one, told) =
-      unswept x.rule x.place (subst (λ (text : List ℕ). IsRefusedBy text x.rule x.place) is refused)
+      unswept x.rule x.place (subst (λ (text : List ℕ). IsRefusedAs command_log text x.rule x.place) is refused)
       (one, told ∙ ap (λ (text : List ℕ). line_at (code_of x.rule) text x.place.0) is)
   sweep_refused error.Memory refused status output none = absurd none
 
 module _ (input rest : List ℕ) (flat : f.Flat) (log : Log) (harts : ℕ) (is : rest ≡ rest_of input) (logs : log ≡ command_log)
-    (many : harts ≡ length flat.threads) (accepted : IsAccepted (source_of input) flat) where
+    (many : harts ≡ length flat.threads) (accepted : IsAcceptedAs command_log (source_of input) flat) where
   read_is : e.read command_log (length flat.threads) (rest_of input) ≡ e.read log harts rest
   read_is =
       ap (λ (l : Log). e.read l (length flat.threads) (rest_of input)) (sym logs)

@@ -9,7 +9,7 @@ use Rattle.ido_base.specs.declared.limits.TheConstants.{MOST_EVENTS}
 use Rattle.ido_base.specs.Places.{line_feed}
 use Rattle.c_tree.specs.Flats as f
 use Rattle.rv64_isa.specs.Programs.{slot_of}
-use Rattle.flow_graph.specs.Refusals.{IsAccepted}
+use Rattle.ido_compile.specs.LoggedTexts.{IsAcceptedAs}
 use Rattle.flat_compile.specs.TranslatedForms.{command_log}
 use Rattle.compiler_correctness.specs.Translations.{Translation}
 use Rattle.ido_compile.proofs.Public.{few_accepted}
@@ -58,22 +58,23 @@ threads_are flat c made =
     ∙ as_many_threads flat made.object made.marks made.cuts made.translated
 
 -- an input whose source is accepted, and whose script has these lines
-module _ (one_flat : OneFlat) (not_both : NotBoth) (input : List ℕ) (flat : f.Flat) (accepted : IsAccepted (source_of input) flat)
+module _ (one_flat : OneFlat) (not_both : NotBoth) (input : List ℕ) (flat : f.Flat) (accepted : IsAcceptedAs command_log (source_of input) flat)
     (lines : List scripts.Line) (read_is : scripts.read command_log (length flat.threads) (rest_of input) ≡ scripts.Lines lines) where
-  same_flat : (other : f.Flat) → IsAccepted (source_of input) other → other ≡ flat
-  same_flat other is = one_flat (source_of input) other flat is accepted
+  same_flat : (other : f.Flat) → IsAcceptedAs command_log (source_of input) other → other ≡ flat
+  same_flat other is = one_flat command_log command_log (source_of input) other flat is accepted
 
-  reading : (other : f.Flat) → IsAccepted (source_of input) other → scripts.read command_log (length other.threads) (rest_of input) ≡ scripts.Lines lines
+  reading : (other : f.Flat) → IsAcceptedAs command_log (source_of input) other →
+      scripts.read command_log (length other.threads) (rest_of input) ≡ scripts.Lines lines
   reading other is = ap (λ (z : f.Flat). scripts.read command_log (length z.threads) (rest_of input)) (same_flat other is) ∙ read_is
 
-  same_lines : (other : f.Flat) → IsAccepted (source_of input) other → (found : List scripts.Line) →
+  same_lines : (other : f.Flat) → IsAcceptedAs command_log (source_of input) other → (found : List scripts.Line) →
       scripts.read command_log (length other.threads) (rest_of input) ≡ scripts.Lines found → found ≡ lines
   same_lines other is found read = equal found lines (sym read ∙ reading other is)
     where
       equal : (xs ys : List scripts.Line) → scripts.Lines xs ≡ scripts.Lines ys → xs ≡ ys
       equal xs ys e = cc e
 
-  none_refused : (other : f.Flat) → IsAccepted (source_of input) other → (x : scripts.Fault) →
+  none_refused : (other : f.Flat) → IsAcceptedAs command_log (source_of input) other → (x : scripts.Fault) →
       scripts.read command_log (length other.threads) (rest_of input) ≡ scripts.Refused x → ⊥
   none_refused other is x read = apart x lines (sym read ∙ reading other is)
     where
@@ -101,7 +102,7 @@ module _ (one_flat : OneFlat) (not_both : NotBoth) (input : List ℕ) (flat : f.
     }
 
     is_of_script : (status : ℕ) (output : List ℕ) → ScriptedAnswer true Says input status output → IsOfScript status output
-    is_of_script status output (unplayed found place is told) = absurd (not_both (source_of input) flat found place accepted is)
+    is_of_script status output (unplayed found place is told) = absurd (not_both command_log (source_of input) flat found place accepted is)
     is_of_script status output (no_script other is x read told) = absurd (none_refused other is x read)
     is_of_script status output (of_script other is found read c made answer) =
         of_script_at other (same_flat other is) found (same_lines other is found read) c made _ status output answer
@@ -128,10 +129,10 @@ module _ (flat : f.Flat) (events : List Event) (played : IsPlayedBack living com
 pub journals_are_played : OneFlat → NotBoth → ArePlayedBack living → JournalsArePlayed
 journals_are_played one_flat not_both back source events flat status output alone accepted few valid may answer =
     let limit : length events < 4294967296 = omega (arith, few) in
-    let played = back command_log (length flat.threads) events (few_accepted source flat accepted) limit valid in
+    let played = back command_log (length flat.threads) events (few_accepted command_log source flat accepted) limit valid in
     let both = parts source events alone in
     let input = journal_text source events in
-    let accepted_in : IsAccepted (source_of input) flat = subst (λ (text : List ℕ). IsAccepted text flat) (sym both.0) accepted in
+    let accepted_in : IsAcceptedAs command_log (source_of input) flat = subst (λ (text : List ℕ). IsAcceptedAs command_log text flat) (sym both.0) accepted in
     let read_is : scripts.read command_log (length flat.threads) (rest_of input) ≡ scripts.Lines played.lines =
     ap (scripts.read command_log (length flat.threads)) both.1 ∙ played.read_is in
     let it = is_of_script one_flat not_both input flat accepted_in played.lines read_is IsRunBy status output answer in

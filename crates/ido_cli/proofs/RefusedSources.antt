@@ -2,7 +2,8 @@
 use Rattle.std.proofs.Common.{◌≡◌, ℕ, Bool, List, ap, ◌∙◌, subst}
 use Rattle.std.specs.Prelude.{Err}
 use Rattle.ido_base.specs.declared.event.Event.{Event}
-use Rattle.flow_graph.specs.Refusals.{IsRefusedBy}
+use Rattle.ido_compile.specs.LoggedTexts.{IsRefusedAs}
+use Rattle.flat_compile.specs.TranslatedForms.{command_log}
 use Rattle.compiler_correctness.specs.Translations.{Translation}
 use Rattle.ido_compile.specs.CompileAnswers.{IsCompileAnswer}
 use Rattle.ido_compile.specs.links.FrontEndAnswers.{IsFrontAnswer, IsRefusal}
@@ -39,13 +40,13 @@ module _ (source input : List ℕ) (is : source ≡ source_of input) where
   pub run_refused : (found : CompileError) → IsFrontAnswer source (Err found) → (status : ℕ) (output : List ℕ) → TellsRefusal found source status output →
       SourceAnswer input status output
   run_refused (error.Refused x) refused status output (one, told) =
-      unaccepted x.rule x.place (subst (λ (text : List ℕ). IsRefusedBy text x.rule x.place) is refused)
+      unaccepted x.rule x.place (subst (λ (text : List ℕ). IsRefusedAs command_log text x.rule x.place) is refused)
       (one, told ∙ ap (λ (text : List ℕ). line_at (code_of x.rule) text x.place.0) is)
   run_refused error.Memory refused status output none = absurd none
 
   pub script_refused : (lives : Bool) (Says : Translation → List Event → ℕ → List ℕ → Type 0) (found : CompileError) → IsCompileAnswer source (Err found) →
       (status : ℕ) (output : List ℕ) → TellsRefusal found source status output → ScriptedAnswer lives Says input status output
   script_refused lives Says (error.Refused x) refused status output (one, told) =
-      unplayed x.rule x.place (subst (λ (text : List ℕ). IsRefusedBy text x.rule x.place) is refused)
+      unplayed x.rule x.place (subst (λ (text : List ℕ). IsRefusedAs command_log text x.rule x.place) is refused)
       (one, told ∙ ap (λ (text : List ℕ). line_at (code_of x.rule) text x.place.0) is)
   script_refused lives Says error.Memory refused status output none = absurd none

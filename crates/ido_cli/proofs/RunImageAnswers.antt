@@ -17,7 +17,7 @@ use Rattle.rv64_isa.specs.Schedule.{LifeSchedules, all_lives}
 use Rattle.flow_graph.specs.declared.cuts.Cuts.{Cuts}
 use Rattle.flow_graph.specs.Lowering.{lowered}
 use Rattle.flow_graph.specs.Nodes.{Graph}
-use Rattle.flow_graph.specs.Refusals.{IsAccepted, IsRefusedBy}
+use Rattle.ido_compile.specs.LoggedTexts.{IsAcceptedAs, IsRefusedAs}
 use Rattle.file_fields.specs.Fields.{Fault, ◌>>=◌}
 use Rattle.file_fields.proofs.Public.{bind_ok, ok_is}
 use Rattle.run_scripts.specs.Runs.{runs_of}
@@ -26,19 +26,15 @@ use Rattle.compiler_correctness.specs.Images as left
 use Rattle.compiler_correctness.specs.Laws.{MachinesRecord}
 use Rattle.compiler_correctness.specs.Images.{variable_words}
 use Rattle.compiler_correctness.specs.Translations.{Translation, translation_to}
-use Rattle.flat_compile.specs.TranslatedForms.{IsTranslated, IsTranslatedAs}
+use Rattle.flat_compile.specs.TranslatedForms.{IsTranslated, IsTranslatedAs, command_log}
 use Rattle.ido_compile.specs.declared.compiler.Compiled.{Compiled}
 use Rattle.ido_compile.specs.CompileAnswers.{IsCompiledAs, translation_in}
-use Rattle.ido_compile.specs.FormLaws.{FlattenedIsFormed, FlattenedIsPlain}
-use Rattle.ido_compile.specs.LoggedTexts.{IsRefusedAs}
-use Rattle.ido_compile.proofs.Public.{as_accepted, as_refused}
-use Rattle.lock_discipline.specs.Discipline.{WalkIsDiscipline}
 use Rattle.ido_compile.specs.Verdicts.{NotBoth, OneFlat}
 use Rattle.crash_images.specs.Contents.{Contents, State, log_of}
 use Rattle.crash_images.proofs.Public.{source_version}
 use Rattle.crash_images.specs.ImageDecoder.{IsReadAs, image_at, source_at, state_at, version_in}
 use Rattle.crash_images.specs.declared.version.ImageVersion.{ImageVersion}
-use Rattle.crash_images.specs.declared.version.ImageVersion.TheVariants.{First, Third}
+use Rattle.crash_images.specs.declared.version.ImageVersion.TheVariants.{Third}
 use Rattle.image_checks.specs.declared.error.ImageError.{ImageError}
 use Rattle.image_checks.specs.declared.error.ImageError.TheVariants as e
 use Rattle.ido_cli.specs.declared.compiled_image.Image.{Image}
@@ -49,7 +45,7 @@ use Rattle.ido_cli.specs.CompiledImages as answers
 use Rattle.c_tree.specs.declared.rule.Rule.{Rule}
 use Rattle.ido_base.specs.declared.place.Place.{Place}
 use Rattle.ido_base.specs.declared.log.Log.{Log}
-use Rattle.ido_base.specs.declared.log.Log.TheVariants.{V1}
+use Rattle.ido_base.specs.declared.log.Log.TheVariants.{V2}
 use Rattle.image_checks.specs.Laws.{RunsLeaveNoFault}
 use Rattle.image_checks.specs.Logs.{logs_of}
 use Rattle.image_checks.specs.Schedules.{IsLivesFault, schedules_of}
@@ -86,14 +82,13 @@ pub record RunImage (source bytes : List ℕ) : Type 0 where
   pub marks : Marks
   pub cuts : Cuts
   pub events : List Event
-  pub accepted : IsAccepted source flat
+  pub accepted : IsAcceptedAs command_log source flat
   pub translated : IsTranslated flat object marks cuts
   pub alone : (left_by (translation_to flat object marks cuts) events).kept.earlier ≡ []
   pub most : length (left_by (translation_to flat object marks cuts) events).kept.schedule ≤ MOST_STEPS
-  pub spelled : IsReadAs First (file_contents source (translation_to flat object marks cuts) (left_by (translation_to flat object marks cuts) events)) bytes
+  pub spelled : IsReadAs Third (file_contents source (translation_to flat object marks cuts) (left_by (translation_to flat object marks cuts) events)) bytes
 
-module _ (walk : WalkIsDiscipline) (formed : FlattenedIsFormed) (plain : FlattenedIsPlain) (one_flat : OneFlat) (not_both : NotBoth) (machines : MachinesResume)
-    (records : MachinesRecord) (no_fault : RunsLeaveNoFault)
+module _ (one_flat : OneFlat) (not_both : NotBoth) (machines : MachinesResume) (records : MachinesRecord) (no_fault : RunsLeaveNoFault)
     (source bytes : List ℕ) (run : RunImage source bytes) where
   open run use {flat, object, marks, cuts, events, accepted, translated as t, alone, most, spelled}
 
@@ -115,8 +110,8 @@ module _ (walk : WalkIsDiscipline) (formed : FlattenedIsFormed) (plain : Flatten
   abbrev Read : Result Image ImageError → Type 0
   Read answer = IsReadAgain source c file answer
 
-  is_whole : IsWhole V1 flat threads size state
-  is_whole = left_is_whole flat object marks cuts V1 t events machines records (few_lives file.kept alone most)
+  is_whole : IsWhole V2 flat threads size state
+  is_whole = left_is_whole flat object marks cuts V2 t events machines records (few_lives file.kept alone most)
 
   -- its one life is all
   same_state : (file_contents source c file).state ≡ state
@@ -132,17 +127,17 @@ module _ (walk : WalkIsDiscipline) (formed : FlattenedIsFormed) (plain : Flatten
 
   record Begins : Type 0 where
     rest : List ℕ
-    begins : source_at First bytes ≡ Ok (source, rest)
-    after : state_at First (length bytes) size threads rest ≡ Ok state
+    begins : source_at Third bytes ≡ Ok (source, rest)
+    after : state_at Third (length bytes) size threads rest ≡ Ok state
 
   begun : Begins
   unfolding image_at
   begun =
       let o : Contents = file_contents source c file in
-      let all : image_at First size threads bytes ≡ Ok o =
-      subst (λ (k : ℕ). image_at First k threads bytes ≡ Ok o) is_whole.variables (spelled threads is_whole.logs) in
-      let a = bind_ok (source_at First bytes) (λ x. state_at First (length bytes) size threads x.1 >>= λ s. Ok (record { source = x.0; state = s })) o all in
-      let b = bind_ok (state_at First (length bytes) size threads a.0.1) (λ s. Ok (record { source = a.0.0; state = s })) o a.2 in
+      let all : image_at Third size threads bytes ≡ Ok o =
+      subst (λ (k : ℕ). image_at Third k threads bytes ≡ Ok o) is_whole.variables (spelled threads is_whole.logs) in
+      let a = bind_ok (source_at Third bytes) (λ x. state_at Third (length bytes) size threads x.1 >>= λ s. Ok (record { source = x.0; state = s })) o all in
+      let b = bind_ok (state_at Third (length bytes) size threads a.0.1) (λ s. Ok (record { source = a.0.0; state = s })) o a.2 in
       let made : Contents = record { source = a.0.0; state = b.0 } in
       let same : made ≡ o = ok_is made o b.2 in
       record {
@@ -151,28 +146,28 @@ module _ (walk : WalkIsDiscipline) (formed : FlattenedIsFormed) (plain : Flatten
         after = b.1 ∙ ap (λ (x : Contents). Ok x.state) same ∙ ap (λ (x : State). Ok x) same_state;
       }
 
-  -- the version is the first
-  known : version_in Third bytes ≡ Ok First
-  known = source_version Third First bytes source begun.rest (omega arith) begun.begins
+  -- the version is the newest
+  known : version_in Third bytes ≡ Ok Third
+  known = source_version Third Third bytes source begun.rest (omega arith) begun.begins
 
-  -- what is so of images of the first version is so of this one
-  at_first : (P : ImageVersion → Type 0) (version : ImageVersion) → version_in Third bytes ≡ Ok version → P First → P version
-  at_first P version is first = subst P (ok_is First version (sym known ∙ is)) first
+  -- what is so of images of the newest version is so of this one
+  at_third : (P : ImageVersion → Type 0) (version : ImageVersion) → version_in Third bytes ≡ Ok version → P Third → P version
+  at_third P version is third = subst P (ok_is Third version (sym known ∙ is)) third
 
   -- ---- The source, compiled
 
-  module _ (d : Compiled) (b : BeginsCompiled Third bytes First d) where
+  module _ (d : Compiled) (b : BeginsCompiled Third bytes Third d) where
     same_bytes : ◌≡◌ {A = List ℕ × List ℕ} (b.source, b.rest) (source, begun.rest)
     same_bytes = ok_is (b.source, b.rest) (source, begun.rest) (sym b.begins ∙ begun.begins)
 
-    compiled : IsCompiledAs V1 source d
-    compiled = subst (λ (text : List ℕ). IsCompiledAs V1 text d) (ap (λ (x : List ℕ × List ℕ). x.0) same_bytes) b.compiled
+    compiled : IsCompiledAs V2 source d
+    compiled = subst (λ (text : List ℕ). IsCompiledAs V2 text d) (ap (λ (x : List ℕ × List ℕ). x.0) same_bytes) b.compiled
 
     same_rest : b.rest ≡ begun.rest
     same_rest = ap (λ (x : List ℕ × List ℕ). x.1) same_bytes
 
     same_flat : flat_of d.flat ≡ flat
-    same_flat = one_flat source (flat_of d.flat) flat (as_accepted walk formed plain V1 source (flat_of d.flat) compiled.accepted) accepted
+    same_flat = one_flat V2 V2 source (flat_of d.flat) flat compiled.accepted accepted
 
     same_size : size_of d ≡ size
     same_size =
@@ -186,63 +181,63 @@ module _ (walk : WalkIsDiscipline) (formed : FlattenedIsFormed) (plain : Flatten
         thread_number (flat_of d.flat) x.object x.marks x.cuts compiled.translated ∙ ap (λ (y : Flat). length (lowered y).threads) same_flat
         ∙ sym (thread_number flat object marks cuts t)
 
-    found : state_at First (length bytes) (size_of d) (threads_of d) b.rest ≡ Ok state
+    found : state_at Third (length bytes) (size_of d) (threads_of d) b.rest ≡ Ok state
     found =
-        ap (λ (k : ℕ). state_at First (length bytes) k (threads_of d) b.rest) same_size
-        ∙ ap (λ (k : ℕ). state_at First (length bytes) size k b.rest) same_threads
-        ∙ ap (state_at First (length bytes) size threads) same_rest ∙ begun.after
+        ap (λ (k : ℕ). state_at Third (length bytes) k (threads_of d) b.rest) same_size
+        ∙ ap (λ (k : ℕ). state_at Third (length bytes) size k b.rest) same_threads
+        ∙ ap (state_at Third (length bytes) size threads) same_rest ∙ begun.after
 
   -- ---- Answers
 
-  state_is : (d : Compiled) (x : State) (has : HasState Third bytes First d x) → x ≡ state
+  state_is : (d : Compiled) (x : State) (has : HasState Third bytes Third d x) → x ≡ state
   state_is d x has = ok_is x state (sym has.state ∙ found d has.source)
 
   image_read : (image : Image) → IsImage Third bytes image → Read (Ok image)
   image_read image is =
-      at_first (λ (v : ImageVersion). HasState Third bytes v image.compiled is.state → Read (Ok image)) is.version is.is.source.known
+      at_third (λ (v : ImageVersion). HasState Third bytes v image.compiled is.state → Read (Ok image)) is.version is.is.source.known
       (λ has.
       let same : is.state ≡ state = state_is image.compiled is.state has in
       again image (compiled image.compiled has.source)
       (is.words ∙ ap (λ (x : State). x.variables ++ x.logs) same ∙ take-append-drop (variable_words c) file.words)
       (sym is.lives ∙ ap (λ (x : State). schedules_of x.lives) same ∙ told_again (all_lives file.kept))) is.is
 
-  not_first : (fault : Fault) (answer : Result Image ImageError) → version_in Third bytes ≡ Err fault → Read answer
-  not_first fault answer e = absurd (not_both_ways (version_in Third bytes) First fault known e)
+  not_begun : (fault : Fault) (answer : Result Image ImageError) → version_in Third bytes ≡ Err fault → Read answer
+  not_begun fault answer e = absurd (not_both_ways (version_in Third bytes) Third fault known e)
 
   not_here : (version : ImageVersion) (fault : Fault) (answer : Result Image ImageError) → version_in Third bytes ≡ Ok version →
       source_at version bytes ≡ Err fault → Read answer
   not_here version fault answer is =
-      at_first (λ (v : ImageVersion). source_at v bytes ≡ Err fault → Read answer) version is
-      (λ e. absurd (not_both_ways (source_at First bytes) (source, begun.rest) fault begun.begins e))
+      at_third (λ (v : ImageVersion). source_at v bytes ≡ Err fault → Read answer) version is
+      (λ e. absurd (not_both_ways (source_at Third bytes) (source, begun.rest) fault begun.begins e))
 
   not_after : (version : ImageVersion) (d : Compiled) (begins : BeginsCompiled Third bytes version d) (fault : Fault) →
       state_at version (length bytes) (size_of d) (threads_of d) begins.rest ≡ Err fault →
       Read (Err (state_error (length bytes - length begins.rest) fault))
   not_after version d begins fault =
-      at_first (λ (v : ImageVersion). (b : BeginsCompiled Third bytes v d) → state_at v (length bytes) (size_of d) (threads_of d) b.rest ≡ Err fault →
+      at_third (λ (v : ImageVersion). (b : BeginsCompiled Third bytes v d) → state_at v (length bytes) (size_of d) (threads_of d) b.rest ≡ Err fault →
       Read (Err (state_error (length bytes - length b.rest) fault))) version begins.known
-      (λ b e. absurd (not_both_ways (state_at First (length bytes) (size_of d) (threads_of d) b.rest) state fault (found d b) e)) begins
+      (λ b e. absurd (not_both_ways (state_at Third (length bytes) (size_of d) (threads_of d) b.rest) state fault (found d b) e)) begins
 
-  module _ (d : Compiled) (is : IsCompiledAs V1 source d) (flat_is : flat_of d.flat ≡ flat) (threads_are : threads_of d ≡ threads) where
+  module _ (d : Compiled) (is : IsCompiledAs V2 source d) (flat_is : flat_of d.flat ≡ flat) (threads_are : threads_of d ≡ threads) where
     -- by the same translation nothing is at fault
-    none : translation_in d ≡ c → (error : ImageError) → ¬ (IsStateFault V1 (flat_of d.flat) d.translated.resumes.items state error)
+    none : translation_in d ≡ c → (error : ImageError) → ¬ (IsStateFault V2 (flat_of d.flat) d.translated.resumes.items state error)
     none same error fault =
         let x = d.translated in
         let few : sum_by length (all_lives (left_by (translation_in d) events).kept) ≤ MOST_STEPS =
         subst (λ (z : Translation). sum_by length (all_lives (left_by z events).kept) ≤ MOST_STEPS) (sym same) (few_lives file.kept alone most) in
-        let sound = no_fault V1 (flat_of d.flat) x.object x.marks x.cuts x.resumes.items events is.resumable is.plain few in
-        none_if_sound V1 (flat_of d.flat) x.resumes.items (file_state (translation_in d) (left_by (translation_in d) events)) error sound
-        (subst (λ (z : Translation). IsStateFault V1 (flat_of d.flat) x.resumes.items (file_state z (left_by z events)) error) (sym same) fault)
+        let sound = no_fault V2 (flat_of d.flat) x.object x.marks x.cuts x.resumes.items events is.resumable is.plain few in
+        none_if_sound V2 (flat_of d.flat) x.resumes.items (file_state (translation_in d) (left_by (translation_in d) events)) error sound
+        (subst (λ (z : Translation). IsStateFault V2 (flat_of d.flat) x.resumes.items (file_state z (left_by z events)) error) (sym same) fault)
 
     table_is : length d.translated.resumes.items ≡ threads
     table_is = let r = is.resumable in r.are.count ∙ sym r.translated.is.count ∙ ap (λ (x : Executable). length x.program) r.translated.runs
         ∙ length-map d.translated.object.code.items (λ code. map slot_of code.items) ∙ threads_are
 
-    fault_read : (error : ImageError) → IsStateFault V1 (flat_of d.flat) d.translated.resumes.items state error → Read (Err error)
+    fault_read : (error : ImageError) → IsStateFault V2 (flat_of d.flat) d.translated.resumes.items state error → Read (Err error)
     fault_read error (of_thread x f) = elsewhere d x is (λ same. none same x (of_thread x f)) f
     fault_read error (of_mutexes x sound f) =
-        absurd (unshared (logs_of V1 state.logs) (length d.translated.resumes.items) x
-        (λ lock. subst (λ (k : ℕ). IsUnshared (logs_of V1 state.logs) k lock) (sym table_is) (is_whole.unshared lock)) f)
+        absurd (unshared (logs_of V2 state.logs) (length d.translated.resumes.items) x
+        (λ lock. subst (λ (k : ℕ). IsUnshared (logs_of V2 state.logs) k lock) (sym table_is) (is_whole.unshared lock)) f)
     fault_read error (of_schedules x sound apart f) =
         absurd (none_in_lives flat 1 (start flat) 0 state.lives x is_whole.schedules
         (subst (λ (y : Flat). IsLivesFault y 1 (start y) 0 state.lives x) flat_is f))
@@ -250,20 +245,19 @@ module _ (walk : WalkIsDiscipline) (formed : FlattenedIsFormed) (plain : Flatten
   not_refused : (version : ImageVersion) (other rest : List ℕ) (rule : Rule) (place : Place) → version_in Third bytes ≡ Ok version →
       source_at version bytes ≡ Ok (other, rest) → IsRefusedAs (log_of version) other rule place → Read (Err e.Source)
   not_refused version other rest rule place is =
-      at_first (λ (v : ImageVersion). source_at v bytes ≡ Ok (other, rest) → IsRefusedAs (log_of v) other rule place → Read (Err e.Source)) version is
+      at_third (λ (v : ImageVersion). source_at v bytes ≡ Ok (other, rest) → IsRefusedAs (log_of v) other rule place → Read (Err e.Source)) version is
       (λ begins broken.
       let same : ◌≡◌ {A = List ℕ × List ℕ} (other, rest) (source, begun.rest) = ok_is (other, rest) (source, begun.rest) (sym begins ∙ begun.begins) in
-      let refusal : IsRefusedBy other rule place = as_refused other rule place broken in
-      absurd (not_both source flat rule place accepted
-      (subst (λ (text : List ℕ). IsRefusedBy text rule place) (ap (λ (x : List ℕ × List ℕ). x.0) same) refusal)))
+      absurd (not_both V2 source flat rule place accepted
+      (subst (λ (text : List ℕ). IsRefusedAs V2 text rule place) (ap (λ (x : List ℕ × List ℕ). x.0) same) broken)))
 
   unsound_read : (version : ImageVersion) (d : Compiled) (x : State) (error : ImageError) → HasState Third bytes version d x →
       IsStateFault (log_of version) (flat_of d.flat) d.translated.resumes.items x error → Read (Err error)
   unsound_read version d x error has =
-      at_first (λ (v : ImageVersion). HasState Third bytes v d x → IsStateFault (log_of v) (flat_of d.flat) d.translated.resumes.items x error →
+      at_third (λ (v : ImageVersion). HasState Third bytes v d x → IsStateFault (log_of v) (flat_of d.flat) d.translated.resumes.items x error →
       Read (Err error)) version has.source.known
       (λ at fault. fault_read d (compiled d at.source) (same_flat d at.source) (same_threads d at.source) error
-      (subst (λ (z : State). IsStateFault V1 (flat_of d.flat) d.translated.resumes.items z error) (state_is d x at) fault)) has
+      (subst (λ (z : State). IsStateFault V2 (flat_of d.flat) d.translated.resumes.items z error) (state_is d x at) fault)) has
 
   read : (answer : Result Image ImageError) → IsImageAnswer Third bytes answer → Read answer
   read answer (whole image is) = image_read image is
@@ -292,4 +286,4 @@ run_images_are_read walk formed plain one_flat not_both machines records no_faul
       most = most;
       spelled = spelled;
     } in
-    read walk formed plain one_flat not_both machines records no_fault source bytes run answer told
+    read one_flat not_both machines records no_fault source bytes run answer told

@@ -2,7 +2,7 @@
 use Rattle.std.proofs.Common.{◌≡◌, ℕ, ◌+◌, ◌*◌, ◌/◌, ◌≤◌, List, [], ◌∷◌, length, map, take, drop, ap, subst, ◌∙◌, arith}
 use Rattle.std.proofs.lemmas.List.{length-map}
 use Rattle.ido_base.specs.Layout.{log_words}
-use Rattle.ido_base.specs.declared.log.Log.TheVariants.{V1}
+use Rattle.ido_base.specs.declared.log.Log.TheVariants.{V2}
 use Rattle.ido_base.specs.declared.log.Log.{Log}
 use Rattle.ido_base.specs.declared.limits.TheConstants.{VARIABLE_WORDS}
 use Rattle.ido_base.specs.declared.event.Event.{Event}
@@ -21,7 +21,7 @@ use Rattle.compiler_correctness.specs.Translations.{Translation, translation_to}
 use Rattle.crash_images.specs.Contents.{Contents, contents}
 use Rattle.crash_images.specs.ImageDecoder.{IsReadAs}
 use Rattle.crash_images.specs.ImageEncoder.{spelling}
-use Rattle.crash_images.specs.declared.version.ImageVersion.TheVariants.{First}
+use Rattle.crash_images.specs.declared.version.ImageVersion.TheVariants.{Third}
 use Rattle.run_tracker.specs.ObjectLives.{Course, LifeConfig, left_words, steps_in, variable_words_in, world_of}
 use Rattle.image_checks.specs.RunImages.{left_by, file_contents}
 use Rattle.ido_cli.specs.Images.{IsImageAfter}
@@ -58,7 +58,7 @@ module _ (flat : f.Flat) (object : Object) (marks : Marks) (cuts : Cuts) (life :
     pub variables_few : variable_words_in life ≤ VARIABLE_WORDS
     variables_few = omega (arith, same_variables, t.limits.bytes)
 
-    size : length left ≡ variable_words_in life + log_words V1 * length object.code.items
+    size : length left ≡ variable_words_in life + log_words V2 * length object.code.items
     size =
         let harts = length-map object.code.items (λ code. map slot_of code.items) in
         let in_file = subst (λ (l : Log). length (file_of made (image_of made events)).words
@@ -69,7 +69,7 @@ module _ (flat : f.Flat) (object : Object) (marks : Marks) (cuts : Cuts) (life :
     pub variables_within : variable_words_in life ≤ length left
     variables_within = omega (arith, size)
 
-    pub logs_few : length left ≤ variable_words_in life + 1024
+    pub logs_few : length left ≤ variable_words_in life + 2048
     logs_few = omega (arith, size, t.limits.threads)
 
   same_contents : (source : List ℕ) → contents source (take (variable_words_in life) left) (drop (variable_words_in life) left) ((steps_in life).kept ∷ []) ≡
@@ -81,11 +81,11 @@ module _ (flat : f.Flat) (object : Object) (marks : Marks) (cuts : Cuts) (life :
       same_kept
 
   pub image_after : (source : List ℕ) (status : ℕ) (output : List ℕ) → status ≡ 0 →
-      output ≡ spelling First (contents source (take (variable_words_in life) left) (drop (variable_words_in life) left) ((steps_in life).kept ∷ [])) →
-      IsReadAs First (contents source (take (variable_words_in life) left) (drop (variable_words_in life) left) ((steps_in life).kept ∷ [])) output →
+      output ≡ spelling Third (contents source (take (variable_words_in life) left) (drop (variable_words_in life) left) ((steps_in life).kept ∷ [])) →
+      IsReadAs Third (contents source (take (variable_words_in life) left) (drop (variable_words_in life) left) ((steps_in life).kept ∷ [])) output →
       IsImageAfter source made events status output
   image_after source status output done told read = record {
     status_is = done;
-    output_is = told ∙ ap (spelling First) (same_contents source);
-    read_as = subst (λ (x : Contents). IsReadAs First x output) (same_contents source) read;
+    output_is = told ∙ ap (spelling Third) (same_contents source);
+    read_as = subst (λ (x : Contents). IsReadAs Third x output) (same_contents source) read;
   }

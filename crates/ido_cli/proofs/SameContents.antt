@@ -7,14 +7,7 @@ use Rattle.std.proofs.lemmas.List.Sums.{sum_by-cons}
 use Rattle.run_scripts.specs.links.ReportViews.{steps_of}
 use Rattle.crash_images.specs.Contents.{Contents, contents}
 use Rattle.crash_images.specs.ImageDecoder.{IsReadAs}
-use Rattle.crash_images.specs.declared.version.ImageVersion.TheVariants.{First, Third}
-
-pub read_as_same : (source variables logs : List ℕ) (schedules : List (List ℕ)) (bytes vs ls : List ℕ) (ks : List (List ℕ)) →
-    IsReadAs First (contents source variables logs schedules) bytes → variables ≡ vs → logs ≡ ls → schedules ≡ ks →
-    IsReadAs First (contents source vs ls ks) bytes
-read_as_same source variables logs schedules bytes vs ls ks read a b c =
-    subst (λ (o : Contents). IsReadAs First o bytes)
-    (ap (λ (x : List ℕ). contents source x logs schedules) a ∙ ap (λ (x : List ℕ). contents source vs x schedules) b ∙ ap (contents source vs ls) c) read
+use Rattle.crash_images.specs.declared.version.ImageVersion.TheVariants.{Third}
 
 pub third_as_same : (source variables logs : List ℕ) (schedules : List (List ℕ)) (bytes vs ls : List ℕ) (ks : List (List ℕ)) →
     IsReadAs Third (contents source variables logs schedules) bytes → variables ≡ vs → logs ≡ ls → schedules ≡ ks →

@@ -4,7 +4,7 @@ use Rattle.rv64_isa.specs.Machine as isa
 use Rattle.ido_base.specs.declared.log.Log.{Log}
 use Rattle.ido_base.specs.declared.event.Event.{Event}
 use Rattle.c_tree.specs.Flats as f
-use Rattle.flow_graph.specs.Refusals.{IsAccepted}
+use Rattle.ido_compile.specs.LoggedTexts.{IsAcceptedAs}
 use Rattle.flat_compile.specs.TranslatedForms.{command_log}
 use Rattle.run_scripts.specs.Scripts as e
 use Rattle.run_scripts.specs.Scripts.{IsDoable}
@@ -16,7 +16,7 @@ use Rattle.ido_cli.specs.Plays.{IsTranslationOf, ScriptAnswer}
 use Rattle.ido_cli.specs.Refusals.{IsRefusedAt, script_fault_code, script_fault_place}
 
 module _ (input rest : List ℕ) (flat : f.Flat) (log : Log) (harts : ℕ) (is : rest ≡ rest_of input) (logs : log ≡ command_log)
-    (many : harts ≡ length flat.threads) (accepted : IsAccepted (source_of input) flat)
+    (many : harts ≡ length flat.threads) (accepted : IsAcceptedAs command_log (source_of input) flat)
     (lives : Bool) (Says : Translation → List Event → ℕ → List ℕ → Type 0) where
   read_is : e.read command_log (length flat.threads) (rest_of input) ≡ e.read log harts rest
   read_is =

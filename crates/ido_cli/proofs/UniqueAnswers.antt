@@ -11,7 +11,7 @@ use Rattle.source_machine.specs.LifeRuns.{LivesNotWhole, OneLifeStop}
 use Rattle.ido_cli.specs.declared.command.Command as c
 use Rattle.ido_cli.specs.declared.command.Command.TheVariants as command
 use Rattle.c_tree.specs.declared.rule.Rule as r
-use Rattle.flow_graph.specs.Refusals.{IsAccepted, IsRefusedBy}
+use Rattle.ido_compile.specs.LoggedTexts.{IsAcceptedAs, IsRefusedAs}
 use Rattle.flat_compile.specs.TranslatedForms.{command_log}
 use Rattle.rv64_isa.specs.Machine.{World}
 use Rattle.compiler_correctness.specs.Translations.{Translation}
@@ -53,9 +53,9 @@ Same status other output written = (status ≡ other) × (output ≡ written)
 
 -- a rule that the source breaks, or what else is answered, which has another status
 data Verdict (text : List ℕ) (status : ℕ) (output : List ℕ) : Type 0 where
-  breaks : (found : r.Rule) (place : Place) → IsRefusedBy text found place → IsRefusedAt 1 (code_of found) text place.0 status output →
+  breaks : (found : r.Rule) (place : Place) → IsRefusedAs command_log text found place → IsRefusedAt 1 (code_of found) text place.0 status output →
       Verdict text status output
-  keeps : (flat : f.Flat) → IsAccepted text flat → (status ≡ 1 → ⊥) → Verdict text status output
+  keeps : (flat : f.Flat) → IsAcceptedAs command_log text flat → (status ≡ 1 → ⊥) → Verdict text status output
 
 module _ (one_flat : OneFlat) (one_fault : OneFault) (not_both : NotBoth) (one_stop : OneLifeStop) (not_whole : LivesNotWhole) where
   -- ---- A run
@@ -75,16 +75,16 @@ module _ (one_flat : OneFlat) (one_fault : OneFault) (not_both : NotBoth) (one_s
   one_source : (input : List ℕ) (status other : ℕ) (output written : List ℕ) → SourceAnswer input status output → SourceAnswer input other written →
       Same status other output written
   one_source input status other output written (unaccepted found place is (e, told)) (unaccepted again elsewhere also (h, more)) =
-      let both = one_fault (source_of input) found again place elsewhere is also in
+      let both = one_fault command_log (source_of input) found again place elsewhere is also in
       (e ∙ sym h, told ∙ ap₂ (λ rule (at : Place). line_at (code_of rule) (source_of input) at.0) both.0 both.1 ∙ sym more)
   one_source input status other output written (unaccepted found place is told) (no_schedule flat accepted x read more) =
-      absurd (not_both (source_of input) flat found place accepted is)
+      absurd (not_both command_log (source_of input) flat found place accepted is)
   one_source input status other output written (unaccepted found place is told) (of_schedules flat accepted lives read more) =
-      absurd (not_both (source_of input) flat found place accepted is)
+      absurd (not_both command_log (source_of input) flat found place accepted is)
   one_source input status other output written (no_schedule flat accepted x read told) (unaccepted found place is more) =
-      absurd (not_both (source_of input) flat found place accepted is)
+      absurd (not_both command_log (source_of input) flat found place accepted is)
   one_source input status other output written (of_schedules flat accepted lives read told) (unaccepted found place is more) =
-      absurd (not_both (source_of input) flat found place accepted is)
+      absurd (not_both command_log (source_of input) flat found place accepted is)
   one_source input status other output written (no_schedule flat accepted x read (e, told)) (no_schedule flat' accepted' y read' (h, more)) =
       let both : s.Refused x ≡ s.Refused y = sym read ∙ read' in
       let same : x ≡ y = cc both in
@@ -96,7 +96,7 @@ module _ (one_flat : OneFlat) (one_fault : OneFault) (not_both : NotBoth) (one_s
   one_source input status other output written (of_schedules flat accepted lives read told) (of_schedules flat' accepted' lives' read' more) =
       let both : s.Lives lives ≡ s.Lives lives' = sym read ∙ read' in
       let same : lives ≡ lives' = cc both in
-      let forms : flat ≡ flat' = one_flat (source_of input) flat flat' accepted accepted' in
+      let forms : flat ≡ flat' = one_flat command_log command_log (source_of input) flat flat' accepted accepted' in
       one_run flat' lives' status other output written
       (subst (λ z. RunAnswer flat' z status output) same (subst (λ z. RunAnswer z lives status output) forms told)) more
 
@@ -120,24 +120,24 @@ module _ (one_flat : OneFlat) (one_fault : OneFault) (not_both : NotBoth) (one_s
   one_order : (source : List ℕ) (status other : ℕ) (output written : List ℕ) → OrderAnswer source status output → OrderAnswer source other written →
       Same status other output written
   one_order source status other output written (unlocked found place is (e, told)) (unlocked again elsewhere also (h, more)) =
-      let both = one_fault source found again place elsewhere is also in
+      let both = one_fault command_log source found again place elsewhere is also in
       (e ∙ sym h, told ∙ ap₂ (λ rule (at : Place). line_at (code_of rule) source at.0) both.0 both.1 ∙ sym more)
   one_order source status other output written (unlocked found place is told) (unordered flat accepted fault broken h more) =
-      absurd (not_both source flat found place accepted is)
+      absurd (not_both command_log source flat found place accepted is)
   one_order source status other output written (unlocked found place is told) (ordered flat accepted none h more) =
-      absurd (not_both source flat found place accepted is)
+      absurd (not_both command_log source flat found place accepted is)
   one_order source status other output written (unordered flat accepted fault broken e told) (unlocked found place is more) =
-      absurd (not_both source flat found place accepted is)
+      absurd (not_both command_log source flat found place accepted is)
   one_order source status other output written (ordered flat accepted none e told) (unlocked found place is more) =
-      absurd (not_both source flat found place accepted is)
+      absurd (not_both command_log source flat found place accepted is)
   one_order source status other output written (unordered flat is x broken e told) (unordered flat' is' y broken' h more) =
-      let both : Some x ≡ Some y = sym broken ∙ ap order_fault (one_flat source flat flat' is is') ∙ broken' in
+      let both : Some x ≡ Some y = sym broken ∙ ap order_fault (one_flat command_log command_log source flat flat' is is') ∙ broken' in
       let same : x ≡ y = cc both in
       (e ∙ sym h, told ∙ ap (λ (z : OrderFault). line_after (codes "L7") source z.place.0 z.earlier.0) same ∙ sym more)
   one_order source status other output written (unordered flat is x broken e told) (ordered flat' is' none h more) =
-      let both : Some x ≡ None = sym broken ∙ ap order_fault (one_flat source flat flat' is is') ∙ none in cc both
+      let both : Some x ≡ None = sym broken ∙ ap order_fault (one_flat command_log command_log source flat flat' is is') ∙ none in cc both
   one_order source status other output written (ordered flat is none e told) (unordered flat' is' y broken h more) =
-      let both : None ≡ Some y = sym none ∙ ap order_fault (one_flat source flat flat' is is') ∙ broken in cc both
+      let both : None ≡ Some y = sym none ∙ ap order_fault (one_flat command_log command_log source flat flat' is is') ∙ broken in cc both
   one_order source status other output written (ordered flat is none e told) (ordered flat' is' none' h more) = (e ∙ sym h, told ∙ sym more)
 
   -- ---- A source that is made
@@ -151,10 +151,10 @@ module _ (one_flat : OneFlat) (one_fault : OneFault) (not_both : NotBoth) (one_s
   one_refusal : (text : List ℕ) (status other : ℕ) (output written : List ℕ) → status ≡ 1 → Verdict text status output → Verdict text other written →
       Same status other output written
   one_refusal text status other output written one (breaks found place is (e, told)) (breaks again elsewhere also (h, more)) =
-      let both = one_fault text found again place elsewhere is also in
+      let both = one_fault command_log text found again place elsewhere is also in
       (e ∙ sym h, told ∙ ap₂ (λ rule (at : Place). line_at (code_of rule) text at.0) both.0 both.1 ∙ sym more)
   one_refusal text status other output written one (breaks found place is told) (keeps flat accepted other_one) =
-      absurd (not_both text flat found place accepted is)
+      absurd (not_both command_log text flat found place accepted is)
   one_refusal text status other output written one (keeps flat accepted other_one) v = absurd (other_one one)
 
   not_one : (status n : ℕ) → status ≡ n → (n ≡ 1 → ⊥) → status ≡ 1 → ⊥
@@ -243,14 +243,17 @@ module _ (one_flat : OneFlat) (one_fault : OneFault) (not_both : NotBoth) (one_s
 
   -- ---- A script that isn't spelled as one
 
-  module _ (lives : Bool) (Says : Translation → List Event → ℕ → List ℕ → Type 0) (input : List ℕ) (flat : f.Flat) (is : IsAccepted (source_of input) flat)
+  module _ (lives : Bool) (Says : Translation → List Event → ℕ → List ℕ → Type 0) (input : List ℕ) (flat : f.Flat)
+      (is : IsAcceptedAs command_log (source_of input) flat)
       (x : scripts.Fault) (bad : scripts.read command_log (length flat.threads) (rest_of input) ≡ scripts.Refused x) where
-    reading : (other : f.Flat) → IsAccepted (source_of input) other → scripts.read command_log (length other.threads) (rest_of input) ≡ scripts.Refused x
-    reading other also = ap (λ (z : f.Flat). scripts.read command_log (length z.threads) (rest_of input)) (one_flat (source_of input) other flat also is) ∙ bad
+    reading : (other : f.Flat) → IsAcceptedAs command_log (source_of input) other →
+        scripts.read command_log (length other.threads) (rest_of input) ≡ scripts.Refused x
+    reading other also = ap (λ (z : f.Flat). scripts.read command_log (length z.threads) (rest_of input))
+        (one_flat command_log command_log (source_of input) other flat also is) ∙ bad
 
     misspelling : (status : ℕ) (output : List ℕ) → ScriptedAnswer lives Says input status output →
         IsRefusedAt 6 (script_fault_code x) input (rest_begins input + script_fault_place x) status output
-    misspelling status output (unplayed found place broken told) = absurd (not_both (source_of input) flat found place is broken)
+    misspelling status output (unplayed found place broken told) = absurd (not_both command_log (source_of input) flat found place is broken)
     misspelling status output (no_script other also y read told) =
         let both : scripts.Refused y ≡ scripts.Refused x = sym read ∙ reading other also in
         let same : y ≡ x = cc both in
@@ -266,15 +269,17 @@ module _ (one_flat : OneFlat) (one_fault : OneFault) (not_both : NotBoth) (one_s
         (one.0 ∙ sym two.0, one.1 ∙ sym two.1)
 
   -- that of a sweep
-  module _ (input : List ℕ) (flat : f.Flat) (is : IsAccepted (source_of input) flat) (x : scripts.Fault)
+  module _ (input : List ℕ) (flat : f.Flat) (is : IsAcceptedAs command_log (source_of input) flat) (x : scripts.Fault)
       (bad : scripts.read command_log (length flat.threads) (rest_of input) ≡ scripts.Refused x) where
-    read_again : (other : f.Flat) → IsAccepted (source_of input) other → scripts.read command_log (length other.threads) (rest_of input) ≡ scripts.Refused x
-    read_again other also = ap (λ (z : f.Flat). scripts.read command_log (length z.threads) (rest_of input)) (one_flat (source_of input) other flat also is) ∙
+    read_again : (other : f.Flat) → IsAcceptedAs command_log (source_of input) other →
+        scripts.read command_log (length other.threads) (rest_of input) ≡ scripts.Refused x
+    read_again other also = ap (λ (z : f.Flat). scripts.read command_log (length z.threads) (rest_of input))
+        (one_flat command_log command_log (source_of input) other flat also is) ∙
         bad
 
     no_sweep : (status : ℕ) (output : List ℕ) → SweepAnswer input status output →
         IsRefusedAt 6 (script_fault_code x) input (rest_begins input + script_fault_place x) status output
-    no_sweep status output (unswept found place broken told) = absurd (not_both (source_of input) flat found place is broken)
+    no_sweep status output (unswept found place broken told) = absurd (not_both command_log (source_of input) flat found place is broken)
     no_sweep status output (no_points other also y read told) =
         let both : scripts.Refused y ≡ scripts.Refused x = sym read ∙ read_again other also in
         let same : y ≡ x = cc both in

@@ -25,7 +25,6 @@ use Rattle.rv64_isa.proofs.Public.{crashes_simulate}
 use Rattle.flow_graph.specs.Lowering.{lowered}
 use Rattle.file_fields.specs.Fields.{Fault, ◌>>=◌}
 use Rattle.file_fields.proofs.Public.{bind_ok, ok_is}
-use Rattle.lock_discipline.specs.Discipline.{WalkIsDiscipline}
 use Rattle.variable_words.specs.Variables.{durable_variables}
 use Rattle.hart_driver.specs.Legs.{IsLeg, IsTurn, has_ended}
 use Rattle.hart_driver.specs.declared.stop.Stop.TheVariants.{Ended, Turns}
@@ -35,10 +34,8 @@ use Rattle.compiler_correctness.specs.Translations.{Translation}
 use Rattle.run_scripts.specs.Reports as r
 use Rattle.ido_compile.specs.declared.compiler.Compiled.{Compiled}
 use Rattle.ido_compile.specs.CompileAnswers.{IsCompiledAs, translation_in}
-use Rattle.ido_compile.specs.FormLaws.{FlattenedIsFormed, FlattenedIsPlain}
 use Rattle.ido_compile.specs.LoggedTexts.{IsRefusedAs}
-use Rattle.ido_compile.specs.Verdicts.{NotBothAs, OneFlat}
-use Rattle.ido_compile.proofs.Public.{as_accepted}
+use Rattle.ido_compile.specs.Verdicts.{NotBoth, OneFlat}
 use Rattle.crash_images.specs.Contents.{Contents, State, log_of, word_bytes}
 use Rattle.crash_images.specs.ImageDecoder.{IsReadAs, image_at, source_at, state_at, version_in}
 use Rattle.crash_images.specs.declared.version.ImageVersion.{ImageVersion}
@@ -100,7 +97,7 @@ settled_out source c w kept output (renewed settled fits done told read) = (sett
 
 -- ---- An image of a settled world, read again
 
-module _ (walk : WalkIsDiscipline) (formed : FlattenedIsFormed) (plain : FlattenedIsPlain) (one_flat : OneFlat) (never_both : NotBothAs) (output source : List ℕ) (made : Compiled)
+module _ (one_flat : OneFlat) (never_both : NotBoth) (output source : List ℕ) (made : Compiled)
     (version : ImageVersion) (compiled : IsCompiledAs (log_of version) source made) (again : Compiled) (accepted : IsCompiledAs V2 source again) (w : World)
     (long : variable_words (translation_in made) ≤ length w.words) (kept : List (List ℕ)) (fits : sum_by length kept ≤ MOST_STEPS)
     (runs : runs_lives (flat_of made.flat) (start (flat_of made.flat)) kept ≡ true) (settled : is_settled w ≡ true)
@@ -180,8 +177,7 @@ module _ (walk : WalkIsDiscipline) (formed : FlattenedIsFormed) (plain : Flatten
 
     same_flat : flat_of d.flat ≡ flat
     same_flat =
-        one_flat source (flat_of d.flat) flat (as_accepted walk formed plain V2 source (flat_of d.flat) here.accepted)
-        (as_accepted walk formed plain (log_of version) source flat compiled.accepted)
+        one_flat V2 (log_of version) source (flat_of d.flat) flat here.accepted compiled.accepted
 
     same_size : size_of d ≡ word_bytes * length variables
     same_size =
@@ -365,8 +361,8 @@ module _ (input : List ℕ) (image : Image) (is : IsImage Second input image) (j
       let many : 8192 ≤ length w.words = subst (λ (k : ℕ). 8192 ≤ k) (sym came_sound.size) (many_words w.log (length w.harts)) in
       omega (arith, came_few, many)
 
-pub upgrades_are_recovered : WalkIsDiscipline → FlattenedIsFormed → FlattenedIsPlain → OneFlat → NotBothAs → UpgradesAreRecovered
-upgrades_are_recovered walk formed plain one_flat never_both input output image source before turns status report older same u told =
+pub upgrades_are_recovered : OneFlat → NotBoth → UpgradesAreRecovered
+upgrades_are_recovered one_flat never_both input output image source before turns status report older same u told =
     let made = image.compiled in
     let c = translation_in made in
     let im = image_in c (file_in image) in
@@ -376,5 +372,5 @@ upgrades_are_recovered walk formed plain one_flat never_both input output image 
     let v = older.is.version in
     let compiled = subst (λ (text : List ℕ). IsCompiledAs (log_of v) text made) older.source_is older.is.is.source.compiled in
     let resumed = subst (λ (file : files.Image). IsResumedAsKept c (image_in c file) u.journal) (sym same) (compiled.compilation.files before u.journal) in
-    recovered_as walk formed plain one_flat never_both output source made v compiled older.again older.accepted w
+    recovered_as one_flat never_both output source made v compiled older.again older.accepted w
     (came_long input image older.is u.journal) kept out.1 resumed.runs out.0 out.2 status report told

@@ -7,7 +7,7 @@ use Rattle.ido_outside.specs.Causes.{Rose}
 use Rattle.ido_outside.specs.Sink.{Adds, AddsPrefix}
 use Rattle.c_tree.specs.Flats as f
 use Rattle.c_tree.specs.declared.rule.Rule as r
-use Rattle.flow_graph.specs.Refusals.{IsAccepted, IsRefusedBy}
+use Rattle.ido_compile.specs.LoggedTexts.{IsAcceptedAs, IsRefusedAs}
 use Rattle.flat_compile.specs.TranslatedForms.{command_log}
 use Rattle.compiler_correctness.specs.Translations.{Translation}
 use Rattle.compiler_correctness.specs.Images.{Image, image_in}
@@ -78,40 +78,40 @@ rest_begins input = length input - length (rest_of input)
 
 -- what an input of a source and a schedule is answered: status and output
 pub data SourceAnswer (input : List ℕ) (status : ℕ) (output : List ℕ) : Type 0 where
-  unaccepted : (found : r.Rule) (place : Place) → IsRefusedBy (source_of input) found place →
+  unaccepted : (found : r.Rule) (place : Place) → IsRefusedAs command_log (source_of input) found place →
       IsRefusedAt 1 (code_of found) (source_of input) place.0 status output → SourceAnswer input status output
-  no_schedule : (flat : f.Flat) → IsAccepted (source_of input) flat → (x : s.Fault) → s.read (rest_of input) ≡ s.Refused x →
+  no_schedule : (flat : f.Flat) → IsAcceptedAs command_log (source_of input) flat → (x : s.Fault) → s.read (rest_of input) ≡ s.Refused x →
       IsRefusedAt 6 (fault_code x) input (rest_begins input + fault_place x) status output → SourceAnswer input status output
-  of_schedules : (flat : f.Flat) → IsAccepted (source_of input) flat → (lives : List (List ℕ)) → s.read (rest_of input) ≡ s.Lives lives →
+  of_schedules : (flat : f.Flat) → IsAcceptedAs command_log (source_of input) flat → (lives : List (List ℕ)) → s.read (rest_of input) ≡ s.Lives lives →
       RunAnswer flat lives status output → SourceAnswer input status output
 
 -- ---- `compile`
 
 -- what a source is answered: the bytes of the object of a compilation
 pub data CompileAnswer (source : List ℕ) (status : ℕ) (output : List ℕ) : Type 0 where
-  uncompiled : (found : r.Rule) (place : Place) → IsRefusedBy source found place → IsRefusedAt 1 (code_of found) source place.0 status output →
+  uncompiled : (found : r.Rule) (place : Place) → IsRefusedAs command_log source found place → IsRefusedAt 1 (code_of found) source place.0 status output →
       CompileAnswer source status output
-  compiled : (flat : f.Flat) → IsAccepted source flat → (c : Translation) (is : IsTranslationOf flat c) → status ≡ 0 →
+  compiled : (flat : f.Flat) → IsAcceptedAs command_log source flat → (c : Translation) (is : IsTranslationOf flat c) → status ≡ 0 →
       output ≡ spelling (contents_of is.object) → CompileAnswer source status output
 
 -- ---- `regions`
 
 -- what a source is answered: the nodes of its graph, the boundaries of a compilation that are chosen among them, and, where that is asked, how few they are
 pub data RegionsAnswer (least : Bool) (source : List ℕ) (status : ℕ) (output : List ℕ) : Type 0 where
-  uncut : (found : r.Rule) (place : Place) → IsRefusedBy source found place → IsRefusedAt 1 (code_of found) source place.0 status output →
+  uncut : (found : r.Rule) (place : Place) → IsRefusedAs command_log source found place → IsRefusedAt 1 (code_of found) source place.0 status output →
       RegionsAnswer least source status output
-  cut : (flat : f.Flat) → IsAccepted source flat → (c : Translation) → IsTranslationOf flat c → status ≡ 0 →
+  cut : (flat : f.Flat) → IsAcceptedAs command_log source flat → (c : Translation) → IsTranslationOf flat c → status ≡ 0 →
       IsListing least source flat c.boundaries output → RegionsAnswer least source status output
 
 -- ---- `order`
 
 -- what a source is answered: that each thread locks its mutexes in the order in which they are declared, or the first `lock` that breaks it
 pub data OrderAnswer (source : List ℕ) (status : ℕ) (output : List ℕ) : Type 0 where
-  unlocked : (found : r.Rule) (place : Place) → IsRefusedBy source found place → IsRefusedAt 1 (code_of found) source place.0 status output →
+  unlocked : (found : r.Rule) (place : Place) → IsRefusedAs command_log source found place → IsRefusedAt 1 (code_of found) source place.0 status output →
       OrderAnswer source status output
-  unordered : (flat : f.Flat) → IsAccepted source flat → (fault : OrderFault) → order_fault flat ≡ Some fault → status ≡ 1 →
+  unordered : (flat : f.Flat) → IsAcceptedAs command_log source flat → (fault : OrderFault) → order_fault flat ≡ Some fault → status ≡ 1 →
       output ≡ line_after (codes "L7") source fault.place.0 fault.earlier.0 → OrderAnswer source status output
-  ordered : (flat : f.Flat) → IsAccepted source flat → order_fault flat ≡ None → status ≡ 0 → output ≡ line (codes "ordered") →
+  ordered : (flat : f.Flat) → IsAcceptedAs command_log source flat → order_fault flat ≡ None → status ≡ 0 → output ≡ line (codes "ordered") →
       OrderAnswer source status output
 
 -- ---- `play` and `image`
@@ -120,11 +120,12 @@ pub data OrderAnswer (source : List ℕ) (status : ℕ) (output : List ℕ) : Ty
 -- events
 pub data ScriptedAnswer (lives : Bool) (Says : Translation → List Event → (status : ℕ) → (output : List ℕ) → Type 0) (input : List ℕ) (status : ℕ)
     (output : List ℕ) : Type 0 where
-  unplayed : (found : r.Rule) (place : Place) → IsRefusedBy (source_of input) found place →
+  unplayed : (found : r.Rule) (place : Place) → IsRefusedAs command_log (source_of input) found place →
       IsRefusedAt 1 (code_of found) (source_of input) place.0 status output → ScriptedAnswer lives Says input status output
-  no_script : (flat : f.Flat) → IsAccepted (source_of input) flat → (x : e.Fault) → e.read command_log (length flat.threads) (rest_of input) ≡ e.Refused x →
+  no_script : (flat : f.Flat) → IsAcceptedAs command_log (source_of input) flat → (x : e.Fault) →
+      e.read command_log (length flat.threads) (rest_of input) ≡ e.Refused x →
       IsRefusedAt 6 (script_fault_code x) input (rest_begins input + script_fault_place x) status output → ScriptedAnswer lives Says input status output
-  of_script : (flat : f.Flat) → IsAccepted (source_of input) flat → (lines : List e.Line) →
+  of_script : (flat : f.Flat) → IsAcceptedAs command_log (source_of input) flat → (lines : List e.Line) →
       e.read command_log (length flat.threads) (rest_of input) ≡ e.Lines lines →
       (c : Translation) → IsTranslationOf flat c →
       ScriptAnswer c lives (Says c) (record { lines = lines; input = input; begins = rest_begins input }) status output →
@@ -142,11 +143,12 @@ ImageAnswer input status output = ScriptedAnswer false (IsImageAfter (source_of 
 
 -- what an input of a source and a script is answered
 pub data SweepAnswer (input : List ℕ) (status : ℕ) (output : List ℕ) : Type 0 where
-  unswept : (found : r.Rule) (place : Place) → IsRefusedBy (source_of input) found place →
+  unswept : (found : r.Rule) (place : Place) → IsRefusedAs command_log (source_of input) found place →
       IsRefusedAt 1 (code_of found) (source_of input) place.0 status output → SweepAnswer input status output
-  no_points : (flat : f.Flat) → IsAccepted (source_of input) flat → (x : e.Fault) → e.read command_log (length flat.threads) (rest_of input) ≡ e.Refused x →
+  no_points : (flat : f.Flat) → IsAcceptedAs command_log (source_of input) flat → (x : e.Fault) →
+      e.read command_log (length flat.threads) (rest_of input) ≡ e.Refused x →
       IsRefusedAt 6 (script_fault_code x) input (rest_begins input + script_fault_place x) status output → SweepAnswer input status output
-  of_points : (flat : f.Flat) → IsAccepted (source_of input) flat → (lines : List e.Line) →
+  of_points : (flat : f.Flat) → IsAcceptedAs command_log (source_of input) flat → (lines : List e.Line) →
       e.read command_log (length flat.threads) (rest_of input) ≡ e.Lines lines →
       (c : Translation) → IsTranslationOf flat c → SweptScript c (record { lines = lines; input = input; begins = rest_begins input }) status output →
       SweepAnswer input status output
@@ -155,9 +157,10 @@ pub data SweepAnswer (input : List ℕ) (status : ℕ) (output : List ℕ) : Typ
 
 -- what a source is answered: the report of a drawn run of it
 pub data SeededAnswer (seed turns : ℕ) (crashes : List ℕ) (source : List ℕ) (status : ℕ) (output : List ℕ) : Type 0 where
-  undrawn : (found : r.Rule) (place : Place) → IsRefusedBy source found place → IsRefusedAt 1 (code_of found) source place.0 status output →
+  undrawn : (found : r.Rule) (place : Place) → IsRefusedAs command_log source found place → IsRefusedAt 1 (code_of found) source place.0 status output →
       SeededAnswer seed turns crashes source status output
-  drawn : (flat : f.Flat) → IsAccepted source flat → (c : Translation) → IsTranslationOf flat c → IsRunBy c (drawn_by c seed turns crashes) status output →
+  drawn : (flat : f.Flat) → IsAcceptedAs command_log source flat → (c : Translation) → IsTranslationOf flat c →
+      IsRunBy c (drawn_by c seed turns crashes) status output →
       SeededAnswer seed turns crashes source status output
 
 -- ---- `live` and `load`
@@ -170,17 +173,17 @@ IsTold true source c events status output = (status ≡ 0) × (output ≡ journa
 -- what a source is answered, of a run of it on threads: for each crash word a leg and a crash, and a leg after them. The seed, where there is one, draws
 -- the evictions of all legs.
 pub data LiveAnswer (turns : ℕ) (crashes : List ℕ) (evict : Option ℕ) (journal : Bool) (source : List ℕ) (status : ℕ) (output : List ℕ) : Type 0 where
-  unrun : (found : r.Rule) (place : Place) → IsRefusedBy source found place → IsRefusedAt 1 (code_of found) source place.0 status output →
+  unrun : (found : r.Rule) (place : Place) → IsRefusedAs command_log source found place → IsRefusedAt 1 (code_of found) source place.0 status output →
       LiveAnswer turns crashes evict journal source status output
-  ran : (flat : f.Flat) → IsAccepted source flat → (c : Translation) → IsTranslationOf flat c → (events : List Event) →
+  ran : (flat : f.Flat) → IsAcceptedAs command_log source flat → (c : Translation) → IsTranslationOf flat c → (events : List Event) →
       AreLegs (beginning c) turns (evictions_by c evict) crashes [] events → IsTold journal source c events status output →
       LiveAnswer turns crashes evict journal source status output
 
 -- what is answered of the source that two numbers give, and of a run of it on threads
 pub data LoadAnswer (rounds seed : ℕ) (status : ℕ) (output : List ℕ) : Type 0 where
-  unloaded : (found : r.Rule) (place : Place) → IsRefusedBy (generated_source rounds seed) found place →
+  unloaded : (found : r.Rule) (place : Place) → IsRefusedAs command_log (generated_source rounds seed) found place →
       IsRefusedAt 1 (code_of found) (generated_source rounds seed) place.0 status output → LoadAnswer rounds seed status output
-  loaded : (flat : f.Flat) → IsAccepted (generated_source rounds seed) flat → (c : Translation) → IsTranslationOf flat c → (events : List Event) →
+  loaded : (flat : f.Flat) → IsAcceptedAs command_log (generated_source rounds seed) flat → (c : Translation) → IsTranslationOf flat c → (events : List Event) →
       IsLoadedRun (beginning c) events → IsSummaryOf c events status output → LoadAnswer rounds seed status output
 
 -- ---- `recover`

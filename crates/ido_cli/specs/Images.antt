@@ -3,7 +3,7 @@ use Rattle.std.specs.Prelude.{◌≡◌, ℕ, List}
 use Rattle.ido_base.specs.declared.event.Event.{Event}
 use Rattle.compiler_correctness.specs.Translations.{Translation}
 use Rattle.crash_images.specs.ImageDecoder.{IsReadAs}
-use Rattle.crash_images.specs.declared.version.ImageVersion.TheVariants.{First}
+use Rattle.crash_images.specs.declared.version.ImageVersion.TheVariants.{Third}
 use Rattle.image_checks.specs.RunImages.{left_by, file_contents, file_text}
 
 -- status 0, and the bytes of the file that a crash after the events would leave
@@ -11,4 +11,4 @@ pub record IsImageAfter (source : List ℕ) (c : Translation) (events : List Eve
   pub status_is : status ≡ 0
   pub output_is : output ≡ file_text source c (left_by c events)
   -- they are read as what they spell
-  pub read_as : IsReadAs First (file_contents source c (left_by c events)) output
+  pub read_as : IsReadAs Third (file_contents source c (left_by c events)) output

@@ -6,17 +6,17 @@ use Rattle.c_tree.specs.Flats.{Flat, flat_of}
 use Rattle.rv64_isa.specs.declared.object.Object.{Object}
 use Rattle.rv64_isa.specs.declared.object.Marks.{Marks}
 use Rattle.flow_graph.specs.declared.cuts.Cuts.{Cuts}
-use Rattle.flow_graph.specs.Refusals.{IsAccepted}
+use Rattle.ido_compile.specs.LoggedTexts.{IsAcceptedAs}
 use Rattle.compiler_correctness.specs.Images as left
 use Rattle.compiler_correctness.specs.Translations.{Translation, translation_to}
-use Rattle.flat_compile.specs.TranslatedForms.{IsTranslated}
+use Rattle.flat_compile.specs.TranslatedForms.{IsTranslated, command_log}
 use Rattle.ido_compile.specs.declared.compiler.Compiled.{Compiled}
 use Rattle.ido_compile.specs.CompileAnswers.{IsCompiledAs, translation_in}
 use Rattle.crash_images.specs.ImageDecoder.{IsReadAs}
-use Rattle.crash_images.specs.declared.version.ImageVersion.TheVariants.{First, Third}
+use Rattle.crash_images.specs.declared.version.ImageVersion.TheVariants.{Third}
 use Rattle.image_checks.specs.declared.error.ImageError.{ImageError}
 use Rattle.image_checks.specs.declared.error.ImageError.TheVariants as e
-use Rattle.ido_base.specs.declared.log.Log.TheVariants.{V1}
+use Rattle.ido_base.specs.declared.log.Log.TheVariants.{V2}
 use Rattle.image_checks.specs.Checks.{IsThreadFault}
 use Rattle.image_checks.specs.Logs.{logs_of}
 use Rattle.image_checks.specs.RunImages.{left_by, file_contents, file_state}
@@ -28,18 +28,19 @@ use Rattle.run_tracker.specs.links.EarlierLives.{lives_in}
 -- where bytes spell the file of a run of the translation
 pub data IsReadAgain (source : List ℕ) (c : Translation) (file : left.Image) : Result Image ImageError → Type 0 where
   -- the source is compiled again, and the words and the schedules are the file's
-  again : (image : Image) → IsCompiledAs V1 source image.compiled → image.words.items ≡ file.words →
+  again : (image : Image) → IsCompiledAs V2 source image.compiled → image.words.items ≡ file.words →
       all_lives (lives_in image.lives.earlier.items image.lives.schedule.items) ≡ all_lives file.kept → IsReadAgain source c file (Ok image)
   -- the source is compiled to another translation, and a thread can't be resumed by its places
-  elsewhere : (d : Compiled) (error : ImageError) → IsCompiledAs V1 source d → translation_in d ≢ c →
-      IsThreadFault (flat_of d.flat).variables d.translated.resumes.items (logs_of V1 (file_state c file).logs) error → IsReadAgain source c file (Err error)
+  elsewhere : (d : Compiled) (error : ImageError) → IsCompiledAs V2 source d → translation_in d ≢ c →
+      IsThreadFault (flat_of d.flat).variables d.translated.resumes.items (logs_of V2 (file_state c file).logs) error → IsReadAgain source c file (Err error)
   -- want of memory tells nothing
   no_memory : IsReadAgain source c file (Err e.Memory)
 
 -- the file of a run in its first life is read as what it is, or memory runs out, where the source is compiled to the same translation again
 abbrev pub RunImagesAreRead : Type 0
 RunImagesAreRead = (source bytes : List ℕ) (flat : Flat) (object : Object) (marks : Marks) (cuts : Cuts) (events : List Event)
-    (answer : Result Image ImageError) → IsAccepted source flat → IsTranslated flat object marks cuts → let c = translation_to flat object marks cuts in
+    (answer : Result Image ImageError) → IsAcceptedAs command_log source flat → IsTranslated flat object marks cuts →
+        let c = translation_to flat object marks cuts in
     (left_by c events).kept.earlier ≡ [] → length (left_by c events).kept.schedule ≤ MOST_STEPS →
-    IsReadAs First (file_contents source c (left_by c events)) bytes → IsImageAnswer Third bytes answer →
+    IsReadAs Third (file_contents source c (left_by c events)) bytes → IsImageAnswer Third bytes answer →
     IsReadAgain source c (left_by c events) answer

@@ -4,7 +4,7 @@ use Rattle.ido_base.specs.declared.event.Event.{Event}
 use Rattle.ido_base.specs.Cores.{IsValidNow}
 use Rattle.ido_base.specs.declared.limits.TheConstants.{MOST_EVENTS}
 use Rattle.c_tree.specs.Flats.{Flat}
-use Rattle.flow_graph.specs.Refusals.{IsAccepted}
+use Rattle.ido_compile.specs.LoggedTexts.{IsAcceptedAs}
 use Rattle.flat_compile.specs.TranslatedForms.{command_log}
 use Rattle.compiler_correctness.specs.Translations.{Translation}
 use Rattle.run_scripts.specs.Journals.{ends_line, journal_text}
@@ -71,7 +71,7 @@ pub data IsUncompiled (c : Option Command) (input : List ℕ) (status : ℕ) : T
   plain : IsPlain c → IsUncompiled c input status
   past : (d : Command) → c ≡ Some d → IsPastLimits d input → IsUncompiled c input status
   breaks_rule : status ≡ 1 → IsUncompiled c input status
-  misspelled : TakesScript c → (flat : Flat) → IsAccepted (source_of input) flat → (x : Fault) →
+  misspelled : TakesScript c → (flat : Flat) → IsAcceptedAs command_log (source_of input) flat → (x : Fault) →
       read command_log (length flat.threads) (rest_of input) ≡ Refused x →
       IsUncompiled c input status
 
@@ -83,7 +83,8 @@ OneAnswer = (words : List (List ℕ)) (input : List ℕ) (status other : ℕ) (o
 -- what `image` writes of events of a source's translation, none of them a start, `recover` reads as what they left
 abbrev pub RunsAreRecovered : Type 0
 RunsAreRecovered = (source image : List ℕ) (flat : Flat) (c : Translation) (before : List Event) (turns status answer : ℕ) (output : List ℕ) →
-    IsAccepted source flat → IsTranslationOf flat c → HaveNoStart before → length before ≤ MOST_EVENTS → IsImageAfter source c before status image →
+    IsAcceptedAs command_log source flat → IsTranslationOf flat c → HaveNoStart before → length before ≤ MOST_EVENTS →
+        IsImageAfter source c before status image →
     RecoverAnswer turns image answer output → IsRecoveredRun source c before turns answer output
 
 -- What `upgrade` writes of an image that a run of the translation to which its source is compiled has left, is recovered as what it is: with no turn more the
@@ -102,7 +103,8 @@ pub record IsAlone (source : List ℕ) : Type 0 where
 
 -- a journal of events of such a source, whose starts each of its translations may make, is answered by `play` with what is said of these events
 abbrev pub JournalsArePlayed : Type 0
-JournalsArePlayed = (source : List ℕ) (events : List Event) (flat : Flat) (status : ℕ) (output : List ℕ) → IsAlone source → IsAccepted source flat →
+JournalsArePlayed = (source : List ℕ) (events : List Event) (flat : Flat) (status : ℕ) (output : List ℕ) → IsAlone source →
+    IsAcceptedAs command_log source flat →
     length events ≤ MOST_EVENTS → All (IsValidNow (length flat.threads) (IsEviction command_log (length flat.threads)) true) events →
     ((c : Translation) → IsTranslationOf flat c → MayStart living (beginning c) events) →
     PlayAnswer (journal_text source events) status output → (c : Translation) × IsTranslationOf flat c × IsRunBy c events status output

@@ -4,8 +4,8 @@ ghost use Rattle.ido_base.specs.declared.limits.TheConstants.{MOST_SOURCE_BYTES,
 ghost use Rattle.crash_images.specs.Contents.{contents, most_logs};
 ghost use Rattle.crash_images.specs.ImageDecoder.{IsReadAs};
 ghost use Rattle.crash_images.specs.ImageEncoder.{spelling};
-ghost use Rattle.crash_images.specs.declared.version.ImageVersion.TheVariants.{First};
-ghost use Rattle.ido_base.specs.declared.log.Log.TheVariants.{V1};
+ghost use Rattle.crash_images.specs.declared.version.ImageVersion.TheVariants.{Third};
+ghost use Rattle.ido_base.specs.declared.log.Log.TheVariants.{V2};
 ghost use Rattle.run_scripts.specs.links.ReportViews.{steps_of};
 ghost use Rattle.run_tracker.specs.ObjectLives.{left_words, steps_in, variable_words_in, world_of};
 
@@ -27,8 +27,8 @@ pub fn only(alloc: Global, schedule: &[u32]) -> Result<Vec<Vec<u32>>, OutOfMemor
     Ok(schedules)
 }
 
-/// The image, of version 1, that a crash would leave now of the life of a source's object.
-#[tactic(auto, using(crate::proofs::SameContents::read_as_same))]
+/// The image, of version 3, that a crash would leave now of the life of a source's object.
+#[tactic(auto, using(crate::proofs::SameContents::third_as_same))]
 pub fn image(
     alloc: Global,
     source: &[u8],
@@ -39,22 +39,22 @@ pub fn image(
     requires variables { variable_words_in life.now ≤ VARIABLE_WORDS }
     requires object { variable_words_in life.now ≡ length object.now.initial.items / 8 }
     requires within { variable_words_in life.now ≤ length (left_words (variable_words_in life.now) (world_of life.now).words) }
-    requires logs { length (left_words (variable_words_in life.now) (world_of life.now).words) ≤ variable_words_in life.now + most_logs V1 }
+    requires logs { length (left_words (variable_words_in life.now) (world_of life.now).words) ≤ variable_words_in life.now + most_logs V2 }
     requires schedule { length (steps_in life.now).kept ≤ MOST_STEPS }
     ensures status { IfOk result (λ said. said.status ≡ 0) }
     ensures output { IfOk result (λ said.
         let words = left_words (variable_words_in life.now) (world_of life.now).words in
-        said.output.items ≡ spelling First (contents source.now
+        said.output.items ≡ spelling Third (contents source.now
         (take (variable_words_in life.now) words) (drop (variable_words_in life.now) words) ((steps_in life.now).kept ∷ []))) }
     // It is read again.
     ensures again { IfOk result (λ said.
         let words = left_words (variable_words_in life.now) (world_of life.now).words in
-        IsReadAs First (contents source.now
+        IsReadAs Third (contents source.now
         (take (variable_words_in life.now) words) (drop (variable_words_in life.now) words) ((steps_in life.now).kept ∷ [])) said.output.items) }
 {
     let words = life.durable_words(alloc)?;
     let (variables, logs) = words.split_at(object.initial.len() / 8);
     let schedules = only(alloc, life.kept())?;
-    let output = write_image(alloc, Log::V1, source, variables, logs, &schedules)?;
+    let output = write_image(alloc, Log::V2, source, variables, logs, &schedules)?;
     Ok(Said { status: 0, output })
 }

@@ -7,10 +7,8 @@ ghost use Rattle.ido_cli.specs.Laws.{JournalsArePlayed, OneAnswer, RunsAreRecove
 use compiler_correctness::laws::machines_record;
 use crash_simulation::laws::machines_resume;
 use deadlock_freedom::laws::none_deadlocks;
-use ido_compile::forms::{flattened_is_formed, flattened_is_plain};
 use ido_compile::laws::{files_begin, one_verdict};
 use image_checks::laws::runs_leave_no_fault;
-use lock_discipline::laws::walk_is_discipline;
 use run_scripts::laws::journals_are_played_back;
 use run_tracker::life::Life;
 use source_machine::laws::lives_stop_once;
@@ -49,9 +47,6 @@ pub fn ordered_lives_go_on()
 pub fn run_images_are_read()
     ensures { RunImagesAreRead }
 {
-    walk_is_discipline();
-    flattened_is_formed();
-    flattened_is_plain();
     one_verdict();
     machines_resume();
     machines_record();
@@ -71,9 +66,6 @@ pub fn runs_are_recovered()
 pub fn upgrades_are_recovered()
     ensures { UpgradesAreRecovered }
 {
-    walk_is_discipline();
-    flattened_is_formed();
-    flattened_is_plain();
     one_verdict();
 }
 

@@ -2,7 +2,8 @@
 ghost use Rattle.std.specs.Prelude.{◌≡◌, ◌≤◌, codes, length, IfOk};
 ghost use Rattle.ido_base.specs.declared.limits.TheConstants.{MOST_SOURCE_BYTES};
 ghost use Rattle.c_tree.specs.Flats.{flat_of};
-ghost use Rattle.flow_graph.specs.Refusals.{IsAccepted};
+ghost use Rattle.ido_compile.specs.LoggedTexts.{IsAcceptedAs};
+ghost use Rattle.flat_compile.specs.TranslatedForms.{command_log};
 ghost use Rattle.run_scripts.specs.Reports.{line};
 ghost use Rattle.ido_cli.specs.Answers.{OrderAnswer};
 
@@ -29,7 +30,7 @@ fn in_order(alloc: Global) -> Result<Said, OutOfMemory>
 /// What is said of the order in which a flat form locks.
 fn flat_order(alloc: Global, source: &[u8], flat: &Flat) -> Result<Said, OutOfMemory>
     requires { length source.now ≤ MOST_SOURCE_BYTES }
-    ensures { IfOk result (λ said. IsAccepted source.now (flat_of flat.now) → OrderAnswer source.now said.status said.output.items) }
+    ensures { IfOk result (λ said. IsAcceptedAs command_log source.now (flat_of flat.now) → OrderAnswer source.now said.status said.output.items) }
 {
     match ordered(alloc, flat) {
         Ok(()) => in_order(alloc),

@@ -258,7 +258,7 @@ fn source_regions(alloc: Global, source: &[u8], least: bool) -> Result<Vec<u8>, 
     translations_are_compilations();
     let flat = flatten(alloc, source)?;
     let analysis = checked(alloc, source, &flat)?;
-    let translated = translate(alloc, Log::V1, &analysis)?;
+    let translated = translate(alloc, Log::V2, &analysis)?;
     let stretches = told(alloc, &analysis.graph, least)?;
     let output = regions(alloc, source, &analysis, &translated.cuts, &stretches)?;
     Ok(output)

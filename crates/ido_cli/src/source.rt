@@ -1,7 +1,8 @@
 //! The command `source`: the source's own run.
 ghost use Rattle.std.specs.Prelude.{◌≡◌, ◌+◌, ◌-◌, ◌<◌, ◌≤◌, ◌^◌, ℕ, length, map, sum_by, take, drop, IfOk, IfSome, IsSome};
 ghost use Rattle.ido_base.specs.declared.limits.TheConstants.{MOST_INPUT_BYTES, MOST_SOURCE_BYTES, MOST_STEPS, MOST_THREADS};
-ghost use Rattle.flow_graph.specs.Refusals.{IsAccepted};
+ghost use Rattle.ido_compile.specs.LoggedTexts.{IsAcceptedAs};
+ghost use Rattle.flat_compile.specs.TranslatedForms.{command_log};
 ghost use Rattle.c_tree.specs.Flats.{flat_of};
 ghost use Rattle.c_tree.specs.Programs.{variable_of};
 ghost use Rattle.c_tree.specs.Source as m;
@@ -175,7 +176,7 @@ fn flat_answer(alloc: Global, flat: &Flat, input: &[u8], rest: &[u8]) -> Result<
     requires few { length flat.now.threads.items ≤ MOST_THREADS }
     requires short { length input.now ≤ MOST_INPUT_BYTES }
     requires rest { rest.now ≡ rest_of input.now }
-    ensures { IfOk result (λ said. IsAccepted (source_of input.now) (flat_of flat.now) → SourceAnswer input.now said.status said.output.items) }
+    ensures { IfOk result (λ said. IsAcceptedAs command_log (source_of input.now) (flat_of flat.now) → SourceAnswer input.now said.status said.output.items) }
 {
     match read_schedule(alloc, rest) {
         Ok(lives) => run_answer(alloc, flat, lives),

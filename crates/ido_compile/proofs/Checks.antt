@@ -14,7 +14,8 @@ use Rattle.c_tree.specs.Elaboration.{program_from, typed_program}
 use Rattle.c_tree.specs.declared.rule.Rule as r
 use Rattle.c_tree.specs.declared.rule.Rule.TheVariants as rule
 use Rattle.c_tree.specs.declared.flat.Flat.{Flat}
-use Rattle.flow_graph.specs.Refusals.{IsAccepted}
+use Rattle.ido_base.specs.declared.log.Log.{Log}
+use Rattle.ido_compile.specs.LoggedTexts.{IsAcceptedAs}
 
 no_prefix : {X : Type 0} (xs ys : List X) → xs ++ ys ≡ [] → xs ≡ []
 no_prefix [] ys h = refl
@@ -53,9 +54,9 @@ flat_count : (x : p.Program) → length (flat_form x).threads ≡ length x.threa
 unfolding flat_form
 flat_count x = length-map x.threads (flat_thread x.functions)
 
-pub few_accepted : (text : List ℕ) (flat : f.Flat) → IsAccepted text flat → length flat.threads ≤ 8
-few_accepted text flat is =
-    let flattened = is.checked.flattened in
+pub few_accepted : (log : Log) (text : List ℕ) (flat : f.Flat) → IsAcceptedAs log text flat → length flat.threads ≤ 8
+few_accepted log text flat is =
+    let flattened = is.form in
     let it = flattened.ranged.typed in
     let a = few_of it.items it.faultless in
     let b = ap (λ (q : p.Program). length q.threads) it.typed in
@@ -63,7 +64,7 @@ few_accepted text flat is =
     let d = ap (λ (y : f.Flat). length y.threads) flattened.flattened in
     omega (arith, a, b, c, d)
 
-pub few_threads : (text : List ℕ) (flat : Flat) → IsAccepted text (flat_of flat) → length flat.threads.items ≤ 8
-few_threads text flat is =
-    let few = few_accepted text (flat_of flat) is in
+pub few_threads : (log : Log) (text : List ℕ) (flat : Flat) → IsAcceptedAs log text (flat_of flat) → length flat.threads.items ≤ 8
+few_threads log text flat is =
+    let few = few_accepted log text (flat_of flat) is in
     omega (arith, few, length-map flat.threads.items f.thread_of)

@@ -1,8 +1,7 @@
 -- Texts that are compiled for a log.
 use Rattle.std.proofs.Common.{◌≡◌, refl, ℕ, List, IfSome}
-use Rattle.std.specs.Prelude.{All, Err}
+use Rattle.std.specs.Prelude.{Err}
 use Rattle.ido_base.specs.declared.log.Log.{Log}
-use Rattle.ido_base.specs.declared.log.Log.TheVariants.{V1}
 use Rattle.ido_base.specs.declared.place.Place.{Place}
 use Rattle.c_tree.specs.declared.language.Language.TheVariants.{Plain}
 use Rattle.c_tree.specs.AcceptedTexts.{IsTyped, IsRanged, IsFlattened}
@@ -22,25 +21,16 @@ use Rattle.c_ranges.specs.declared.checking.RangeError.TheVariants as range
 use Rattle.c_inline.specs.Inline.{IsInlining}
 use Rattle.c_inline.specs.declared.inline.InlineError as inline
 use Rattle.c_inline.specs.declared.inline.InlineError.TheVariants as inline_error
-use Rattle.c_tree.specs.AcceptedTexts as accepted
-use Rattle.flow_graph.specs.Refusals.{IsAccepted, IsRefusedBy}
-use Rattle.flow_graph.specs.Refusals as plain
 use Rattle.flat_analysis.specs.CompilableForms.{IsAcceptedForm, IsFormRefusal, IsRefusedForm}
 use Rattle.flat_analysis.specs.CompilableForms as form
 use Rattle.ido_compile.proofs.PlainPrices.{plain_price}
 use Rattle.thread_code.specs.Plans.{language_of}
-use Rattle.lock_discipline.specs.Discipline.{WalkIsDiscipline}
-use Rattle.lock_discipline.specs.HeldSetsByStep.{HoldsFew}
-use Rattle.lock_discipline.proofs.Public.{well_formed_has_names}
 use Rattle.ido_compile.specs.CompileAnswers.{IsCompileAnswerAs}
-use Rattle.ido_compile.specs.FormLaws.{FlattenedIsFormed, FlattenedIsPlain}
 use Rattle.ido_compile.specs.LoggedTexts.{IsAcceptedAs, IsFlattenedAs, IsRefusedAs}
 use Rattle.ido_compile.specs.LoggedTexts as logged
 use Rattle.ido_compile.specs.links.FrontEndAnswers.{IsRefusalAs, of_range, of_inline, of_source}
 use Rattle.ido_compile.specs.declared.error.CompileError.{CompileError}
 use Rattle.ido_compile.specs.declared.error.CompileError.TheVariants as error
-
--- ---- What is accepted for a log is accepted without lists of locks
 
 pub as_flattened : (log : Log) (text : List ℕ) (flat : f.Flat) → IsFlattenedAs log text flat → IsFlattened Plain text flat
 as_flattened log text flat is = record {
@@ -50,23 +40,6 @@ as_flattened log text flat is = record {
   short = plain_price (language_of log) (flat_form is.program) is.short;
   flattened = is.flattened;
 }
-
-none_too_many : (x : f.Flat) → All (HoldsFew Plain x) x.threads
-none_too_many x k d within = λ n held before. refl
-
-pub as_accepted : WalkIsDiscipline → FlattenedIsFormed → FlattenedIsPlain → (log : Log) (text : List ℕ) (flat : f.Flat) → IsAcceptedAs log text flat →
-    IsAccepted text flat
-as_accepted walk formed are_plain log text flat is =
-    let flattened = as_flattened log text flat is.form in
-    let names = well_formed_has_names flat (formed text flat flattened) (are_plain text flat flattened) in
-    record {
-      checked = record {
-        flattened = flattened;
-        disciplined = (walk Plain flat).0 ((walk (language_of log) flat).1 names is.disciplined).0 (none_too_many flat);
-      };
-      room = is.room;
-      shallow = is.shallow;
-    }
 
 -- ---- Refusals
 
@@ -106,18 +79,3 @@ module _ (log : Log) (text : List ℕ) where
   pub not_compiled : (x : CompileError) → IsRefusalAs log text x → IsCompileAnswerAs log text (Err x)
   not_compiled (error.Refused x) h = h
   not_compiled error.Memory h = tt
-
--- ---- Without lists of locks the rules are those of the plain language
-
-pub as_refused : (text : List ℕ) (found : Rule) (place : Place) → IsRefusedAs V1 text found place → IsRefusedBy text found place
-as_refused text found place (logged.unread h) = plain.faulty (accepted.unread h)
-as_refused text found place (logged.mistyped items is h) = plain.faulty (accepted.mistyped items is h)
-as_refused text found place (logged.outside x is h) = plain.faulty (accepted.outside x is h)
-as_refused text found place (logged.leads_back x is h rule_is) = plain.faulty (accepted.leads_back x is h rule_is)
-as_refused text found place (logged.too_long x is ends h rule_is) = plain.faulty (accepted.too_long x is ends h rule_is)
-as_refused text found place (logged.undisciplined flat x is h rule_is place_is) =
-    plain.faulty (accepted.undisciplined flat x (as_flattened V1 text flat is) h rule_is place_is)
-as_refused text found place (logged.crowded flat wanted is locks h rule_is) =
-    plain.crowded flat wanted (record { flattened = as_flattened V1 text flat is; disciplined = locks }) h rule_is
-as_refused text found place (logged.too_deep flat is locks room h rule_is) =
-    plain.too_deep flat (record { flattened = as_flattened V1 text flat is; disciplined = locks }) room h rule_is

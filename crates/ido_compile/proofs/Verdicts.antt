@@ -3,8 +3,7 @@ use Rattle.std.proofs.Common.{◌≡◌, refl, ℕ, ◌<◌, ◌≤◌, List, []
 use Rattle.ido_base.specs.declared.place.Place.{Place}
 use Rattle.c_tree.specs.declared.language.Language.{Language}
 use Rattle.c_tree.specs.declared.language.Language.TheVariants.{Plain}
-use Rattle.c_tree.specs.AcceptedTexts.{HasNoBack, IsTyped, IsRanged, IsFlattened, IsChecked, IsFaulty}
-use Rattle.c_tree.specs.AcceptedTexts.{unread, mistyped, outside, leads_back, too_long, undisciplined}
+use Rattle.c_tree.specs.AcceptedTexts.{HasNoBack, IsTyped, IsRanged}
 use Rattle.c_tree.specs.Flats as f
 use Rattle.c_tree.specs.Inlining.{IsFirstBack, flat_form}
 use Rattle.c_tree.specs.LockDiscipline as l
@@ -26,7 +25,6 @@ use Rattle.c_typer.specs.Laws.{OneFirst}
 use Rattle.flow_graph.specs.Liveness.{NodeAt, HasRoom, IsFirstCrowded}
 use Rattle.flow_graph.specs.Lowering.{lowered}
 use Rattle.flow_graph.specs.Nodes.{Node, Graph}
-use Rattle.flow_graph.specs.Refusals.{IsAccepted, IsRefusedBy, faulty, crowded, too_deep}
 use Rattle.ido_base.specs.declared.log.Log.{Log}
 use Rattle.thread_code.specs.Plans.{language_of}
 use Rattle.ido_compile.specs.LoggedTexts as logged
@@ -214,32 +212,6 @@ typed_then lang text x v is by = tree is.items is.read (passes is.faultless (sub
 ranged_then : (lang : Language) (text : List ℕ) (x : p.Program) (v : Verdict) → IsRanged Plain text x → ByCalls lang x v → ByReading lang text v
 ranged_then lang text x v is by = typed_then lang text x v is.typed (passes (is.fits, is.never_null) by)
 
-flattened_then : (text : List ℕ) (flat : f.Flat) (v : Verdict) → IsFlattened Plain text flat → ByLocks Plain flat v → ByReading Plain text v
-flattened_then text flat v is by =
-    ranged_then Plain text is.program v is.ranged (passes is.ends (passes is.short (subst (λ y. ByLocks Plain y v) is.flattened by)))
-
-checked_then : (text : List ℕ) (flat : f.Flat) (v : Verdict) → IsChecked Plain text flat → ByRoom flat v → ByReading Plain text v
-checked_then text flat v is by = flattened_then text flat v is.flattened (passes is.disciplined by)
-
-accepted_by : (text : List ℕ) (flat : f.Flat) → IsAccepted text flat → ByReading Plain text (Accepted flat)
-accepted_by text flat is = checked_then text flat (Accepted flat) is.checked (passes is.room (passes is.shallow refl))
-
-faulty_by : (text : List ℕ) (found : r.Rule) (place : Place) → IsFaulty Plain text found place → ByReading Plain text (Refused found place)
-faulty_by text found place (unread is) = no_tree (found, place, is, refl)
-faulty_by text found place (mistyped xs is first) = tree xs is (stops (record { rule = found; place = place }, first, refl))
-faulty_by text found place (outside x is first) = typed_then Plain text x (Refused found place) is (stops (found, place, first, refl))
-faulty_by text found place (leads_back x is first e) = ranged_then Plain text x (Refused found place) is (stops (place, first, ap (λ y. Refused y place) e))
-faulty_by text found place (too_long x is ends long e) =
-    ranged_then Plain text x (Refused found place) is (passes ends (stops (place, long, ap (λ y. Refused y place) e)))
-faulty_by text found place (undisciplined flat x is broken e at) = flattened_then text flat (Refused found place) is (stops (x, broken, ap₂ Refused e at))
-
-refused_by : (text : List ℕ) (found : r.Rule) (place : Place) → IsRefusedBy text found place → ByReading Plain text (Refused found place)
-refused_by text found place (faulty is) = faulty_by text found place is
-refused_by text found place (crowded flat wanted is first e) =
-    checked_then text flat (Refused found place) is (stops (place, wanted, first, ap (λ y. Refused y place) e))
-refused_by text found place (too_deep flat is room deep e) =
-    checked_then text flat (Refused found place) is (passes room (stops (place, deep, ap (λ y. Refused y place) e)))
-
 -- ---- For a log, whose language says what locks and prices are
 
 logged_then : (log : Log) (text : List ℕ) (flat : f.Flat) (v : Verdict) → logged.IsFlattenedAs log text flat → ByLocks (language_of log) flat v →
@@ -283,23 +255,23 @@ module _ (one_tree : reader.OneTree) (one_refusal : reader.OneRefusal) (not_both
   one_by_reading lang text v w (tree xs read by) (tree ys also as_well) =
       one_by_types lang ys v w (subst (λ zs. ByTypes lang zs v) (one_tree Plain text xs ys read also) by) as_well
 
+  -- names and kinds are read in one way for all logs
   pub one_flat : laws.OneFlat
-  one_flat text x y is also =
-      let both : Accepted x ≡ Accepted y = one_by_reading Plain text (Accepted x) (Accepted y) (accepted_by text x is) (accepted_by text y also) in cc both
+  one_flat log other text x y is also =
+      let a = is.form.ranged.typed in
+      let b = also.form.ranged.typed in
+      let same : a.items ≡ b.items = one_tree Plain text a.items b.items a.read b.read in
+      is.form.flattened ∙ ap flat_form (a.typed ∙ (ap typed_program same ∙ sym b.typed)) ∙ sym also.form.flattened
 
   pub one_fault : laws.OneFault
-  one_fault text found other place elsewhere is also =
+  one_fault log text found other place elsewhere is also =
       let both : Refused found place ≡ Refused other elsewhere =
-      one_by_reading Plain text (Refused found place) (Refused other elsewhere) (refused_by text found place is) (refused_by text other elsewhere also) in
+      one_by_reading (language_of log) text (Refused found place) (Refused other elsewhere) (logged_refused log text found place is)
+      (logged_refused log text other elsewhere also) in
       (cc both, cc both)
 
   pub never_both : laws.NotBoth
-  never_both text x found place is also =
-      let both : Accepted x ≡ Refused found place =
-      one_by_reading Plain text (Accepted x) (Refused found place) (accepted_by text x is) (refused_by text found place also) in cc both
-
-  pub never_both_logged : laws.NotBothAs
-  never_both_logged log text x found place is also =
+  never_both log text x found place is also =
       let both : Accepted x ≡ Refused found place =
       one_by_reading (language_of log) text (Accepted x) (Refused found place) (logged_accepted log text x is) (logged_refused log text found place also) in
       cc both

@@ -6,10 +6,9 @@ use Rattle.c_tree.specs.WellFormed.{ArePlain}
 use Rattle.rv64_isa.specs.declared.object.Object.{Object}
 use Rattle.rv64_isa.specs.declared.object.Marks.{Marks}
 use Rattle.flow_graph.specs.declared.cuts.Cuts.{Cuts}
-use Rattle.flow_graph.specs.Refusals.{IsAccepted, IsRefusedBy}
 use Rattle.compiler_correctness.specs.Translations.{Translation, translation_to}
 use Rattle.compiler_correctness.specs.Compilations.{IsCompilation}
-use Rattle.flat_compile.specs.TranslatedForms.{IsTranslated, IsTranslatedAs, IsResumable, IsResumableAs}
+use Rattle.flat_compile.specs.TranslatedForms.{IsTranslatedAs, IsResumableAs, command_log}
 use Rattle.ido_compile.specs.declared.compiler.Compiled.{Compiled}
 use Rattle.ido_compile.specs.LoggedTexts.{IsAcceptedAs, IsRefusedAs}
 use Rattle.ido_compile.specs.declared.error.CompileError.{CompileError}
@@ -23,22 +22,14 @@ TranslationsAreCompilations = (log : Log) (flat : Flat) (object : Object) (marks
 abbrev pub translation_in : Compiled → Translation
 translation_in c = translation_to (flat_of c.flat) c.translated.object c.translated.marks c.translated.cuts
 
--- the text is accepted, what a machine runs is a translation of its flat form, and so it does what the source does, whatever happens
-pub record IsCompiled (text : List ℕ) (c : Compiled) : Type 0 where
-  pub text_is : c.text.items ≡ text
-  pub accepted : IsAccepted text (flat_of c.flat)
-  pub translated : IsTranslated (flat_of c.flat) c.translated.object c.translated.marks c.translated.cuts
-  -- of each thread it tells what it has where recovery may resume it
-  pub resumable : IsResumable (flat_of c.flat) c.translated.object c.translated.marks c.translated.cuts c.translated.resumes.items
-  pub compilation : IsCompilation (translation_in c)
-
--- of a text that is compiled for a log
+-- the text is accepted for the log, what a machine runs is a translation of its flat form, and so it does what the source does, whatever happens
 pub record IsCompiledAs (log : Log) (text : List ℕ) (c : Compiled) : Type 0 where
   pub text_is : c.text.items ≡ text
   pub accepted : IsAcceptedAs log text (flat_of c.flat)
   -- no mutex of it is in an array
   pub plain : ArePlain (flat_of c.flat).mutexes
   pub translated : IsTranslatedAs log (flat_of c.flat) c.translated.object c.translated.marks c.translated.cuts
+  -- of each thread it tells what it has where recovery may resume it
   pub resumable : IsResumableAs log (flat_of c.flat) c.translated.object c.translated.marks c.translated.cuts c.translated.resumes.items
   pub compilation : IsCompilation (translation_in c)
 
@@ -47,7 +38,10 @@ IsCompileAnswerAs log text (Ok c) = IsCompiledAs log text c
 IsCompileAnswerAs log text (Err (e.Refused x)) = IsRefusedAs log text x.rule x.place
 IsCompileAnswerAs log text (Err e.Memory) = Unit {0}
 
+-- ---- By commands
+
+abbrev pub IsCompiled : (text : List ℕ) → Compiled → Type 0
+IsCompiled text c = IsCompiledAs command_log text c
+
 abbrev pub IsCompileAnswer : (text : List ℕ) → Result Compiled CompileError → Type 0
-IsCompileAnswer text (Ok c) = IsCompiled text c
-IsCompileAnswer text (Err (e.Refused x)) = IsRefusedBy text x.rule x.place
-IsCompileAnswer text (Err e.Memory) = Unit {0}
+IsCompileAnswer text answer = IsCompileAnswerAs command_log text answer

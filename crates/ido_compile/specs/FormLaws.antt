@@ -9,7 +9,8 @@ use Rattle.c_tree.specs.Source.{Thread, start, after_from}
 use Rattle.c_tree.specs.WellFormed.{ArePlain, IsWellFormed}
 use Rattle.c_ranges.specs.RunInvariants.{IsStateOf, IsElement, IsNext, step_exprs, step_indexes}
 use Rattle.c_ranges.specs.Laws.{IsForeseen}
-use Rattle.flow_graph.specs.Refusals.{IsAccepted}
+use Rattle.ido_base.specs.declared.log.Log.{Log}
+use Rattle.ido_compile.specs.LoggedTexts.{IsAcceptedAs}
 
 -- the flat form of a text is well formed
 abbrev pub FlattenedIsFormed : Type 0
@@ -21,16 +22,18 @@ FlattenedIsPlain = (text : List ℕ) (flat : Flat) → IsFlattened Plain text fl
 
 -- values keep to their kinds in every run
 abbrev pub AcceptedRuns : Type 0
-AcceptedRuns = (text : List ℕ) (flat : Flat) (schedule : List ℕ) → IsAccepted text flat → IsStateOf flat (after_from (start flat) schedule)
+AcceptedRuns = (log : Log) (text : List ℕ) (flat : Flat) (schedule : List ℕ) → IsAcceptedAs log text flat → IsStateOf flat (after_from (start flat) schedule)
 
 -- every value that a step evaluates lies in its range
 abbrev pub AcceptedValues : Type 0
-AcceptedValues = (text : List ℕ) (flat : Flat) (schedule : List ℕ) (thread : ℕ) (it : Thread) (y : Statement) (rest : List Statement) → IsAccepted text flat →
+AcceptedValues = (log : Log) (text : List ℕ) (flat : Flat) (schedule : List ℕ) (thread : ℕ) (it : Thread) (y : Statement) (rest : List Statement) →
+    IsAcceptedAs log text flat →
     IsNext (after_from (start flat) schedule) thread it y rest →
     AllByRecursion (λ (z : Placed). IsForeseen it.locals (after_from (start flat) schedule).variables z.expr) (step_exprs y)
 
 -- no index that a step evaluates is out of range
 abbrev pub AcceptedIndexes : Type 0
-AcceptedIndexes = (text : List ℕ) (flat : Flat) (schedule : List ℕ) (thread : ℕ) (it : Thread) (y : Statement) (rest : List Statement) → IsAccepted text flat →
+AcceptedIndexes = (log : Log) (text : List ℕ) (flat : Flat) (schedule : List ℕ) (thread : ℕ) (it : Thread) (y : Statement) (rest : List Statement) →
+    IsAcceptedAs log text flat →
     IsNext (after_from (start flat) schedule) thread it y rest →
     AllByRecursion (IsElement flat.variables flat.mutexes it.locals (after_from (start flat) schedule).variables) (step_indexes y)

@@ -1,19 +1,18 @@
 //! Laws of what a text comes to: nothing is computed here.
 ghost use Rattle.ido_compile.specs.CompileAnswers.{TranslationsAreCompilations};
 ghost use Rattle.ido_compile.specs.Files.{FilesBegin};
-ghost use Rattle.ido_compile.specs.Verdicts.{NotBoth, NotBothAs, OneFault, OneFlat};
+ghost use Rattle.ido_compile.specs.Verdicts.{NotBoth, OneFault, OneFlat};
 
 use c_reader::laws::one_reading;
 use c_typer::laws::one_first;
 use compiler_correctness::laws::systems_are_compilations;
 
-/// A text is accepted with one flat form or refused by one rule, at one place, and never both; nor is it both for a log.
+/// For a log a text is accepted or refused by one rule, at one place, and never both; it has one flat form, for whichever logs it is accepted.
 /// That a text has one translation isn't said.
 pub fn one_verdict()
     ensures flat { OneFlat }
     ensures fault { OneFault }
     ensures not_both { NotBoth }
-    ensures logged { NotBothAs }
 {
     one_reading();
     one_first();

@@ -8,7 +8,7 @@ use Rattle.crash_images.specs.Contents.{Contents, State, contents}
 use Rattle.rv64_isa.specs.Schedule.{all_lives}
 use Rattle.run_scripts.specs.Runs.{runs_of}
 use Rattle.crash_images.specs.ImageEncoder.{spelling}
-use Rattle.crash_images.specs.declared.version.ImageVersion.TheVariants.{First}
+use Rattle.crash_images.specs.declared.version.ImageVersion.TheVariants.{Third}
 
 -- what a crash after the events leaves: the durable words of the variables and of the logs, and the kept steps
 abbrev pub left_by : Translation → List Event → left.Image
@@ -19,7 +19,7 @@ abbrev pub file_contents : (source : List ℕ) → Translation → (file : left.
 file_contents source c file = contents source (take (variable_words c) file.words) (drop (variable_words c) file.words) (file.kept.schedule ∷ [])
 
 abbrev pub file_text : (source : List ℕ) → Translation → (file : left.Image) → List ℕ
-file_text source c file = spelling First (file_contents source c file)
+file_text source c file = spelling Third (file_contents source c file)
 
 -- what stands after the source, of all lives
 abbrev pub file_state : Translation → (file : left.Image) → State

@@ -1,8 +1,6 @@
 -- What is answered to a text: its flat form, or the first rule that it breaks.
 use Rattle.std.specs.Prelude.{ℕ, List, Result, Ok, Err}
 use Rattle.ido_base.specs.declared.log.Log.{Log}
-use Rattle.c_tree.specs.declared.language.Language.TheVariants.{Plain}
-use Rattle.c_tree.specs.AcceptedTexts.{IsFlattened}
 use Rattle.c_tree.specs.Flats as f
 use Rattle.c_tree.specs.Flats.{flat_of}
 use Rattle.c_tree.specs.declared.flat.Flat.{Flat}
@@ -15,54 +13,44 @@ use Rattle.c_ranges.specs.declared.checking.RangeError.{RangeError}
 use Rattle.c_ranges.specs.declared.checking.RangeError.TheVariants as range
 use Rattle.c_inline.specs.declared.inline.InlineError as inline
 use Rattle.c_inline.specs.declared.inline.InlineError.TheVariants as inline_error
-use Rattle.flow_graph.specs.Refusals.{IsAccepted, IsRefusedBy}
 use Rattle.flat_analysis.specs.declared.analyses.Analysis.{Analysis}
 use Rattle.flat_compile.specs.declared.compile.Translated.{Translated}
 use Rattle.flat_analysis.specs.Analyses.{IsAnalysis}
-use Rattle.flat_compile.specs.TranslatedForms.{IsTranslated, IsTranslatedAs, IsResumable, IsResumableAs}
+use Rattle.flat_compile.specs.TranslatedForms.{IsTranslatedAs, IsResumableAs, command_log}
+use Rattle.thread_code.specs.Plans.{language_of}
 use Rattle.ido_compile.specs.LoggedTexts.{IsAcceptedAs, IsFlattenedAs, IsRefusedAs}
 use Rattle.ido_compile.specs.declared.error.CompileError.{CompileError}
 use Rattle.ido_compile.specs.declared.error.CompileError.TheVariants as e
 
 -- the text is refused; want of memory may come at any time
-abbrev pub IsRefusal : (text : List ℕ) → CompileError → Type 0
-IsRefusal text (e.Refused x) = IsRefusedBy text x.rule x.place
-IsRefusal text e.Memory = Unit {0}
-
-abbrev pub IsFrontAnswer : (text : List ℕ) → Result Flat CompileError → Type 0
-IsFrontAnswer text (Ok flat) = IsAccepted text (flat_of flat)
-IsFrontAnswer text (Err x) = IsRefusal text x
-
--- by the checks up to the flat form
-abbrev pub IsFlatAnswer : (text : List ℕ) → Result Flat CompileError → Type 0
-IsFlatAnswer text (Ok flat) = IsFlattened Plain text (flat_of flat)
-IsFlatAnswer text (Err x) = IsRefusal text x
-
--- by the checks of the flat form
-abbrev pub IsAnalysisAnswer : (text : List ℕ) → f.Flat → Result Analysis CompileError → Type 0
-IsAnalysisAnswer text flat (Ok a) = IsAccepted text flat × IsAnalysis Plain a
-IsAnalysisAnswer text flat (Err x) = IsRefusal text x
-
--- what a machine runs for the flat form
-abbrev pub IsTranslationAnswer : (text : List ℕ) → f.Flat → Result Translated CompileError → Type 0
-IsTranslationAnswer text flat (Ok t) =
-    IsAccepted text flat × (IsTranslated flat t.object t.marks t.cuts × IsResumable flat t.object t.marks t.cuts t.resumes.items)
-IsTranslationAnswer text flat (Err x) = IsRefusal text x
-
--- ---- Of a text that is compiled for a log
-
 abbrev pub IsRefusalAs : Log → (text : List ℕ) → CompileError → Type 0
 IsRefusalAs log text (e.Refused x) = IsRefusedAs log text x.rule x.place
 IsRefusalAs log text e.Memory = Unit {0}
 
+-- by the checks up to the flat form
 abbrev pub IsFlatAnswerAs : Log → (text : List ℕ) → Result Flat CompileError → Type 0
 IsFlatAnswerAs log text (Ok flat) = IsFlattenedAs log text (flat_of flat)
 IsFlatAnswerAs log text (Err x) = IsRefusalAs log text x
 
+-- by the checks of the flat form
+abbrev pub IsAnalysisAnswerAs : Log → (text : List ℕ) → f.Flat → Result Analysis CompileError → Type 0
+IsAnalysisAnswerAs log text flat (Ok a) = IsAcceptedAs log text flat × IsAnalysis (language_of log) a
+IsAnalysisAnswerAs log text flat (Err x) = IsRefusalAs log text x
+
+-- what a machine runs for the flat form
 abbrev pub IsTranslationAnswerAs : Log → (text : List ℕ) → f.Flat → Result Translated CompileError → Type 0
 IsTranslationAnswerAs log text flat (Ok t) =
     IsAcceptedAs log text flat × (IsTranslatedAs log flat t.object t.marks t.cuts × IsResumableAs log flat t.object t.marks t.cuts t.resumes.items)
 IsTranslationAnswerAs log text flat (Err x) = IsRefusalAs log text x
+
+-- ---- By commands
+
+abbrev pub IsRefusal : (text : List ℕ) → CompileError → Type 0
+IsRefusal text x = IsRefusalAs command_log text x
+
+abbrev pub IsFrontAnswer : (text : List ℕ) → Result Flat CompileError → Type 0
+IsFrontAnswer text (Ok flat) = IsAcceptedAs command_log text (flat_of flat)
+IsFrontAnswer text (Err x) = IsRefusal text x
 
 -- ---- The same error, of each check
 

@@ -7,7 +7,8 @@ use Rattle.ido_cli.proofs.image.image.Goals as goal
 
 pub write_image-requires-clause-lives : goal.write_image-requires-clause-lives
 write_image-requires-clause-lives c =
-    omega (arith, one_schedule c.in_ok-schedules.schedules.items c.kept.result.now c.in_ok-schedules.ensures, ap length c.deref-2.ensures.value)
+    let one = one_schedule c.in_ok-schedules.schedules.items c.kept.result.now c.in_ok-schedules.ensures in
+    (omega (arith, one, ap length c.deref-2.ensures.value), omega (arith, one, ap length c.deref-2.ensures.value))
 
 pub write_image-requires-clause-few : goal.write_image-requires-clause-few
 write_image-requires-clause-few c =

@@ -3,5 +3,5 @@ use Rattle.ido_cli.proofs.laws.run_images_are_read.Goals as goal
 
 pub returns : goal.returns
 returns c =
-    run_images_are_read c.walk_is_discipline.ensures c.flattened_is_formed.ensures c.flattened_is_plain.ensures c.one_verdict.ensures.flat
-    c.one_verdict.ensures.not_both c.machines_resume.ensures c.machines_record.ensures c.runs_leave_no_fault.ensures
+    run_images_are_read c.one_verdict.ensures.flat c.one_verdict.ensures.not_both c.machines_resume.ensures c.machines_record.ensures
+    c.runs_leave_no_fault.ensures

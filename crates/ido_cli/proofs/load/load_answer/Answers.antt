@@ -2,7 +2,8 @@ use Rattle.std.proofs.Common.{List, ℕ, length, refl, ap, ◌∙◌, subst, ari
 use Rattle.std.specs.Prelude.{Err}
 use Rattle.std.proofs.lemmas.Result.{IfOk-weaker}
 use Rattle.c_tree.specs.Flats.{flat_of}
-use Rattle.flow_graph.specs.Refusals.{IsAccepted}
+use Rattle.ido_compile.specs.LoggedTexts.{IsAcceptedAs}
+use Rattle.flat_compile.specs.TranslatedForms.{command_log}
 use Rattle.ido_compile.specs.CompileAnswers.{IsCompileAnswer, translation_in}
 use Rattle.ido_cli.specs.Answers.{loaded}
 use Rattle.ido_cli.specs.links.CompileRefusals.{TellsRefusal}
@@ -23,7 +24,7 @@ returns-in-Ok g c =
     let text = c.deref.ensures.value ∙ c.in_ok-source.ensures in
     IfOk-weaker c.loaded.result _ _
     (λ said run.
-    loaded (flat_of x.flat) (subst (λ (s : List ℕ). IsAccepted s (flat_of x.flat)) text is.accepted) (translation_in x) (record {
+    loaded (flat_of x.flat) (subst (λ (s : List ℕ). IsAcceptedAs command_log s (flat_of x.flat)) text is.accepted) (translation_in x) (record {
       object = y.object;
       marks = y.marks;
       cuts = y.cuts;

@@ -1,12 +1,11 @@
 -- The boundaries are those of the object.
 use Rattle.std.proofs.Common.{◌≡◌, ◌∙◌, List, ap, refl, subst, sym}
-use Rattle.ido_base.specs.declared.log.Log.TheVariants.{V1}
 use Rattle.c_tree.specs.Flats.{flat_of}
 use Rattle.c_tree.specs.declared.flat.Flat.{Flat}
 use Rattle.flow_graph.specs.IdempotentCuts.{boundaries_of}
 use Rattle.flow_graph.specs.Lowering.{lowered}
 use Rattle.flow_graph.specs.Nodes.{Graph, graph_of}
-use Rattle.flat_compile.specs.TranslatedForms.{IsTranslated}
+use Rattle.flat_compile.specs.TranslatedForms.{IsTranslated, command_log}
 use Rattle.lock_discipline.specs.HeldSetsByStep.{AreAllSetsOf}
 use Rattle.ido_compile.specs.declared.error.CompileError.TheVariants as error
 use Rattle.ido_compile.proofs.Public.{by_error}
@@ -87,7 +86,7 @@ returns c =
       marks = made.marks;
       cuts = made.cuts;
       translated = is;
-      compilation = c.translations_are_compilations.ensures V1 flat made.object made.marks made.cuts is;
+      compilation = c.translations_are_compilations.ensures command_log flat made.object made.marks made.cuts is;
       is = refl;
     }) refl
     (record {

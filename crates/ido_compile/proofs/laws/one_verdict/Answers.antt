@@ -1,4 +1,4 @@
-use Rattle.ido_compile.proofs.Verdicts.{one_flat, one_fault, never_both, never_both_logged}
+use Rattle.ido_compile.proofs.Verdicts.{one_flat, one_fault, never_both}
 use Rattle.ido_compile.proofs.laws.one_verdict.Goals as goal
 
 pub returns-clause-flat : goal.returns-clause-flat
@@ -9,6 +9,3 @@ returns-clause-fault c = let r = c.one_reading.ensures in one_fault r.tree r.ref
 
 pub returns-clause-not_both : goal.returns-clause-not_both
 returns-clause-not_both c = let r = c.one_reading.ensures in never_both r.tree r.refusal r.not_both c.one_first.ensures
-
-pub returns-clause-logged : goal.returns-clause-logged
-returns-clause-logged c = let r = c.one_reading.ensures in never_both_logged r.tree r.refusal r.not_both c.one_first.ensures

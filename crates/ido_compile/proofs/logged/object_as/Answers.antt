@@ -1,67 +1,32 @@
--- The analysis is of this flat form, by the rules of the log.
-use Rattle.std.proofs.Common.{◌∙◌, ap, subst}
+-- The analysis is of this flat form.
+use Rattle.std.proofs.Common.{subst}
 use Rattle.c_tree.specs.Flats.{flat_of}
-use Rattle.c_tree.specs.HoldPrices.{price_fault}
 use Rattle.c_tree.specs.declared.flat.Flat.{Flat}
-use Rattle.c_tree.specs.declared.language.Language.{Language}
-use Rattle.flat_analysis.specs.Analyses.{IsAnalysis}
-use Rattle.flat_analysis.specs.CompilableForms.{IsAcceptedForm, IsFormRefusal}
 use Rattle.flat_compile.specs.TranslatedForms.{IsResumableAs, IsTranslatedAs}
-use Rattle.lock_discipline.proofs.Public.{well_formed_has_names}
-use Rattle.thread_code.specs.Plans.{language_of}
 use Rattle.ido_compile.specs.declared.error.CompileError.TheVariants as error
-use Rattle.ido_compile.specs.links.FrontEndAnswers.{IsTranslationAnswerAs, of_source}
+use Rattle.ido_compile.specs.links.FrontEndAnswers.{IsTranslationAnswerAs}
 use Rattle.ido_compile.proofs.FrontEndChecks.{by_error}
-use Rattle.ido_compile.proofs.LoggedTexts.{as_flattened, form_accepted, form_refused}
 use Rattle.ido_compile.proofs.logged.object_as.Goals as goal
-
-pub analyse-requires-clause-formed : goal.analyse-requires-clause-formed
-analyse-requires-clause-formed c =
-    let flat = flat_of c.args.flat.now in
-    c.flattened_is_formed.ensures c.args.text.now flat (as_flattened c.args.log c.args.text.now flat c.requires)
-
-pub analyse-requires-clause-plain : goal.analyse-requires-clause-plain
-analyse-requires-clause-plain c = λ is.
-    let flat = flat_of c.args.flat.now in
-    c.flattened_is_plain.ensures c.args.text.now flat (as_flattened c.args.log c.args.text.now flat c.requires)
-
-pub analyse-requires-clause-named : goal.analyse-requires-clause-named
-analyse-requires-clause-named c = λ is.
-    let flat = flat_of c.args.flat.now in
-    let flattened = as_flattened c.args.log c.args.text.now flat c.requires in
-    well_formed_has_names flat (c.flattened_is_formed.ensures c.args.text.now flat flattened)
-    (c.flattened_is_plain.ensures c.args.text.now flat flattened)
-
-pub analyse-requires-clause-priced : goal.analyse-requires-clause-priced
-analyse-requires-clause-priced c =
-    let flat = flat_of c.args.flat.now in
-    ap (λ (l : Language). price_fault l flat) c.language_of.ensures ∙ (ap (price_fault (language_of c.args.log)) c.requires.flattened ∙ c.requires.short)
 
 pub returns-in_err-analysis : goal.returns-in_err-analysis
 returns-in_err-analysis c =
-    let flat = flat_of c.args.flat.now in
-    let e = c.in_err-analysis.field-0.0 in
-    by_error (IsTranslationAnswerAs c.args.log c.args.text.now flat) (of_source e) c.from_residual.result c.from_residual.ensures.1
-    (form_refused c.args.log c.args.text.now flat c.requires e
-    (subst (λ (l : Language). IsFormRefusal l flat e) c.language_of.ensures c.in_err-analysis.ensures.refused))
-
-pub translate-requires : goal.translate-requires
-translate-requires c = subst (λ (l : Language). IsAnalysis l c.in_ok-analysis.analysis) c.language_of.ensures c.in_ok-analysis.ensures.analysed
+    by_error (IsTranslationAnswerAs c.args.log c.args.text.now (flat_of c.args.flat.now)) c.in_err-analysis.field-0.0
+    c.from_residual.result c.from_residual.ensures.1 c.in_err-analysis.ensures.answer
 
 pub returns-in_err-translated : goal.returns-in_err-translated
 returns-in_err-translated c =
     by_error (IsTranslationAnswerAs c.args.log c.args.text.now (flat_of c.args.flat.now)) error.Memory
     c.from_residual-in_err-translated.result c.from_residual-in_err-translated.ensures.1 tt
 
+pub translate-requires : goal.translate-requires
+translate-requires c = c.in_ok-analysis.ensures.answer.1
+
 pub returns : goal.returns
 returns c =
     let log = c.args.log in
-    let flat = flat_of c.args.flat.now in
     let made = c.in_ok-translated.translated in
-    let is = c.in_ok-translated.ensures in
-    let form : IsAcceptedForm c.language_of.result flat =
-    subst (λ (x : Flat). IsAcceptedForm c.language_of.result (flat_of x)) c.in_ok-analysis.ensures.of_flat c.in_ok-analysis.ensures.analysed.accepted in (
-      form_accepted log c.args.text.now flat c.requires (subst (λ (l : Language). IsAcceptedForm l flat) c.language_of.ensures form),
+    let is = c.in_ok-translated.ensures in (
+      c.in_ok-analysis.ensures.answer.0,
       (
         subst (λ (x : Flat). IsTranslatedAs log (flat_of x) made.object made.marks made.cuts) c.in_ok-analysis.ensures.of_flat is.translated,
         subst (λ (x : Flat). IsResumableAs log (flat_of x) made.object made.marks made.cuts made.resumes.items) c.in_ok-analysis.ensures.of_flat is.resumes,
