@@ -20,7 +20,7 @@ MORE = 20
 
 CRASH = Line("c", None, None)
 
-# Another life begins. An image tells one life, so after a start no point can be looked at.
+# Another life begins. After a start no point is looked at.
 START = Line("r", None, None)
 
 

@@ -13,7 +13,7 @@ use Rattle.ido_cli.specs.declared.said.Said.{Said}
 use Rattle.ido_cli.specs.Answers.{AnswerToInput, CommandAnswer, IsSourcePastLimits, ListAnswer, LiveAnswer, Refuses}
 use Rattle.ido_cli.specs.Answers.{ScriptedAnswer, SeededAnswer, SourceAnswer, SweepAnswer, no_object, past_limits, within_limits}
 use Rattle.ido_cli.specs.Inputs.{source_of}
-use Rattle.ido_cli.specs.links.RunRequests.{takes_lives, Says, command_asking, command_making}
+use Rattle.ido_cli.specs.links.RunRequests.{Says, command_asking, command_making}
 use Rattle.ido_cli.specs.Refusals.{line_at_byte, object_fault_code, object_fault_place}
 
 pub refuses : {E : Type 0} (input : List ℕ) (fault : fields.Fault) (r : Result Said E) → o.read input ≡ Err fault → IfOk r (λ said. said.status ≡ 6)
@@ -56,7 +56,7 @@ made_past products.Order input status output past refuses = past_limits past ref
 
 pub plays : {E : Type 0} (asked : Asked) (input source : List ℕ) (r : Result Said E) → length input ≤ MOST_INPUT_BYTES → length source ≤ MOST_SOURCE_BYTES →
     source ≡ source_of input
-    → IfOk r (λ said. ScriptedAnswer (takes_lives asked) (Says asked (source_of input)) input said.status said.output.items) →
+    → IfOk r (λ said. ScriptedAnswer (Says asked (source_of input)) input said.status said.output.items) →
     IfOk r (λ said. AnswerToInput (command_asking asked) input said.status said.output.items)
 plays asks.Report input source (Ok said) short short_source is answer =
     within_limits (not_past input short (subst (λ s. length s ≤ MOST_SOURCE_BYTES) is short_source)) answer

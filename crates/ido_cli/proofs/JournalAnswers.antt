@@ -23,7 +23,7 @@ use Rattle.run_tracker.specs.ObjectLives.{living}
 use Rattle.ido_cli.specs.Answers.{ScriptedAnswer, unplayed, no_script, of_script}
 use Rattle.ido_cli.specs.Inputs.{rest_from, rest_of, source_from, source_of}
 use Rattle.ido_cli.specs.Laws.{IsAlone, JournalsArePlayed}
-use Rattle.ido_cli.specs.Plays.{IsRunBy, IsTranslationOf, ScriptAnswer, barred, beginning, events_by, faulty, ran}
+use Rattle.ido_cli.specs.Plays.{IsRunBy, IsTranslationOf, ScriptAnswer, beginning, events_by, faulty, ran}
 use Rattle.ido_cli.proofs.JournalInputs.{Ends, split_at}
 use Rattle.ido_cli.proofs.PlayedRuns.{as_many_threads}
 
@@ -87,21 +87,21 @@ module _ (one_flat : OneFlat) (not_both : NotBoth) (input : List ℕ) (flat : f.
       translation : Translation
       made : IsTranslationOf flat translation
       begins : ℕ
-      says : ScriptAnswer translation true (Says translation) (record { lines = lines; input = input; begins = begins }) status output
+      says : ScriptAnswer translation (Says translation) (record { lines = lines; input = input; begins = begins }) status output
 
     of_script_at : (other : f.Flat) → other ≡ flat → (found : List scripts.Line) → found ≡ lines → (c : Translation) → IsTranslationOf other c →
         (begins status : ℕ) (output : List ℕ) →
-        ScriptAnswer c true (Says c) (record { lines = found; input = input; begins = begins }) status output → IsOfScript status output
+        ScriptAnswer c (Says c) (record { lines = found; input = input; begins = begins }) status output → IsOfScript status output
     of_script_at other same found equal c made begins status output answer = record {
       translation = c;
       made = subst (λ (z : f.Flat). IsTranslationOf z c) same made;
       begins = begins;
       says =
-          subst (λ (ls : List scripts.Line). ScriptAnswer c true (Says c) (record { lines = ls; input = input; begins = begins }) status output) equal
+          subst (λ (ls : List scripts.Line). ScriptAnswer c (Says c) (record { lines = ls; input = input; begins = begins }) status output) equal
           answer;
     }
 
-    is_of_script : (status : ℕ) (output : List ℕ) → ScriptedAnswer true Says input status output → IsOfScript status output
+    is_of_script : (status : ℕ) (output : List ℕ) → ScriptedAnswer Says input status output → IsOfScript status output
     is_of_script status output (unplayed found place is told) = absurd (not_both command_log (source_of input) flat found place accepted is)
     is_of_script status output (no_script other is x read told) = absurd (none_refused other is x read)
     is_of_script status output (of_script other is found read c made answer) =
@@ -121,10 +121,9 @@ module _ (flat : f.Flat) (events : List Event) (played : IsPlayedBack living com
       apart x e = cc e
 
   run_is : (input : List ℕ) (begins status : ℕ) (output : List ℕ) →
-      ScriptAnswer c true (IsRunBy c) (record { lines = played.lines; input = input; begins = begins }) status output → IsRunBy c events status output
-  run_is input begins status output (barred place start refused) = absurd (cc start)
-  run_is input begins status output (faulty free fault at refused) = absurd (none_found fault at)
-  run_is input begins status output (ran free none fits said) = subst (λ (es : List Event). IsRunBy c es status output) events_are said
+      ScriptAnswer c (IsRunBy c) (record { lines = played.lines; input = input; begins = begins }) status output → IsRunBy c events status output
+  run_is input begins status output (faulty fault at refused) = absurd (none_found fault at)
+  run_is input begins status output (ran none fits said) = subst (λ (es : List Event). IsRunBy c es status output) events_are said
 
 pub journals_are_played : OneFlat → NotBoth → ArePlayedBack living → JournalsArePlayed
 journals_are_played one_flat not_both back source events flat status output alone accepted few valid may answer =

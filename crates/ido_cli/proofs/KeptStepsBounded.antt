@@ -1,18 +1,19 @@
 -- No more steps are kept than there are events, whatever events they are.
 use Rattle.std.proofs.Common.{◌≡◌, ◌⊎◌, inl, inr, ℕ, ◌+◌, ◌<◌, ◌≤◌, List, [], ◌∷◌, length, Bool, true, false, refl, ap, ap₂, ◌∙◌}
 use Rattle.std.proofs.Common.{arith, flat_map, length-append}
-use Rattle.std.specs.Prelude.{sum_by}
+use Rattle.std.specs.Prelude.{if◌then◌else◌, sum_by}
 use Rattle.std.proofs.lemmas.List.Concat.{length-flat_map}
-use Rattle.std.proofs.lemmas.List.Sums.{sum_by_push}
+use Rattle.std.proofs.lemmas.List.Sums.{sum_by-cons, sum_by_push}
 use Rattle.std.proofs.lemmas.Bool.{cases_lt}
 use Rattle.std.proofs.lemmas.List.{set_past}
 use Rattle.ido_base.specs.declared.event.Event.{Event}
 use Rattle.ido_base.specs.declared.event.Event.TheVariants.{Step, Evict, Crash, Start}
 use Rattle.ido_base.specs.Words.{Word, last_position, word_at}
 use Rattle.rv64_isa.specs.declared.object.Slot.{Slot}
-use Rattle.rv64_isa.specs.Machine.{World, after_event}
+use Rattle.rv64_isa.specs.Machine.{World, after_event, can_start}
 use Rattle.rv64_isa.specs.Schedule.{HartSteps, LifeSchedules, Steps, all_lives, first_steps, hart_steps, only_life, passes_mark, schedules, steps_after}
-use Rattle.rv64_isa.specs.Schedule.{steps_along, stores_point}
+use Rattle.rv64_isa.specs.Schedule.{next_life, steps_along, stores_point}
+use Rattle.rv64_isa.proofs.Public.{event_earlier}
 use Rattle.run_tracker.specs.links.AccountRepresentation.{all_kept, point_word, weight}
 use Rattle.run_tracker.proofs.Public.{begun_if, harts-noted, noted, weight-after, weightless, weight-all_kept}
 
@@ -95,14 +96,35 @@ module _ (marks : List (List ℕ)) (program : List (List Slot)) where
           let sum = length-append (flat_map (λ (steps : List ℕ). steps) s.earlier) s.kept in
           omega (arith, flat, one, sum)
 
-  -- of this life, where none came before the first of them
-  pub kept_few : (w : World) (events : List Event) (threads : ℕ) (schedule : List ℕ) →
-      length (steps_along marks program w events (first_steps threads (only_life schedule))).kept ≤ length schedule + length events
-  kept_few w events threads schedule =
-      let s = steps_along marks program w events (first_steps threads (only_life schedule)) in
-      omega (
-        arith,
-        all_events w events (first_steps threads (only_life schedule)),
-        weightless threads,
-        length-append (flat_map (λ (steps : List ℕ). steps) s.earlier) s.kept,
-      )
+  -- from the first life on
+  pub first_kept_few : (w : World) (events : List Event) (threads : ℕ) →
+      sum_by length (schedules (steps_along marks program w events (first_steps threads (only_life [])))) ≤ length events
+  first_kept_few w events threads =
+      let none : List ℕ = [] in
+      omega (arith, all_kept_few w events threads (only_life none), sum_by-cons length none [])
+
+-- ---- Lives
+
+module _ (marks : List (List ℕ)) (program : List (List Slot)) where
+  one_start : (w : World) (event : Event) (s : Steps) → length (steps_after marks program w event s).earlier ≤ length s.earlier + 1
+  unfolding steps_after
+  one_start w (Step h) s = omega (arith, ap length (event_earlier marks program w (Step h) s refl))
+  one_start w (Evict line mask) s = omega (arith, ap length (event_earlier marks program w (Evict line mask) s refl))
+  one_start w Crash s = omega (arith, ap length (event_earlier marks program w Crash s refl))
+  one_start w Start s = by (can_start w)
+    where
+      by : (starts : Bool) → length (if starts then next_life s else s).earlier ≤ length s.earlier + 1
+      by true = omega (arith, length-append s.earlier (s.kept ∷ []))
+      by false = omega arith
+
+  all_starts : (w : World) (events : List Event) (s : Steps) → length (steps_along marks program w events s).earlier ≤ length s.earlier + length events
+  all_starts w [] s = omega arith
+  all_starts w (e ∷ es) s = omega (arith, all_starts (after_event program w e) es (steps_after marks program w e s), one_start w e s)
+
+  -- each of them but the first begins by an event
+  pub first_lives_few : (w : World) (events : List Event) (threads : ℕ) →
+      length (schedules (steps_along marks program w events (first_steps threads (only_life [])))) ≤ length events + 1
+  first_lives_few w events threads =
+      let first = first_steps threads (only_life []) in
+      let s = steps_along marks program w events first in
+      omega (arith, all_starts w events first, length-append s.earlier (s.kept ∷ []))

@@ -1,5 +1,5 @@
 -- What is played of a compiled source: the machine and the kept steps of its translation, which are those of the source.
-use Rattle.std.proofs.Common.{◌≡◌, refl, Bool, ℕ, suc, ◌+◌, ◌<◌, ◌≤◌, List, [], ◌∷◌, ◌++◌, length, map, take}
+use Rattle.std.proofs.Common.{◌≡◌, refl, ℕ, suc, ◌+◌, ◌<◌, ◌≤◌, List, [], ◌∷◌, ◌++◌, length, map, take}
 use Rattle.std.proofs.Common.{sym, ◌∙◌, ap, ap₂, subst, Option, Some, None, min}
 use Rattle.std.proofs.lemmas.List.{length-map, take_all}
 use Rattle.ido_base.specs.declared.log.Log.{Log}
@@ -34,7 +34,7 @@ use Rattle.run_scripts.specs.Reports as r
 use Rattle.run_scripts.specs.Plays.{PlayFault, play_fault, script_events}
 use Rattle.run_scripts.specs.Scripts.{Line}
 use Rattle.run_tracker.specs.ObjectLives.{Course, LifeConfig, ends_at_point, living, new_life, opening_of, steps_in, world_of}
-use Rattle.ido_cli.specs.Plays.{IsRunBy, ScriptAnswer, barred_start, beginning, events_by, faulty}
+use Rattle.ido_cli.specs.Plays.{IsRunBy, ScriptAnswer, beginning, events_by, faulty}
 use Rattle.ido_cli.specs.Refusals.{IsRefusedAt, play_fault_code, play_fault_place}
 use Rattle.ido_cli.specs.Reports.{machine_state, unsettled_harts}
 use Rattle.ido_cli.specs.links.CountedSections.{CountsSections}
@@ -169,11 +169,11 @@ module _ (flat : f.Flat) (object : Object) (marks : Marks) (cuts : Cuts) (lines 
       MOST_EVENTS lines is)
       ∙ at
 
-  pub refused : (lives : Bool) (Says : List Event → ℕ → List ℕ → Type 0) (input : List ℕ) (begins : ℕ) (fault : PlayFault) (status : ℕ) (output : List ℕ) →
-      barred_start lives lines ≡ None → found MOST_EVENTS ≡ Some fault →
+  pub refused : (Says : List Event → ℕ → List ℕ → Type 0) (input : List ℕ) (begins : ℕ) (fault : PlayFault) (status : ℕ) (output : List ℕ) →
+      found MOST_EVENTS ≡ Some fault →
       IsRefusedAt 6 (play_fault_code fault) input (begins + play_fault_place fault) status output →
-      ScriptAnswer (translation_to flat object marks cuts) lives Says (record { lines = lines; input = input; begins = begins }) status output
-  refused lives Says input begins fault status output free some told = faulty free fault some told
+      ScriptAnswer (translation_to flat object marks cuts) Says (record { lines = lines; input = input; begins = begins }) status output
+  refused Says input begins fault status output some told = faulty fault some told
 
 -- ---- What is reported
 

@@ -1,5 +1,6 @@
 -- What `recover` says of the image of a run.
-use Rattle.std.proofs.Common.{◌≡◌, ℕ, ◌≤◌, List, [], length, ap₂, sym, subst, arith, Result, Ok, Err, Some}
+use Rattle.std.proofs.Common.{◌≡◌, ℕ, ◌≤◌, List, length, ap₂, sym, subst, arith, Result, Ok, Err, Some}
+use Rattle.std.specs.Prelude.{sum_by}
 use Rattle.std.proofs.lemmas.Option.{none-some}
 use Rattle.ido_base.specs.declared.event.Event.{Event}
 use Rattle.ido_base.specs.declared.limits.TheConstants.{MOST_EVENTS, MOST_STEPS}
@@ -18,15 +19,16 @@ use Rattle.ido_cli.specs.Images.{IsImageAfter}
 use Rattle.ido_cli.specs.Laws.{RunsAreRecovered}
 use Rattle.ido_cli.specs.Recoveries.{IsRecovery, IsRecoveredRun, recovered, refused}
 use Rattle.ido_cli.specs.Refusals.{image_line}
-use Rattle.rv64_isa.specs.Schedule.{LifeSchedules, first_steps, only_life}
-use Rattle.rv64_isa.proofs.Public.{along_earlier}
+use Rattle.rv64_isa.specs.Schedule.{LifeSchedules, all_lives}
 use Rattle.ido_cli.proofs.LastLifeApart.{same_lives}
-use Rattle.ido_cli.proofs.KeptStepsBounded.{kept_few}
+use Rattle.ido_cli.proofs.KeptStepsBounded.{first_kept_few}
 use Rattle.ido_cli.proofs.RunImageAnswers.{RunImage}
 
-few : (c : Translation) (events : List Event) → length events ≤ MOST_EVENTS → length (left_by c events).kept.schedule ≤ MOST_STEPS
+few : (c : Translation) (events : List Event) → length events ≤ MOST_EVENTS → sum_by length (all_lives (left_by c events).kept) ≤ MOST_STEPS
 few c events short =
-    let kept = kept_few c.runs.marks c.runs.program (first_world c.runs) events (length c.runs.program) [] in omega (arith, kept, short)
+    let kept : sum_by length (all_lives (left_by c events).kept) ≤ length events =
+    first_kept_few c.runs.marks c.runs.program (first_world c.runs) events (length c.runs.program) in
+    omega (arith, kept, short)
 
 module _ (law : RunImagesAreRead) (source image : List ℕ) (run : RunImage source image) (turns answer : ℕ) (output : List ℕ) where
   open run use {flat, object, marks, cuts, events as before}
@@ -38,7 +40,7 @@ module _ (law : RunImagesAreRead) (source image : List ℕ) (run : RunImage sour
   Recovered = IsRecoveredRun source c before turns answer output
 
   read : (result : Result Image ImageError) → IsImageAnswer Third image result → IsReadAgain source c (left_by c before) result
-  read result told = law source image flat object marks cuts before result run.accepted run.translated run.alone run.most run.spelled told
+  read result told = law source image flat object marks cuts before result run.accepted run.translated run.most run.spelled told
 
   not_read : (error : ImageError) → answer ≡ 6 → image_line error ≡ Some output → IsReadAgain source c (left_by c before) (Err error) → Recovered
   not_read error six line (elsewhere d x is differs fault) = refused d x is differs fault six line
@@ -57,7 +59,7 @@ module _ (law : RunImagesAreRead) (source image : List ℕ) (run : RunImage sour
   by (of_image found told on recovery) = is_read found recovery (read (Ok found) told)
 
 pub runs_are_recovered : RunImagesAreRead → RunsAreRecovered
-runs_are_recovered law source image flat c before turns status answer output accepted of none short written told =
+runs_are_recovered law source image flat c before turns status answer output accepted of short written told =
     let made = translation_to flat of.object of.marks of.cuts in
     let now : IsImageAfter source made before status image = subst (λ (z : Translation). IsImageAfter source z before status image) of.is written in
     let run : RunImage source image = record {
@@ -68,7 +70,6 @@ runs_are_recovered law source image flat c before turns status answer output acc
       events = before;
       accepted = accepted;
       translated = of.translated;
-      alone = along_earlier made.runs.marks made.runs.program before (first_world made.runs) (first_steps (length made.runs.program) (only_life [])) none;
       most = few made before short;
       spelled = now.read_as;
     } in

@@ -44,9 +44,9 @@ module _ (source input : List ℕ) (is : source ≡ source_of input) where
       (one, told ∙ ap (λ (text : List ℕ). line_at (code_of x.rule) text x.place.0) is)
   run_refused error.Memory refused status output none = absurd none
 
-  pub script_refused : (lives : Bool) (Says : Translation → List Event → ℕ → List ℕ → Type 0) (found : CompileError) → IsCompileAnswer source (Err found) →
-      (status : ℕ) (output : List ℕ) → TellsRefusal found source status output → ScriptedAnswer lives Says input status output
-  script_refused lives Says (error.Refused x) refused status output (one, told) =
+  pub script_refused : (Says : Translation → List Event → ℕ → List ℕ → Type 0) (found : CompileError) → IsCompileAnswer source (Err found) →
+      (status : ℕ) (output : List ℕ) → TellsRefusal found source status output → ScriptedAnswer Says input status output
+  script_refused Says (error.Refused x) refused status output (one, told) =
       unplayed x.rule x.place (subst (λ (text : List ℕ). IsRefusedAs command_log text x.rule x.place) is refused)
       (one, told ∙ ap (λ (text : List ℕ). line_at (code_of x.rule) text x.place.0) is)
-  script_refused lives Says error.Memory refused status output none = absurd none
+  script_refused Says error.Memory refused status output none = absurd none

@@ -1,7 +1,6 @@
 -- What bytes are answered that spell the file of a run.
-use Rattle.std.proofs.Common.{◌≡◌, ℕ, ◌-◌, ◌≤◌, List, [], ◌∷◌, ◌++◌, length, map, take, drop, ap, sym, subst, ◌∙◌, arith, Result, Ok, Err}
+use Rattle.std.proofs.Common.{◌≡◌, ℕ, ◌-◌, ◌≤◌, List, ◌++◌, length, map, ap, sym, subst, ◌∙◌, arith, Result, Ok, Err}
 use Rattle.std.specs.Prelude.{sum_by}
-use Rattle.std.proofs.lemmas.List.Sums.{sum_by-cons}
 use Rattle.std.proofs.lemmas.List.{length-map, take-append-drop}
 use Rattle.ido_base.specs.declared.event.Event.{Event}
 use Rattle.ido_base.specs.declared.limits.TheConstants.{MOST_STEPS}
@@ -13,14 +12,13 @@ use Rattle.rv64_isa.specs.declared.object.Object.{Object}
 use Rattle.rv64_isa.specs.declared.object.Marks.{Marks}
 use Rattle.rv64_isa.specs.Executables.{Executable}
 use Rattle.rv64_isa.specs.Programs.{slot_of}
-use Rattle.rv64_isa.specs.Schedule.{LifeSchedules, all_lives}
+use Rattle.rv64_isa.specs.Schedule.{all_lives}
 use Rattle.flow_graph.specs.declared.cuts.Cuts.{Cuts}
 use Rattle.flow_graph.specs.Lowering.{lowered}
 use Rattle.flow_graph.specs.Nodes.{Graph}
 use Rattle.ido_compile.specs.LoggedTexts.{IsAcceptedAs, IsRefusedAs}
 use Rattle.file_fields.specs.Fields.{Fault, ◌>>=◌}
 use Rattle.file_fields.proofs.Public.{bind_ok, ok_is}
-use Rattle.run_scripts.specs.Runs.{runs_of}
 use Rattle.crash_simulation.specs.AccountRelation.{MachinesResume}
 use Rattle.compiler_correctness.specs.Images as left
 use Rattle.compiler_correctness.specs.Laws.{MachinesRecord}
@@ -57,11 +55,6 @@ use Rattle.image_checks.proofs.Public.{IsWhole, left_is_whole, none_if_sound, no
 pub not_both_ways : {A : Type 0} (found : Result A Fault) (x : A) (fault : Fault) → found ≡ Ok x → found ≡ Err fault → ⊥
 not_both_ways {A = A} found x fault ok err = let both : ◌≡◌ {A = Result A Fault} (Ok x) (Err fault) = sym ok ∙ err in cc
 
-few_lives : (kept : LifeSchedules) → kept.earlier ≡ [] → length kept.schedule ≤ MOST_STEPS → sum_by length (all_lives kept) ≤ MOST_STEPS
-few_lives kept none few =
-    subst (λ (earlier : List (List ℕ)). sum_by length (earlier ++ kept.schedule ∷ []) ≤ MOST_STEPS) (sym none)
-    (omega (arith, few, sum_by-cons length kept.schedule []))
-
 -- ---- What all translations of a flat form have in common
 
 module _ {log : Log} (flat : Flat) (object : Object) (marks : Marks) (cuts : Cuts) (t : IsTranslatedAs log flat object marks cuts) where
@@ -84,13 +77,12 @@ pub record RunImage (source bytes : List ℕ) : Type 0 where
   pub events : List Event
   pub accepted : IsAcceptedAs command_log source flat
   pub translated : IsTranslated flat object marks cuts
-  pub alone : (left_by (translation_to flat object marks cuts) events).kept.earlier ≡ []
-  pub most : length (left_by (translation_to flat object marks cuts) events).kept.schedule ≤ MOST_STEPS
+  pub most : sum_by length (all_lives (left_by (translation_to flat object marks cuts) events).kept) ≤ MOST_STEPS
   pub spelled : IsReadAs Third (file_contents source (translation_to flat object marks cuts) (left_by (translation_to flat object marks cuts) events)) bytes
 
 module _ (one_flat : OneFlat) (not_both : NotBoth) (machines : MachinesResume) (records : MachinesRecord) (no_fault : RunsLeaveNoFault)
     (source bytes : List ℕ) (run : RunImage source bytes) where
-  open run use {flat, object, marks, cuts, events, accepted, translated as t, alone, most, spelled}
+  open run use {flat, object, marks, cuts, events, accepted, translated as t, most, spelled}
 
   abbrev c : Translation
   c = translation_to flat object marks cuts
@@ -111,17 +103,7 @@ module _ (one_flat : OneFlat) (not_both : NotBoth) (machines : MachinesResume) (
   Read answer = IsReadAgain source c file answer
 
   is_whole : IsWhole V2 flat threads size state
-  is_whole = left_is_whole flat object marks cuts V2 t events machines records (few_lives file.kept alone most)
-
-  -- its one life is all
-  same_state : (file_contents source c file).state ≡ state
-  same_state =
-      ap (λ (earlier : List (List ℕ)).
-      let z : State = record {
-        variables = take (variable_words c) file.words;
-        logs = drop (variable_words c) file.words;
-        lives = map runs_of (earlier ++ file.kept.schedule ∷ []);
-      } in z) (sym alone)
+  is_whole = left_is_whole flat object marks cuts V2 t events machines records most
 
   -- ---- The bytes
 
@@ -143,7 +125,7 @@ module _ (one_flat : OneFlat) (not_both : NotBoth) (machines : MachinesResume) (
       record {
         rest = a.0.1;
         begins = a.1 ∙ ap (λ (x : Contents). Ok (x.source, a.0.1)) same;
-        after = b.1 ∙ ap (λ (x : Contents). Ok x.state) same ∙ ap (λ (x : State). Ok x) same_state;
+        after = b.1 ∙ ap (λ (x : Contents). Ok x.state) same;
       }
 
   -- the version is the newest
@@ -224,7 +206,7 @@ module _ (one_flat : OneFlat) (not_both : NotBoth) (machines : MachinesResume) (
     none same error fault =
         let x = d.translated in
         let few : sum_by length (all_lives (left_by (translation_in d) events).kept) ≤ MOST_STEPS =
-        subst (λ (z : Translation). sum_by length (all_lives (left_by z events).kept) ≤ MOST_STEPS) (sym same) (few_lives file.kept alone most) in
+        subst (λ (z : Translation). sum_by length (all_lives (left_by z events).kept) ≤ MOST_STEPS) (sym same) most in
         let sound = no_fault V2 (flat_of d.flat) x.object x.marks x.cuts x.resumes.items events is.resumable is.plain few in
         none_if_sound V2 (flat_of d.flat) x.resumes.items (file_state (translation_in d) (left_by (translation_in d) events)) error sound
         (subst (λ (z : Translation). IsStateFault V2 (flat_of d.flat) x.resumes.items (file_state z (left_by z events)) error) (sym same) fault)
@@ -261,18 +243,15 @@ module _ (one_flat : OneFlat) (not_both : NotBoth) (machines : MachinesResume) (
 
   read : (answer : Result Image ImageError) → IsImageAnswer Third bytes answer → Read answer
   read answer (whole image is) = image_read image is
-  read answer (no_version fault e) = not_first fault _ e
+  read answer (no_version fault e) = not_begun fault _ e
   read answer (no_source version fault is e) = not_here version fault _ is e
   read answer (refused version other rest rule place is begins broken) = not_refused version other rest rule place is begins broken
   read answer (no_state version d fault begins e) = not_after version d begins fault e
   read answer (unsound version d x error has fault) = unsound_read version d x error has fault
   read answer answers.no_memory = reads.no_memory
 
-pub run_images_are_read : WalkIsDiscipline → FlattenedIsFormed → FlattenedIsPlain → OneFlat → NotBoth → MachinesResume → MachinesRecord → RunsLeaveNoFault →
-    RunImagesAreRead
-run_images_are_read walk formed plain one_flat not_both machines records no_fault source bytes flat object marks cuts events answer accepted t
-    alone most spelled
-    told =
+pub run_images_are_read : OneFlat → NotBoth → MachinesResume → MachinesRecord → RunsLeaveNoFault → RunImagesAreRead
+run_images_are_read one_flat not_both machines records no_fault source bytes flat object marks cuts events answer accepted t most spelled told =
     let run : RunImage source bytes =
     record {
       flat = flat;
@@ -282,7 +261,6 @@ run_images_are_read walk formed plain one_flat not_both machines records no_faul
       events = events;
       accepted = accepted;
       translated = t;
-      alone = alone;
       most = most;
       spelled = spelled;
     } in

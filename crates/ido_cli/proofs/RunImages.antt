@@ -1,5 +1,6 @@
 -- What a crash would leave of a life that a script was played on.
-use Rattle.std.proofs.Common.{◌≡◌, ℕ, ◌+◌, ◌*◌, ◌/◌, ◌≤◌, List, [], ◌∷◌, length, map, take, drop, ap, subst, ◌∙◌, arith}
+use Rattle.std.proofs.Common.{◌≡◌, ℕ, ◌+◌, ◌*◌, ◌/◌, ◌≤◌, List, length, map, take, drop, ap, subst, ◌∙◌, arith}
+use Rattle.std.specs.Prelude.{sum_by}
 use Rattle.std.proofs.lemmas.List.{length-map}
 use Rattle.ido_base.specs.Layout.{log_words}
 use Rattle.ido_base.specs.declared.log.Log.TheVariants.{V2}
@@ -12,7 +13,7 @@ use Rattle.rv64_isa.specs.declared.object.Marks.{Marks}
 use Rattle.rv64_isa.specs.Executables.{first_world}
 use Rattle.rv64_isa.specs.Machine.{World}
 use Rattle.rv64_isa.specs.Programs.{slot_of}
-use Rattle.rv64_isa.specs.Schedule.{Steps}
+use Rattle.rv64_isa.specs.Schedule.{Steps, all_lives, schedules}
 use Rattle.flow_graph.specs.declared.cuts.Cuts.{Cuts}
 use Rattle.flat_compile.specs.TranslatedForms.{IsTranslated}
 use Rattle.compiler_correctness.specs.Compilations.{IsCompilation}
@@ -25,7 +26,7 @@ use Rattle.crash_images.specs.declared.version.ImageVersion.TheVariants.{Third}
 use Rattle.run_tracker.specs.ObjectLives.{Course, LifeConfig, left_words, steps_in, variable_words_in, world_of}
 use Rattle.image_checks.specs.RunImages.{left_by, file_contents}
 use Rattle.ido_cli.specs.Images.{IsImageAfter}
-use Rattle.ido_cli.proofs.KeptStepsBounded.{kept_few}
+use Rattle.ido_cli.proofs.KeptStepsBounded.{first_kept_few, first_lives_few}
 use Rattle.ido_cli.specs.links.PlayedLives.{HasPlayed}
 use Rattle.ido_cli.proofs.PlayedRuns.{same_steps, same_world}
 
@@ -45,13 +46,21 @@ module _ (flat : f.Flat) (object : Object) (marks : Marks) (cuts : Cuts) (life :
       ap (λ (n : ℕ). left_words n (world_of life).words) same_variables
       ∙ ap (λ (w : World). left_words (variable_words made) w.words) (same_world flat object marks cuts life events p)
 
-  same_kept : (steps_in life).kept ≡ (file_of made (image_of made events)).kept.schedule
-  same_kept = ap (λ (s : Steps). s.kept) (same_steps flat object marks cuts life events p)
+  same_kept : schedules (steps_in life) ≡ all_lives (left_by made events).kept
+  same_kept = ap (λ (s : Steps). schedules s) (same_steps flat object marks cuts life events p)
 
-  pub steps_few : length (steps_in life).kept ≤ length events
+  pub steps_few : sum_by length (schedules (steps_in life)) ≤ length events
   steps_few =
       let c = made in
-      let few = kept_few c.runs.marks c.runs.program (first_world c.runs) events (length c.runs.program) [] in
+      let few : sum_by length (all_lives (left_by made events).kept) ≤ length events =
+      first_kept_few c.runs.marks c.runs.program (first_world c.runs) events (length c.runs.program) in
+      omega (arith, ap (sum_by length) same_kept, few)
+
+  pub lives_few : length (schedules (steps_in life)) ≤ length events + 1
+  lives_few =
+      let c = made in
+      let few : length (all_lives (left_by made events).kept) ≤ length events + 1 =
+      first_lives_few c.runs.marks c.runs.program (first_world c.runs) events (length c.runs.program) in
       omega (arith, ap length same_kept, few)
 
   module _ (t : IsTranslated flat object marks cuts) (compilation : IsCompilation made) where
@@ -72,17 +81,17 @@ module _ (flat : f.Flat) (object : Object) (marks : Marks) (cuts : Cuts) (life :
     pub logs_few : length left ≤ variable_words_in life + 2048
     logs_few = omega (arith, size, t.limits.threads)
 
-  same_contents : (source : List ℕ) → contents source (take (variable_words_in life) left) (drop (variable_words_in life) left) ((steps_in life).kept ∷ []) ≡
+  same_contents : (source : List ℕ) → contents source (take (variable_words_in life) left) (drop (variable_words_in life) left) (schedules (steps_in life)) ≡
       file_contents source made (left_by made events)
   same_contents source =
-      ap (λ (n : ℕ). contents source (take n left) (drop n left) ((steps_in life).kept ∷ [])) same_variables
-      ∙ ap (λ (ws : List ℕ). contents source (take (variable_words made) ws) (drop (variable_words made) ws) ((steps_in life).kept ∷ [])) same_left
-      ∙ ap (λ (ks : List ℕ). let ws = (left_by made events).words in contents source (take (variable_words made) ws) (drop (variable_words made) ws) (ks ∷ []))
+      ap (λ (n : ℕ). contents source (take n left) (drop n left) (schedules (steps_in life))) same_variables
+      ∙ ap (λ (ws : List ℕ). contents source (take (variable_words made) ws) (drop (variable_words made) ws) (schedules (steps_in life))) same_left
+      ∙ ap (λ (ks : List (List ℕ)). let ws = (left_by made events).words in contents source (take (variable_words made) ws) (drop (variable_words made) ws) ks)
       same_kept
 
   pub image_after : (source : List ℕ) (status : ℕ) (output : List ℕ) → status ≡ 0 →
-      output ≡ spelling Third (contents source (take (variable_words_in life) left) (drop (variable_words_in life) left) ((steps_in life).kept ∷ [])) →
-      IsReadAs Third (contents source (take (variable_words_in life) left) (drop (variable_words_in life) left) ((steps_in life).kept ∷ [])) output →
+      output ≡ spelling Third (contents source (take (variable_words_in life) left) (drop (variable_words_in life) left) (schedules (steps_in life))) →
+      IsReadAs Third (contents source (take (variable_words_in life) left) (drop (variable_words_in life) left) (schedules (steps_in life))) output →
       IsImageAfter source made events status output
   image_after source status output done told read = record {
     status_is = done;

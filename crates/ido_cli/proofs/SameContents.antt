@@ -1,9 +1,10 @@
 -- What is read again as some contents is read as equal ones, and the schedule of one life.
-use Rattle.std.proofs.Common.{◌≡◌, ◌∷◌, [], ℕ, List, length, map, subst, sym, ◌∙◌, ap, arith}
+use Rattle.std.proofs.Common.{◌≡◌, ◌≤◌, ◌∷◌, [], ℕ, List, length, length-append, map, subst, sym, ◌∙◌, ap, arith}
 use Rattle.std.specs.Prelude.{Vec, sum_by}
 use Rattle.std.specs.Global.{Global}
 use Rattle.std.proofs.lemmas.List.{length-map}
 use Rattle.std.proofs.lemmas.List.Sums.{sum_by-cons}
+use Rattle.rv64_isa.specs.Schedule.{Steps, schedules}
 use Rattle.run_scripts.specs.links.ReportViews.{steps_of}
 use Rattle.crash_images.specs.Contents.{Contents, contents}
 use Rattle.crash_images.specs.ImageDecoder.{IsReadAs}
@@ -22,3 +23,11 @@ module _ (schedules : List (Vec ℕ Global)) (schedule : List ℕ) (is : map ste
 
   pub as_many_steps : sum_by length (map steps_of schedules) ≡ length schedule
   as_many_steps = omega (arith, ap (sum_by length) is, sum_by-cons length schedule [])
+
+-- the schedules of all lives
+module _ (kept : List (Vec ℕ Global)) (s : Steps) (is : map steps_of kept ≡ schedules s) where
+  pub as_many_lives : length kept ≡ length (schedules s)
+  as_many_lives = sym (length-map kept steps_of) ∙ ap length is
+
+  pub some_life : 1 ≤ length kept
+  some_life = omega (arith, as_many_lives, length-append s.earlier (s.kept ∷ []))

@@ -1,5 +1,5 @@
 -- What is answered to a script that is read, and to one that isn't.
-use Rattle.std.proofs.Common.{◌≡◌, Bool, ℕ, ◌+◌, ◌-◌, List, length, sym, ap, ◌∙◌, subst, Option, Some, None, IfSome, IsSome, All}
+use Rattle.std.proofs.Common.{◌≡◌, ℕ, ◌+◌, ◌-◌, List, length, sym, ap, ◌∙◌, subst, Option, Some, None, IfSome, IsSome, All}
 use Rattle.rv64_isa.specs.Machine as isa
 use Rattle.ido_base.specs.declared.log.Log.{Log}
 use Rattle.ido_base.specs.declared.event.Event.{Event}
@@ -17,7 +17,7 @@ use Rattle.ido_cli.specs.Refusals.{IsRefusedAt, script_fault_code, script_fault_
 
 module _ (input rest : List ℕ) (flat : f.Flat) (log : Log) (harts : ℕ) (is : rest ≡ rest_of input) (logs : log ≡ command_log)
     (many : harts ≡ length flat.threads) (accepted : IsAcceptedAs command_log (source_of input) flat)
-    (lives : Bool) (Says : Translation → List Event → ℕ → List ℕ → Type 0) where
+    (Says : Translation → List Event → ℕ → List ℕ → Type 0) where
   read_is : e.read command_log (length flat.threads) (rest_of input) ≡ e.read log harts rest
   read_is =
       ap (λ (l : Log). e.read l (length flat.threads) (rest_of input)) (sym logs)
@@ -25,7 +25,7 @@ module _ (input rest : List ℕ) (flat : f.Flat) (log : Log) (harts : ℕ) (is :
 
   pub script_fault_answer : (o : Option e.Fault) (status : ℕ) (output : List ℕ) → IsSome o → IfSome o (λ x. e.read log harts rest ≡ e.Refused x) →
       IfSome o (λ x. IsRefusedAt 6 (script_fault_code x) input (length input - length rest + script_fault_place x) status output) →
-      ScriptedAnswer lives Says input status output
+      ScriptedAnswer Says input status output
   script_fault_answer (Some x) status output some read said =
       no_script flat accepted x (read_is ∙ read)
       (subst (λ (r : List ℕ). IsRefusedAt 6 (script_fault_code x) input (length input - length r + script_fault_place x) status output) is said)
@@ -33,11 +33,11 @@ module _ (input rest : List ℕ) (flat : f.Flat) (log : Log) (harts : ℕ) (is :
 
   pub script_run_answer : (lines : List e.Line) (c : Translation) (status : ℕ) (output : List ℕ) → e.read log harts rest ≡ e.Lines lines →
       IsTranslationOf flat c →
-      ScriptAnswer c lives (Says c) (record { lines = lines; input = input; begins = length input - length rest }) status output →
-      ScriptedAnswer lives Says input status output
+      ScriptAnswer c (Says c) (record { lines = lines; input = input; begins = length input - length rest }) status output →
+      ScriptedAnswer Says input status output
   script_run_answer lines c status output read translation answer =
       of_script flat accepted lines (read_is ∙ read) c translation
-      (subst (λ (r : List ℕ). ScriptAnswer c lives (Says c) (record { lines = lines; input = input; begins = length input - length r }) status output) is
+      (subst (λ (r : List ℕ). ScriptAnswer c (Says c) (record { lines = lines; input = input; begins = length input - length r }) status output) is
       answer)
 
 -- what exists at so many harts

@@ -20,7 +20,7 @@ use Rattle.ido_cli.specs.Commands.{command_of, is_unread, reads_input}
 use Rattle.ido_cli.specs.Runs.{RunAnswer, ran, stopped, run_state, status_by}
 use Rattle.ido_cli.specs.Images.{IsImageAfter}
 use Rattle.ido_cli.specs.Inputs.{source_of}
-use Rattle.ido_cli.specs.Plays.{IsRunBy, barred, faulty, ran as ran_by}
+use Rattle.ido_cli.specs.Plays.{IsRunBy, faulty, ran as ran_by}
 use Rattle.ido_cli.specs.Answers.{CompileAnswer, uncompiled, compiled, RegionsAnswer, uncut, cut, ScriptedAnswer}
 use Rattle.ido_cli.specs.Answers.{unplayed, no_script, of_script, SourceAnswer, unaccepted, no_schedule, of_schedules}
 use Rattle.ido_cli.specs.Answers.{OrderAnswer, unlocked, unordered, ordered}
@@ -157,16 +157,14 @@ of_order source status output (unlocked found place is refused) h = not_four_or_
 of_order source status output (unordered flat is fault breaks e told) h = not_four_or_seven status 1 e (inl (omega arith)) h
 of_order source status output (ordered flat is none e told) h = not_four_or_seven status 0 e (inl (omega arith)) h
 
-of_scripted : (lives : Bool) (Says : Translation → List Event → ℕ → List ℕ → Type 0) →
+of_scripted : (Says : Translation → List Event → ℕ → List ℕ → Type 0) →
     ((c : Translation) (events : List Event) (status : ℕ) (output : List ℕ) → Says c events status output → (status ≡ 4) ⊎ (status ≡ 7) → ⊥) →
-    (input : List ℕ) (status : ℕ) (output : List ℕ) → ScriptedAnswer lives Says input status output → (status ≡ 4) ⊎ (status ≡ 7) → ⊥
-of_scripted lives Says others input status output (unplayed found place is refused) h = not_four_or_seven status 1 refused.0 (inl (omega arith)) h
-of_scripted lives Says others input status output (no_script flat is x read refused) h = not_four_or_seven status 6 refused.0 (inr refl) h
-of_scripted lives Says others input status output (of_script flat is lines read c made (barred place start refused)) h =
+    (input : List ℕ) (status : ℕ) (output : List ℕ) → ScriptedAnswer Says input status output → (status ≡ 4) ⊎ (status ≡ 7) → ⊥
+of_scripted Says others input status output (unplayed found place is refused) h = not_four_or_seven status 1 refused.0 (inl (omega arith)) h
+of_scripted Says others input status output (no_script flat is x read refused) h = not_four_or_seven status 6 refused.0 (inr refl) h
+of_scripted Says others input status output (of_script flat is lines read c made (faulty fault at refused)) h =
     not_four_or_seven status 6 refused.0 (inr refl) h
-of_scripted lives Says others input status output (of_script flat is lines read c made (faulty free fault at refused)) h =
-    not_four_or_seven status 6 refused.0 (inr refl) h
-of_scripted lives Says others input status output (of_script flat is lines read c made (ran_by free none fits said)) h = others c _ status output said h
+of_scripted Says others input status output (of_script flat is lines read c made (ran_by none fits said)) h = others c _ status output said h
 
 by_settled : (settled : Bool) (status : ℕ) → status ≡ status_of settled → (status ≡ 4) ⊎ (status ≡ 7) → ⊥
 by_settled true status e h = not_four_or_seven status 0 e (inl (omega arith)) h
@@ -217,11 +215,11 @@ of_command : (c : Command) (input : List ℕ) (status : ℕ) (output : List ℕ)
 of_command command.Compile input status output answer h = of_compile input status output answer h
 of_command (command.Regions least) input status output answer h = of_regions least input status output answer h
 of_command command.Play input status output answer h =
-    of_scripted true IsRunBy (λ c events s o run. by_unsettled _ s run.reported.status_is) input status output answer h
+    of_scripted IsRunBy (λ c events s o run. by_unsettled _ s run.reported.status_is) input status output answer h
 of_command command.Source input status output answer h = of_source input status output answer h
 of_command command.List input status output answer h = of_list input status output answer h
 of_command command.Image input status output answer h =
-    of_scripted false (IsImageAfter (source_of input)) (λ c events s o image. not_four_or_seven s 0 image.status_is (inl (omega arith))) input status output
+    of_scripted (IsImageAfter (source_of input)) (λ c events s o image. not_four_or_seven s 0 image.status_is (inl (omega arith))) input status output
     answer h
 of_command command.Order input status output answer h = of_order input status output answer h
 of_command (command.Recover turns) input status output answer h = of_recover turns input status output answer h

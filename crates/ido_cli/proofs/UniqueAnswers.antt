@@ -17,7 +17,7 @@ use Rattle.rv64_isa.specs.Machine.{World}
 use Rattle.compiler_correctness.specs.Translations.{Translation}
 use Rattle.ido_cli.specs.Draws.{IsGenerated}
 use Rattle.ido_cli.specs.Images.{IsImageAfter}
-use Rattle.ido_cli.specs.Plays.{IsRunBy, ScriptAnswer, barred, faulty, ran as ran_by}
+use Rattle.ido_cli.specs.Plays.{IsRunBy, ScriptAnswer, faulty, ran as ran_by}
 use Rattle.ido_cli.specs.Refusals.{IsRefusedAt, code_of, fault_code, fault_place, line_after, line_at}
 use Rattle.ido_cli.specs.Refusals.{line_at_byte, line_at_step, object_fault_code, object_fault_place}
 use Rattle.ido_cli.specs.Refusals.{script_fault_code, script_fault_place, stop_code}
@@ -189,26 +189,25 @@ module _ (one_flat : OneFlat) (one_fault : OneFault) (not_both : NotBoth) (one_s
   of_load rounds seed status output (unloaded found place is told) = breaks found place is told
   of_load rounds seed status output (loaded flat is c made events run summary) = keeps flat is (not_by_unsettled _ status summary.summed.status_is)
 
-  module _ (lives : Bool) (Says : Translation → List Event → ℕ → List ℕ → Type 0)
+  module _ (Says : Translation → List Event → ℕ → List ℕ → Type 0)
       (others : (c : Translation) (events : List Event) (status : ℕ) (output : List ℕ) → Says c events status output → status ≡ 1 → ⊥) where
     not_of_script : (c : Translation) (lines : List scripts.Line) (input : List ℕ) (begins status : ℕ) (output : List ℕ) →
-        ScriptAnswer c lives (Says c) (record { lines = lines; input = input; begins = begins }) status output → status ≡ 1 → ⊥
-    not_of_script c lines input begins status output (barred place start refused) one = let is = refused.0 in omega (arith, is, one)
-    not_of_script c lines input begins status output (faulty free fault at refused) one = let is = refused.0 in omega (arith, is, one)
-    not_of_script c lines input begins status output (ran_by free none few said) one = others c _ status output said one
+        ScriptAnswer c (Says c) (record { lines = lines; input = input; begins = begins }) status output → status ≡ 1 → ⊥
+    not_of_script c lines input begins status output (faulty fault at refused) one = let is = refused.0 in omega (arith, is, one)
+    not_of_script c lines input begins status output (ran_by none few said) one = others c _ status output said one
 
-    of_scripted : (input : List ℕ) (status : ℕ) (output : List ℕ) → ScriptedAnswer lives Says input status output → Verdict (source_of input) status output
+    of_scripted : (input : List ℕ) (status : ℕ) (output : List ℕ) → ScriptedAnswer Says input status output → Verdict (source_of input) status output
     of_scripted input status output (unplayed found place is told) = breaks found place is told
     of_scripted input status output (no_script flat is x read told) = keeps flat is (λ one. let six = told.0 in omega (arith, six, one))
     of_scripted input status output (of_script flat is lines read c made answer) =
         keeps flat is (not_of_script c lines input (rest_begins input) status output answer)
 
   of_play : (input : List ℕ) (status : ℕ) (output : List ℕ) → PlayAnswer input status output → Verdict (source_of input) status output
-  of_play input status output answer = of_scripted true IsRunBy (λ c events s o run. not_by_unsettled _ s run.reported.status_is) input status output answer
+  of_play input status output answer = of_scripted IsRunBy (λ c events s o run. not_by_unsettled _ s run.reported.status_is) input status output answer
 
   of_image_of : (input : List ℕ) (status : ℕ) (output : List ℕ) → ImageAnswer input status output → Verdict (source_of input) status output
   of_image_of input status output answer =
-      of_scripted false (IsImageAfter (source_of input)) (λ c events s o image one. let zero = image.status_is in omega (arith, zero, one)) input
+      of_scripted (IsImageAfter (source_of input)) (λ c events s o image one. let zero = image.status_is in omega (arith, zero, one)) input
       status output answer
 
   not_by_settled : (settled : Bool) (status : ℕ) → status ≡ status_of settled → status ≡ 1 → ⊥
@@ -243,7 +242,7 @@ module _ (one_flat : OneFlat) (one_fault : OneFault) (not_both : NotBoth) (one_s
 
   -- ---- A script that isn't spelled as one
 
-  module _ (lives : Bool) (Says : Translation → List Event → ℕ → List ℕ → Type 0) (input : List ℕ) (flat : f.Flat)
+  module _ (Says : Translation → List Event → ℕ → List ℕ → Type 0) (input : List ℕ) (flat : f.Flat)
       (is : IsAcceptedAs command_log (source_of input) flat)
       (x : scripts.Fault) (bad : scripts.read command_log (length flat.threads) (rest_of input) ≡ scripts.Refused x) where
     reading : (other : f.Flat) → IsAcceptedAs command_log (source_of input) other →
@@ -251,7 +250,7 @@ module _ (one_flat : OneFlat) (one_fault : OneFault) (not_both : NotBoth) (one_s
     reading other also = ap (λ (z : f.Flat). scripts.read command_log (length z.threads) (rest_of input))
         (one_flat command_log command_log (source_of input) other flat also is) ∙ bad
 
-    misspelling : (status : ℕ) (output : List ℕ) → ScriptedAnswer lives Says input status output →
+    misspelling : (status : ℕ) (output : List ℕ) → ScriptedAnswer Says input status output →
         IsRefusedAt 6 (script_fault_code x) input (rest_begins input + script_fault_place x) status output
     misspelling status output (unplayed found place broken told) = absurd (not_both command_log (source_of input) flat found place is broken)
     misspelling status output (no_script other also y read told) =
@@ -261,8 +260,8 @@ module _ (one_flat : OneFlat) (one_fault : OneFault) (not_both : NotBoth) (one_s
     misspelling status output (of_script other also lines read c made answer) =
         let both : scripts.Lines lines ≡ scripts.Refused x = sym read ∙ reading other also in cc both
 
-    one_misspelling : (status other : ℕ) (output written : List ℕ) → ScriptedAnswer lives Says input status output →
-        ScriptedAnswer lives Says input other written → Same status other output written
+    one_misspelling : (status other : ℕ) (output written : List ℕ) → ScriptedAnswer Says input status output →
+        ScriptedAnswer Says input other written → Same status other output written
     one_misspelling status other output written told more =
         let one = misspelling status output told in
         let two = misspelling other written more in
@@ -313,12 +312,12 @@ module _ (one_flat : OneFlat) (one_fault : OneFault) (not_both : NotBoth) (one_s
   one_within command.Play input status other output written within (breaks_rule one) told more =
       one_refusal (source_of input) status other output written one (of_play input status output told) (of_play input other written more)
   one_within command.Play input status other output written within (misspelled takes flat is x bad) told more =
-      one_misspelling true IsRunBy input flat is x bad status other output written told more
+      one_misspelling IsRunBy input flat is x bad status other output written told more
   one_within command.Image input status other output written within (plain n) told more = absurd n
   one_within command.Image input status other output written within (breaks_rule one) told more =
       one_refusal (source_of input) status other output written one (of_image_of input status output told) (of_image_of input other written more)
   one_within command.Image input status other output written within (misspelled takes flat is x bad) told more =
-      one_misspelling false (IsImageAfter (source_of input)) input flat is x bad status other output written told more
+      one_misspelling (IsImageAfter (source_of input)) input flat is x bad status other output written told more
   one_within command.Order input status other output written within (plain n) told more = one_order input status other output written told more
   one_within command.Order input status other output written within (breaks_rule one) told more = one_order input status other output written told more
   one_within command.Order input status other output written within (misspelled takes flat is x bad) told more = absurd takes

@@ -116,28 +116,27 @@ pub data OrderAnswer (source : List ℕ) (status : ℕ) (output : List ℕ) : Ty
 
 -- ---- `play` and `image`
 
--- what an input of a source and a script is answered, by whether more lives than one are taken and by what is to be said of a translation and the script's
--- events
-pub data ScriptedAnswer (lives : Bool) (Says : Translation → List Event → (status : ℕ) → (output : List ℕ) → Type 0) (input : List ℕ) (status : ℕ)
+-- what an input of a source and a script is answered, by what is to be said of a translation and the script's events
+pub data ScriptedAnswer (Says : Translation → List Event → (status : ℕ) → (output : List ℕ) → Type 0) (input : List ℕ) (status : ℕ)
     (output : List ℕ) : Type 0 where
   unplayed : (found : r.Rule) (place : Place) → IsRefusedAs command_log (source_of input) found place →
-      IsRefusedAt 1 (code_of found) (source_of input) place.0 status output → ScriptedAnswer lives Says input status output
+      IsRefusedAt 1 (code_of found) (source_of input) place.0 status output → ScriptedAnswer Says input status output
   no_script : (flat : f.Flat) → IsAcceptedAs command_log (source_of input) flat → (x : e.Fault) →
       e.read command_log (length flat.threads) (rest_of input) ≡ e.Refused x →
-      IsRefusedAt 6 (script_fault_code x) input (rest_begins input + script_fault_place x) status output → ScriptedAnswer lives Says input status output
+      IsRefusedAt 6 (script_fault_code x) input (rest_begins input + script_fault_place x) status output → ScriptedAnswer Says input status output
   of_script : (flat : f.Flat) → IsAcceptedAs command_log (source_of input) flat → (lines : List e.Line) →
       e.read command_log (length flat.threads) (rest_of input) ≡ e.Lines lines →
       (c : Translation) → IsTranslationOf flat c →
-      ScriptAnswer c lives (Says c) (record { lines = lines; input = input; begins = rest_begins input }) status output →
-      ScriptedAnswer lives Says input status output
+      ScriptAnswer c (Says c) (record { lines = lines; input = input; begins = rest_begins input }) status output →
+      ScriptedAnswer Says input status output
 
 -- the report of the script's run
 abbrev pub PlayAnswer : (input : List ℕ) → (status : ℕ) → (output : List ℕ) → Type 0
-PlayAnswer input status output = ScriptedAnswer true IsRunBy input status output
+PlayAnswer input status output = ScriptedAnswer IsRunBy input status output
 
--- the bytes of the image that a crash after the run would leave: it tells one life
+-- the bytes of the image that a crash after the run would leave: it tells all lives
 abbrev pub ImageAnswer : (input : List ℕ) → (status : ℕ) → (output : List ℕ) → Type 0
-ImageAnswer input status output = ScriptedAnswer false (IsImageAfter (source_of input)) input status output
+ImageAnswer input status output = ScriptedAnswer (IsImageAfter (source_of input)) input status output
 
 -- ---- `sweep`
 

@@ -1,5 +1,5 @@
 -- What reading the image file of a run again comes to.
-use Rattle.std.specs.Prelude.{◌≡◌, ◌≢◌, ◌≤◌, ℕ, List, [], length, Result, Ok, Err}
+use Rattle.std.specs.Prelude.{◌≡◌, ◌≢◌, ◌≤◌, ℕ, List, length, sum_by, Result, Ok, Err}
 use Rattle.ido_base.specs.declared.event.Event.{Event}
 use Rattle.ido_base.specs.declared.limits.TheConstants.{MOST_STEPS}
 use Rattle.c_tree.specs.Flats.{Flat, flat_of}
@@ -36,11 +36,11 @@ pub data IsReadAgain (source : List ℕ) (c : Translation) (file : left.Image) :
   -- want of memory tells nothing
   no_memory : IsReadAgain source c file (Err e.Memory)
 
--- the file of a run in its first life is read as what it is, or memory runs out, where the source is compiled to the same translation again
+-- the file of a run is read as what it is, or memory runs out, where the source is compiled to the same translation again
 abbrev pub RunImagesAreRead : Type 0
 RunImagesAreRead = (source bytes : List ℕ) (flat : Flat) (object : Object) (marks : Marks) (cuts : Cuts) (events : List Event)
     (answer : Result Image ImageError) → IsAcceptedAs command_log source flat → IsTranslated flat object marks cuts →
-        let c = translation_to flat object marks cuts in
-    (left_by c events).kept.earlier ≡ [] → length (left_by c events).kept.schedule ≤ MOST_STEPS →
+    let c = translation_to flat object marks cuts in
+    sum_by length (all_lives (left_by c events).kept) ≤ MOST_STEPS →
     IsReadAs Third (file_contents source c (left_by c events)) bytes → IsImageAnswer Third bytes answer →
     IsReadAgain source c (left_by c events) answer

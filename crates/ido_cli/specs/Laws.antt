@@ -19,7 +19,7 @@ use Rattle.ido_cli.specs.Plays.{IsRunBy, IsTranslationOf, beginning}
 use Rattle.run_tracker.specs.ObjectLives.{living}
 use Rattle.ido_cli.specs.Recoveries.{IsRecoveredRun}
 use Rattle.ido_cli.specs.Answers.{Answer, IsPastLimits, PlayAnswer, RecoverAnswer, file_in}
-use Rattle.rv64_isa.specs.Schedule.{HaveNoStart, schedules}
+use Rattle.rv64_isa.specs.Schedule.{schedules}
 use Rattle.compiler_correctness.specs.Images.{image_in, steps_from, world_from}
 use Rattle.ido_compile.specs.CompileAnswers.{translation_in}
 use Rattle.image_checks.specs.RunImages.{left_by}
@@ -80,11 +80,10 @@ abbrev pub OneAnswer : Type 0
 OneAnswer = (words : List (List ℕ)) (input : List ℕ) (status other : ℕ) (output written : List ℕ) → IsUncompiled (command_of words) input status
     → Answer words input status output → Answer words input other written → (status ≡ other) × (output ≡ written)
 
--- what `image` writes of events of a source's translation, none of them a start, `recover` reads as what they left
+-- what `image` writes of events of a source's translation, `recover` reads as what they left
 abbrev pub RunsAreRecovered : Type 0
 RunsAreRecovered = (source image : List ℕ) (flat : Flat) (c : Translation) (before : List Event) (turns status answer : ℕ) (output : List ℕ) →
-    IsAcceptedAs command_log source flat → IsTranslationOf flat c → HaveNoStart before → length before ≤ MOST_EVENTS →
-        IsImageAfter source c before status image →
+    IsAcceptedAs command_log source flat → IsTranslationOf flat c → length before ≤ MOST_EVENTS → IsImageAfter source c before status image →
     RecoverAnswer turns image answer output → IsRecoveredRun source c before turns answer output
 
 -- What `upgrade` writes of an image that a run of the translation to which its source is compiled has left, is recovered as what it is: with no turn more the

@@ -1,5 +1,5 @@
 -- What is said of a run of a compiled source by a script.
-use Rattle.std.specs.Prelude.{◌≡◌, ℕ, ◌+◌, ◌≤◌, List, [], ◌∷◌, length, Bool, true, false, Option, Some, None, if◌then◌else◌, codes}
+use Rattle.std.specs.Prelude.{◌≡◌, ℕ, ◌+◌, ◌≤◌, List, [], length, true, Some, None}
 use Rattle.ido_base.specs.declared.event.Event.{Event}
 use Rattle.ido_base.specs.declared.limits.TheConstants.{MOST_EVENTS}
 use Rattle.c_tree.specs.Flats as f
@@ -16,7 +16,7 @@ use Rattle.compiler_correctness.specs.Compilation.{AreSectionsKept}
 use Rattle.compiler_correctness.specs.Compilations.{IsCompilation}
 use Rattle.run_scripts.specs.Plays.{PlayFault, play_fault, script_events}
 use Rattle.run_scripts.specs.Reports.{report}
-use Rattle.run_scripts.specs.Scripts.{Line, is_start}
+use Rattle.run_scripts.specs.Scripts.{Line}
 use Rattle.run_tracker.specs.ObjectLives.{LifeConfig, living}
 use Rattle.ido_cli.specs.Refusals.{IsRefusedAt, play_fault_code, play_fault_place}
 use Rattle.ido_cli.specs.Reports.{machine_state}
@@ -66,27 +66,13 @@ pub record PlacedScript : Type 0 where
   pub input : List ℕ
   pub begins : ℕ
 
--- where the first start stands among lines
-abbrev pub first_start : List Line → Option ℕ
-first_start [] = None
-first_start (line ∷ lines) = if is_start line.command then Some line.place else first_start lines
-
--- that start, where a command takes one life alone
-abbrev pub barred_start : (lives : Bool) → List Line → Option ℕ
-barred_start true lines = None
-barred_start false lines = first_start lines
-
--- What it is answered, by a command that takes more lives than one or doesn't: where it doesn't, a refusal at the first start, if there is one; else the
--- refusal of the first line by which there are more than 4,000,000 events, or which is a start by which no life may begin, exactly where there is one; else
--- what is to be said of its events.
-pub data ScriptAnswer (c : Translation) (lives : Bool) (Says : List Event → (status : ℕ) → (output : List ℕ) → Type 0) (script : PlacedScript)
-    (status : ℕ) (output : List ℕ) : Type 0 where
-  barred : (place : ℕ) → barred_start lives script.lines ≡ Some place → IsRefusedAt 6 (codes "E6") script.input (script.begins + place) status output →
-      ScriptAnswer c lives Says script status output
-  faulty : barred_start lives script.lines ≡ None → (fault : PlayFault) →
+-- What it is answered: the refusal of the first line by which there are more than 4,000,000 events, or which is a start by which no life may begin, exactly
+-- where there is one; else what is to be said of its events.
+pub data ScriptAnswer (c : Translation) (Says : List Event → (status : ℕ) → (output : List ℕ) → Type 0) (script : PlacedScript) (status : ℕ)
+    (output : List ℕ) : Type 0 where
+  faulty : (fault : PlayFault) →
       play_fault living (length c.runs.program) (beginning c) MOST_EVENTS script.lines ≡ Some fault →
       IsRefusedAt 6 (play_fault_code fault) script.input (script.begins + play_fault_place fault) status output →
-      ScriptAnswer c lives Says script status output
-  ran : barred_start lives script.lines ≡ None →
-      play_fault living (length c.runs.program) (beginning c) MOST_EVENTS script.lines ≡ None → length (events_by c script.lines) ≤ MOST_EVENTS →
-      Says (events_by c script.lines) status output → ScriptAnswer c lives Says script status output
+      ScriptAnswer c Says script status output
+  ran : play_fault living (length c.runs.program) (beginning c) MOST_EVENTS script.lines ≡ None → length (events_by c script.lines) ≤ MOST_EVENTS →
+      Says (events_by c script.lines) status output → ScriptAnswer c Says script status output

@@ -1,14 +1,16 @@
 //! What a crash would leave of a life, as the bytes of an image.
-ghost use Rattle.std.specs.Prelude.{◌≡◌, ◌+◌, ◌/◌, ◌≤◌, ◌∷◌, [], drop, length, map, take, IfOk};
+ghost use Rattle.std.specs.Prelude.{◌≡◌, ◌+◌, ◌/◌, ◌≤◌, ◌∷◌, [], drop, length, map, sum_by, take, IfOk};
 ghost use Rattle.ido_base.specs.declared.limits.TheConstants.{MOST_SOURCE_BYTES, VARIABLE_WORDS, MOST_STEPS};
 ghost use Rattle.crash_images.specs.Contents.{contents, most_logs};
 ghost use Rattle.crash_images.specs.ImageDecoder.{IsReadAs};
 ghost use Rattle.crash_images.specs.ImageEncoder.{spelling};
 ghost use Rattle.crash_images.specs.declared.version.ImageVersion.TheVariants.{Third};
 ghost use Rattle.ido_base.specs.declared.log.Log.TheVariants.{V2};
+ghost use Rattle.rv64_isa.specs.Schedule.{schedules};
 ghost use Rattle.run_scripts.specs.links.ReportViews.{steps_of};
 ghost use Rattle.run_tracker.specs.ObjectLives.{left_words, steps_in, variable_words_in, world_of};
 
+use crate::report::kept_schedules;
 use crate::said::Said;
 use crash_images::writing::write_image;
 use ido_base::log::Log;
@@ -17,7 +19,7 @@ use run_tracker::life::Life;
 use rv64_isa::object::Object;
 use std::alloc::Global;
 
-/// The schedule of the one life of an image.
+/// The schedule of an image of one life.
 pub fn only(alloc: Global, schedule: &[u32]) -> Result<Vec<Vec<u32>>, OutOfMemory>
     ensures { IfOk result (λ schedules. map steps_of schedules.items ≡ schedule.now ∷ []) }
 {
@@ -40,21 +42,22 @@ pub fn image(
     requires object { variable_words_in life.now ≡ length object.now.initial.items / 8 }
     requires within { variable_words_in life.now ≤ length (left_words (variable_words_in life.now) (world_of life.now).words) }
     requires logs { length (left_words (variable_words_in life.now) (world_of life.now).words) ≤ variable_words_in life.now + most_logs V2 }
-    requires schedule { length (steps_in life.now).kept ≤ MOST_STEPS }
+    requires lives { length (schedules (steps_in life.now)) ≤ MOST_STEPS + 1 }
+    requires steps { sum_by length (schedules (steps_in life.now)) ≤ MOST_STEPS }
     ensures status { IfOk result (λ said. said.status ≡ 0) }
     ensures output { IfOk result (λ said.
         let words = left_words (variable_words_in life.now) (world_of life.now).words in
         said.output.items ≡ spelling Third (contents source.now
-        (take (variable_words_in life.now) words) (drop (variable_words_in life.now) words) ((steps_in life.now).kept ∷ []))) }
+        (take (variable_words_in life.now) words) (drop (variable_words_in life.now) words) (schedules (steps_in life.now)))) }
     // It is read again.
     ensures again { IfOk result (λ said.
         let words = left_words (variable_words_in life.now) (world_of life.now).words in
         IsReadAs Third (contents source.now
-        (take (variable_words_in life.now) words) (drop (variable_words_in life.now) words) ((steps_in life.now).kept ∷ [])) said.output.items) }
+        (take (variable_words_in life.now) words) (drop (variable_words_in life.now) words) (schedules (steps_in life.now))) said.output.items) }
 {
     let words = life.durable_words(alloc)?;
     let (variables, logs) = words.split_at(object.initial.len() / 8);
-    let schedules = only(alloc, life.kept())?;
-    let output = write_image(alloc, Log::V2, source, variables, logs, &schedules)?;
+    let kept = kept_schedules(alloc, life)?;
+    let output = write_image(alloc, Log::V2, source, variables, logs, &kept)?;
     Ok(Said { status: 0, output })
 }

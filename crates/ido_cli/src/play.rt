@@ -1,6 +1,5 @@
 //! The commands `play` and `image`: a run of the compiled source by a script.
-ghost use Rattle.ido_base.specs.declared.place.Place.{Place};
-ghost use Rattle.std.specs.Prelude.{◌≡◌, ◌+◌, ◌≤◌, All, None, length, map, option_map, IfOk, IfSome, IsSome};
+ghost use Rattle.std.specs.Prelude.{◌≡◌, ◌+◌, ◌≤◌, All, length, map, IfOk, IfSome, IsSome};
 ghost use Rattle.ido_base.specs.declared.limits.TheConstants.{MOST_EVENTS, MOST_INPUT_BYTES, MOST_SOURCE_BYTES};
 ghost use Rattle.c_tree.specs.Flats.{flat_of};
 ghost use Rattle.flat_compile.specs.TranslatedForms.{IsTranslated};
@@ -11,10 +10,10 @@ ghost use Rattle.compiler_correctness.specs.Compilations.{IsCompilation};
 ghost use Rattle.ido_compile.specs.CompileAnswers.{IsCompiled, translation_in};
 ghost use Rattle.ido_cli.specs.Answers.{ScriptedAnswer};
 ghost use Rattle.ido_cli.specs.Inputs.{source_of, rest_of};
-ghost use Rattle.ido_cli.specs.Plays.{ScriptAnswer, barred_start, first_start};
+ghost use Rattle.ido_cli.specs.Plays.{ScriptAnswer};
 ghost use Rattle.ido_cli.specs.Refusals.{IsRefusedAt, play_fault_code, play_fault_place, script_fault_code, script_fault_place};
 ghost use Rattle.ido_cli.specs.links.PlayedLives.{HasPlayed};
-ghost use Rattle.ido_cli.specs.links.RunRequests.{Says, takes_lives};
+ghost use Rattle.ido_cli.specs.links.RunRequests.{Says};
 
 use crate::image::image;
 use crate::refusal::{refused_at, source_refused};
@@ -22,11 +21,10 @@ use crate::report::say;
 use crate::said::Said;
 use ido_base::limits::MOST_EVENTS;
 use ido_base::memory::OutOfMemory;
-use ido_base::place::Place;
 use ido_compile::{Compiled, compile};
 use run_scripts::bounds::script_bound;
 use run_scripts::play::{PlayError, play};
-use run_scripts::script::{Command, Script, ScriptError, ScriptFault, read_script};
+use run_scripts::script::{Script, ScriptError, ScriptFault, read_script};
 use run_tracker::life::Life;
 use std::alloc::Global;
 
@@ -37,28 +35,6 @@ pub enum Asked {
     Report,
     /// The image that a crash after the run would leave.
     Image,
-}
-
-/// Where the first start stands in a script.
-fn first_start(script: &Script) -> Option<Place>
-    ensures { first_start (map scripts.line_of script.now.lines.items) ≡ option_map (λ (p : Place). p.0) result }
-{
-    for line in &script.lines {
-        if matches!(line.command, Command::Start) {
-            return Some(line.place);
-        }
-    }
-    None
-}
-
-/// That start, where what is asked takes one life alone: an image tells one schedule.
-fn barred_start(asked: Asked, script: &Script) -> Option<Place>
-    ensures { barred_start (takes_lives asked) (map scripts.line_of script.now.lines.items) ≡ option_map (λ (p : Place). p.0) result }
-{
-    match asked {
-        Asked::Report => None,
-        Asked::Image => first_start(script),
-    }
 }
 
 /// The refusal of a script that begins at a place of an input, by what was found while it was played.
@@ -101,41 +77,7 @@ fn say_asked(
     }
 }
 
-/// What is said of the run of a script without a start that is barred. It begins at a place of an input.
-fn played_answer(
-    alloc: Global,
-    asked: Asked,
-    compiled: &Compiled,
-    script: &Script,
-    input: &[u8],
-    begins: u64,
-) -> Result<Said, OutOfMemory>
-    requires short { length input.now ≤ MOST_INPUT_BYTES }
-    requires within { begins ≤ length input.now }
-    requires translated { IsTranslated (flat_of compiled.now.flat) compiled.now.translated.object compiled.now.translated.marks compiled.now.translated.cuts }
-    requires compilation { IsCompilation (translation_in compiled.now) }
-    requires short_source { length compiled.now.text.items ≤ MOST_SOURCE_BYTES }
-    requires free { barred_start (takes_lives asked) (map scripts.line_of script.now.lines.items) ≡ None }
-    requires doable { let object = compiled.now.translated.object in
-        All (λ line. IsDoable (length object.code.items) (IsEviction object.log (length object.code.items)) line.command) script.now.lines.items }
-    ensures { IfOk result (λ said. ScriptAnswer (translation_in compiled.now) (takes_lives asked)
-        (Says asked compiled.now.text.items (translation_in compiled.now))
-        (record { lines = map scripts.line_of script.now.lines.items; input = input.now; begins = begins }) said.status said.output.items) }
-{
-    let cap = script_bound(script, MOST_EVENTS as u32);
-    let mut life = Life::new(
-        alloc,
-        &compiled.translated.object,
-        &compiled.translated.marks,
-        cap,
-    )?;
-    match play(script, &mut life, cap) {
-        Ok(()) => say_asked(alloc, asked, compiled, &life),
-        Err(error) => play_refused(alloc, input, begins, error),
-    }
-}
-
-/// What is said of a script, which begins at a place of an input.
+/// What is said of the run of a script, which begins at a place of an input.
 fn script_answer(
     alloc: Global,
     asked: Asked,
@@ -151,13 +93,20 @@ fn script_answer(
     requires short_source { length compiled.now.text.items ≤ MOST_SOURCE_BYTES }
     requires doable { let object = compiled.now.translated.object in
         All (λ line. IsDoable (length object.code.items) (IsEviction object.log (length object.code.items)) line.command) script.now.lines.items }
-    ensures { IfOk result (λ said. ScriptAnswer (translation_in compiled.now) (takes_lives asked)
+    ensures { IfOk result (λ said. ScriptAnswer (translation_in compiled.now)
         (Says asked compiled.now.text.items (translation_in compiled.now))
         (record { lines = map scripts.line_of script.now.lines.items; input = input.now; begins = begins }) said.status said.output.items) }
 {
-    match barred_start(asked, script) {
-        Some(line) => refused_at(alloc, 6, "E6", input, begins + u64::from(line.0)),
-        None => played_answer(alloc, asked, compiled, script, input, begins),
+    let cap = script_bound(script, MOST_EVENTS as u32);
+    let mut life = Life::new(
+        alloc,
+        &compiled.translated.object,
+        &compiled.translated.marks,
+        cap,
+    )?;
+    match play(script, &mut life, cap) {
+        Ok(()) => say_asked(alloc, asked, compiled, &life),
+        Err(error) => play_refused(alloc, input, begins, error),
     }
 }
 
@@ -196,7 +145,7 @@ fn compiled_answer(
     requires rest { rest.now ≡ rest_of input.now }
     requires short_source { length (source_of input.now) ≤ MOST_SOURCE_BYTES }
     requires compiled { IsCompiled (source_of input.now) compiled.now }
-    ensures { IfOk result (λ said. ScriptedAnswer (takes_lives asked) (Says asked (source_of input.now)) input.now said.status said.output.items) }
+    ensures { IfOk result (λ said. ScriptedAnswer (Says asked (source_of input.now)) input.now said.status said.output.items) }
 {
     let begins = (input.len() - rest.len()) as u64;
     match read_script(
@@ -222,7 +171,7 @@ pub fn scripted_answer(
     requires short_source { length source.now ≤ MOST_SOURCE_BYTES }
     requires source { source.now ≡ source_of input.now }
     requires rest { rest.now ≡ rest_of input.now }
-    ensures { IfOk result (λ said. ScriptedAnswer (takes_lives asked) (Says asked (source_of input.now)) input.now said.status said.output.items) }
+    ensures { IfOk result (λ said. ScriptedAnswer (Says asked (source_of input.now)) input.now said.status said.output.items) }
 {
     match compile(alloc, source) {
         Ok(compiled) => compiled_answer(alloc, asked, &compiled, input, rest),

@@ -64,7 +64,7 @@ fn counted(alloc: Global, life: &Life) -> Result<Vec<u64>, OutOfMemory>
 }
 
 /// The kept schedules of all lives.
-fn kept_schedules(alloc: Global, life: &Life) -> Result<Vec<Vec<u32>>, OutOfMemory>
+pub fn kept_schedules(alloc: Global, life: &Life) -> Result<Vec<Vec<u32>>, OutOfMemory>
     ensures { IfOk result (λ kept. map views.steps_of kept.items ≡ schedules (steps_in life.now)) }
 {
     let mut kept = Vec::new(alloc);

@@ -1,5 +1,5 @@
 -- Texts that are compiled for a log.
-use Rattle.std.proofs.Common.{◌≡◌, refl, ℕ, List, IfSome}
+use Rattle.std.proofs.Common.{refl, ℕ, List, IfSome}
 use Rattle.std.specs.Prelude.{Err}
 use Rattle.ido_base.specs.declared.log.Log.{Log}
 use Rattle.ido_base.specs.declared.place.Place.{Place}

@@ -1,5 +1,5 @@
 -- The image file that a crash leaves of a run.
-use Rattle.std.specs.Prelude.{ℕ, List, [], ◌∷◌, map, take, drop}
+use Rattle.std.specs.Prelude.{ℕ, List, map, take, drop}
 use Rattle.ido_base.specs.declared.event.Event.{Event}
 use Rattle.compiler_correctness.specs.Images as left
 use Rattle.compiler_correctness.specs.Images.{file_of, image_of, variable_words}
@@ -14,14 +14,14 @@ use Rattle.crash_images.specs.declared.version.ImageVersion.TheVariants.{Third}
 abbrev pub left_by : Translation → List Event → left.Image
 left_by c events = file_of c (image_of c events)
 
--- a file of a source, of one life: the words of its variables, those of its logs, and the runs of the kept steps
+-- a file of a source: the words of its variables, those of its logs, and of each life the runs of the kept steps
 abbrev pub file_contents : (source : List ℕ) → Translation → (file : left.Image) → Contents
-file_contents source c file = contents source (take (variable_words c) file.words) (drop (variable_words c) file.words) (file.kept.schedule ∷ [])
+file_contents source c file = contents source (take (variable_words c) file.words) (drop (variable_words c) file.words) (all_lives file.kept)
 
 abbrev pub file_text : (source : List ℕ) → Translation → (file : left.Image) → List ℕ
 file_text source c file = spelling Third (file_contents source c file)
 
--- what stands after the source, of all lives
+-- what stands after the source
 abbrev pub file_state : Translation → (file : left.Image) → State
 file_state c file = record {
   variables = take (variable_words c) file.words;

@@ -1,5 +1,5 @@
 -- What is asked of the run of a script, and of a source alone.
-use Rattle.std.specs.Prelude.{ℕ, List, Bool, true, false}
+use Rattle.std.specs.Prelude.{ℕ, List}
 use Rattle.ido_base.specs.declared.event.Event.{Event}
 use Rattle.compiler_correctness.specs.Translations.{Translation}
 use Rattle.ido_cli.specs.declared.command.Command.{Command}
@@ -15,11 +15,6 @@ use Rattle.ido_cli.specs.Plays.{IsRunBy}
 abbrev pub command_asking : Asked → Command
 command_asking asked.Report = command.Play
 command_asking asked.Image = command.Image
-
--- whether more lives than one are taken
-abbrev pub takes_lives : Asked → Bool
-takes_lives asked.Report = true
-takes_lives asked.Image = false
 
 -- what is to be said of a translation of a source and events
 abbrev pub Says : Asked → (source : List ℕ) → Translation → List Event → (status : ℕ) → (output : List ℕ) → Type 0

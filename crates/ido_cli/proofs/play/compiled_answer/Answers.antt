@@ -6,7 +6,7 @@ use Rattle.std.specs.Prelude.{map}
 use Rattle.ido_compile.specs.CompileAnswers.{translation_in}
 use Rattle.ido_cli.specs.Inputs.{source_of}
 use Rattle.ido_cli.specs.Plays.{ScriptAnswer}
-use Rattle.ido_cli.specs.links.RunRequests.{Says, takes_lives}
+use Rattle.ido_cli.specs.links.RunRequests.{Says}
 use Rattle.ido_cli.proofs.PlayedRuns.{as_many_threads}
 use Rattle.ido_cli.proofs.RestLengths.{rest_short}
 use Rattle.ido_cli.proofs.ScriptAnswers.{script_fault_answer, script_run_answer}
@@ -32,7 +32,7 @@ returns-in-Ok c =
     (λ said is.
     script_run_answer c.args.input.now c.args.rest.now (flat_of x.flat) y.object.log _ c.requires.rest c.requires.compiled.translated.log (many ∙ threads)
     c.requires.compiled.accepted
-    (takes_lives c.args.asked) (Says c.args.asked (source_of c.args.input.now)) (map scripts.line_of c.in-Ok.script.lines.items) (translation_in x)
+    (Says c.args.asked (source_of c.args.input.now)) (map scripts.line_of c.in-Ok.script.lines.items) (translation_in x)
     said.status said.output.items c.in-Ok.ensures.lines
     (record {
       object = y.object;
@@ -42,7 +42,7 @@ returns-in-Ok c =
       compilation = c.requires.compiled.compilation;
       is = refl;
     })
-    (subst (λ (text : List ℕ). ScriptAnswer (translation_in x) (takes_lives c.args.asked) (Says c.args.asked text (translation_in x)) (record {
+    (subst (λ (text : List ℕ). ScriptAnswer (translation_in x) (Says c.args.asked text (translation_in x)) (record {
       lines = map scripts.line_of c.in-Ok.script.lines.items;
       input = c.args.input.now;
       begins = length c.args.input.now - length c.args.rest.now;
@@ -58,6 +58,6 @@ returns-in-Err c =
     (λ said both.
     script_fault_answer c.args.input.now c.args.rest.now (flat_of x.flat) y.object.log _ c.requires.rest c.requires.compiled.translated.log (many ∙ threads)
     c.requires.compiled.accepted
-    (takes_lives c.args.asked) (Says c.args.asked (source_of c.args.input.now)) (scripts.refused_fault c.in-Err.error) said.status said.output.items both.0
+    (Says c.args.asked (source_of c.args.input.now)) (scripts.refused_fault c.in-Err.error) said.status said.output.items both.0
     c.in-Err.ensures.refused both.1)
     (both_ok c.script_refused.result _ _ c.script_refused.ensures.fault c.script_refused.ensures.said)

@@ -5,7 +5,7 @@ use Rattle.ido_compile.specs.CompileAnswers.{translation_in}
 use Rattle.ido_cli.specs.declared.play.Asked.{Asked}
 use Rattle.ido_cli.specs.Images.{IsImageAfter}
 use Rattle.ido_cli.specs.links.RunRequests.{Says}
-use Rattle.ido_cli.proofs.RunImages.{image_after, logs_few, same_variables, steps_few, variables_few, variables_within}
+use Rattle.ido_cli.proofs.RunImages.{image_after, lives_few, logs_few, same_variables, steps_few, variables_few, variables_within}
 use Rattle.ido_cli.proofs.PlayedRuns.{as_many_threads, counts_sections, harts_of_life, has_room, run_by}
 use Rattle.ido_cli.proofs.RefusedSchedules.{both_ok}
 use Rattle.ido_cli.proofs.play.say_asked.Goals as goal
@@ -53,8 +53,14 @@ image-requires-clause-logs c =
     let y = x.translated in
     logs_few (flat_of x.flat) y.object y.marks y.cuts c.args.life.now _ c.requires.played c.requires.translated c.requires.compilation
 
-pub image-requires-clause-schedule : goal.image-requires-clause-schedule
-image-requires-clause-schedule c =
+pub image-requires-clause-lives : goal.image-requires-clause-lives
+image-requires-clause-lives c =
+    let x = c.args.compiled.now in
+    let y = x.translated in
+    omega (arith, c.requires.few, lives_few (flat_of x.flat) y.object y.marks y.cuts c.args.life.now _ c.requires.played)
+
+pub image-requires-clause-steps : goal.image-requires-clause-steps
+image-requires-clause-steps c =
     let x = c.args.compiled.now in
     let y = x.translated in
     omega (arith, c.requires.few, steps_few (flat_of x.flat) y.object y.marks y.cuts c.args.life.now _ c.requires.played)

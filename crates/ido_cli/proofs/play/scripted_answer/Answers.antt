@@ -3,7 +3,7 @@ use Rattle.std.proofs.lemmas.Result.{IfOk-weaker}
 use Rattle.ido_base.specs.declared.limits.TheConstants.{MOST_SOURCE_BYTES}
 use Rattle.ido_compile.specs.CompileAnswers.{IsCompiled}
 use Rattle.ido_cli.specs.Inputs.{source_of}
-use Rattle.ido_cli.specs.links.RunRequests.{Says, takes_lives}
+use Rattle.ido_cli.specs.links.RunRequests.{Says}
 use Rattle.ido_cli.proofs.RefusedSources.{script_refused}
 use Rattle.ido_cli.proofs.play.scripted_answer.Goals as goal
 
@@ -17,6 +17,6 @@ pub returns-in-Err : goal.returns-in-Err
 returns-in-Err c =
     IfOk-weaker c.source_refused.result _ _
     (λ said tells.
-    script_refused c.args.source.now c.args.input.now c.requires.source (takes_lives c.args.asked) (Says c.args.asked (source_of c.args.input.now))
+    script_refused c.args.source.now c.args.input.now c.requires.source (Says c.args.asked (source_of c.args.input.now))
     c.in-Err.error c.in-Err.ensures said.status said.output.items tells)
     c.source_refused.ensures
