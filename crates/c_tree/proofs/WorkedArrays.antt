@@ -139,7 +139,6 @@ buckets_formed = record {
     variables = ((tt, tt), tt);
     threads = (record { locals = (tt, tt); refer = (tt, tt); body = buckets_refer.0; never_null = refl }, tt);
   };
-  unreferring = record { variables = (refl, tt); threads = ((refl, tt), tt) };
 }
 
 -- its mutexes are in an array

@@ -8,6 +8,7 @@ use Rattle.ido_ints.specs.declared.kinds.Kind.TheVariants as kind
 use Rattle.ido_ints.specs.declared.operators.Binary.TheVariants as b
 use Rattle.ido_ints.specs.Reduction as reduction
 use Rattle.ido_ints.specs.TypedNumbers.{typed}
+use Rattle.ido_ints.proofs.Public.{Holds-reduced, Holds-zero}
 use Rattle.c_tree.specs.declared.language.Language.TheVariants.{Full}
 use Rattle.c_tree.specs.Elaboration.{typed_program}
 use Rattle.c_tree.specs.Exprs as e
@@ -18,7 +19,7 @@ use Rattle.c_tree.specs.Inlining.{flat_form}
 use Rattle.c_tree.specs.Ranges.{elements_of}
 use Rattle.c_tree.specs.LockDiscipline.{lock_fault}
 use Rattle.c_tree.specs.NullReferences.{program_nulls, flat_statements_nulls}
-use Rattle.c_tree.specs.WellFormed.{IsExpr}
+use Rattle.c_tree.specs.WellFormed.{IsExpr, IsWellFormed}
 use Rattle.c_tree.specs.Source.{start, source_step, after_from, ended_from}
 use Rattle.c_tree.proofs.Samples.{at, int, name, references, null_followed}
 
@@ -197,6 +198,70 @@ through_formed = (record { it = _; found = refl; kind = refl; array = refl }, re
 
 through_unformed : ¬ (Formed (kind.Long ∷ []) (through 137))
 through_unformed h = let kinds : Some kind.Long ≡ Some kind.UnsignedLong = h.1 in cc
+
+-- a form with references is well formed
+whole_formed : IsWellFormed (flat_form (program whole))
+unfolding flat_form reduction.from_least_on
+whole_formed = record {
+  shared = record {
+    mutexes = omega arith;
+    threads = omega arith;
+    variables = (
+      record {
+        guarded = record { it = _; found = refl; single = refl };
+        not_empty = omega arith;
+        not_too_long = omega arith;
+        count = refl;
+        held = (
+          Holds-reduced kind.Long (pos 10),
+          (Holds-reduced kind.Long (pos 20), (Holds-reduced kind.Long (pos 30), (Holds-reduced kind.Long (pos 40), tt))),
+        );
+      },
+      (
+        record {
+          guarded = record { it = _; found = refl; single = refl };
+          not_empty = omega arith;
+          not_too_long = omega arith;
+          count = refl;
+          held = (Holds-zero kind.UnsignedLong, tt);
+        },
+        tt,
+      ),
+    );
+    bytes = omega arith;
+  };
+  threads = (
+    (
+      record { it = _; found = refl; single = refl },
+      (
+        ((refl, tt), ((a_referred, tt), (refl, tt))),
+        (
+          (
+            tt,
+            (
+              ((refl, tt), (tt, tt)),
+              (
+                (
+                  ((record { it = _; found = refl; kind = refl; array = refl }, refl), (refl, tt)),
+                  (((record { it = _; found = refl; kind = refl; array = refl }, refl), tt), ((refl, tt), tt)),
+                ),
+                tt,
+              ),
+              tt,
+            ),
+            tt,
+          ),
+          (
+            ((record { it = _; found = refl; kind = refl; array = refl }, tt), (refl, tt)),
+            (record { it = _; found = refl; single = refl }, tt),
+          ),
+        ),
+      ),
+    ),
+    tt,
+  );
+  referring = whole_refers;
+}
 
 whole_has_references : ¬ (HasNoFlatReferences (flat_form (program whole)))
 unfolding flat_form

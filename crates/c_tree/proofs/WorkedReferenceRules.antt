@@ -127,6 +127,20 @@ variable_followed : faults (set (scalar (x 220)) (t.Referent (at 224) (name (cod
 unfolding type_faults
 variable_followed = refl
 
+-- a key takes no address, and follows no reference; whether a local is null it may ask
+key_takes_address : faults (t.Lock (at 220) (name (codes "k") 225) (Some (t.Binary b.Equal (t.Named (p 227)) (t.Address (at 232) (a 233) (one 235)))) ∷ []) ≡
+    at_rule rule.WrongSort 233 ∷ []
+unfolding type_faults
+key_takes_address = refl
+
+key_follows : faults (t.Lock (at 220) (name (codes "k") 225) (Some (t.Referent (at 227) (p 228))) ∷ []) ≡ at_rule rule.WrongSort 227 ∷ []
+unfolding type_faults
+key_follows = refl
+
+key_asks : faults (t.Lock (at 220) (name (codes "k") 225) (Some (t.Binary b.Equal (t.Named (p 227)) (t.Null (at 232)))) ∷ []) ≡ []
+unfolding type_faults
+key_asks = refl
+
 -- references to elements of what is no array, of an array whose elements have mutexes of their own, of what isn't known
 to_scalar : faults (t.Declare (ref_declaration 220 (ref_to (codes "x") 224) (name (codes "q") 227) t.Absent) ∷ []) ≡ at_rule rule.WrongSort 224 ∷ []
 unfolding type_faults

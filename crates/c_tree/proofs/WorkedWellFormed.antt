@@ -55,7 +55,6 @@ masked_formed = record {
     variables = ((tt, tt), tt);
     threads = (record { locals = (tt, tt); refer = (tt, tt); body = ((tt, tt, tt), (tt, (((tt, tt), tt, tt), (tt, tt)))); never_null = refl }, tt);
   };
-  unreferring = record { variables = (refl, tt); threads = ((refl, tt), tt) };
 }
 
 -- of an array of four mutexes a key is one of their numbers, and reads locals alone

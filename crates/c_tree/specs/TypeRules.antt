@@ -269,13 +269,13 @@ module _ (l : Language) (gs : List n.Global) where
   abbrev pub numeric_faults : n.Scope → t.Expression → List Fault
   numeric_faults s x = expression_faults s x ++ number_faults s x
 
-  -- the persistent variables in an expression
+  -- the persistent variables in an expression, also where an element's address is taken
   abbrev pub shared_faults : n.Scope → t.Expression → List Fault
   shared_faults s (t.Number place value) = []
   shared_faults s (t.Named x) = persistent_faults s x
   shared_faults s (t.Element array index) = persistent_faults s array ++ shared_faults s index
   shared_faults s (t.Null place) = []
-  shared_faults s (t.Address place array index) = shared_faults s index
+  shared_faults s (t.Address place array index) = persistent_faults s array ++ shared_faults s index
   shared_faults s (t.Referent place x) = broken rule.WrongSort place
   shared_faults s (t.Parenthesised place inner) = shared_faults s inner
   shared_faults s (t.Unary place operator operand) = shared_faults s operand

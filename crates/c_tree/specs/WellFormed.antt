@@ -12,7 +12,7 @@ use Rattle.c_tree.specs.Exprs as e
 use Rattle.c_tree.specs.Programs as p
 use Rattle.c_tree.specs.Flats as f
 use Rattle.c_tree.specs.Ranges.{is_below, elements_of, mutexes_of}
-use Rattle.c_tree.specs.References.{IsReferred, Follows, IsProgramReferring, HasNoReferences, IsFlatReferring, HasNoFlatReferences}
+use Rattle.c_tree.specs.References.{IsReferred, Follows, IsProgramReferring, IsFlatReferring}
 
 -- ---- Mutexes
 
@@ -206,8 +206,6 @@ pub record IsProgram (x : p.Program) : Type 0 where
   pub functions : AllByRecursion (IsFunction x) x.functions
   pub threads : AllByRecursion (λ (t : p.Thread). AreStatements x t.locals t.body) x.threads
   pub referring : IsProgramReferring x
-  -- for as long as no image is checked for references
-  pub unreferring : HasNoReferences x
 
 -- ---- Flat forms, in which all indexes fit
 
@@ -243,5 +241,3 @@ pub record IsWellFormed (x : f.Flat) : Type 0 where
   pub shared : AreShared x.mutexes (length x.threads) x.variables
   pub threads : AllByRecursion (λ (t : f.Thread). AreFlatStatements x t.locals t.body) x.threads
   pub referring : IsFlatReferring x
-  -- for as long as no image is checked for references
-  pub unreferring : HasNoFlatReferences x

@@ -8,8 +8,11 @@ mod ItemRows
 mod NestedScopes
 mod RowSteps
 mod UniqueFirstFault
-mod LocalKindsGrow
+mod LocalsGrow
 mod EmptyFaults
+mod MeaningsInPrograms
+mod NamesFollow
 mod PlainReferences
 mod WellFormedStatements
+mod WellFormedReferences
 mod WellFormedItems

@@ -299,7 +299,8 @@ module _ (l : Language) (gs : List n.Global) where
   shared_ordered s (t.Element array index) =
       both (persistent_faults l gs s array) (shared_faults l gs s index) (persistent_ordered s array) (shared_ordered s index)
   shared_ordered s (t.Null place) = tt
-  shared_ordered s (t.Address place array index) = shared_ordered s index
+  shared_ordered s (t.Address place array index) =
+      both (persistent_faults l gs s array) (shared_faults l gs s index) (persistent_ordered s array) (shared_ordered s index)
   shared_ordered s (t.Referent place reference) = (omega arith, tt)
   shared_ordered s (t.Parenthesised place inner) = shared_ordered s inner
   shared_ordered s (t.Unary place operator operand) = shared_ordered s operand

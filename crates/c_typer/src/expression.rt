@@ -401,10 +401,9 @@ pub fn note_shared(globals: &Globals, scope: &Scope, faults: &mut Faults, expres
 {
     match expression {
         Expression::Number { .. } | Expression::Null { .. } => (),
-        Expression::Address { index, .. } => note_shared(globals, scope, faults, index),
         Expression::Referent { place, .. } => faults.note(Rule::WrongSort, *place),
         Expression::Named { name } => note_persistent(globals, scope, faults, name),
-        Expression::Element { array, index } => {
+        Expression::Element { array, index } | Expression::Address { array, index, .. } => {
             note_persistent(globals, scope, faults, array);
             note_shared(globals, scope, faults, index);
         }

@@ -1,5 +1,5 @@
 //! Laws of the rules of names and kinds: nothing is computed here.
-ghost use Rattle.c_typer.specs.FormLaws.{KeyedIsFormed, TypedIsFormed, TypedIsPlain};
+ghost use Rattle.c_typer.specs.FormLaws.{TypedHasNoReferences, TypedIsFormed, TypedIsPlain};
 ghost use Rattle.c_typer.specs.Laws.{OneFirst};
 
 /// At most one of the rules that a tree breaks is broken first, at one place.
@@ -8,7 +8,7 @@ pub fn one_first()
 {}
 
 /// A text that breaks none of them is a well formed program: its numbers name what they are used as, each variable
-/// has a number of its kind for each element, and no limit is passed.
+/// has a number of its kind for each element, each reference is to the array that its type names, and no limit is passed.
 pub fn typed_is_formed()
     ensures { TypedIsFormed }
 {}
@@ -18,8 +18,7 @@ pub fn typed_is_plain()
     ensures { TypedIsPlain }
 {}
 
-/// A text of the full language that breaks none of the plain one's rules is a well formed program, too: one with keys and arrays of
-/// mutexes, and without references.
-pub fn keyed_is_formed()
-    ensures { KeyedIsFormed }
+/// In a text of the plain language nothing refers to an element of an array.
+pub fn typed_has_no_references()
+    ensures { TypedHasNoReferences }
 {}
