@@ -1,4 +1,3 @@
 pub mod Public
 mod Refused
-mod FormNames
 mod LiveKeys

@@ -5,8 +5,7 @@ ghost use Rattle.c_tree.specs.LockDiscipline.{lock_fault};
 ghost use Rattle.c_tree.specs.HoldPrices.{price_fault};
 ghost use Rattle.c_tree.specs.Temporaries.{temporaries_fault};
 ghost use Rattle.c_tree.specs.WellFormed.{ArePlain, IsWellFormed};
-ghost use Rattle.c_tree.specs.declared.language.Language.TheVariants.{Full, Plain};
-ghost use Rattle.lock_discipline.specs.NamedForms.{HasNames};
+ghost use Rattle.c_tree.specs.declared.language.Language.TheVariants.{Plain};
 ghost use Rattle.lock_discipline.specs.HeldSetsByStep.{AreAllSetsOf};
 ghost use Rattle.flow_graph.specs.Nodes.{graph_of};
 ghost use Rattle.flow_graph.specs.LocalSets.{AreLive};
@@ -68,9 +67,7 @@ fn of_lock(error: LockError<'_>) -> SourceError
 
 /// The locks that are held before each step, where the form keeps the lock discipline of the language.
 fn held(alloc: Global, language: Language, flat: &Flat) -> Result<Held, SourceError>
-    requires formed { IsWellFormed (flat_of flat.now) }
-    requires plain { language ≡ Plain → ArePlain (flat_of flat.now).mutexes }
-    requires named { language ≡ Full → HasNames (flat_of flat.now) }
+    requires { IsWellFormed (flat_of flat.now) }
     ensures sets { IfOk result (AreAllSetsOf (flat_of flat.now)) }
     ensures disciplined { IfOk result (λ _. lock_fault language (flat_of flat.now) ≡ None) }
     ensures refused { IfErr result (IsFormRefusal language (flat_of flat.now)) }
@@ -108,7 +105,7 @@ fn check_temporaries(flat: &Flat) -> Result<(), SourceError>
 }
 
 /// The analysis of a flat form that keeps all rules of the language for locks, registers and temporaries; else the rule and the place
-/// of the first of these checks that it fails. Where mutexes may be in arrays each thread has to have few names of locks.
+/// of the first of these checks that it fails.
 pub fn analyse<'a>(
     alloc: Global,
     language: Language,
@@ -116,7 +113,6 @@ pub fn analyse<'a>(
 ) -> Result<Analysis<'a>, SourceError>
     requires formed { IsWellFormed (flat_of flat.now) }
     requires plain { language ≡ Plain → ArePlain (flat_of flat.now).mutexes }
-    requires named { language ≡ Full → HasNames (flat_of flat.now) }
     requires priced { price_fault language (flat_of flat.now) ≡ None }
     ensures of_flat { IfOk result (λ a. a.flat.now ≡ flat.now) }
     ensures analysed { IfOk result (λ a. IsAnalysis language a) }

@@ -1,15 +1,14 @@
 -- Well formed forms have a number for each lock that a thread takes.
-use Rattle.std.proofs.Common.{◌≤◌, List, [], ◌∷◌, ◌++◌, length, ap, arith}
+use Rattle.std.proofs.Common.{List, [], ◌∷◌, ◌++◌}
 use Rattle.std.specs.List.{AllByRecursion}
-use Rattle.ido_base.specs.declared.limits.TheConstants.{MOST_MUTEXES}
 use Rattle.ido_ints.specs.declared.kinds.Kind.{Kind}
 use Rattle.c_tree.specs.Exprs as e
 use Rattle.c_tree.specs.Flats as f
-use Rattle.c_tree.specs.LockNames.{lock_names, locks_in, locks_in_all, locks_in_arms}
-use Rattle.c_tree.specs.WellFormed.{IsFlatLockName, IsFlatStatement, AreFlatStatements, AreFlatArms, ArePlain}
-use Rattle.c_tree.proofs.Public.{length-plain_names, names_are_plain, names_numbered}
-use Rattle.lock_discipline.specs.NamedForms.{HasFewNames, HasNumbers}
-use Rattle.lock_discipline.specs.FormLaws.{FewHaveNames, WellFormedHasNames}
+use Rattle.c_tree.specs.LockNames.{locks_in, locks_in_all, locks_in_arms}
+use Rattle.c_tree.specs.WellFormed.{IsFlatLockName, IsFlatStatement, AreFlatStatements, AreFlatArms}
+use Rattle.c_tree.proofs.Public.{names_numbered}
+use Rattle.lock_discipline.specs.NamedForms.{HasNumbers}
+use Rattle.lock_discipline.specs.FormLaws.{WellFormedHasNames}
 
 module _ (x : f.Flat) (ks : List Kind) where
   abbrev AreFormed : List e.LockName → Type 0
@@ -37,22 +36,9 @@ module _ (x : f.Flat) (ks : List Kind) where
     formed_arms f.no_arm w = tt
     formed_arms (f.arm_and condition body rest) w = both (locks_in_all body) (locks_in_arms rest) (formed_all body w.1) (formed_arms rest w.2)
 
--- where no mutex is in an array there are as many names as mutexes
-few_plain : (x : f.Flat) (ts : List f.Thread) → ArePlain x.mutexes → AllByRecursion (HasFewNames x) ts
-few_plain x [] plain = tt
-few_plain x (t ∷ ts) plain =
-    let few : length (lock_names x t) ≤ MOST_MUTEXES =
-    omega (arith, ap length (names_are_plain x t plain.single), length-plain_names (length x.mutexes), plain.few) in
-    (few, few_plain x ts plain)
-
-numbered : (x : f.Flat) (ts : List f.Thread) → AllByRecursion (HasFewNames x) ts → AllByRecursion (λ (t : f.Thread). AreFlatStatements x t.locals t.body) ts →
-    AllByRecursion (HasNumbers x) ts
-numbered x [] few p = tt
-numbered x (t ∷ ts) few p =
-    (record { few = few.0; taken = names_numbered x.mutexes t.locals (locks_in_all t.body) (formed_all x t.locals t.body p.0) }, numbered x ts few.1 p.1)
-
-pub few_have_names : FewHaveNames
-few_have_names x w few = numbered x x.threads few w.threads
+numbered : (x : f.Flat) (ts : List f.Thread) → AllByRecursion (λ (t : f.Thread). AreFlatStatements x t.locals t.body) ts → AllByRecursion (HasNumbers x) ts
+numbered x [] p = tt
+numbered x (t ∷ ts) p = (names_numbered x.mutexes t.locals (locks_in_all t.body) (formed_all x t.locals t.body p.0), numbered x ts p.1)
 
 pub well_formed_has_names : WellFormedHasNames
-well_formed_has_names x w plain = few_have_names x w (few_plain x x.threads plain)
+well_formed_has_names x w = numbered x x.threads w.threads

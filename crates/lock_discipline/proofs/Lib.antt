@@ -1,9 +1,7 @@
 pub mod Public
 mod Masks
-mod Bits
 mod Sets
 mod FewHeld
-mod FewNames
 mod FormNames
 mod CheckerCorrectness
 mod PlainSets

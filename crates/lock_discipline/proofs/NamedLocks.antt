@@ -31,7 +31,8 @@ none_held_names : (xs : List LockName) → held_names xs [] ≡ []
 none_held_names [] = refl
 none_held_names (x ∷ xs) = refl
 
-next_held : (xs : List LockName) (h : Held) (i : ℕ) (y : LockName) → slice_get xs i ≡ Some y →
+-- the name of a number is the next of them, where it is held
+pub next_held : (xs : List LockName) (h : Held) (i : ℕ) (y : LockName) → slice_get xs i ≡ Some y →
     held_names (drop i xs) (drop i h)
     ≡ cond (holds h i) (y ∷ held_names (drop (suc i) xs) (drop (suc i) h)) (held_names (drop (suc i) xs) (drop (suc i) h))
 next_held [] h i y e = absurd (cc)

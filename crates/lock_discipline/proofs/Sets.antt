@@ -1,9 +1,9 @@
 -- When sets of held names are the same.
-use Rattle.std.proofs.Common.{◌≡◌, ℕ, zero, suc, ◌<◌, ◌⊎◌, inl, inr, Bool, true, false, not, cond, ◌&&◌, ◌||◌, List, [], ◌∷◌}
-use Rattle.std.proofs.Common.{◌++◌, length, Option, Some, None, find, refl, sym, ap, ap₂, ◌∙◌, subst, arith, ext_get_or}
+use Rattle.std.proofs.Common.{◌≡◌, ℕ, zero, suc, ◌+◌, ◌<◌, ◌≤◌, ◌⊎◌, inl, inr, Bool, true, false, not, cond, ◌&&◌, ◌||◌, List, [], ◌∷◌}
+use Rattle.std.proofs.Common.{◌++◌, length, Option, Some, None, find, drop, get_or, refl, sym, ap, ap₂, ◌∙◌, subst, arith, ext_get_or}
 use Rattle.std.specs.List.{list_any, list_all}
 use Rattle.std.specs.Option.{option_or}
-use Rattle.std.proofs.lemmas.List.{length-replicate}
+use Rattle.std.proofs.lemmas.List.{length-replicate, drop_more, drop_all}
 use Rattle.std.proofs.lemmas.List.Folds.{find-append}
 use Rattle.lock_discipline.specs.links.Sets.{differ}
 use Rattle.c_tree.specs.LockNames.{Held, holds, none_held}
@@ -28,6 +28,30 @@ at_none p zero e k h = absurd (omega arith)
 at_none p (suc n) e k h =
     let both = none_of_both (find p (numbers_below n)) (p n) n (sym (find-append p (numbers_below n) (n ∷ [])) ∙ e) in
     elim (below_or_last k n h) [ inl lt ↦ at_none p n both.0 k lt | inr is ↦ subst (λ j. p j ≡ false) is both.1 ]
+
+none_below : (p : ℕ → Bool) (n : ℕ) → ((k : ℕ) → k < n → p k ≡ false) → find p (numbers_below n) ≡ None
+none_below p zero h = refl
+none_below p (suc n) h =
+    find-append p (numbers_below n) (n ∷ [])
+    ∙ ap (λ o. option_or o (cond (p n) (Some n) None)) (none_below p n (λ k lt. h k (omega arith)))
+    ∙ ap (λ b. cond b (Some n) None) (h n (omega arith))
+
+first_at : (p : ℕ → Bool) (n k : ℕ) → k < n → p k ≡ true → ((j : ℕ) → j < k → p j ≡ false) → find p (numbers_below n) ≡ Some k
+first_at p zero k lt here before = absurd (omega arith)
+first_at p (suc n) k lt here before = elim (below_or_last k n lt) [
+  | inl low ↦ find-append p (numbers_below n) (n ∷ []) ∙ ap (λ o. option_or o (cond (p n) (Some n) None)) (first_at p n k low here before)
+  | inr is ↦ find-append p (numbers_below n) (n ∷ [])
+      ∙ ap (λ o. option_or o (cond (p n) (Some n) None)) (none_below p n (λ j h. before j (omega arith)))
+      ∙ ap (λ b. cond b (Some n) None) (ap p is ∙ here) ∙ ap Some is
+]
+
+-- the least name that is held
+pub none_is_held : (h : Held) → ((m : ℕ) → m < length h → holds h m ≡ false) → None ≡ find (λ m. holds h m) (numbers_below (length h))
+none_is_held h e = sym (none_below (λ m. holds h m) (length h) e)
+
+pub first_held : (h : Held) (k : ℕ) → k < length h → holds h k ≡ true → ((m : ℕ) → m < k → holds h m ≡ false) →
+    Some k ≡ find (λ m. holds h m) (numbers_below (length h))
+first_held h k low here before = sym (first_at (λ m. holds h m) (length h) k low here before)
 
 -- ---- Lists of sets
 
@@ -160,8 +184,25 @@ pub same_found : (p q : ℕ → Bool) (xs : List ℕ) → ((x : ℕ) → p x ≡
 same_found p q [] h = refl
 same_found p q (x ∷ xs) h = ap₂ (λ (b : Bool) (o : Option ℕ). cond b (Some x) o) (h x) (same_found p q xs h)
 
-pub differing_found : (h d : Held) (xs : List Held) → length d ≡ length h → ((m : ℕ) → holds d m ≡ list_any (λ x. differ (holds h m) (holds x m)) xs) →
-    find (λ m. holds d m) (numbers_below (length d)) ≡ least_difference (length h) (h ∷ xs)
-differing_found h d xs l e =
-    ap (λ (n : ℕ). find (λ m. holds d m) (numbers_below n)) l
-    ∙ same_found (λ m. holds d m) (λ m. is_in_some (h ∷ xs) m && not (is_in_all (h ∷ xs) m)) (numbers_below (length h)) (λ m. e m ∙ any_differ (holds h m) m xs)
+abbrev pub some_differ : Held → List Held → ℕ → Bool
+some_differ h xs m = list_any (λ x. differ (holds h m) (holds x m)) xs
+
+pub none_differs : (h : Held) (xs : List Held) → ((m : ℕ) → m < length h → some_differ h xs m ≡ false) → None ≡ least_difference (length h) (h ∷ xs)
+none_differs h xs e =
+    sym (none_below (λ m. is_in_some (h ∷ xs) m && not (is_in_all (h ∷ xs) m)) (length h) (λ m low. sym (any_differ (holds h m) m xs) ∙ e m low))
+
+pub first_differs : (h : Held) (xs : List Held) (k : ℕ) → k < length h → some_differ h xs k ≡ true → ((m : ℕ) → m < k → some_differ h xs m ≡ false) →
+    Some k ≡ least_difference (length h) (h ∷ xs)
+first_differs h xs k low here before =
+    sym (first_at (λ m. is_in_some (h ∷ xs) m && not (is_in_all (h ∷ xs) m)) (length h) k low (sym (any_differ (holds h k) k xs) ∙ here)
+    (λ m less. sym (any_differ (holds h m) m xs) ∙ before m less))
+
+-- one of those that are left, and the others
+pub any_next : {X : Type 0} (p : X → Bool) (xs : List X) (i : ℕ) (x : X) (b : Bool) → i < length xs → x ≡ get_or xs i x → p x ≡ b →
+    list_any p (drop i xs) ≡ (b || list_any p (drop (i + 1) xs))
+any_next p xs i x b low is e =
+    ap (λ ys. list_any p ys) (drop_more xs i x low)
+    ∙ (ap (λ y. p y || list_any p (drop (i + 1) xs)) (sym is) ∙ ap (λ (c : Bool). c || list_any p (drop (i + 1) xs)) e)
+
+pub any_end : {X : Type 0} (p : X → Bool) (xs : List X) (i : ℕ) → length xs ≤ i → list_any p (drop i xs) ≡ false
+any_end p xs i past = ap (λ ys. list_any p ys) (drop_all i xs past)

@@ -12,7 +12,6 @@ use Rattle.c_tree.specs.declared.program.Mutex as mutex
 use Rattle.c_tree.specs.declared.program.Variable as variable
 use Rattle.c_tree.specs.declared.expr.LockRef.{LockRef}
 use Rattle.std.specs.Prelude.{slice_index_or}
-use Rattle.std.specs.List.{AllByRecursion}
 use Rattle.c_tree.specs.Exprs.{LockName}
 use Rattle.c_tree.specs.Programs.{Variable, mutex_of, variable_of}
 use Rattle.c_tree.specs.Flats as f
@@ -21,7 +20,7 @@ use Rattle.c_tree.specs.links.KnownNames.{names_of}
 use Rattle.c_tree.specs.LockDiscipline.{numbers_below, Fault, Walked, After, Broken, and_then}
 use Rattle.c_tree.specs.LockDiscipline.{walk_all, walk_end, walk_thread, walk_threads, lock_fault, IsDisciplined}
 use Rattle.lock_discipline.specs.HeldSetsByStep.{AreSetsOf, AreAllSetsOf}
-use Rattle.lock_discipline.specs.NamedForms.{HasNumbers, HasNames}
+use Rattle.lock_discipline.specs.NamedForms.{HasNames}
 use Rattle.lock_discipline.specs.links.Flow.{held_after_all, sets_in_all, thread_sets}
 use Rattle.lock_discipline.proofs.CheckerCorrectness.{none_or, after_then, fault_or}
 use Rattle.lock_discipline.proofs.WalkLaw.{walk-is_discipline}
@@ -63,12 +62,6 @@ pub own_names : (x : d.Flat) (t : thread.Thread) (names made : List LockRef) (ms
 own_names x t names made ms ss same p q e =
     ap names_of same
     ∙ (e ∙ ap₂ (λ (ys : List mutex.Mutex) (zs : List s.Statement). names_from 0 (map mutex_of ys) (once [] (locks_in_all (f.statements_of zs)))) p q)
-
-pub numbers_at : (x : f.Flat) (ts : List thread.Thread) (i : ℕ) (t : thread.Thread) → AllByRecursion (HasNumbers x) (map f.thread_of ts) →
-    i < length ts → t ≡ get_or ts i t → HasNumbers x (f.thread_of t)
-numbers_at x [] i t w low is = absurd (omega (arith, low))
-numbers_at x (y ∷ ts) zero t w low is = subst (λ (z : thread.Thread). HasNumbers x (f.thread_of z)) (sym is) w.0
-numbers_at x (y ∷ ts) (suc i) t w low is = numbers_at x ts i t w.1 (omega (arith, low)) is
 
 abbrev pub variables_in : d.Flat → List Variable
 variables_in x = map variable_of x.variables.items

@@ -132,7 +132,7 @@ all_disciplined language x [] w e = (All-nil (IsDisciplined x), All-nil (HoldsFe
 all_disciplined language x (t ∷ ts) w e =
     let both = none_from (walk_thread language x.variables (lock_names x t) t) (walk_threads language x ts) e in
     let rest = all_disciplined language x ts w.1 both.1 in (
-      All-cons (IsDisciplined x) t ts (after_disciplined language x t both.0.0 w.0.taken both.0.1) rest.0,
+      All-cons (IsDisciplined x) t ts (after_disciplined language x t both.0.0 w.0 both.0.1) rest.0,
       All-cons (HoldsFew language x) t ts (few_thread language x t both.0.0 both.0.1) rest.1,
     )
 

@@ -3,6 +3,7 @@ ghost use Rattle.std.specs.Prelude.{◌≡◌};
 ghost use Rattle.lock_discipline.specs.declared.error.LockError.TheVariants.{Memory};
 
 use c_tree::expr::LockRef;
+use ido_base::memory::OutOfMemory;
 use ido_base::place::Place;
 use std::alloc::{AllocError, AllocFailed};
 use thiserror::Error;
@@ -47,6 +48,14 @@ impl<'a> From<AllocError> for LockError<'a> {
     ghost from_gives = { λ _ e. e ≡ Memory };
 
     fn from(_: AllocError) -> Self {
+        LockError::Memory
+    }
+}
+
+impl<'a> From<OutOfMemory> for LockError<'a> {
+    ghost from_gives = { λ _ e. e ≡ Memory };
+
+    fn from(_: OutOfMemory) -> Self {
         LockError::Memory
     }
 }

@@ -1,23 +1,21 @@
 //! The check of a flat form.
-ghost use Rattle.std.specs.Prelude.{◌≡◌, ◌<◌, ◌≤◌, ◌↔◌, ℕ, [], None, Some, length, slice_index_or, IfOk, IfErr, IfSome, IsTrue};
+ghost use Rattle.std.specs.Prelude.{◌≡◌, ◌<◌, ◌≤◌, ◌^◌, ◌↔◌, ℕ, [], None, Some, length, slice_index_or, IfOk, IfErr, IfSome, IsTrue, if◌then◌else◌};
 ghost use Rattle.ido_base.specs.declared.limits.TheConstants.{MOST_MUTEXES};
 ghost use Rattle.c_tree.specs.Flats.{flat_of};
 ghost use Rattle.c_tree.specs.LockNames.{count_held};
 ghost use Rattle.c_tree.specs.LockDiscipline.{lock_fault};
 ghost use Rattle.lock_discipline.specs.Faults.{fault_of};
-ghost use Rattle.lock_discipline.specs.NamedForms.{HasNames, HaveFewNames};
+ghost use Rattle.lock_discipline.specs.NamedForms.{HasNames};
 ghost use Rattle.lock_discipline.specs.Masks.{mask_of};
 ghost use Rattle.lock_discipline.specs.HeldSetsByStep.{AreAllSetsOf};
 
 use crate::error::LockError;
 use crate::set::NameSet;
 use crate::walk::walk_thread;
-use c_tree::expr::LockRef;
 use c_tree::flat::Flat;
 use c_tree::language::Language;
 use c_tree::lock_names::lock_names;
-use ido_base::limits::MOST_MUTEXES;
-use std::alloc::{AllocError, Global};
+use std::alloc::Global;
 use std::marker::Model;
 
 /// The locks that are held before each step of each thread, by its names.
@@ -62,17 +60,27 @@ impl Held {
         self.threads[thread as usize].len()
     }
 
-    /// The locks that are held before the step of this number: bit i is set where that of the thread's name i is held.
+    /// Of each of the thread's names whether its lock is held before the step of this number.
     /// Steps are numbered within a thread, in the order of its text: an assignment of a variable has two, evaluation and store; each
     /// condition is one, that of a `while` before its body and that of a `do` after it; the end is the last.
-    pub fn held(&self, thread: u32, step: u32) -> u64
+    pub fn before(&self, thread: u32, step: u32) -> &[bool]
         requires thread { thread < length self.now }
         requires step { step < length (slice_index_or self.now thread []) }
-        ensures { result ≡ mask_of (slice_index_or (slice_index_or self.now thread []) step []) }
+        ensures is { result.now ≡ slice_index_or (slice_index_or self.now thread []) step [] }
+        ensures few { length result.now < 2 ^ 32 }
     {
         let sets = &self.threads[thread as usize];
-        let set = sets[step as usize];
-        set.mask()
+        sets[step as usize].names()
+    }
+
+    /// How many locks are held before the step of this number.
+    pub fn count(&self, thread: u32, step: u32) -> u32
+        requires thread { thread < length self.now }
+        requires step { step < length (slice_index_or self.now thread []) }
+        ensures { result ≡ count_held (slice_index_or (slice_index_or self.now thread []) step []) }
+    {
+        let sets = &self.threads[thread as usize];
+        sets[step as usize].count()
     }
 
     /// No more than so many locks are held before any step.
@@ -88,31 +96,30 @@ impl Held {
     }
 }
 
-/// A set has room for so many names.
-fn are_few(names: &[LockRef<'_>]) -> bool
-    ensures { IsTrue result ↔ (length names.now ≤ MOST_MUTEXES) }
+/// The bit of a name.
+fn bit(is_held: bool) -> u64
+    ensures { result ≡ (if is_held then 1 else 0) }
 {
-    names.len() <= MOST_MUTEXES as usize
+    if is_held { 1 } else { 0 }
 }
 
-/// Whether a set has room for the names of each thread's locks. A well formed form of which that is so can be checked
-/// (`laws::few_have_names`).
-pub fn have_few_names(alloc: Global, flat: &Flat) -> Result<bool, AllocError>
-    ensures { IfOk result (λ few. IsTrue few ↔ HaveFewNames (flat_of flat.now)) }
+/// A set of names as a mask: bit i is set where name i is held.
+pub fn mask_of(held: &[bool]) -> u64
+    requires { length held.now ≤ MOST_MUTEXES }
+    ensures { result ≡ mask_of held.now }
 {
-    for thread in &flat.threads {
-        let names = lock_names(alloc, &flat.mutexes, &thread.body)?;
-        if !are_few(&names) {
-            return Ok(false);
-        }
+    let mut mask = 0;
+    for high in 0..held.len() {
+        let name = held.len() - 1 - high;
+        mask = bit(held[name]) + 2 * mask;
     }
-    Ok(true)
+    mask
 }
 
 /// Walks through the threads in order, each from its beginning, to the first fault: a variable that is used while its lock isn't held, a local that is assigned
 /// while the key of a held lock names it, a lock that is taken while it is held or given back while it isn't, one by which more are held than may be in the
 /// language, paths that meet with different locks held, or a thread that ends with one held. Locks go by the names of each thread; of a well formed flat form
-/// without arrays of mutexes every lock that a thread takes has a number, and there are no more than a set holds (`laws::well_formed_has_names`).
+/// every lock that a thread takes has a number (`laws::well_formed_has_names`).
 ///
 /// The sets are said by relations of before, statement and after, and not by the walk.
 pub fn check(alloc: Global, language: Language, flat: &Flat) -> Result<Held, LockError<'_>>

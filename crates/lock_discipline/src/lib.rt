@@ -9,4 +9,4 @@ mod uses;
 mod walk;
 
 pub use error::LockError;
-pub use held::{Held, check, have_few_names};
+pub use held::{Held, check, mask_of};

@@ -1,135 +1,125 @@
 //! Sets of names.
-ghost use Rattle.std.specs.Prelude.{◌≡◌, ◌≤◌, ◌||◌, ℕ, true, false, length, slice_set, find};
-ghost use Rattle.ido_base.specs.declared.limits.TheConstants.{MOST_MUTEXES};
+ghost use Rattle.std.specs.Prelude.{◌≡◌, ◌<◌, ◌^◌, ℕ, length, slice_set, find, IfOk};
 ghost use Rattle.c_tree.specs.LockNames.{count_held, holds, none_held};
 ghost use Rattle.c_tree.specs.LockDiscipline.{numbers_below};
-ghost use Rattle.lock_discipline.specs.Masks.{mask_of};
-ghost use Rattle.lock_discipline.specs.links.Sets.{differ};
 
-use std::alloc::AllocError;
+use ido_base::memory::OutOfMemory;
+use std::alloc::Global;
 use std::marker::Model;
+use std::rc::Rc;
 
 /// Which of a thread's names are held.
 #[derive(Drop)]
 pub struct NameSet {
-    /// Bit i is set where name i is held.
-    mask: u64,
-    /// How many names there are.
-    names: u32,
+    /// Of each name whether it is: the steps between two that take or give a lock share it.
+    held: Rc<Vec<bool>>,
+    /// How many are.
+    count: u32,
 }
 
 impl Model for NameSet {
-    ghost use Rattle.ido_base.specs.declared.limits.TheConstants.{MOST_MUTEXES};
-    ghost use Rattle.std.specs.Prelude.{Bool, List, ◌<◌, ◌≤◌, ◌^◌, length};
-    ghost use Rattle.lock_discipline.specs.Masks.{mask_of};
-    ghost use Rattle.lock_discipline.specs.links.Sets.{held_of, mask_of-held_of, length-held_of};
+    ghost use Rattle.std.specs.Prelude.{Bool, List, ◌≡◌, ◌<◌, ◌^◌, length};
+    ghost use Rattle.c_tree.specs.LockNames.{count_held};
 
     ghost Value = { List Bool };
 
-    ghost view = { λ s. held_of s.names s.mask };
+    ghost view = { λ s. s.held.value.items };
 
-    ghost invariant = { λ s. (s.names ≤ MOST_MUTEXES) × (s.mask < 2 ^ s.names) };
-
-    ghost inverse = { λ h. record { mask = mask_of h; names = length h } };
-
-    ghost inverse_ok = { λ a h i. record { mask = mask_of-held_of a.names a.mask h.1 i; names = length-held_of a.names a.mask i } };
+    ghost invariant = { λ s. (length s.held.value.items < 2 ^ 32) × (s.count ≡ count_held s.held.value.items) };
 }
 
-impl Copy for NameSet {}
-
-impl Clone for NameSet {
-    fn clone(&self) -> Result<Self, AllocError> {
-        Ok(*self)
+/// How many are held.
+fn count(held: &[bool]) -> u32
+    requires { length held.now < 2 ^ 32 }
+    ensures { result ≡ count_held held.now }
+{
+    let mut count = 0;
+    for is_held in held {
+        if *is_held {
+            count += 1;
+        }
     }
+    count
 }
 
 impl NameSet {
+    /// The names of which that is said, one by one, are held.
+    fn of(alloc: Global, held: Vec<bool>) -> Result<NameSet, OutOfMemory>
+        requires { length held.items < 2 ^ 32 }
+        ensures { IfOk result (λ set. set ≡ held.items) }
+    {
+        let count = count(&held);
+        let held = Rc::new(alloc, held)?;
+        Ok(NameSet { held, count })
+    }
+
     /// No name, of so many.
-    pub fn none(names: u32) -> NameSet
-        requires { names ≤ MOST_MUTEXES }
-        ensures { result ≡ none_held names }
+    pub fn none(alloc: Global, names: usize) -> Result<NameSet, OutOfMemory>
+        ensures { IfOk result (λ set. set ≡ none_held names) }
     {
-        NameSet { mask: 0, names }
-    }
-
-    /// No name, of as many.
-    pub fn emptied(self) -> NameSet
-        ensures { result ≡ none_held (length self) }
-    {
-        NameSet {
-            mask: 0,
-            names: self.names,
+        if names > u32::MAX as usize {
+            return Err(OutOfMemory);
         }
+        let held: Vec<bool> = vec![in alloc; false; names]?;
+        NameSet::of(alloc, held)
     }
 
-    /// The set as a mask: bit i is set where name i is held.
-    pub fn mask(self) -> u64
-        ensures { result ≡ mask_of self }
+    /// The set once more.
+    pub fn again(&self) -> Result<NameSet, OutOfMemory>
+        ensures { IfOk result (λ set. set ≡ self.now) }
     {
-        self.mask
+        let held = self.held.clone()?;
+        Ok(NameSet {
+            held,
+            count: self.count,
+        })
+    }
+
+    /// Of each name whether it is held.
+    pub fn names(&self) -> &[bool]
+        ensures is { result.now ≡ self.now }
+        ensures few { length result.now < 2 ^ 32 }
+    {
+        self.held.as_ref()
     }
 
     /// The name is held.
-    pub fn holds(self, name: usize) -> bool
-        ensures { result ≡ holds self name }
+    pub fn holds(&self, name: usize) -> bool
+        ensures { result ≡ holds self.now name }
     {
-        name < self.names as usize && self.mask >> name & 1 == 1
+        match self.names().get(name) {
+            Some(is_held) => *is_held,
+            None => false,
+        }
     }
 
     /// How many are held.
-    pub fn count(self) -> u32
-        ensures { result ≡ count_held self }
+    pub fn count(&self) -> u32
+        ensures { result ≡ count_held self.now }
     {
-        self.mask.count_ones()
+        self.count
     }
 
-    /// The set with the name, where there is such a one.
-    pub fn with(self, name: usize) -> NameSet
-        ensures { result ≡ slice_set self name true }
+    /// The set in which the name is held, or isn't, where there is such a one.
+    pub fn with(&self, alloc: Global, name: usize, is_held: bool) -> Result<NameSet, OutOfMemory>
+        ensures { IfOk result (λ set. set ≡ slice_set self.now name is_held) }
     {
-        if name >= self.names as usize {
-            return self;
+        let mut held = Vec::from_slice(alloc, self.names())?;
+        if name < held.len() {
+            held[name] = is_held;
         }
-        NameSet {
-            mask: self.mask | 1 << name,
-            names: self.names,
-        }
-    }
-
-    /// Without the name.
-    pub fn without(self, name: usize) -> NameSet
-        ensures { result ≡ slice_set self name false }
-    {
-        if name >= self.names as usize {
-            return self;
-        }
-        NameSet {
-            mask: self.mask & !(1 << name),
-            names: self.names,
-        }
-    }
-
-    /// The set with each name that one of the two others holds and the other doesn't.
-    pub fn with_differences(self, left: NameSet, right: NameSet) -> NameSet
-        requires left { length left ≡ length self }
-        requires right { length right ≡ length self }
-        ensures long { length result ≡ length self }
-        ensures holds { (m : ℕ) → holds result m ≡ (holds self m || differ (holds left m) (holds right m)) }
-    {
-        NameSet {
-            mask: self.mask | left.mask ^ right.mask,
-            names: self.names,
-        }
+        NameSet::of(alloc, held)
     }
 
     /// The least name that is held.
-    pub fn least(self) -> Option<u32>
-        ensures { result ≡ find (λ m. holds self m) (numbers_below (length self)) }
+    pub fn least(&self) -> Option<usize>
+        ensures { result ≡ find (λ m. holds self.now m) (numbers_below (length self.now)) }
     {
-        if self.mask == 0 {
-            None
-        } else {
-            Some(self.mask.trailing_zeros())
+        for (name, is_held) in self.names().iter().enumerate() {
+            if *is_held {
+                return Some(name);
+            }
         }
+        None
     }
 }

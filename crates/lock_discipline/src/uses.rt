@@ -35,14 +35,14 @@ fn name_under<'a>(guard: Guard, index: Option<PlacedRef<'a>>) -> LockRef<'a>
 fn check_use<'a>(
     variables: &[Variable],
     names: &[LockRef<'a>],
-    held: NameSet,
+    held: &NameSet,
     variable: u32,
     place: Place,
     index: Option<PlacedRef<'a>>,
 ) -> Result<(), LockError<'a>>
-    ensures { let w = walk_uses (map variable_of variables.now) (names_of names.now) held
+    ensures { let w = walk_uses (map variable_of variables.now) (names_of names.now) held.now
         (use_of variable place (option_map placed_ref_of index.entry) ∷ []) in
-        MatchResult result (λ _. w ≡ After held) (Refuses w) }
+        MatchResult result (λ _. w ≡ After held.now) (Refuses w) }
 {
     let guard = variable_guard(variables, variable);
     let lock = name_under(guard, index);
@@ -57,11 +57,11 @@ fn check_use<'a>(
 pub fn check_expr<'a>(
     variables: &[Variable],
     names: &[LockRef<'a>],
-    held: NameSet,
+    held: &NameSet,
     expr: &'a Expr,
 ) -> Result<(), LockError<'a>>
-    ensures { let w = walk_uses (map variable_of variables.now) (names_of names.now) held (expr_uses (expr_of expr.now)) in
-        MatchResult result (λ _. w ≡ After held) (Refuses w) }
+    ensures { let w = walk_uses (map variable_of variables.now) (names_of names.now) held.now (expr_uses (expr_of expr.now)) in
+        MatchResult result (λ _. w ≡ After held.now) (Refuses w) }
 {
     match expr {
         Expr::Constant { .. } | Expr::Local { .. } | Expr::Referent { .. } => Ok(()),
@@ -109,11 +109,11 @@ pub fn check_expr<'a>(
 pub fn check_target<'a>(
     variables: &[Variable],
     names: &[LockRef<'a>],
-    held: NameSet,
+    held: &NameSet,
     target: &'a Lvalue,
 ) -> Result<(), LockError<'a>>
-    ensures { let w = walk_uses (map variable_of variables.now) (names_of names.now) held (target_uses (lvalue_of target.now)) in
-        MatchResult result (λ _. w ≡ After held) (Refuses w) }
+    ensures { let w = walk_uses (map variable_of variables.now) (names_of names.now) held.now (target_uses (lvalue_of target.now)) in
+        MatchResult result (λ _. w ≡ After held.now) (Refuses w) }
 {
     match target {
         Lvalue::Local { .. } => Ok(()),
@@ -139,15 +139,15 @@ pub fn check_target<'a>(
 }
 
 /// The lock of this number is held, and its key reads the local.
-fn freezes(held: NameSet, number: usize, lock: LockRef<'_>, local: u32) -> bool
-    ensures { result ≡ (holds held number && list_any (λ other. other == local) (key_locals (lock_ref_of lock.entry))) }
+fn freezes(held: &NameSet, number: usize, lock: LockRef<'_>, local: u32) -> bool
+    ensures { result ≡ (holds held.now number && list_any (λ other. other == local) (key_locals (lock_ref_of lock.entry))) }
 {
     held.holds(number) && key_reads(lock, local)
 }
 
 /// The first held lock whose key reads the local.
-fn freezing<'a>(names: &[LockRef<'a>], held: NameSet, local: u32) -> Option<LockRef<'a>>
-    ensures { option_map lock_ref_of result ≡ freezing (names_of names.now) held local }
+fn freezing<'a>(names: &[LockRef<'a>], held: &NameSet, local: u32) -> Option<LockRef<'a>>
+    ensures { option_map lock_ref_of result ≡ freezing (names_of names.now) held.now local }
 {
     for (number, name) in names.iter().enumerate() {
         if freezes(held, number, *name, local) {
@@ -160,10 +160,10 @@ fn freezing<'a>(names: &[LockRef<'a>], held: NameSet, local: u32) -> Option<Lock
 /// The local that is assigned, if one is.
 pub fn check_free<'a>(
     names: &[LockRef<'a>],
-    held: NameSet,
+    held: &NameSet,
     target: &Lvalue,
 ) -> Result<(), LockError<'a>>
-    ensures { let w = walk_target [] (names_of names.now) held (lvalue_of target.now) in MatchResult result (λ _. w ≡ After held) (Refuses w) }
+    ensures { let w = walk_target [] (names_of names.now) held.now (lvalue_of target.now) in MatchResult result (λ _. w ≡ After held.now) (Refuses w) }
 {
     match target {
         Lvalue::Local { place, local, .. } => match freezing(names, held, *local) {

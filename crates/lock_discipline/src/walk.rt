@@ -1,14 +1,14 @@
 //! The walk through a thread, with the locks that are held before each of its steps.
-ghost use Rattle.std.specs.Prelude.{◌≡◌, ◌≤◌, ◌++◌, [], ◌∷◌, None, List, length, map, slice_index_or, MatchResult, IfOk};
-ghost use Rattle.std.specs.List.{All};
-ghost use Rattle.ido_base.specs.declared.limits.TheConstants.{MOST_MUTEXES};
+ghost use Rattle.std.specs.Prelude.{◌≡◌, ◌++◌, [], ◌∷◌, None, List, length, map, slice_index_or, MatchResult, IfOk, OnOk};
+ghost use Rattle.std.specs.List.{All, list_any};
 ghost use Rattle.c_tree.specs.Programs.{variable_of};
 ghost use Rattle.c_tree.specs.Flats.{statement_of, statements_of, arms_list_of, thread_of};
 ghost use Rattle.c_tree.specs.Exprs.{lock_ref_of};
-ghost use Rattle.c_tree.specs.LockNames.{Held};
+ghost use Rattle.c_tree.specs.LockNames.{Held, holds};
 ghost use Rattle.c_tree.specs.links.KnownNames.{names_of};
 ghost use Rattle.c_tree.specs.LockDiscipline.{Walked, After, are_too_many, least_difference, join, walk, walk_all, walk_arms, walk_thread};
 ghost use Rattle.lock_discipline.specs.links.Refusals.{Refuses, RefusesAny};
+ghost use Rattle.lock_discipline.specs.links.Sets.{differ};
 ghost use Rattle.lock_discipline.specs.links.Flow.{sets_in, sets_in_all, sets_in_arms, thread_sets};
 
 use crate::error::LockError;
@@ -19,26 +19,46 @@ use c_tree::flat::{Arm, Statement, Thread};
 use c_tree::language::{Language, MOST_HELD};
 use c_tree::lock_names::number_in;
 use c_tree::program::Variable;
+use ido_base::memory::OutOfMemory;
 use ido_base::place::Place;
 use std::alloc::Global;
 
-/// The number of the least name that one of the sets holds and another doesn't.
-fn least_difference(first: NameSet, others: &[NameSet]) -> Option<u32>
-    requires { All (λ h. length h ≡ length first) others.now }
-    ensures { result ≡ least_difference (length first) (first ∷ others.now) }
+/// Whether of two answers one is yes and the other isn't.
+fn differ(one: bool, other: bool) -> bool
+    ensures { result ≡ differ one other }
 {
-    let mut differing = first.emptied();
+    if one { !other } else { other }
+}
+
+/// Whether one of the sets holds the name and another doesn't.
+fn differ_in(first: &NameSet, others: &[NameSet], name: usize) -> bool
+    ensures { result ≡ list_any (λ h. differ (holds first.now name) (holds h name)) others.now }
+{
     for other in others {
-        differing = differing.with_differences(first, *other);
+        if differ(first.holds(name), other.holds(name)) {
+            return true;
+        }
     }
-    differing.least()
+    false
+}
+
+/// The number of the least name that one of the sets holds and another doesn't.
+fn least_difference(first: &NameSet, others: &[NameSet]) -> Option<usize>
+    ensures { result ≡ least_difference (length first.now) (first.now ∷ others.now) }
+{
+    for name in 0..first.names().len() {
+        if differ_in(first, others, name) {
+            return Some(name);
+        }
+    }
+    None
 }
 
 /// The name of this number.
-fn name_at<'a>(names: &[LockRef<'a>], number: u32) -> LockRef<'a>
+fn name_at<'a>(names: &[LockRef<'a>], number: usize) -> LockRef<'a>
     ensures { lock_ref_of result ≡ slice_index_or (names_of names.now) number (record { mutex = 0; key = None }) }
 {
-    match names.get(number as usize) {
+    match names.get(number) {
         Some(name) => *name,
         None => LockRef {
             mutex: 0,
@@ -51,13 +71,12 @@ fn name_at<'a>(names: &[LockRef<'a>], number: u32) -> LockRef<'a>
 fn join<'a>(
     names: &[LockRef<'a>],
     place: Place,
-    first: NameSet,
+    first: &NameSet,
     others: &[NameSet],
 ) -> Result<(), LockError<'a>>
-    requires long { length first ≡ length (names_of names.now) }
-    requires others { All (λ h. length h ≡ length first) others.now }
-    ensures { let w = join [] (names_of names.now) place first others.now in
-        MatchResult result (λ _. w ≡ After first) (Refuses w) }
+    requires { length first.now ≡ length (names_of names.now) }
+    ensures { let w = join [] (names_of names.now) place first.now others.now in
+        MatchResult result (λ _. w ≡ After first.now) (Refuses w) }
 {
     match least_difference(first, others) {
         Some(number) => Err(LockError::Join {
@@ -69,13 +88,21 @@ fn join<'a>(
 }
 
 /// More are held than may be.
-fn are_too_many(language: Language, held: NameSet) -> bool
-    ensures { result ≡ are_too_many language held }
+fn are_too_many(language: Language, held: &NameSet) -> bool
+    ensures { result ≡ are_too_many language held.now }
 {
     match language {
         Language::Plain => false,
         Language::Full => held.count() > MOST_HELD,
     }
+}
+
+/// The set goes after the others.
+fn push(sets: &mut Vec<NameSet>, held: &NameSet) -> Result<(), OutOfMemory>
+    ensures { OnOk result (sets.new.items ≡ sets.old.items ++ held.now ∷ []) }
+{
+    sets.push(held.again()?)?;
+    Ok(())
 }
 
 /// A statement: the set after it. Its steps' sets go after the others.
@@ -85,27 +112,28 @@ fn walk_statement<'a>(
     language: Language,
     variables: &[Variable],
     names: &[LockRef<'a>],
-    held: NameSet,
+    held: &NameSet,
     statement: &'a Statement,
     sets: &mut Vec<NameSet>,
 ) -> Result<NameSet, LockError<'a>>
-    requires { length held ≡ length (names_of names.now) }
-    ensures walk { let w = walk language (map variable_of variables.now) (names_of names.now) held (statement_of statement.now) in
+    requires { length held.now ≡ length (names_of names.now) }
+    ensures walk { let w = walk language (map variable_of variables.now) (names_of names.now) held.now (statement_of statement.now) in
         MatchResult result (λ after. w ≡ After after) (Refuses w) }
-    ensures sets { IfOk result (λ _. sets.new.items ≡ sets.old.items ++ sets_in (names_of names.now) held (statement_of statement.now)) }
+    ensures sets { IfOk result (λ _. sets.new.items ≡ sets.old.items ++ sets_in (names_of names.now) held.now (statement_of statement.now)) }
 {
     match statement {
         Statement::Assign { target, value, .. } => {
-            sets.push(held)?;
+            push(sets, held)?;
             check_expr(variables, names, held, &value.expr)?;
             check_target(variables, names, held, target)?;
             check_free(names, held, target)?;
             match target {
                 Lvalue::Local { .. } => {}
                 // the store is a step of its own
-                Lvalue::Variable { .. } | Lvalue::Element { .. } => sets.push(held)?,
+                Lvalue::Variable { .. } | Lvalue::Element { .. } => push(sets, held)?,
             }
-            Ok(held)
+            let end = held.again()?;
+            Ok(end)
         }
         Statement::If {
             place,
@@ -114,7 +142,7 @@ fn walk_statement<'a>(
         } => {
             let ends = walk_arms(alloc, language, variables, names, held, arms, sets)?;
             let end = walk_statements(alloc, language, variables, names, held, otherwise, sets)?;
-            join(names, *place, end, &ends)?;
+            join(names, *place, &end, &ends)?;
             Ok(end)
         }
         Statement::While {
@@ -122,11 +150,12 @@ fn walk_statement<'a>(
             condition,
             body,
         } => {
-            sets.push(held)?;
+            push(sets, held)?;
             check_expr(variables, names, held, &condition.expr)?;
             let end = walk_statements(alloc, language, variables, names, held, body, sets)?;
             join(names, *place, held, &[end])?;
-            Ok(held)
+            let first = held.again()?;
+            Ok(first)
         }
         Statement::Do {
             place,
@@ -134,10 +163,11 @@ fn walk_statement<'a>(
             condition,
         } => {
             let after = walk_statements(alloc, language, variables, names, held, body, sets)?;
-            sets.push(after)?;
-            check_expr(variables, names, after, &condition.expr)?;
+            push(sets, &after)?;
+            check_expr(variables, names, &after, &condition.expr)?;
             join(names, *place, held, &[after])?;
-            Ok(held)
+            let first = held.again()?;
+            Ok(first)
         }
         Statement::Lock { place, lock } => {
             let name = lock.as_ref();
@@ -148,14 +178,14 @@ fn walk_statement<'a>(
                     lock: name,
                 });
             }
-            let after = held.with(number);
-            if are_too_many(language, after) {
+            let after = held.with(alloc, number, true)?;
+            if are_too_many(language, &after) {
                 return Err(LockError::Held {
                     place: *place,
                     lock: name,
                 });
             }
-            sets.push(held)?;
+            push(sets, held)?;
             Ok(after)
         }
         Statement::Unlock { place, lock } => {
@@ -167,8 +197,9 @@ fn walk_statement<'a>(
                     lock: name,
                 });
             }
-            sets.push(held)?;
-            Ok(held.without(number))
+            push(sets, held)?;
+            let after = held.with(alloc, number, false)?;
+            Ok(after)
         }
     }
 }
@@ -180,18 +211,19 @@ fn walk_statements<'a>(
     language: Language,
     variables: &[Variable],
     names: &[LockRef<'a>],
-    held: NameSet,
+    held: &NameSet,
     statements: &'a [Statement],
     sets: &mut Vec<NameSet>,
 ) -> Result<NameSet, LockError<'a>>
-    requires { length held ≡ length (names_of names.now) }
-    ensures walk { let w = walk_all language (map variable_of variables.now) (names_of names.now) held (statements_of statements.now) in
+    requires { length held.now ≡ length (names_of names.now) }
+    ensures walk { let w = walk_all language (map variable_of variables.now) (names_of names.now) held.now (statements_of statements.now) in
         MatchResult result (λ after. w ≡ After after) (Refuses w) }
-    ensures sets { IfOk result (λ _. sets.new.items ≡ sets.old.items ++ sets_in_all (names_of names.now) held (statements_of statements.now)) }
+    ensures sets { IfOk result (λ _. sets.new.items ≡ sets.old.items ++ sets_in_all (names_of names.now) held.now (statements_of statements.now)) }
 {
-    let mut end = held;
+    let first = held.again()?;
+    let mut end = first;
     for statement in statements {
-        end = walk_statement(alloc, language, variables, names, end, statement, sets)?;
+        end = walk_statement(alloc, language, variables, names, &end, statement, sets)?;
     }
     Ok(end)
 }
@@ -203,19 +235,19 @@ fn walk_arms<'a>(
     language: Language,
     variables: &[Variable],
     names: &[LockRef<'a>],
-    held: NameSet,
+    held: &NameSet,
     arms: &'a [Arm],
     sets: &mut Vec<NameSet>,
 ) -> Result<Vec<NameSet>, LockError<'a>>
-    requires { length held ≡ length (names_of names.now) }
-    ensures walk { let w = walk_arms language (map variable_of variables.now) (names_of names.now) held [] (arms_list_of arms.now) in
+    requires { length held.now ≡ length (names_of names.now) }
+    ensures walk { let w = walk_arms language (map variable_of variables.now) (names_of names.now) held.now [] (arms_list_of arms.now) in
         MatchResult result (λ ends. (later : List Held → Walked) → w later ≡ later ends.items) (RefusesAny w) }
     ensures long { IfOk result (λ ends. All (λ h. length h ≡ length (names_of names.now)) ends.items) }
-    ensures sets { IfOk result (λ _. sets.new.items ≡ sets.old.items ++ sets_in_arms (names_of names.now) held (arms_list_of arms.now)) }
+    ensures sets { IfOk result (λ _. sets.new.items ≡ sets.old.items ++ sets_in_arms (names_of names.now) held.now (arms_list_of arms.now)) }
 {
     let mut ends = Vec::new(alloc);
     for arm in arms {
-        sets.push(held)?;
+        push(sets, held)?;
         check_expr(variables, names, held, &arm.condition.expr)?;
         ends.push(walk_statements(alloc, language, variables, names, held, &arm.body, sets)?)?;
     }
@@ -230,19 +262,18 @@ pub fn walk_thread<'a>(
     names: &[LockRef<'a>],
     thread: &'a Thread,
 ) -> Result<Vec<NameSet>, LockError<'a>>
-    requires { length names.now ≤ MOST_MUTEXES }
     ensures walk { let w = walk_thread language (map variable_of variables.now) (names_of names.now) (thread_of thread.now) in
         MatchResult result (λ _. (end : Held) × (w ≡ After end)) (Refuses w) }
     ensures sets { IfOk result (λ sets. sets.items ≡ thread_sets (names_of names.now) (thread_of thread.now)) }
 {
     let mut sets = Vec::new(alloc);
-    let none = NameSet::none(names.len() as u32);
+    let none = NameSet::none(alloc, names.len())?;
     let end = walk_statements(
         alloc,
         language,
         variables,
         names,
-        none,
+        &none,
         &thread.body,
         &mut sets,
     )?;

@@ -1,4 +1,4 @@
--- The codes of the numbers of what a thread holds at a node: how they are made by a mask, and what they are good for.
+-- The codes of the numbers of what a thread holds at a node: how they are made, and what they are good for.
 use Rattle.std.proofs.Common.{◌≡◌, ℕ, zero, suc, ◌+◌, ◌*◌, ◌^◌, ◌<◌, ◌≤◌, List, [], ◌∷◌, ◌++◌, append_assoc, length, refl, ap, ap₂}
 use Rattle.std.proofs.Common.{sym, ◌∙◌, arith, subst, Bool, true, false, Option, Some, None, if◌then◌else◌}
 use Rattle.std.specs.Prelude.{Vec, slice_get, ℤ}
@@ -24,32 +24,18 @@ use Rattle.operator_code.specs.StraightLineCode.{IsConstant}
 use Rattle.boundary_code.specs.Boundaries.{HaveRoom, lists_of, number_words, words_beside}
 use Rattle.expr_code.specs.EvaluationCode.{Homes, impure_among}
 use Rattle.expr_code.proofs.Public.{among_append, constant_none}
-use Rattle.lock_discipline.specs.Masks.{mask_of}
 use Rattle.node_code.specs.BoundaryCode.{IsQuiet}
 use Rattle.node_code.specs.Numbers.{LeaveLocks, LeaveNumbers}
 use Rattle.node_code.specs.Pieces.{MayKeep}
 use Rattle.thread_code.specs.Plans.{Plan, IsPlan, Thread, IsThread, IsNodeOf, held_names_before, homes, locks_before, names_in}
-use Rattle.thread_code.proofs.Public.{half, lowest}
 use Rattle.rv64_codegen.specs.ThreadPieces.{MayEnter, boundary_words}
-use Rattle.rv64_codegen.specs.links.NumberedNames.{IsNumberedMore, names_by}
+use Rattle.rv64_codegen.specs.links.NumberedNames.{IsNumberedMore}
 use Rattle.rv64_codegen.specs.links.Numbers.{AreNumberCodes, IsCallBy, IsNumberBy, IsNumberCode}
 use Rattle.rv64_codegen.proofs.NameNumbers.{held_leave}
 use Rattle.rv64_codegen.proofs.Pieces.{no_cleans, no_fences}
 use Rattle.rv64_codegen.proofs.PlannedNodes.{thread_below}
 
--- ---- By a mask
-
-nothing_by : (names : List e.LockName) → names_by names 0 ≡ []
-nothing_by [] = refl
-nothing_by (x ∷ names) = nothing_by names
-
--- the names of a set are those of its mask
-pub masked : (names : List e.LockName) (set : Held) → names_by names (mask_of set) ≡ held_names names set
-masked [] set = refl
-masked (x ∷ names) [] = nothing_by names
-masked (x ∷ names) (b ∷ set) =
-    ap₂ (λ (odd : Bool) (more : ℕ). if odd then x ∷ names_by names more else names_by names more) (lowest b (mask_of set)) (half b (mask_of set))
-    ∙ ap (λ (ns : List e.LockName). if b then x ∷ ns else ns) (masked names set)
+-- ---- One after another
 
 -- one name more
 pub numbered_more : (h : Homes) (address : List Instr) (x : e.LockName) (b : Bool) (old new : List (List Instr)) (rest whole : List e.LockName) →

@@ -3,6 +3,7 @@ ghost use Rattle.std.specs.Prelude.{◌≡◌, ◌<◌, ◌≤◌, ◌++◌, ◌
 ghost use Rattle.std.specs.List.{AllByRecursion, AllZip};
 ghost use Rattle.ido_base.specs.declared.limits.TheConstants.{MOST_PRICE, MOST_TEMPORARIES};
 ghost use Rattle.c_tree.specs.Exprs.{expr_of, lock_ref_of};
+ghost use Rattle.c_tree.specs.LockNames.{held_names, holds};
 ghost use Rattle.c_tree.specs.Prices.{need_of, node_price, nodes_of};
 ghost use Rattle.c_tree.specs.links.KnownNames.{names_of};
 ghost use Rattle.rv64_isa.specs.declared.instr.Instr.TheVariants.{Op, OpImmediate};
@@ -11,7 +12,7 @@ ghost use Rattle.rv64_isa.specs.declared.instr.Operation.TheVariants.{Add};
 ghost use Rattle.expr_code.specs.EvaluationCode.{AreAtHome, homes_of};
 ghost use Rattle.boundary_code.specs.Boundaries.{lists_of};
 ghost use Rattle.node_code.specs.links.BoundaryCode.{call_code, number_code};
-ghost use Rattle.rv64_codegen.specs.links.NumberedNames.{IsNumberedMore, names_by};
+ghost use Rattle.rv64_codegen.specs.links.NumberedNames.{IsNumberedMore};
 ghost use Rattle.rv64_codegen.specs.links.Numbers.{IsReady, IsKeyValue, IsKeyCode, IsKeyCall, IsNumberCode, IsCallCode};
 
 use c_tree::expr::{Expr, LockRef};
@@ -177,22 +178,28 @@ fn push_number(
     Ok(())
 }
 
-/// Of each of the names whose bit is set code that leaves its lock's number.
+/// The name of that number is held.
+fn is_held(held: &[bool], number: usize) -> bool
+    ensures { result ≡ holds held.now number }
+{
+    held.get(number).copied().unwrap_or(false)
+}
+
+/// Of each of the names that are held code that leaves its lock's number.
 pub(crate) fn held_numbers(
     alloc: Global,
     frame: &Frame,
     log: &[Instr],
     names: &[LockRef<'_>],
-    held: u64,
+    held: &[bool],
 ) -> Result<Vec<Vec<Instr>>, OutOfMemory>
     requires { AllByRecursion (IsReady (homes_of frame.now)) (names_of names.now) }
-    ensures { IfOk result (λ codes. AllZip (IsNumberCode (homes_of frame.now) log.now) (names_by (names_of names.now) held) (lists_of codes.items)) }
+    ensures { IfOk result (λ codes. AllZip (IsNumberCode (homes_of frame.now) log.now) (held_names (names_of names.now) held.now) (lists_of codes.items)) }
 {
     let mut codes: Vec<Vec<Instr>> = Vec::new(alloc);
-    let mut rest = held;
-    for name in names {
-        push_number(alloc, &mut codes, frame, log, *name, rest % 2 == 1)?;
-        rest /= 2;
+    for (number, name) in names.iter().enumerate() {
+        let is_held = is_held(held, number);
+        push_number(alloc, &mut codes, frame, log, *name, is_held)?;
     }
     Ok(codes)
 }

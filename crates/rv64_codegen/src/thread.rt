@@ -1,8 +1,10 @@
 //! A thread whose code is made.
 ghost use Rattle.std.specs.Prelude.{◌≡◌, ◌<◌, ◌-◌, IfOk};
+ghost use Rattle.lock_discipline.specs.Masks.{mask_of};
 ghost use Rattle.boundary_code.specs.Boundaries.{lists_of};
-ghost use Rattle.ido_base.specs.declared.log.Log.TheVariants.{V2};
-ghost use Rattle.rv64_codegen.specs.links.Threads.{IsOwn, IsKeptFor, AreNumbersOf, plan_in};
+ghost use Rattle.ido_base.specs.declared.log.Log.TheVariants.{V1, V2};
+ghost use Rattle.thread_code.specs.Plans.{set_before};
+ghost use Rattle.rv64_codegen.specs.links.Threads.{IsOwn, IsKeptFor, AreNumbersOf, plan_in, thread_of};
 
 use crate::numbers::held_numbers;
 use crate::plan::Plan;
@@ -11,6 +13,7 @@ use expr_code::Frame;
 use flow_graph::graph::Part;
 use ido_base::log::Log;
 use ido_base::memory::OutOfMemory;
+use lock_discipline::mask_of;
 use memory_layout::log::log_of;
 use node_code::Kept;
 use operator_code::constant::constant;
@@ -52,7 +55,7 @@ impl ThreadPlan<'_, '_> {
         ensures { IfOk result (λ codes. AreNumbersOf self.now node (lists_of codes.items)) }
     {
         let step = node - self.part.first;
-        let held = self.plan.held.held(self.number, step as u32);
+        let held = self.plan.held.before(self.number, step as u32);
         let log = constant(alloc, Register::X31, log_of(Log::V2, self.number))?;
         let codes = held_numbers(alloc, &self.frame, &log, self.names, held)?;
         Ok(codes)
@@ -69,6 +72,20 @@ impl ThreadPlan<'_, '_> {
         }
     }
 
+    /// The mutexes that are held at a node, bit i for mutex i, where the log keeps a mask.
+    fn mask(&self, node: usize) -> u64
+        requires { IsOwn self.now node }
+        ensures { (plan_in self.now).log ≡ V1 → result ≡ mask_of (set_before (plan_in self.now) (thread_of self.now) node) }
+    {
+        match self.plan.log {
+            Log::V1 => {
+                let step = node - self.part.first;
+                mask_of(self.plan.held.before(self.number, step as u32))
+            }
+            Log::V2 => 0,
+        }
+    }
+
     /// What a boundary keeps that lets the thread go on at a node, where these are the codes of the locks held there.
     pub(crate) fn kept<'k>(&'k self, node: usize, numbers: &'k [Vec<Instr>]) -> Kept<'k>
         requires own { IsOwn self.now node }
@@ -79,7 +96,7 @@ impl ThreadPlan<'_, '_> {
         Kept {
             log: self.plan.log,
             thread: self.number,
-            mask: self.plan.held.held(self.number, step as u32),
+            mask: self.mask(node),
             numbers,
             live: &self.live[step],
         }

@@ -1,14 +1,9 @@
--- The names of a set by its mask, and the codes of their numbers one after another.
-use Rattle.std.specs.Prelude.{◌≡◌, ℕ, ◌/◌, ◌%◌, ◌==◌, List, [], ◌∷◌, ◌++◌, Bool, true, false, if◌then◌else◌}
+-- The codes of the numbers of held names, one after another.
+use Rattle.std.specs.Prelude.{◌≡◌, List, [], ◌∷◌, ◌++◌, Bool, true, false}
 use Rattle.c_tree.specs.Exprs as e
 use Rattle.rv64_isa.specs.declared.instr.Instr.{Instr}
 use Rattle.expr_code.specs.EvaluationCode.{Homes}
 use Rattle.rv64_codegen.specs.links.Numbers.{IsNumberCode}
-
--- those of the names whose bit is set
-abbrev pub names_by : List e.LockName → (mask : ℕ) → List e.LockName
-names_by [] mask = []
-names_by (x ∷ xs) mask = if mask % 2 == 1 then x ∷ names_by xs (mask / 2) else names_by xs (mask / 2)
 
 -- where the name is held its code comes after the codes
 abbrev pub IsNumberedMore : Homes → (address : List Instr) → e.LockName → (is_held : Bool) → (old new : List (List Instr)) → Type 0

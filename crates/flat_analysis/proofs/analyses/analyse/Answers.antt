@@ -3,8 +3,8 @@ use Rattle.c_tree.specs.Flats.{flat_of}
 use Rattle.flow_graph.specs.Liveness.{HasRoom}
 use Rattle.flow_graph.specs.Nodes.{graph_of}
 use Rattle.std.proofs.Common.{subst}
+use Rattle.lock_discipline.proofs.Public.{well_formed_has_names}
 use Rattle.flat_analysis.specs.CompilableForms.{IsFormRefusal}
-use Rattle.flat_analysis.proofs.FormNames.{names_for}
 use Rattle.flat_analysis.proofs.Refused.{by_locals, by_temporaries, same_error}
 use Rattle.flat_analysis.proofs.analyses.analyse.Goals as goal
 
@@ -30,7 +30,7 @@ returns-clause-analysed c =
       accepted = record {
         formed = c.requires.formed;
         plain = c.requires.plain;
-        named = names_for c.args.language (flat_of c.args.flat.now) c.requires.formed c.requires.plain c.requires.named;
+        named = well_formed_has_names (flat_of c.args.flat.now) c.requires.formed;
         disciplined = c.in_ok-held.ensures.disciplined;
         priced = c.requires.priced;
         room = subst HasRoom c.in_ok-graph.ensures c.in_ok-colours.ensures.room;

@@ -1,13 +1,13 @@
 use Rattle.c_tree.specs.Flats.{flat_of}
 use Rattle.c_tree.specs.declared.refusal.SourceError.{SourceError}
 use Rattle.std.proofs.Common.{sym, subst}
+use Rattle.lock_discipline.proofs.Public.{well_formed_has_names}
 use Rattle.flat_analysis.specs.CompilableForms.{IsFormRefusal}
-use Rattle.flat_analysis.proofs.FormNames.{names_for}
 use Rattle.flat_analysis.proofs.Refused.{by_locks}
 use Rattle.flat_analysis.proofs.analyses.held.Goals as goal
 
 pub check-requires : goal.check-requires
-check-requires c = names_for c.args.language (flat_of c.args.flat.now) c.requires.formed c.requires.plain c.requires.named
+check-requires c = well_formed_has_names (flat_of c.args.flat.now) c.requires
 
 pub returns-in-Err-clause-refused : goal.returns-in-Err-clause-refused
 returns-in-Err-clause-refused c =

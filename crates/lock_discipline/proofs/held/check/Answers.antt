@@ -1,8 +1,6 @@
 use Rattle.std.proofs.Common.{◌≡◌, ◌<◌, ◌∙◌, List, length, map, get_or, Some, ap, arith}
 use Rattle.std.proofs.lemmas.Result.{err_from_is_err_and}
-use Rattle.std.proofs.lemmas.List.{length-map}
 use Rattle.c_tree.specs.declared.flat.Thread.{Thread}
-use Rattle.c_tree.specs.Exprs.{lock_ref_of}
 use Rattle.c_tree.specs.Flats.{flat_of, thread_of}
 use Rattle.c_tree.specs.LockNames.{lock_names}
 use Rattle.c_tree.specs.Programs.{variable_of}
@@ -10,21 +8,8 @@ use Rattle.c_tree.specs.links.KnownNames.{names_of}
 use Rattle.c_tree.specs.LockDiscipline.{Broken, walk_thread, lock_fault}
 use Rattle.lock_discipline.specs.Faults.{fault_of}
 use Rattle.lock_discipline.proofs.Refusals.{same_fault}
-use Rattle.lock_discipline.proofs.Threads.{numbers_at, own_names, thread_breaks, thread_keeps, no_thread_breaks, next_row, all_rows}
+use Rattle.lock_discipline.proofs.Threads.{own_names, thread_breaks, thread_keeps, no_thread_breaks, next_row, all_rows}
 use Rattle.lock_discipline.proofs.held.check.Goals as goal
-
-pub walk_thread-requires : goal.walk_thread-requires
-walk_thread-requires c =
-    let x = c.args.flat.now in
-    let t = c.thread-item.result in
-    let names = c.deref-in-loop-thread-3.result.now in
-    let own : names_of names ≡ lock_names (flat_of x) (thread_of t) =
-    own_names x t names c.in_ok-names.names.items c.deref.result.now c.deref-in-loop-thread.result.now c.deref-in-loop-thread-3.ensures.value
-    c.deref.ensures.value c.deref-in-loop-thread.ensures.value
-    c.in_ok-names.ensures in
-    let item = c.thread-item.is ∙ ap (λ (xs : List Thread). get_or xs c.loop-thread.thread-index t) c.deref-thread-items.ensures.value in
-    let within : c.loop-thread.thread-index < length x.threads.items = omega arith in
-    omega (arith, length-map names lock_ref_of, ap length own, (numbers_at (flat_of x) x.threads.items c.loop-thread.thread-index t c.requires within item).few)
 
 pub returns-in_err-walk_thread-clause-refuses : goal.returns-in_err-walk_thread-clause-refuses
 returns-in_err-walk_thread-clause-refuses c =

@@ -21,7 +21,7 @@ returns-in_err-check_use-in-Element t c =
     let all : expr_uses (expr_of c.args.expr.now) ≡ (u ∷ []) ++ more = rw inner (ap (λ (x : Expr). expr_uses (expr_of x)) w.is) in
     let vs = map variable_of c.args.variables.now in
     let n = names_of c.args.names.now in
-    let h = c.args.held in
+    let h = c.args.held.now in
     rw (p.1, p.2) (refuses_then (walk_uses vs n h (u ∷ [])) (walk_uses vs n h (expr_uses (expr_of c.args.expr.now))) (λ _. walk_uses vs n h more) _
     (uses_split vs n h (expr_uses (expr_of c.args.expr.now)) (u ∷ []) more all)
     c.in_err-check_use-in-Element.ensures)
@@ -34,7 +34,7 @@ returns-in_err-check_expr-in-Binary t c =
     let all : expr_uses (expr_of c.args.expr.now) ≡ expr_uses (expr_of c.deref-in-Binary.result.now) ++ expr_uses (expr_of w.right.value) =
     rw left (ap (λ (x : Expr). expr_uses (expr_of x)) w.is) in
     rw (p.1, p.2) (refuses_then _ _ _ _ (uses_split (map variable_of c.args.variables.now)
-    (names_of c.args.names.now) c.args.held _ _ _ all) c.in_err-check_expr-in-Binary.ensures)
+    (names_of c.args.names.now) c.args.held.now _ _ _ all) c.in_err-check_expr-in-Binary.ensures)
 
 pub returns-in_ok-check_expr-in-Binary : goal.returns-in_ok-check_expr-in-Binary
 returns-in_ok-check_expr-in-Binary t c =
@@ -43,9 +43,9 @@ returns-in_ok-check_expr-in-Binary t c =
     let right : c.deref-in-Binary-2.result.now ≡ w.right.value = cc in
     let all : expr_uses (expr_of c.args.expr.now) ≡ expr_uses (expr_of c.deref-in-Binary.result.now) ++ expr_uses (expr_of c.deref-in-Binary-2.result.now) =
     rw (left, right) (ap (λ (x : Expr). expr_uses (expr_of x)) w.is) in
-    matches_as c.check_expr-in-Binary-2.result _ _ (λ _. c.args.held)
-    (uses_split (map variable_of c.args.variables.now) (names_of c.args.names.now) c.args.held _ _ _ all
-    ∙ after_then _ _ c.args.held c.in_ok-check_expr-in-Binary.ensures)
+    matches_as c.check_expr-in-Binary-2.result _ _ (λ _. c.args.held.now)
+    (uses_split (map variable_of c.args.variables.now) (names_of c.args.names.now) c.args.held.now _ _ _ all
+    ∙ after_then _ _ c.args.held.now c.in_ok-check_expr-in-Binary.ensures)
     c.check_expr-in-Binary-2.ensures
 
 pub returns-in_err-check_expr-in-Conditional : goal.returns-in_err-check_expr-in-Conditional
@@ -58,7 +58,7 @@ returns-in_err-check_expr-in-Conditional t c =
     rw condition (ap (λ (x : Expr). expr_uses (expr_of x)) w.is) in
     let vs = map variable_of c.args.variables.now in
     let n = names_of c.args.names.now in
-    let h = c.args.held in
+    let h = c.args.held.now in
     rw (p.1, p.2) (refuses_then _ _ _ _ (uses_split vs n h _ _ _ all) (refuses_then _ _ _ _
     (uses_split vs n h _ _ _ refl) c.in_err-check_expr-in-Conditional.ensures))
 
@@ -73,7 +73,7 @@ returns-in_err-check_expr-in-Conditional-2 t c =
     rw (condition, chosen) (ap (λ (x : Expr). expr_uses (expr_of x)) w.is) in
     let vs = map variable_of c.args.variables.now in
     let n = names_of c.args.names.now in
-    let h = c.args.held in
+    let h = c.args.held.now in
     rw (p.1, p.2) (refuses_then _ _ _ _ (uses_split vs n h _ _ _ all)
     (refuses_as _ _ _ (uses_split vs n h _ _ _ refl
     ∙ after_then _ _ h c.in_ok-check_expr-in-Conditional.ensures) c.in_err-check_expr-in-Conditional-2.ensures))
@@ -89,7 +89,7 @@ returns-in_ok-check_expr-in-Conditional-2 t c =
     rw (condition, chosen, otherwise) (ap (λ (x : Expr). expr_uses (expr_of x)) w.is) in
     let vs = map variable_of c.args.variables.now in
     let n = names_of c.args.names.now in
-    let h = c.args.held in
+    let h = c.args.held.now in
     matches_as c.check_expr-in-Conditional-3.result _ _ (λ _. h)
     (uses_split vs n h _ _ _ all ∙ after_then _ _ h (uses_split vs n h _ _ _ refl ∙ after_then _ _ h c.in_ok-check_expr-in-Conditional.ensures
     ∙ c.in_ok-check_expr-in-Conditional-2.ensures))

@@ -11,12 +11,12 @@ pub returns-in-Some : goal.returns-in-Some
 returns-in-Some c =
     let w = c.in-Local in
     let fault : LockName → Fault = λ x. record { rule = rule.Frozen; place = w.place; lock = x } in
-    ap (λ (x : Lvalue). walk_target [] (names_of c.args.names.now) c.args.held (lvalue_of x)) w.is
-    ∙ ap (λ (o : Option LockName). none_or o fault c.args.held) (sym c.in-Some.ensures)
+    ap (λ (x : Lvalue). walk_target [] (names_of c.args.names.now) c.args.held.now (lvalue_of x)) w.is
+    ∙ ap (λ (o : Option LockName). none_or o fault c.args.held.now) (sym c.in-Some.ensures)
 
 pub returns-in-None : goal.returns-in-None
 returns-in-None c =
     let w = c.in-Local in
     let fault : LockName → Fault = λ x. record { rule = rule.Frozen; place = w.place; lock = x } in
-    ap (λ (x : Lvalue). walk_target [] (names_of c.args.names.now) c.args.held (lvalue_of x)) w.is
-    ∙ ap (λ (o : Option LockName). none_or o fault c.args.held) (sym c.in-None.ensures)
+    ap (λ (x : Lvalue). walk_target [] (names_of c.args.names.now) c.args.held.now (lvalue_of x)) w.is
+    ∙ ap (λ (o : Option LockName). none_or o fault c.args.held.now) (sym c.in-None.ensures)

@@ -18,7 +18,7 @@ returns-in_err-check_use-in-Element c =
     let all : target_uses (lvalue_of c.args.target.now) ≡ (u ∷ []) ++ more = ap (λ (x : Lvalue). target_uses (lvalue_of x)) w.is in
     let vs = map variable_of c.args.variables.now in
     let n = names_of c.args.names.now in
-    let h = c.args.held in
+    let h = c.args.held.now in
     rw (p.1, p.2) (refuses_then (walk_uses vs n h (u ∷ [])) (walk_uses vs n h (target_uses (lvalue_of c.args.target.now))) (λ _. walk_uses vs n h more) _
     (uses_split vs n h (target_uses (lvalue_of c.args.target.now)) (u ∷ []) more all)
     c.in_err-check_use-in-Element.ensures)

@@ -13,7 +13,7 @@ use Rattle.lock_discipline.proofs.uses.check_use.Goals as goal
 pub returns-then-holds : goal.returns-then-holds
 returns-then-holds c =
     let vs = map variable_of c.args.variables.now in
-    let h : Held = c.args.held in
+    let h : Held = c.args.held.now in
     let index = option_map placed_ref_of c.args.index in
     let u = use_of c.args.variable c.args.place index in
     let fault : Use → Fault = λ w. record { rule = rule.Unheld; place = w.place; lock = guard_name vs w } in
@@ -27,7 +27,7 @@ returns-then-holds c =
 pub returns-else-holds : goal.returns-else-holds
 returns-else-holds c =
     let vs = map variable_of c.args.variables.now in
-    let h : Held = c.args.held in
+    let h : Held = c.args.held.now in
     let index = option_map placed_ref_of c.args.index in
     let u = use_of c.args.variable c.args.place index in
     let fault : Use → Fault = λ w. record { rule = rule.Unheld; place = w.place; lock = guard_name vs w } in

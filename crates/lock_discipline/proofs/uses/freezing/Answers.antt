@@ -13,7 +13,7 @@ returns-then-freezes c =
     let i = c.loop-number.number in
     let within : i < length c.args.names.now = omega arith in
     sym (c.loop-number.invariant
-    ∙ found_from p (names_of c.args.names.now) c.args.held i (lock_ref_of c.index-names-number.result) true
+    ∙ found_from p (names_of c.args.names.now) c.args.held.now i (lock_ref_of c.index-names-number.result) true
     (ref_at c.args.names.now i c.index-names-number.result within c.index-names-number.is) (sym c.freezes.ensures ∙ c.if-freezes.true))
 
 pub loop-number-preserved : goal.loop-number-preserved
@@ -22,11 +22,11 @@ loop-number-preserved c =
     let i = c.loop-number.number in
     let within : i < length c.args.names.now = omega arith in
     c.loop-number.invariant
-    ∙ found_from p (names_of c.args.names.now) c.args.held i (lock_ref_of c.index-names-number.result) false
+    ∙ found_from p (names_of c.args.names.now) c.args.held.now i (lock_ref_of c.index-names-number.result) false
     (ref_at c.args.names.now i c.index-names-number.result within c.index-names-number.is) (sym c.freezes.ensures ∙ c.if-freezes.false)
 
 pub returns : goal.returns
 returns c =
     let p : LockName → Bool = λ x. list_any (λ other. other == c.args.local) (key_locals x) in
     sym (c.loop-number.invariant
-    ∙ none_from p (names_of c.args.names.now) c.args.held c.loop-number.number (omega (arith, length-map c.args.names.now lock_ref_of)))
+    ∙ none_from p (names_of c.args.names.now) c.args.held.now c.loop-number.number (omega (arith, length-map c.args.names.now lock_ref_of)))

@@ -1,12 +1,19 @@
-use Rattle.std.proofs.Common.{ap, ◌∙◌, arith, take_all, List}
-use Rattle.std.specs.List.{list_any}
-use Rattle.c_tree.specs.LockNames.{Held, holds}
-use Rattle.lock_discipline.specs.links.Sets.{differ}
-use Rattle.lock_discipline.proofs.Sets.{differing_found}
+use Rattle.std.proofs.Common.{◌≡◌, ◌∙◌, ℕ, false, length, ap, sym, arith}
+use borrow.Author.Count.{below_more}
+use Rattle.lock_discipline.proofs.Sets.{some_differ, first_differs, none_differs}
 use Rattle.lock_discipline.proofs.walk.least_difference.Goals as goal
+
+pub returns-then-differ_in : goal.returns-then-differ_in
+returns-then-differ_in c =
+    first_differs c.args.first.now c.args.others.now c.loop-name.name (omega (arith, ap length c.names-name-end.ensures.is))
+    (sym c.differ_in.ensures ∙ c.if-differ_in.true) c.loop-name.invariant
+
+pub loop-name-preserved : goal.loop-name-preserved
+loop-name-preserved c =
+    below_more (λ (m : ℕ). some_differ c.args.first.now c.args.others.now m ≡ false) c.loop-name.name c.loop-name.invariant
+    (sym c.differ_in.ensures ∙ c.if-differ_in.false)
 
 pub returns : goal.returns
 returns c =
-    let kept = c.loop-other.invariant in
-    c.least.ensures ∙ differing_found c.args.first c.loop-other.differing c.args.others.now kept.long (λ m.
-    kept.differs m ∙ ap (λ (xs : List Held). list_any (λ x. differ (holds c.args.first m) (holds x m)) xs) (take_all _ _ (omega arith)))
+    none_differs c.args.first.now c.args.others.now
+    (λ m low. c.loop-name.invariant m (omega (arith, low, ap length c.names-name-end.ensures.is, c.loop-name-test.false)))

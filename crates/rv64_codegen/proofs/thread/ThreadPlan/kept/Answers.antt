@@ -13,24 +13,8 @@ use Rattle.thread_code.proofs.Public.{mask_has_held}
 use Rattle.rv64_codegen.specs.links.Numbers.{AreNumberCodes}
 use Rattle.rv64_codegen.specs.links.Threads.{plan_in, thread_of}
 use Rattle.rv64_codegen.proofs.HeldCodes.{few_codes, few_words, leave_them, may_keep, quiet_codes}
-use Rattle.rv64_codegen.proofs.PlannedNodes.{held_there, held_sets, few_held, numbers_plain}
-use Rattle.rv64_codegen.proofs.NodePieces.{label_at}
+use Rattle.rv64_codegen.proofs.PlannedNodes.{few_held, numbers_plain}
 use Rattle.rv64_codegen.proofs.thread.ThreadPlan.kept.Goals as goal
-
-pub overflow_cast-step : goal.overflow_cast-step
-overflow_cast-step c = omega (arith, label_at c.args.self.now c.args.node c.requires.own)
-
-pub held-requires-clause-thread : goal.held-requires-clause-thread
-held-requires-clause-thread c =
-    let x = c.args.self.now in
-    let o = c.requires.own.open_is in
-    held_there (plan_in x) o.plan (thread_of x) o.thread
-
-pub held-requires-clause-step : goal.held-requires-clause-step
-held-requires-clause-step c =
-    let x = c.args.self.now in
-    let o = c.requires.own.open_is in
-    omega (arith, held_sets (plan_in x) o.plan (thread_of x) o.thread c.args.node c.requires.own.own)
 
 pub returns : goal.returns
 returns c =
@@ -43,15 +27,15 @@ returns c =
     let codes : List (List Instr) = lists_of c.args.numbers.now in
     let are : AreNumberCodes p.log (homes p t) x.number (held_names_before p t node) codes =
     subst (λ (h : Homes). AreNumberCodes p.log h x.number (held_names_before p t node) codes) o.homes c.requires.numbers in
-    let in_it : p.log ≡ V1 → (locals : List ℤ) → locks_in c.held.result ≡ locks_before p t locals node = λ masks locals.
-    ap locks_in c.held.ensures ∙ mask_has_held (set_before p t node) (few_held p o.plan t o.thread masks node own.own)
+    let in_it : p.log ≡ V1 → (locals : List ℤ) → locks_in c.mask.result ≡ locks_before p t locals node = λ masks locals.
+    ap locks_in (c.mask.ensures masks) ∙ mask_has_held (set_before p t node) (few_held p o.plan t o.thread masks node own.own)
     ∙ numbers_plain p o.plan t o.thread masks locals node own.own in
     record {
       log_is = refl;
       thread_is = refl;
       live_is = c.deref.ensures.value ∙ sym (get_or-map (λ (v : Vec ℕ Global). v.items) x.live.now (node - x.part.first) _ []
           (omega (arith, o.lists.count, own.own.from_first, own.own.below_end)));
-      locks_are = may_keep p t o.plan o.thread o.formed node own.own codes p.log c.held.result in_it are;
+      locks_are = may_keep p t o.plan o.thread o.formed node own.own codes p.log c.mask.result in_it are;
       leave = leave_them p t o.plan o.thread o.formed node own.own codes p.log refl are;
       few = few_words p t o.plan o.thread o.formed node own.own codes p.log are;
       room =

@@ -1,4 +1,4 @@
-use Rattle.std.proofs.Common.{◌≡◌, ◌∙◌, ◌<◌, ◌≤◌, ◌^◌, ℕ, List, ap, arith, length, subst, sym}
+use Rattle.std.proofs.Common.{◌≡◌, ◌<◌, ◌≤◌, ◌^◌, ℕ, List, ap₂, arith, length, subst, sym}
 use Rattle.std.specs.List.{AllByRecursion, AllZip}
 use Rattle.ido_base.specs.Layout.{log_of}
 use Rattle.ido_base.specs.declared.log.Log.{Log}
@@ -6,15 +6,13 @@ use Rattle.ido_base.specs.declared.log.Log.TheVariants.{V2}
 use Rattle.c_tree.specs.Exprs as e
 use Rattle.c_tree.specs.links.KnownNames.{names_of}
 use Rattle.rv64_isa.specs.declared.instr.Instr.{Instr}
-use Rattle.lock_discipline.specs.Masks.{mask_of}
+use Rattle.c_tree.specs.LockNames.{Held, held_names}
 use Rattle.operator_code.specs.StraightLineCode.{IsConstant}
 use Rattle.expr_code.specs.EvaluationCode.{homes_of}
 use Rattle.boundary_code.specs.Boundaries.{lists_of}
-use Rattle.thread_code.specs.Plans.{held_names_before, names_in, set_before}
-use Rattle.rv64_codegen.specs.links.NumberedNames.{names_by}
+use Rattle.thread_code.specs.Plans.{held_names_before, names_in}
 use Rattle.rv64_codegen.specs.links.Numbers.{AreNumberCodes, IsNumberCode, IsReady}
 use Rattle.rv64_codegen.specs.links.Threads.{plan_in, thread_of}
-use Rattle.rv64_codegen.proofs.HeldCodes.{masked}
 use Rattle.rv64_codegen.proofs.PlannedNodes.{held_there, held_sets, thread_below}
 use Rattle.rv64_codegen.proofs.NodePieces.{label_at}
 use Rattle.rv64_codegen.proofs.thread.ThreadPlan.listed.Goals as goal
@@ -22,14 +20,14 @@ use Rattle.rv64_codegen.proofs.thread.ThreadPlan.listed.Goals as goal
 pub overflow_cast-step : goal.overflow_cast-step
 overflow_cast-step c = omega (arith, label_at c.args.self.now c.args.node c.requires.own)
 
-pub held-held-requires-clause-thread : goal.held-held-requires-clause-thread
-held-held-requires-clause-thread c =
+pub before-held-requires-clause-thread : goal.before-held-requires-clause-thread
+before-held-requires-clause-thread c =
     let x = c.args.self.now in
     let o = c.requires.own.open_is in
     held_there (plan_in x) o.plan (thread_of x) o.thread
 
-pub held-held-requires-clause-step : goal.held-held-requires-clause-step
-held-held-requires-clause-step c =
+pub before-held-requires-clause-step : goal.before-held-requires-clause-step
+before-held-requires-clause-step c =
     let x = c.args.self.now in
     let o = c.requires.own.open_is in
     omega (arith, held_sets (plan_in x) o.plan (thread_of x) o.thread c.args.node c.requires.own.own)
@@ -56,9 +54,8 @@ returns c =
     subst (λ (is : List Instr). length is ≤ 2) (sym c.deref.ensures.value)
     (c.in_ok-log.ensures.two (subst (λ (n : ℕ). n < 2 ^ 31) (sym c.log_of.ensures) low)) in
     let codes : List (List Instr) = lists_of c.in_ok-codes.codes.items in
-    let names : names_by (names_of x.names.now) c.held-held.result ≡ held_names_before p t c.args.node =
-    ap (λ (m : ℕ). names_by (names_of x.names.now) m) c.held-held.ensures
-    ∙ (ap (λ (ns : List e.LockName). names_by ns (mask_of (set_before p t c.args.node))) o.names ∙ masked (names_in p t) (set_before p t c.args.node)) in
+    let names : held_names (names_of x.names.now) c.before-held.result.now ≡ held_names_before p t c.args.node =
+    ap₂ (λ (ns : List e.LockName) (set : Held). held_names ns set) o.names c.before-held.ensures.is in
     let are : AllZip (IsNumberCode (homes_of x.frame) log) (held_names_before p t c.args.node) codes =
     subst (λ (ns : List e.LockName). AllZip (IsNumberCode (homes_of x.frame) log) ns codes) names c.in_ok-codes.ensures in
     subst (λ (l : Log). AreNumberCodes l (homes_of x.frame) x.number (held_names_before p t c.args.node) codes) (sym c.requires.log)
