@@ -10,6 +10,7 @@ use Rattle.ido_ints.specs.TypedNumbers.{typed}
 use Rattle.c_tree.specs.Exprs as e
 use Rattle.c_tree.specs.Flats as f
 use Rattle.c_tree.specs.NullReferences.{is_among}
+use Rattle.c_ranges.specs.KnownAtSteps.{knowns, thread_knowns}
 use Rattle.c_ranges.specs.Laws.{IsReference, IsNullOrReference, AreFollowed}
 use Rattle.c_ranges.specs.RunInvariants.{RefersSo, IsSure, AreKnownLeft}
 
@@ -106,3 +107,34 @@ after_it h = by (is_among h.1.0.known 0) refl h.1.0.never_null
     by : (b : Bool) → is_among h.1.0.known 0 ≡ b → ◌≡◌ {A = List Place} ((if b then [] else at 1 ∷ []) ++ []) [] → ⊥
     by true e k = true≢false (h.1.0.sure 0 e).kept
     by false e k = let one : at 1 ∷ [] ≡ [] = k in cc
+
+-- ---- Before steps
+
+-- in `if (p != null) { *p = 0; }` it is known before the assignment and before its store, and not before the test
+known_in_block : knowns [] tested ≡ [] ∷ (0 ∷ []) ∷ (0 ∷ []) ∷ []
+known_in_block = refl
+
+-- it is nowhere in a block that assigns it, and not in `else`
+abbrev assigned_inside : f.Statement
+assigned_inside =
+    f.If (at 5)
+    (f.arm_and (record { place = at 6; expr = e.Binary NotEqual reference null }) (f.statement_and clear (f.statement_and forget f.no_statement)) f.no_arm)
+    (f.statement_and clear f.no_statement)
+
+known_nowhere : knowns [] assigned_inside ≡ [] ∷ [] ∷ [] ∷ [] ∷ [] ∷ [] ∷ []
+known_nowhere = refl
+
+-- in a loop within a block it still is
+known_in_loop : knowns (0 ∷ []) (f.While (at 7) (record { place = at 8; expr = reference }) (f.statement_and clear f.no_statement)) ≡
+    (0 ∷ []) ∷ (0 ∷ []) ∷ (0 ∷ []) ∷ []
+known_in_loop = refl
+
+-- after the block it isn't, and at the end nothing is
+known_by_thread : thread_knowns (record {
+  name = record { text = []; place = at 0 };
+  locals = UnsignedLong ∷ [];
+  refers = None ∷ [];
+  body = f.statement_and tested (f.statement_and forget f.no_statement);
+  closing = at 9;
+}) ≡ [] ∷ (0 ∷ []) ∷ (0 ∷ []) ∷ [] ∷ [] ∷ []
+known_by_thread = refl

@@ -32,7 +32,7 @@ AreFollowed ls (e.Converted kind operand) = AreFollowed ls operand
 AreFollowed ls (e.Binary operator left right) = AreFollowed ls left × AreFollowed ls right
 AreFollowed ls (e.Conditional kind condition chosen otherwise) = AreFollowed ls condition × AreFollowed ls chosen × AreFollowed ls otherwise
 
--- so does each of an index
+-- each reference that the index of a target follows refers to an element
 abbrev pub IsTargetFollowed : (locals : List ℤ) → e.Lvalue → Type 0
 IsTargetFollowed ls (e.ToLocal place local kind) = Unit {0}
 IsTargetFollowed ls (e.ToVariable place variable kind) = Unit {0}

@@ -1,5 +1,6 @@
 pub mod Bounds
 pub mod Faults
+pub mod KnownAtSteps
 pub mod Laws
 pub mod RunInvariants
 pub mod links

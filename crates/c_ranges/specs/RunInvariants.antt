@@ -64,7 +64,7 @@ pub record IsKnownLeft (ls : List ℤ) (assigned : List ℕ) (y : f.Statement) :
   pub sure : (local : ℕ) → is_among known local ≡ true → IsSure ls assigned local
   pub never_null : flat_statement_nulls known y ≡ []
 
--- so does each of these, where those before them assign some locals
+-- Each of these is left by what is known, where those before them assign some locals.
 abbrev pub AreKnownLeft : (ls : List ℤ) (assigned : List ℕ) → List f.Statement → Type 0
 AreKnownLeft ls assigned [] = Unit {0}
 AreKnownLeft ls assigned (y ∷ rest) =

@@ -1,4 +1,5 @@
 pub mod Public
+mod KnownStarts
 mod Origins
 mod WholeAttempts
 mod StepBisimulation

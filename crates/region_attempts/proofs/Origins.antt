@@ -18,6 +18,7 @@ use Rattle.recovery_semantics.proofs.Public.{between_is_stable, executions_resum
 use Rattle.region_attempts.specs.Origins.{Origin}
 use Rattle.region_attempts.specs.Laws.{FreeAtBoundaries, HoldsNothing, LivesAreOrigins, SettledMayBegin, StartsAreOrigins}
 use Rattle.region_attempts.proofs.GraphRuns.{matched_run}
+use Rattle.region_attempts.proofs.KnownStarts.{start_known}
 use Rattle.source_machine.specs.Lives.{restart}
 
 -- no thread has a mutex that is free
@@ -49,6 +50,7 @@ start_origin x w disciplined = record {
   pending = λ t text graph_thread p there its is.
       let owed = (good_start x w).owes t text graph_thread p there its is in
       record { node = owed.node; is = at_nodes x graph_thread.at owed.node owed.here; lies = owed.lies };
+  known = start_known x;
 }
 
 pub free_at_boundaries : FreeAtBoundaries
@@ -98,6 +100,7 @@ module _ (x : f.Flat) (o : Origin x) (schedule : List ℕ) (w : IsWellFormed x) 
         pending = λ t text graph_thread p there its is.
             let owed = (good_start x w).owes t text graph_thread p there its is in
             record { node = owed.node; is = at_nodes x graph_thread.at owed.node owed.here; lies = owed.lies };
+        known = start_known x;
       }
 
 pub lives_are_origins : LivesAreOrigins

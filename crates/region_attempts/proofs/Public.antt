@@ -4,6 +4,7 @@ pub use Rattle.region_attempts.proofs.ExecutionsStayInRegion.{executions_stay}
 pub use Rattle.region_attempts.proofs.GraphConfigs.{kept_good}
 pub use Rattle.region_attempts.proofs.GraphFollowsSource.{graph_follows, graph_settles, graph_stands}
 pub use Rattle.region_attempts.proofs.GraphRuns.{inner_runs, matched_after, own_step}
+pub use Rattle.region_attempts.proofs.KnownStarts.{IsFirst, arms_first, first_in_all, none_known, start_known}
 pub use Rattle.region_attempts.proofs.Nodes.{StoresHere, locking_at, owes_at, owing_at, unlocking_at, writing_stores}
 pub use Rattle.region_attempts.proofs.Origins.{free_at_boundaries, life_origin, settled_may_begin, start_free, start_origin}
 pub use Rattle.region_attempts.proofs.Region.{one_node}

@@ -1,3 +1,4 @@
+pub mod KnownReferences
 pub mod Origins
 pub mod GraphStates
 pub mod AttemptsInRegion
