@@ -14,6 +14,7 @@ use Rattle.std.specs.Prelude.{if◌then◌else◌}
 use Rattle.std.proofs.lemmas.Bool.{and_parts}
 use Rattle.c_tree.specs.Flats as f
 use Rattle.c_tree.specs.Source.{State, after_from, runs_from, start}
+use Rattle.c_tree.specs.WellFormed.{IsWellFormed}
 use Rattle.source_machine.specs.Discipline.{IsReachedState}
 use Rattle.source_machine.specs.Lives.{after_lives, begun_after, end_lives, restart}
 use Rattle.source_machine.proofs.Public.{after_life, runs_life}
@@ -29,7 +30,7 @@ use Rattle.compiler_correctness.specs.Compilation.{HoldsAsThread}
 use Rattle.compiler_correctness.specs.Images.{world_from, image_of, file_of, image_in, Image}
 use Rattle.compiler_correctness.specs.Compilations.{IsCompilation}
 use Rattle.compiler_correctness.specs.Laws.{ImagesAreCrashes}
-use Rattle.deadlock_freedom.specs.Deadlocks.{HasNoArrays, HaveStopped, StopsAtTheEnd, NoneDeadlocks, NoneDeadlocksResumed}
+use Rattle.deadlock_freedom.specs.Deadlocks.{HaveStopped, StopsAtTheEnd, NoneDeadlocks, NoneDeadlocksResumed}
 use Rattle.deadlock_freedom.proofs.HartReplies.{none_there}
 use Rattle.deadlock_freedom.proofs.Holders.{holders_go_on, harts_stay}
 use Rattle.deadlock_freedom.proofs.EnabledHarts.{each_waits, none_least, not_false}
@@ -41,14 +42,14 @@ begins_as_start : (x : f.Flat) (s : State) (earlier : List (List ℕ)) → s ≡
 begins_as_start x s [] is = is
 begins_as_start x s (schedule ∷ rest) is = begins_as_start x (restart x (after_from s schedule)) rest refl
 
-module _ (ascend : LocksAscend) (c : Translation) (is : IsCompilation c) (single : HasNoArrays c) (order : order_fault c.flat ≡ None)
+module _ (ascend : LocksAscend) (c : Translation) (is : IsCompilation c) (formed : IsWellFormed c.flat) (order : order_fault c.flat ≡ None)
     (events : List Event) where
   abbrev w : World
   w = world c events
 
   ordered : IsOrdered c.flat
   ordered = record {
-    single = single;
+    formed = formed;
     disciplined = λ k d within. (is.form.threads k (get_or c.flat.threads k d) (slice_get-get_or c.flat.threads k d within)).sets.disciplined;
     in_order = order;
   }
@@ -69,7 +70,7 @@ module _ (ascend : LocksAscend) (c : Translation) (is : IsCompilation c) (single
             ∙ ap (λ (from : State). after_from from last) (begins_as_start x (start x) earlier refl));
       }
 
-  -- a hart that waits for a lock holds lesser ones
+  -- a hart that waits for a lock holds lesser ones, and so not that lock itself
   ascends : (h lock held : ℕ) → WaitsFor c.runs.program w h lock → slice_get w.holders held ≡ Some (Some h) → held < lock
   ascends h lock held x owns =
       let agree : HoldsAsThread c w (now c events) h = (((is.records events).each h x.hart x.here).locks_agree) (inl x.runs) in
@@ -110,10 +111,10 @@ module _ (ascend : LocksAscend) (c : Translation) (is : IsCompilation c) (single
   stops life runs_is world_is = (forth life runs_is world_is, back life runs_is world_is)
 
 pub none_deadlocks : LocksAscend → NoneDeadlocks
-none_deadlocks ascend c is single order events = stops ascend c is single order events
+none_deadlocks ascend c is formed order events = stops ascend c is formed order events
 
 pub none_deadlocks_resumed : LocksAscend → ImagesAreCrashes → NoneDeadlocksResumed
-none_deadlocks_resumed ascend crashes c is single order before events =
+none_deadlocks_resumed ascend crashes c is formed order before events =
     let same : world c (before ++ Crash ∷ events) ≡ world_from c (image_in c (file_of c (image_of c before))) events =
     sym (ap (λ (x : Image). world_from c x events) (is.in_file before).is_all ∙ (crashes c before events).world_is) in
-    subst (StopsAtTheEnd c) same (stops ascend c is single order (before ++ Crash ∷ events))
+    subst (StopsAtTheEnd c) same (stops ascend c is formed order (before ++ Crash ∷ events))

@@ -1,6 +1,5 @@
 -- No deadlock: whatever has happened, a hart can step unless all have stopped.
 use Rattle.std.specs.Prelude.{◌≡◌, ◌⊎◌, ◌↔◌, ℕ, List, length, slice_get, Some, None}
-use Rattle.std.specs.List.{AllByRecursion}
 use Rattle.ido_base.specs.declared.event.Event.{Event}
 use Rattle.ido_base.specs.Cores.{least_enabled}
 use Rattle.rv64_isa.specs.declared.phase.Phase.TheVariants.{Done, Ended}
@@ -10,7 +9,7 @@ use Rattle.lock_order.specs.LockOrder.{order_fault}
 use Rattle.compiler_correctness.specs.Translations.{Translation, world}
 use Rattle.compiler_correctness.specs.Images.{world_from, image_of, file_of, image_in}
 use Rattle.compiler_correctness.specs.Compilations.{IsCompilation}
-use Rattle.c_tree.specs.WellFormed.{IsSingle}
+use Rattle.c_tree.specs.WellFormed.{IsWellFormed}
 
 -- each hart has ended, or its recovery is done
 abbrev pub HaveStopped : World → Type 0
@@ -21,15 +20,12 @@ abbrev pub StopsAtTheEnd : Translation → World → Type 0
 StopsAtTheEnd c w = (life : LifeConfig) → life.runs ≡ c.runs → life.world ≡ w →
     (least_enabled living life (length life.runs.program) ≡ None) ↔ HaveStopped w
 
--- no mutex of the source is an array
-abbrev pub HasNoArrays : Translation → Type 0
-HasNoArrays c = AllByRecursion IsSingle c.flat.mutexes
-
--- after every list of events, crashes and those of recovery among them, of a compilation whose source has no arrays of mutexes and keeps the order of locks
+-- after every list of events, crashes and those of recovery among them, of a compilation whose source is well formed and keeps the order of locks
 abbrev pub NoneDeadlocks : Type 0
-NoneDeadlocks = (c : Translation) → IsCompilation c → HasNoArrays c → order_fault c.flat ≡ None → (events : List Event) → StopsAtTheEnd c (world c events)
+NoneDeadlocks = (c : Translation) → IsCompilation c → IsWellFormed c.flat → order_fault c.flat ≡ None → (events : List Event) →
+    StopsAtTheEnd c (world c events)
 
 -- in every run, too, that is begun from the file of an image that it left
 abbrev pub NoneDeadlocksResumed : Type 0
-NoneDeadlocksResumed = (c : Translation) → IsCompilation c → HasNoArrays c → order_fault c.flat ≡ None → (before events : List Event) →
+NoneDeadlocksResumed = (c : Translation) → IsCompilation c → IsWellFormed c.flat → order_fault c.flat ≡ None → (before events : List Event) →
     StopsAtTheEnd c (world_from c (image_in c (file_of c (image_of c before))) events)

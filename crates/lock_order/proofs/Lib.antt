@@ -1,6 +1,7 @@
 mod Walks
 mod Ascents
-mod NameMutexes
-mod HeldMutexes
+mod SameNames
+mod ThreadSteps
+mod LockNumbers
 mod Runs
 mod Worked

@@ -3,6 +3,7 @@ use Rattle.std.proofs.Common.{◌≡◌, ℕ, List, [], ◌∷◌, Option, Some,
 use Rattle.std.specs.Prelude.{pos}
 use Rattle.ido_base.specs.declared.place.Place.{Place}
 use Rattle.ido_ints.specs.declared.kinds.Kind.TheVariants as kind
+use Rattle.ido_ints.specs.declared.operators.Binary.TheVariants as b
 use Rattle.ido_ints.specs.TypedNumbers.{typed}
 use Rattle.c_tree.specs.Trees.{Name}
 use Rattle.c_tree.specs.Exprs as e
@@ -97,3 +98,80 @@ in_a_loop = refl
 first_thread : order_fault (flat (thread (lock 1 1 ∷ lock 2 0 ∷ []) ∷ thread (lock 3 2 ∷ lock 4 0 ∷ []) ∷ [])) ≡ fault 2 1
 unfolding order_fault
 first_thread = refl
+
+-- ---- Arrays of mutexes
+
+element_of : (elements : ℕ) → Mutex
+element_of elements = record { name = name; length = Some elements }
+
+-- two arrays of two mutexes each, whose first ones have the numbers 0 and 2, one mutex after them, and threads
+with_arrays : List f.Thread → f.Flat
+unfolding element_of
+with_arrays ts = record {
+  mutexes = element_of 2 ∷ element_of 2 ∷ element_of 2 ∷ element_of 2 ∷ mutex ∷ [];
+  variables = [];
+  threads = ts;
+}
+
+abbrev number : ℕ → e.Expr
+number n = e.Constant (typed kind.Int (pos n))
+
+-- `i & 1`
+abbrev masked : e.Expr
+masked = e.Binary b.And (e.Local 0 kind.Int) (number 1)
+
+abbrev lock_at : (place first : ℕ) → e.Expr → f.Statement
+lock_at place first key = f.Lock (at place) (record { mutex = first; key = Some (record { place = at 97; expr = key }) })
+
+abbrev unlock_at : (first : ℕ) → e.Expr → f.Statement
+unlock_at first key = f.Unlock (at 98) (record { mutex = first; key = Some (record { place = at 97; expr = key }) })
+
+-- elements of one array by plain numbers that rise
+elements_rise : order_fault (with_arrays (thread (lock_at 1 0 (number 0) ∷ lock_at 2 0 (number 1) ∷ []) ∷ [])) ≡ None
+unfolding order_fault with_arrays element_of
+elements_rise = refl
+
+elements_fall : order_fault (with_arrays (thread (lock_at 1 0 (number 1) ∷ lock_at 2 0 (number 0) ∷ []) ∷ [])) ≡ fault 2 1
+unfolding order_fault with_arrays element_of
+elements_fall = refl
+
+-- the number of another kind is another key, and names that element too
+same_element : order_fault (with_arrays (thread (lock_at 1 0 (number 1) ∷ lock_at 2 0 (e.Constant (typed kind.Long (pos 1))) ∷ []) ∷ [])) ≡ fault 2 1
+unfolding order_fault with_arrays element_of
+same_element = refl
+
+-- any other key may name any element, and so isn't above one that is held, nor below one that is wanted
+any_wanted : order_fault (with_arrays (thread (lock_at 1 0 (number 0) ∷ lock_at 2 0 masked ∷ []) ∷ [])) ≡ fault 2 1
+unfolding order_fault with_arrays element_of
+any_wanted = refl
+
+any_held : order_fault (with_arrays (thread (lock_at 1 0 masked ∷ lock_at 2 0 (number 1) ∷ []) ∷ [])) ≡ fault 2 1
+unfolding order_fault with_arrays element_of
+any_held = refl
+
+-- two arrays by their declarations, whatever the keys are, and a mutex after both
+arrays_rise : order_fault (with_arrays (thread (lock_at 1 0 masked ∷ lock_at 2 2 masked ∷ lock 3 4 ∷ []) ∷ [])) ≡ None
+unfolding order_fault with_arrays element_of
+arrays_rise = refl
+
+arrays_fall : order_fault (with_arrays (thread (lock_at 1 2 (number 0) ∷ lock_at 2 0 masked ∷ []) ∷ [])) ≡ fault 2 1
+unfolding order_fault with_arrays element_of
+arrays_fall = refl
+
+mutex_before : order_fault (with_arrays (thread (lock 1 4 ∷ lock_at 2 2 (number 1) ∷ []) ∷ [])) ≡ fault 2 1
+unfolding order_fault with_arrays element_of
+mutex_before = refl
+
+-- an element that was given back is in no way
+element_unlocked : order_fault (with_arrays
+    (thread (lock_at 1 0 (number 1) ∷ unlock_at 0 (number 1) ∷ lock_at 2 0 (number 0) ∷ lock_at 3 0 (number 1) ∷ []) ∷ [])) ≡ None
+unfolding order_fault with_arrays element_of
+element_unlocked = refl
+
+-- the last `lock` of the name that is held is told, and not one of another name of its array
+told_by_name : order_fault (with_arrays (thread
+    (lock_at 1 2 masked
+    ∷ either (unlock_at 2 masked ∷ lock_at 2 2 (number 1) ∷ unlock_at 2 (number 1) ∷ []) (lock_at 3 0 (number 0) ∷ [])
+    ∷ []) ∷ [])) ≡ fault 3 1
+unfolding order_fault with_arrays element_of
+told_by_name = refl

@@ -9,8 +9,8 @@ use thiserror::Error;
 /// The first fault of a walk, or want of memory.
 #[derive(Clone, Copy, Debug, PartialEq, Eq, Drop, Error)]
 pub enum OrderError {
-    /// A mutex is locked while one is held that isn't below it, which was locked at the earlier place.
-    #[error("a mutex is locked while one is held that isn't declared before it")]
+    /// A lock is taken while one is held that isn't below it, which was taken at the earlier place.
+    #[error("a lock is taken while one is held that isn't below it")]
     NotAbove { place: Place, earlier: Place },
     #[error("out of memory")]
     Memory,

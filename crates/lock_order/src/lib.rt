@@ -1,6 +1,7 @@
-//! The order of locks: whether each thread of a flat form locks a mutex only while all that it holds are declared before it.
+//! The order of locks: whether each thread of a flat form takes a lock only while all that it holds are below it.
 #![tactic(auto)]
 
+mod below;
 mod error;
 pub mod laws;
 mod order;

@@ -1,92 +1,134 @@
 //! The walk through a thread.
-ghost use Rattle.std.specs.Prelude.{◌≡◌, ◌≤◌, ◌&&◌, [], false, true, length, slice_set, if◌then◌else◌, MatchResult};
+ghost use Rattle.std.specs.Prelude.{◌≡◌, ◌&&◌, map, slice_get, slice_set, Some, None, if◌then◌else◌, MatchResult};
+ghost use Rattle.c_tree.specs.Exprs.{lock_ref_of};
 ghost use Rattle.c_tree.specs.Flats.{statement_of, statements_of, arms_list_of, thread_of};
-ghost use Rattle.c_tree.specs.LockNames.{holds, none_held};
-ghost use Rattle.lock_order.specs.LockOrder.{After, Broken, Progress, broken, holding, holds_from, is_in_way, last_in_way, locked};
-ghost use Rattle.lock_order.specs.LockOrder.{walk, walk_all, walk_arms, walk_thread};
+ghost use Rattle.c_tree.specs.LockNames.{holds};
+ghost use Rattle.c_tree.specs.Programs.{mutex_of};
+ghost use Rattle.c_tree.specs.links.KnownNames.{names_of};
+ghost use Rattle.lock_order.specs.LockOrder.{After, Progress, holding, is_blocked, is_in_way, last_in_way, was_in_way};
+ghost use Rattle.lock_order.specs.LockOrder.{walk, walk_all, walk_arms, walk_lock, walk_thread};
 ghost use Rattle.lock_order.specs.links.Walks.{Refuses, progress_of};
 
+use crate::below::is_in_way;
 use crate::error::OrderError;
+use c_tree::expr::LockRef;
 use c_tree::flat::{Arm, Statement, Thread};
+use c_tree::lock_names::{lock_names, number_in};
+use c_tree::program::Mutex;
 use ido_base::place::Place;
 use std::alloc::Global;
 
 /// A `lock` that a walk has met.
 #[derive(Clone, Copy, Drop)]
 pub struct Met {
-    pub mutex: u32,
+    /// The number of its name.
+    pub name: usize,
     pub place: Place,
 }
 
 /// How far a walk through a thread has come.
 #[derive(Drop)]
 pub struct Walk {
-    /// Of each mutex whether it is held.
+    /// Of each name whether it is held.
     pub held: Vec<bool>,
     /// The locks that were met, in the order of the text.
     pub met: Vec<Met>,
 }
 
-/// A mutex of this number or of a later one is held.
-fn holds_from(held: &[bool], mutex: u32) -> bool
-    ensures { result ≡ holds_from held.now mutex }
+/// The name of this number is held.
+fn is_held(held: &[bool], name: usize) -> bool
+    ensures { result ≡ holds held.now name }
 {
-    for at in mutex as usize..held.len() {
-        if held[at] {
+    match held.get(name) {
+        Some(is_held) => *is_held,
+        None => false,
+    }
+}
+
+/// The name is held, or not, and it isn't below the wanted one.
+fn bars(mutexes: &[Mutex], wanted: LockRef<'_>, own: LockRef<'_>, is_held: bool) -> bool
+    ensures { result ≡ (is_held && is_in_way (map mutex_of mutexes.now) (lock_ref_of wanted.entry) (lock_ref_of own.entry)) }
+{
+    is_held && is_in_way(mutexes, wanted, own)
+}
+
+/// A name that is held is in the way.
+fn is_blocked(mutexes: &[Mutex], names: &[LockRef<'_>], held: &[bool], wanted: LockRef<'_>) -> bool
+    ensures { result ≡ is_blocked (map mutex_of mutexes.now) (names_of names.now) held.now (lock_ref_of wanted.entry) }
+{
+    for number in 0..names.len() {
+        if bars(mutexes, wanted, names[number], is_held(held, number)) {
             return true;
         }
     }
     false
 }
 
-/// The lock that was met is of a mutex that is held, and that isn't below the wanted one.
-fn is_in_way(held: &[bool], wanted: u32, met: Met) -> bool
-    ensures { result ≡ is_in_way held.now wanted met }
+/// The lock that was met is of such a name.
+fn was_in_way(
+    mutexes: &[Mutex],
+    names: &[LockRef<'_>],
+    held: &[bool],
+    wanted: LockRef<'_>,
+    met: Met,
+) -> bool
+    ensures { result ≡ was_in_way (map mutex_of mutexes.now) (names_of names.now) held.now (lock_ref_of wanted.entry) met }
 {
-    match held.get(met.mutex as usize) {
-        Some(is_held) => *is_held && met.mutex >= wanted,
+    match names.get(met.name) {
+        Some(own) => bars(mutexes, wanted, *own, is_held(held, met.name)),
         None => false,
     }
 }
 
 /// The last such lock.
-fn last_in_way(held: &[bool], wanted: u32, met: &[Met]) -> Option<Met>
-    ensures { result ≡ last_in_way held.now wanted met.now }
+fn last_in_way(
+    mutexes: &[Mutex],
+    names: &[LockRef<'_>],
+    held: &[bool],
+    wanted: LockRef<'_>,
+    met: &[Met],
+) -> Option<Met>
+    ensures { result ≡ last_in_way (map mutex_of mutexes.now) (names_of names.now) held.now (lock_ref_of wanted.entry) met.now }
 {
     let mut last = None;
     for one in met {
-        if is_in_way(held, wanted, *one) {
+        if was_in_way(mutexes, names, held, wanted, *one) {
             last = Some(*one);
         }
     }
     last
 }
 
-/// The set with the mutex, or without it.
-fn set_held(held: &mut [bool], mutex: u32, is_held: bool)
-    ensures { held.new ≡ slice_set held.old mutex is_held }
+/// The set with the name, or without it.
+fn set_held(held: &mut [bool], name: usize, is_held: bool)
+    ensures { held.new ≡ slice_set held.old name is_held }
 {
-    let at = mutex as usize;
-    if at < held.len() {
-        held[at] = is_held;
+    if name < held.len() {
+        held[name] = is_held;
     }
 }
 
 /// A `lock`.
-fn walk_lock(place: Place, mutex: u32, progress: &mut Walk) -> Result<(), OrderError>
-    ensures { let w = (if holds_from progress.old.held.items mutex then Broken (broken place mutex (progress_of progress.old))
-        else After (locked place mutex (progress_of progress.old))) in
+fn walk_lock(
+    mutexes: &[Mutex],
+    names: &[LockRef<'_>],
+    place: Place,
+    lock: LockRef<'_>,
+    progress: &mut Walk,
+) -> Result<(), OrderError>
+    ensures { let w = walk_lock (map mutex_of mutexes.now) (names_of names.now) (progress_of progress.old) place (lock_ref_of lock.entry) in
         MatchResult result (λ _. w ≡ After (progress_of progress.new)) (Refuses w) }
 {
-    if holds_from(&progress.held, mutex) {
-        let earlier = match last_in_way(&progress.held, mutex, &progress.met) {
+    if is_blocked(mutexes, names, &progress.held, lock) {
+        let earlier = match last_in_way(mutexes, names, &progress.held, lock, &progress.met) {
             Some(last) => last.place,
             None => place,
         };
         return Err(OrderError::NotAbove { place, earlier });
     }
-    progress.met.push(Met { mutex, place })?;
-    set_held(&mut progress.held, mutex, true);
+    let name = number_in(names, lock);
+    progress.met.push(Met { name, place })?;
+    set_held(&mut progress.held, name, true);
     Ok(())
 }
 
@@ -94,10 +136,12 @@ fn walk_lock(place: Place, mutex: u32, progress: &mut Walk) -> Result<(), OrderE
 #[cycle(walk)]
 fn walk_statement(
     alloc: Global,
+    mutexes: &[Mutex],
+    names: &[LockRef<'_>],
     statement: &Statement,
     progress: &mut Walk,
 ) -> Result<(), OrderError>
-    ensures { let w = walk (progress_of progress.old) (statement_of statement.now) in
+    ensures { let w = walk (map mutex_of mutexes.now) (names_of names.now) (progress_of progress.old) (statement_of statement.now) in
         MatchResult result (λ _. w ≡ After (progress_of progress.new)) (Refuses w) }
 {
     match statement {
@@ -107,14 +151,16 @@ fn walk_statement(
             otherwise,
             ..
         } => {
-            walk_arms(alloc, arms, progress)?;
-            walk_statements(alloc, otherwise, progress)
+            walk_arms(alloc, mutexes, names, arms, progress)?;
+            walk_statements(alloc, mutexes, names, otherwise, progress)
         }
-        Statement::While { body, .. } => walk_apart(alloc, body, progress),
-        Statement::Do { body, .. } => walk_apart(alloc, body, progress),
-        Statement::Lock { place, lock } => walk_lock(*place, lock.mutex, progress),
+        Statement::While { body, .. } => walk_apart(alloc, mutexes, names, body, progress),
+        Statement::Do { body, .. } => walk_apart(alloc, mutexes, names, body, progress),
+        Statement::Lock { place, lock } => {
+            walk_lock(mutexes, names, *place, lock.as_ref(), progress)
+        }
         Statement::Unlock { lock, .. } => {
-            set_held(&mut progress.held, lock.mutex, false);
+            set_held(&mut progress.held, number_in(names, lock.as_ref()), false);
             Ok(())
         }
     }
@@ -124,14 +170,16 @@ fn walk_statement(
 #[cycle(walk)]
 fn walk_statements(
     alloc: Global,
+    mutexes: &[Mutex],
+    names: &[LockRef<'_>],
     statements: &[Statement],
     progress: &mut Walk,
 ) -> Result<(), OrderError>
-    ensures { let w = walk_all (progress_of progress.old) (statements_of statements.now) in
+    ensures { let w = walk_all (map mutex_of mutexes.now) (names_of names.now) (progress_of progress.old) (statements_of statements.now) in
         MatchResult result (λ _. w ≡ After (progress_of progress.new)) (Refuses w) }
 {
     for statement in statements {
-        walk_statement(alloc, statement, progress)?;
+        walk_statement(alloc, mutexes, names, statement, progress)?;
     }
     Ok(())
 }
@@ -140,38 +188,48 @@ fn walk_statements(
 #[cycle(walk)]
 fn walk_apart(
     alloc: Global,
+    mutexes: &[Mutex],
+    names: &[LockRef<'_>],
     statements: &[Statement],
     progress: &mut Walk,
 ) -> Result<(), OrderError>
-    ensures { let w = holding progress.old.held.items (walk_all (progress_of progress.old) (statements_of statements.now)) in
+    ensures { let w = holding progress.old.held.items
+        (walk_all (map mutex_of mutexes.now) (names_of names.now) (progress_of progress.old) (statements_of statements.now)) in
         MatchResult result (λ _. w ≡ After (progress_of progress.new)) (Refuses w) }
 {
     let before = progress.held.to_vec(alloc)?;
-    walk_statements(alloc, statements, progress)?;
+    walk_statements(alloc, mutexes, names, statements, progress)?;
     progress.held = before;
     Ok(())
 }
 
 /// The arms of an `if` in order, each from the set before it.
 #[cycle(walk)]
-fn walk_arms(alloc: Global, arms: &[Arm], progress: &mut Walk) -> Result<(), OrderError>
-    ensures { let w = walk_arms (progress_of progress.old) (arms_list_of arms.now) in
+fn walk_arms(
+    alloc: Global,
+    mutexes: &[Mutex],
+    names: &[LockRef<'_>],
+    arms: &[Arm],
+    progress: &mut Walk,
+) -> Result<(), OrderError>
+    ensures { let w = walk_arms (map mutex_of mutexes.now) (names_of names.now) (progress_of progress.old) (arms_list_of arms.now) in
         MatchResult result (λ _. w ≡ After (progress_of progress.new)) (Refuses w) }
 {
     for arm in arms {
-        walk_apart(alloc, &arm.body, progress)?;
+        walk_apart(alloc, mutexes, names, &arm.body, progress)?;
     }
     Ok(())
 }
 
-/// A thread, which begins with no mutex held.
-pub fn walk_thread(alloc: Global, mutexes: usize, thread: &Thread) -> Result<(), OrderError>
-    ensures { let w = walk_thread mutexes (thread_of thread.now) in
+/// A thread, which begins with no lock held.
+pub fn walk_thread(alloc: Global, mutexes: &[Mutex], thread: &Thread) -> Result<(), OrderError>
+    ensures { let w = walk_thread (map mutex_of mutexes.now) (thread_of thread.now) in
         MatchResult result (λ _. (end : Progress) × (w ≡ After end)) (Refuses w) }
 {
+    let names = lock_names(alloc, mutexes, &thread.body)?;
     let mut progress = Walk {
-        held: vec![in alloc; false; mutexes]?,
+        held: vec![in alloc; false; names.len()]?,
         met: Vec::new(alloc),
     };
-    walk_statements(alloc, &thread.body, &mut progress)
+    walk_statements(alloc, mutexes, &names, &thread.body, &mut progress)
 }
