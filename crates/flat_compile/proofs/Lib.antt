@@ -4,6 +4,7 @@ mod CleanFlags
 mod OmittedCleanList
 mod Systems
 mod Limits
+mod HeldNumbers
 mod MasksOfSets
 mod Plans
 mod Stores
@@ -11,4 +12,5 @@ mod ResumeAddresses
 mod ResumeEntries
 mod ResumedNodes
 mod LiveLocals
+mod KnownSteps
 mod Tables

@@ -1,18 +1,24 @@
 -- Live locals of a node, in the order of their registers.
-use Rattle.std.proofs.Common.{◌≡◌, ◌↔◌, inl, ⊎_elim, ℕ, zero, suc, ◌+◌, ◌<◌, ◌≤◌, List, [], ◌∷◌, ◌++◌, length, map, ◌∙◌, ap, sym, subst, arith, Some}
-use Rattle.std.specs.Prelude.{slice_get, slice_index, Contains}
+use Rattle.std.proofs.Common.{◌≡◌, ◌↔◌, inl, ⊎_elim, ℕ, zero, suc, ◌+◌, ◌<◌, ◌≤◌, List, [], ◌∷◌, ◌++◌, length, map, ◌∙◌, ap, ap₂, sym, subst, arith, Some}
+use Rattle.std.proofs.Common.{Bool, ◌&&◌, Option, refl}
+use Rattle.std.specs.Prelude.{slice_get, slice_index, slice_index_or, Contains, is_some}
 use Rattle.std.specs.List.Sorted.{IsStrictlyIncreasing}
 use Rattle.std.proofs.lemmas.Bool.{cases_lt}
 use Rattle.std.proofs.lemmas.Option.{same_Some, slice_get_within}
 use Rattle.std.proofs.lemmas.List.Elements.{Contains-append_left, Contains-append_right, Contains-push_cases}
+use Rattle.std.specs.List.{AllZip}
 use Rattle.ido_ints.specs.declared.kinds.Kind.{Kind}
+use Rattle.c_tree.specs.Flats as f
+use Rattle.c_tree.specs.NullReferences.{is_among}
+use Rattle.c_tree.specs.References.{IsLocalReferring, IsFlatThreadReferring}
+use Rattle.c_ranges.specs.KnownAtSteps.{thread_knowns}
 use Rattle.memory_layout.specs.declared.roles.TheConstants.{LOCALS}
 use Rattle.flow_graph.specs.Liveness.{IsLive, Spans, Touches}
 use Rattle.thread_code.specs.Plans.{Plan, IsPlan, Thread, IsThread, IsNodeOf, home_of_colour}
 use Rattle.flat_compile.specs.declared.resumes.LiveLocal.{LiveLocal}
-use Rattle.flat_compile.specs.ResumePlaces.{IsLiveLocal}
+use Rattle.flat_compile.specs.ResumePlaces.{refers_in, knowns_before, is_known, IsLiveLocal}
 use Rattle.flat_compile.specs.links.ResumePlacesByNode.{Ascends, IsLiveIn, AreLiveBelow}
-use Rattle.flow_graph.proofs.Public.{found_in}
+use Rattle.flow_graph.proofs.Public.{all_at, found_in}
 use Rattle.rv64_codegen.proofs.Public.{colours_long}
 use Rattle.flat_compile.proofs.ResumeAddresses.{head, tail}
 use Rattle.expr_code.specs.declared.home.Home.{Home}
@@ -79,29 +85,31 @@ registers_rise a b up l = rise 8 LOCALS locals_ascend a b up l
 
 -- ---- One colour more
 
-abbrev made : (register local : ℕ) → Kind → LiveLocal
-made register local kind = record { register = register; local = local; kind = kind }
+abbrev made : (register local : ℕ) → Kind → Option ℕ → Bool → LiveLocal
+made register local kind refers known = record { register = register; local = local; kind = kind; refers = refers; known = known }
 
-same_local : (a b : LiveLocal) → a.register ≡ b.register → a.local ≡ b.local → a.kind ≡ b.kind → a ≡ b
-same_local a b r l k =
-    ap (λ (x : ℕ). made x a.local a.kind) r ∙ ap (λ (x : ℕ). made b.register x a.kind) l ∙ ap (λ (x : Kind). made b.register b.local x) k
+same_local : (a b : LiveLocal) → a.register ≡ b.register → a.local ≡ b.local → a.kind ≡ b.kind → a.refers ≡ b.refers → a.known ≡ b.known → a ≡ b
+same_local a b r l k e n =
+    ap (λ (x : ℕ). made x a.local a.kind a.refers a.known) r ∙ ap (λ (x : ℕ). made b.register x a.kind a.refers a.known) l
+    ∙ ap (λ (x : Kind). made b.register b.local x a.refers a.known) k ∙ ap (λ (x : Option ℕ). made b.register b.local b.kind x a.known) e
+    ∙ ap (λ (x : Bool). made b.register b.local b.kind b.refers x) n
 
-module _ (colours : List ℕ) (kinds : List Kind) (sets : List (List ℕ)) (node : ℕ) where
+module _ (colours : List ℕ) (text : f.Thread) (known : List ℕ) (sets : List (List ℕ)) (node : ℕ) where
   abbrev Is : (count : ℕ) → List LiveLocal → Type 0
-  Is count found = AreLiveBelow colours kinds sets node count found
+  Is count found = AreLiveBelow colours text known sets node count found
 
   abbrev One : (count : ℕ) → LiveLocal → Type 0
-  One count l = (number : ℕ) × (number < count) × IsLiveIn colours sets node number l.local × (slice_get kinds l.local ≡ Some l.kind)
-      × (l.register ≡ slice_index LOCALS number)
+  One count l = (number : ℕ) × (number < count) × IsLiveIn colours sets node number l.local × (slice_get text.locals l.local ≡ Some l.kind)
+      × (l.register ≡ slice_index LOCALS number) × (slice_get text.refers l.local ≡ Some l.refers) × (l.known ≡ is_known known l)
 
   wider : (count : ℕ) (l : LiveLocal) → One count l → One (count + 1) l
-  wider count l w = (w.0, omega (arith, w.1), w.2, w.3, w.4)
+  wider count l w = (w.0, omega (arith, w.1), w.2, w.3, w.4, w.5, w.6)
 
   pub live_same : (count : ℕ) (found : List LiveLocal) → ((local : ℕ) → IsLiveIn colours sets node count local → ⊥) → Is count found → Is (count + 1) found
   live_same count found none h = record {
     each = λ l. (
       λ k. wider count l ((h.each l).0 k),
-      λ w. ⊎_elim (λ less. (h.each l).1 (w.0, less, w.2, w.3, w.4))
+      λ w. ⊎_elim (λ less. (h.each l).1 (w.0, less, w.2, w.3, w.4, w.5, w.6))
           (λ g. let same : w.0 ≡ count = omega (arith, g, w.1) in absurd (none l.local (subst (λ (n : ℕ). IsLiveIn colours sets node n l.local) same w.2)))
           (cases_lt w.0 count),
     );
@@ -109,14 +117,15 @@ module _ (colours : List ℕ) (kinds : List Kind) (sets : List (List ℕ)) (node
   }
 
   pub live_more : (count : ℕ) (found : List LiveLocal) (l : LiveLocal) → count < 18 → IsLiveIn colours sets node count l.local →
-      slice_get kinds l.local ≡ Some l.kind → l.register ≡ slice_index LOCALS count →
+      slice_get text.locals l.local ≡ Some l.kind → l.register ≡ slice_index LOCALS count → slice_get text.refers l.local ≡ Some l.refers →
+      l.known ≡ is_known known l →
       ((a b : ℕ) → IsLiveIn colours sets node count a → IsLiveIn colours sets node count b → a ≡ b) → Is count found → Is (count + 1) (found ++ l ∷ [])
-  live_more count found l few live kind register apart h = record {
+  live_more count found l few live kind register refers knows apart h = record {
     each = λ z. (
       λ k. ⊎_elim (λ old. wider count z ((h.each z).0 old))
-          (λ e. subst (λ (y : LiveLocal). One (count + 1) y) e (count, omega arith, live, kind, register))
+          (λ e. subst (λ (y : LiveLocal). One (count + 1) y) e (count, omega arith, live, kind, register, refers, knows))
           (Contains-push_cases found l z k),
-      λ w. ⊎_elim (λ less. Contains-append_left found (l ∷ []) z ((h.each z).1 (w.0, less, w.2, w.3, w.4)))
+      λ w. ⊎_elim (λ less. Contains-append_left found (l ∷ []) z ((h.each z).1 (w.0, less, w.2, w.3, w.4, w.5, w.6)))
           (λ g. Contains-append_right found (l ∷ []) z (subst (λ (y : LiveLocal). Contains (l ∷ []) y) (only z w (omega (arith, g, w.1))) (head l [])))
           (cases_lt w.0 count),
     );
@@ -127,8 +136,10 @@ module _ (colours : List ℕ) (kinds : List Kind) (sets : List (List ℕ)) (node
       only : (z : LiveLocal) (w : One (count + 1) z) → w.0 ≡ count → l ≡ z
       only z w same =
           let there : l.local ≡ z.local = apart l.local z.local live (subst (λ (n : ℕ). IsLiveIn colours sets node n z.local) same w.2) in
+          let array : l.refers ≡ z.refers = same_Some l.refers z.refers (sym refers ∙ ap (slice_get text.refers) there ∙ w.5) in
           same_local l z (register ∙ ap (slice_index LOCALS) (sym same) ∙ sym w.4) there
-          (same_Some l.kind z.kind (sym kind ∙ ap (slice_get kinds) there ∙ w.3))
+          (same_Some l.kind z.kind (sym kind ∙ ap (slice_get text.locals) there ∙ w.3)) array
+          (knows ∙ ap₂ (λ (r : Option ℕ) (n : ℕ). is_some r && is_among known n) array there ∙ sym w.6)
 
 -- ---- The locals of the registers are those that are live
 
@@ -137,7 +148,35 @@ index_of [] k x g = cc
 index_of (y ∷ xs) zero x g = cc
 index_of (y ∷ xs) (suc k) x g = index_of xs k x g
 
+refers_at : (ts : List f.Thread) (n : ℕ) (text : f.Thread) → slice_get ts n ≡ Some text →
+    slice_index_or (map (λ (t : f.Thread). t.refers) ts) n [] ≡ text.refers
+refers_at [] n text g = cc
+refers_at (t ∷ ts) zero text g = let same : t ≡ text = cc in ap (λ (x : f.Thread). x.refers) same
+refers_at (t ∷ ts) (suc n) text g = refers_at ts n text g
+
+pub knowns_at : (ts : List f.Thread) (n : ℕ) (text : f.Thread) → slice_get ts n ≡ Some text →
+    slice_index_or (map thread_knowns ts) n [] ≡ thread_knowns text
+knowns_at [] n text g = cc
+knowns_at (t ∷ ts) zero text g = let same : t ≡ text = cc in ap (λ (x : f.Thread). thread_knowns x) same
+knowns_at (t ∷ ts) (suc n) text g = knowns_at ts n text g
+
+as_many : (ks : List Kind) (rs : List (Option ℕ)) → AllZip IsLocalReferring ks rs → length rs ≡ length ks
+as_many [] [] h = refl
+as_many [] (r ∷ rs) h = absurd h
+as_many (k ∷ ks) [] h = absurd h
+as_many (k ∷ ks) (r ∷ rs) h = ap suc (as_many ks rs h.1)
+
+-- a local of a thread's text is told what it refers to
+pub refers_long : (p : Plan) (plan : IsPlan p) (t : Thread) (th : IsThread p t) → length th.text.refers ≡ length th.text.locals
+refers_long p plan t th =
+    let form : IsFlatThreadReferring p.flat th.text =
+    all_at (IsFlatThreadReferring p.flat) p.flat.threads t.number th.text plan.formed.referring.threads th.of_text in
+    as_many th.text.locals th.text.refers form.locals
+
 module _ (p : Plan) (plan : IsPlan p) (t : Thread) (th : IsThread p t) (node : ℕ) (own : IsNodeOf t node) where
+  refers_are : refers_in p t ≡ th.text.refers
+  refers_are = refers_at p.flat.threads t.number th.text th.of_text
+
   home_is : (local number : ℕ) → slice_get th.colours local ≡ Some number → home_of t.locals local ≡ home_of_colour number
   home_is local number g =
       ap (λ (hs : List Home). home_of hs local) th.locals
@@ -174,13 +213,15 @@ module _ (p : Plan) (plan : IsPlan p) (t : Thread) (th : IsThread p t) (node : �
       (λ g. ⊎_elim (λ l. absurd (clash number b a l y x)) (λ h. let e : a ≡ b = omega (arith, g, h) in e) (cases_lt b a))
       (cases_lt a b)
 
-  pub all_live : (found : List LiveLocal) → AreLiveBelow th.colours t.kinds p.live node 18 found → (l : LiveLocal) →
+  pub all_live : (found : List LiveLocal) → AreLiveBelow th.colours th.text (knowns_before p t node) p.live node 18 found → (l : LiveLocal) →
       Contains found l ↔ IsLiveLocal p t node l
   all_live found h l = (
     λ k.
         let w = (h.each l).0 k in
         record {
-          kind_is = w.3;
+          kind_is = ap (λ (ks : List Kind). slice_get ks l.local) th.kinds ∙ w.3;
+          refers_is = ap (λ (rs : List (Option ℕ)). slice_get rs l.local) refers_are ∙ w.5;
+          known_is = w.6;
           live = (plan.live.each node l.local).0 w.2.live;
           home_is = home_is l.local w.0 w.2.coloured ∙ ap InRegister (sym w.4);
         },
@@ -190,8 +231,10 @@ module _ (p : Plan) (plan : IsPlan p) (t : Thread) (th : IsThread p t) (node : �
           number.0,
           plan.registers.exist t.number number.0 th.colours th.of_colours (contained th.colours l.local number.0 number.1),
           record { coloured = number.1; live = (plan.live.each node l.local).1 is.live },
-          is.kind_is,
+          ap (λ (ks : List Kind). slice_get ks l.local) (sym th.kinds) ∙ is.kind_is,
           same_register l.register (slice_index LOCALS number.0) (sym is.home_is ∙ home_is l.local number.0 number.1),
+          ap (λ (rs : List (Option ℕ)). slice_get rs l.local) (sym refers_are) ∙ is.refers_is,
+          is.known_is,
         ),
   )
     where

@@ -14,16 +14,15 @@ use Rattle.flow_graph.specs.IdempotentCuts.{IsChosen}
 use Rattle.flow_graph.specs.Liveness.{NodeAt}
 use Rattle.flow_graph.specs.Lowering.{threads_nodes}
 use Rattle.code_runs.specs.CodeTraces.{Program}
-use Rattle.thread_code.specs.Plans.{Plan, IsPlan, Thread, IsThread, IsNodeOf, held_names_before, locks_held, set_before, names_in}
+use Rattle.thread_code.specs.Plans.{Plan, IsPlan, Thread, IsThread, IsNodeOf, held_names_before, set_before, names_in}
 use Rattle.thread_code.specs.NodeCodeEffects.{Places}
 use Rattle.thread_code.specs.Programs.{IsThreadCode, IsCallWithin, IsResumeAddress}
 use Rattle.thread_code.specs.Programs as places
-use Rattle.thread_code.proofs.Public.{mask_with_held, nothing_held, nothing_named}
+use Rattle.thread_code.proofs.Public.{nothing_held, nothing_named}
 use Rattle.rv64_codegen.specs.links.LiveRegisters.{is_store}
 use Rattle.rv64_codegen.proofs.Public.{set_long}
-use Rattle.ido_base.specs.Locks.{mask_with}
-use Rattle.lock_discipline.specs.Masks.{mask_of}
-use Rattle.boundary_code.proofs.Public.{none_with}
+use Rattle.c_tree.specs.LockNames.{count_held}
+use Rattle.flat_compile.proofs.HeldNumbers.{count_none, none_counted}
 use Rattle.flat_compile.proofs.Stores.{is_eval, store_after}
 use Rattle.flat_compile.proofs.Systems.{node_there}
 use Rattle.rv64_codegen.proofs.Public as sound
@@ -452,14 +451,10 @@ module _ (p : Plan) (t : Thread) where
       let f = formed_as plan th is.action (Unlock lock next) does (sound_node p plan t th node is own at).formed in
       record { from_first = f.1.0; below_end = f.1.1 }
 
-  -- a name is held before a node exactly where the mask of its set has a bit
-  pub names_none : (plan : IsPlan p) (th : IsThread p t) (node : ℕ) → IsNodeOf t node → mask_of (set_before p t node) ≡ 0 → held_names_before p t node ≡ []
-  names_none plan th node own none =
-      nothing_named 0 (names_in p t) (set_before p t node)
-      (none_with (locks_held (set_before p t node)) (mask_with_held (set_before p t node) ∙ none))
+  -- a name is held before a node exactly where some are counted
+  pub names_none : (plan : IsPlan p) (th : IsThread p t) (node : ℕ) → IsNodeOf t node → count_held (set_before p t node) ≡ 0 → held_names_before p t node ≡ []
+  names_none plan th node own none = nothing_named 0 (names_in p t) (set_before p t node) (none_counted 0 (set_before p t node) none)
 
-  pub mask_none : (plan : IsPlan p) (th : IsThread p t) (node : ℕ) → IsNodeOf t node → held_names_before p t node ≡ [] → mask_of (set_before p t node) ≡ 0
-  mask_none plan th node own none =
-      let nothing : locks_held (set_before p t node) ≡ [] =
-      nothing_held 0 (names_in p t) (set_before p t node) (set_long p plan t th node own) none in
-      sym (mask_with_held (set_before p t node)) ∙ ap mask_with nothing
+  pub none_held : (plan : IsPlan p) (th : IsThread p t) (node : ℕ) → IsNodeOf t node → held_names_before p t node ≡ [] → count_held (set_before p t node) ≡ 0
+  none_held plan th node own none =
+      count_none 0 (set_before p t node) (nothing_held 0 (names_in p t) (set_before p t node) (set_long p plan t th node own) none)

@@ -5,7 +5,6 @@ use Rattle.std.specs.Option.{option_map}
 use Rattle.std.proofs.lemmas.List.{length-map}
 use Rattle.std.specs.Global.{Global}
 use Rattle.std.proofs.lemmas.Option.{slice_get-map, slice_get_within, same_Some}
-use Rattle.c_tree.specs.Flats as f
 use Rattle.c_tree.specs.Flats.{thread_of}
 use Rattle.c_tree.specs.declared.flat.Thread as flat
 use Rattle.thread_code.specs.Plans.{IsThread}
@@ -18,7 +17,7 @@ use Rattle.flow_graph.specs.Liveness.{NodeAt}
 use Rattle.rv64_codegen.specs.declared.plan.Plan as plan
 use Rattle.rv64_codegen.specs.Plans.{plan_of}
 use Rattle.rv64_codegen.proofs.Public.{read_get, end_within}
-use Rattle.flat_compile.specs.links.ResumePlacesByNode.{thread_in, IsOwnNode}
+use Rattle.flat_compile.specs.links.ResumePlacesByNode.{thread_in, IsOwn, IsOwnNode}
 use Rattle.flat_compile.proofs.ResumeAddresses.{calls}
 
 pub passing : (a : raw.Action) → ((l : Bor LockName) (n : ℕ) → a ≡ raws.Lock l n → ⊥) → ((l : Bor LockName) (n : ℕ) → a ≡ raws.Unlock l n → ⊥) →
@@ -29,6 +28,21 @@ passing (raws.Test condition holds fails) l u = refl
 passing (raws.Lock lock next) l u = absurd (l lock next refl)
 passing (raws.Unlock lock next) l u = absurd (u lock next refl)
 passing raws.End l u = refl
+
+module _ (q : plan.Plan) (number : ℕ) (part : Part) (own : IsOwn (plan_of q) number part) where
+  pub text_below : number < length q.flat.now.threads.items
+  text_below =
+      omega (
+        arith,
+        slice_get_within (map thread_of q.flat.now.threads.items) number own.thread.text own.thread.of_text,
+        length-map q.flat.now.threads.items thread_of,
+      )
+
+  pub text_there : (x : flat.Thread) → x ≡ get_or q.flat.now.threads.items number x → thread_of x ≡ own.thread.text
+  text_there x e =
+      same_Some (thread_of x) own.thread.text
+      (sym (slice_get-map thread_of q.flat.now.threads.items number ∙ ap (option_map thread_of) (read_get q.flat.now.threads.items number x text_below e))
+      ∙ own.thread.of_text)
 
 module _ (q : plan.Plan) (number : ℕ) (part : Part) (n : ℕ) (own : IsOwnNode (plan_of q) number part n) where
   pub exists : n < length q.graph.now.nodes.items
@@ -49,11 +63,3 @@ module _ (q : plan.Plan) (number : ℕ) (part : Part) (n : ℕ) (own : IsOwnNode
       let f : Vec ℕ Global → List ℕ = λ v. v.items in
       let below : number < length all = omega (arith, slice_get_within (map f all) number th.colours th.of_colours, length-map all f) in
       same_Some cs.items th.colours (sym (slice_get-map f all number ∙ ap (option_map f) (read_get all number cs below e)) ∙ th.of_colours)
-
-  pub kinds_are : (x : flat.Thread) → x ≡ get_or q.flat.now.threads.items number x → x.locals.items ≡ (thread_in (plan_of q) number part).kinds
-  kinds_are x e =
-      let all = q.flat.now.threads.items in
-      let below : number < length all = omega (arith, slice_get_within (map thread_of all) number th.text th.of_text, length-map all thread_of) in
-      let same = same_Some (thread_of x) th.text
-      (sym (slice_get-map thread_of all number ∙ ap (option_map thread_of) (read_get all number x below e)) ∙ th.of_text) in
-      ap (λ (y : f.Thread). y.locals) same ∙ sym th.kinds

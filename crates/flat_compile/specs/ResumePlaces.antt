@@ -1,13 +1,15 @@
 -- Where recovery resumes threads, and what it finds there.
-use Rattle.std.specs.Prelude.{◌≡◌, ◌≢◌, ◌↔◌, ℕ, ◌<◌, List, [], length, map, slice_get, slice_index_or, Contains, Some, Vec}
+use Rattle.std.specs.Prelude.{◌≡◌, ◌≢◌, ◌↔◌, ℕ, ◌-◌, ◌<◌, List, [], length, map, slice_get, slice_index_or, Contains, Option, Some, Bool, ◌&&◌, is_some, Vec}
 use Rattle.c_tree.specs.Exprs.{LockName}
+use Rattle.c_tree.specs.Flats as f
+use Rattle.c_tree.specs.NullReferences.{is_among}
+use Rattle.c_ranges.specs.KnownAtSteps.{thread_knowns}
 use Rattle.std.specs.Global.{Global}
 use Rattle.std.specs.List.Sorted.{IsStrictlyIncreasing}
-use Rattle.lock_discipline.specs.Masks.{mask_of}
 use Rattle.flow_graph.specs.Nodes.{Lock, Unlock, Node}
 use Rattle.flow_graph.specs.IdempotentCuts.{IsChosen}
 use Rattle.flow_graph.specs.Liveness.{NodeAt, IsLive}
-use Rattle.thread_code.specs.Plans.{Plan, Thread, IsNodeOf, held_names_before, set_before}
+use Rattle.thread_code.specs.Plans.{Plan, Thread, IsNodeOf, held_names_before, locks_held, set_before}
 use Rattle.thread_code.specs.NodeCodeEffects.{Places}
 use Rattle.thread_code.specs.Programs.{IsThreadCode}
 use Rattle.code_runs.specs.CodeTraces.{Program}
@@ -38,6 +40,20 @@ abbrev pub address_in : Places → Spot → ℕ
 address_in c (Before node) = c.core node
 address_in c (After node next) = c.after node
 
+-- ---- What the text says of a thread's locals
+
+-- what they refer to
+abbrev pub refers_in : Plan → Thread → List (Option ℕ)
+refers_in p t = slice_index_or (map (λ (text : f.Thread). text.refers) p.flat.threads) t.number []
+
+-- those known not to be null before the node
+abbrev pub knowns_before : Plan → Thread → (node : ℕ) → List ℕ
+knowns_before p t node = slice_index_or (slice_index_or (map thread_knowns p.flat.threads) t.number []) (node - t.part.first) []
+
+-- a reference that isn't null; a number that was compared with 0 may be among those known, and is none
+abbrev pub is_known : (known : List ℕ) → LiveLocal → Bool
+is_known known l = is_some l.refers && is_among known l.local
+
 module _ (p : Plan) (t : Thread) where
   -- the thread may be resumed there
   pub data IsSpot : Spot → Type 0 where
@@ -52,13 +68,15 @@ module _ (p : Plan) (t : Thread) where
   -- the local is live at the entry of the node, and that register is its home
   pub record IsLiveLocal (node : ℕ) (l : LiveLocal) : Type 0 where
     pub kind_is : slice_get t.kinds l.local ≡ Some l.kind
+    pub refers_is : slice_get (refers_in p t) l.local ≡ Some l.refers
+    pub known_is : l.known ≡ is_known (knowns_before p t node) l
     pub live : IsLive p.graph l.local node
     pub home_is : home_of t.locals l.local ≡ InRegister l.register
 
-  -- what recovery finds that lets the thread go on at the node: the mutexes that it holds, the registers of its live locals, and where it stores next
+  -- what recovery finds that lets the thread go on at the node: the names whose locks it holds, the registers of its live locals, and where it stores next
   pub record IsFound (r : Resume) : Type 0 where
     pub own : IsNodeOf t r.node
-    pub mask_is : r.mask ≡ mask_of (set_before p t r.node)
+    pub held_is : r.held.items ≡ locks_held (set_before p t r.node)
     pub live : (l : LiveLocal) → Contains r.live.items l ↔ IsLiveLocal r.node l
     pub ascend : IsStrictlyIncreasing (map (λ (l : LiveLocal). l.register) r.live.items)
     -- no node but a store writes

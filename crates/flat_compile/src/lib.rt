@@ -2,6 +2,7 @@
 #![tactic(auto)]
 
 pub mod compile;
+mod knowns;
 pub mod resumes;
 
 pub use compile::{Translated, translate};

@@ -1,19 +1,24 @@
 //! Where recovery may resume threads, and what it finds there.
 ghost use Rattle.std.specs.Option.{option_to_list};
-ghost use Rattle.std.specs.Prelude.{◌≡◌, ◌↔◌, ◌<◌, ◌*◌, ◌++◌, ℕ, OnOk, length, map, slice_get, slice_index, Some, None, IfOk, IfSome, IsTrue};
-ghost use Rattle.lock_discipline.specs.Masks.{mask_of};
+ghost use Rattle.std.specs.Prelude.{◌≡◌, ◌↔◌, ◌<◌, ◌*◌, ◌^◌, ◌++◌, ◌∷◌, ℕ, [], OnOk, length, map, slice_get, slice_index, slice_index_or, Some, None, IfOk};
+ghost use Rattle.std.specs.Prelude.{IfSome, IsTrue, if◌then◌else◌};
+ghost use Rattle.c_tree.specs.Flats.{thread_of};
+ghost use Rattle.c_tree.specs.LockNames.{count_held};
 ghost use Rattle.memory_layout.specs.declared.roles.TheConstants.{LOCALS as local_numbers};
 ghost use Rattle.flow_graph.specs.Nodes.{graph_of, node_of};
 ghost use Rattle.flow_graph.specs.IdempotentCuts.{IsChosen, boundaries_of};
-ghost use Rattle.thread_code.specs.Plans.{IsPlan, set_before};
+ghost use Rattle.thread_code.specs.Plans.{IsPlan, locks_held, set_before};
 ghost use Rattle.recovered_threads.specs.RecordDescriptions.{Codes};
 ghost use Rattle.rv64_codegen.specs.Plans.{plan_of};
 ghost use Rattle.rv64_codegen.specs.links.Threads.{gives};
 ghost use Rattle.rv64_isa.specs.Executables.{resume_marks};
-ghost use Rattle.flat_compile.specs.ResumePlaces.{IsFound, IsResumeTable, AreMarksOf, AreMarked};
-ghost use Rattle.flat_compile.specs.links.ResumePlacesByNode.{thread_in, IsOwn, IsOwnNode, IsPastCall, IsBefore};
+ghost use Rattle.flat_compile.specs.ResumePlaces.{is_known, IsFound, IsResumeTable, AreMarksOf, AreMarked};
+ghost use Rattle.flat_compile.specs.links.KnownLists.{known_lists};
+ghost use Rattle.flat_compile.specs.links.ResumePlacesByNode.{thread_in, AreKnowns, IsOwn, IsOwnNode, IsPastCall, IsBefore};
 ghost use Rattle.flat_compile.specs.links.ResumePlacesByNode.{AreNodesBelow, AreFoundAt, IsLiveIn, AreLiveBelow};
 
+use crate::knowns::{is_known_before, known_steps};
+use c_tree::flat::Thread;
 use flow_graph::graph::{Action, Node, Part};
 use flow_graph::live_sets::LiveSets;
 use ido_base::limits::LOCAL_REGISTERS;
@@ -32,6 +37,10 @@ pub struct LiveLocal {
     pub register: u8,
     pub local: usize,
     pub kind: Kind,
+    /// The array to whose elements it refers, where it is a reference.
+    pub refers: Option<u32>,
+    /// It is a reference that isn't null at the node.
+    pub known: bool,
 }
 
 /// Where a thread may be resumed, and what it has there.
@@ -40,8 +49,8 @@ pub struct Resume {
     pub address: u64,
     /// The node that it goes on at.
     pub node: usize,
-    /// The mutexes that it holds: bit i is set where it holds mutex i.
-    pub mask: u64,
+    /// The names whose locks it holds: their numbers among the names of the thread, ascending. Where no mutex is in an array they are those of the mutexes.
+    pub held: Vec<u32>,
     /// The locals that are live at the node, in the order of their registers.
     pub live: Vec<LiveLocal>,
     /// Where a store is pending: the elements of which it writes one.
@@ -69,13 +78,54 @@ fn is_chosen(plan: &Plan, node: usize) -> bool
     plan.cuts.before[node] && !gives(&plan.graph.nodes[node])
 }
 
-/// The mutexes that the thread holds before the node.
-fn mask(plan: &Plan, number: usize, part: Part, node: usize) -> u64
+// ---- What is held
+
+/// How many locks the thread holds before the node.
+fn count(plan: &Plan, number: usize, part: Part, node: usize) -> u32
     requires { IsOwnNode (plan_of plan.now) number part node }
-    ensures { result ≡ mask_of (set_before (plan_of plan.now) (thread_in (plan_of plan.now) number part) node) }
+    ensures { result ≡ count_held (set_before (plan_of plan.now) (thread_in (plan_of plan.now) number part) node) }
 {
-    plan.held.held(number as u32, (node - part.first) as u32)
+    plan.held.count(number as u32, (node - part.first) as u32)
 }
+
+/// Appends the number, if it is one of those that are held.
+fn push_held(numbers: &mut Vec<u32>, number: u32, is_held: bool) -> Result<(), OutOfMemory>
+    ensures { OnOk result (numbers.new.items ≡ numbers.old.items ++ (if is_held then number ∷ [] else [])) }
+{
+    if is_held {
+        numbers.push(number)?;
+    }
+    Ok(())
+}
+
+/// The numbers of the names that are held, ascending.
+fn numbers_of(alloc: Global, held: &[bool]) -> Result<Vec<u32>, OutOfMemory>
+    requires { length held.now < 2 ^ 32 }
+    ensures { IfOk result (λ r. r.items ≡ locks_held held.now) }
+{
+    let mut numbers = Vec::new(alloc);
+    for number in 0..held.len() {
+        push_held(&mut numbers, number as u32, held[number])?;
+    }
+    Ok(numbers)
+}
+
+/// The numbers of the names whose locks the thread holds before the node, ascending.
+fn held(
+    alloc: Global,
+    plan: &Plan,
+    number: usize,
+    part: Part,
+    node: usize,
+) -> Result<Vec<u32>, OutOfMemory>
+    requires { IsOwnNode (plan_of plan.now) number part node }
+    ensures { IfOk result (λ r. r.items ≡ locks_held (set_before (plan_of plan.now) (thread_in (plan_of plan.now) number part) node)) }
+{
+    let held = plan.held.before(number as u32, (node - part.first) as u32);
+    numbers_of(alloc, held)
+}
+
+// ---- The nodes
 
 /// Where the thread may be resumed after the ECALL of a node: the node that it goes on at.
 fn after(plan: &Plan, number: usize, part: Part, node: usize) -> Option<usize>
@@ -85,7 +135,7 @@ fn after(plan: &Plan, number: usize, part: Part, node: usize) -> Option<usize>
     match plan.graph.nodes[node].action {
         Action::Lock { next, .. } => Some(next),
         Action::Unlock { next, .. } => {
-            if mask(plan, number, part, next) == 0 {
+            if count(plan, number, part, next) == 0 {
                 None
             } else {
                 Some(next)
@@ -145,52 +195,70 @@ fn local_in(colours: &[u8], live: &LiveSets, node: usize, number: usize) -> Opti
     None
 }
 
-/// The local of that number, whose register has this number among those of locals.
-fn live_local(kinds: &[Kind], local: usize, number: usize) -> LiveLocal
-    requires there { local < length kinds.now }
+/// The local of that number, whose register has this number among those of locals, where the thread stands before the step.
+fn live_local(
+    text: &Thread,
+    knowns: &[Vec<u32>],
+    step: usize,
+    local: usize,
+    number: usize,
+) -> LiveLocal
+    requires there { local < length text.now.locals.items }
+    requires refers { local < length text.now.refers.items }
     requires number { number < LOCAL_REGISTERS }
     ensures register { result.register ≡ slice_index local_numbers number }
     ensures local { result.local ≡ local }
-    ensures kind { slice_get kinds.now local ≡ Some result.kind }
+    ensures kind { slice_get text.now.locals.items local ≡ Some result.kind }
+    ensures refers { slice_get text.now.refers.items local ≡ Some result.refers }
+    ensures known { result.known ≡ is_known (slice_index_or (known_lists knowns.now) step []) result }
 {
+    let refers = text.refers[local];
     LiveLocal {
         register: LOCALS[number],
         local,
-        kind: kinds[local],
+        kind: text.locals[local],
+        refers,
+        known: refers.is_some() && is_known_before(knowns, step, local),
     }
 }
 
-/// The locals that are live at the node's entry, in the order of their registers.
+/// The locals that are live at the node's entry, in the order of their registers, where the thread stands before the step.
 fn live_locals(
     alloc: Global,
     colours: &[u8],
-    kinds: &[Kind],
+    text: &Thread,
+    knowns: &[Vec<u32>],
+    step: usize,
     live: &LiveSets,
     node: usize,
 ) -> Result<Vec<LiveLocal>, OutOfMemory>
-    requires kinds { length kinds.now ≡ length colours.now }
+    requires kinds { length text.now.locals.items ≡ length colours.now }
+    requires refers { length text.now.refers.items ≡ length colours.now }
     requires apart { (number a b : ℕ) → IsLiveIn colours.now live.now node number a → IsLiveIn colours.now live.now node number b → a ≡ b }
-    ensures { IfOk result (λ r. AreLiveBelow colours.now kinds.now live.now node LOCAL_REGISTERS r.items) }
+    ensures { IfOk result (λ r. AreLiveBelow colours.now (thread_of text.now) (slice_index_or (known_lists knowns.now) step []) live.now node
+        LOCAL_REGISTERS r.items) }
 {
     let mut found = Vec::new(alloc);
     for number in 0..LOCAL_REGISTERS {
         if let Some(local) = local_in(colours, live, node, number) {
-            found.push(live_local(kinds, local, number))?;
+            found.push(live_local(text, knowns, step, local, number))?;
         }
     }
     Ok(found)
 }
 
-/// What the thread has where it is resumed at the address and goes on at the node.
+/// What the thread has where it is resumed at the address and goes on at the node, where these are known before its steps.
 fn found(
     alloc: Global,
     plan: &Plan,
     number: usize,
     part: Part,
+    knowns: &[Vec<u32>],
     node: usize,
     address: u64,
 ) -> Result<Resume, OutOfMemory>
-    requires { IsOwnNode (plan_of plan.now) number part node }
+    requires own { IsOwnNode (plan_of plan.now) number part node }
+    requires knowns { AreKnowns (plan_of plan.now) (thread_in (plan_of plan.now) number part) knowns.now }
     ensures address { IfOk result (λ r. r.address ≡ address) }
     ensures node { IfOk result (λ r. r.node ≡ node) }
     ensures found { IfOk result (IsFound (plan_of plan.now) (thread_in (plan_of plan.now) number part)) }
@@ -198,14 +266,16 @@ fn found(
     let live = live_locals(
         alloc,
         &plan.colours.threads[number],
-        &plan.flat.threads[number].locals,
+        &plan.flat.threads[number],
+        knowns,
+        node - part.first,
         plan.live,
         node,
     )?;
     Ok(Resume {
         address,
         node,
-        mask: mask(plan, number, part, node),
+        held: held(alloc, plan, number, part, node)?,
         live,
         pending: plan.graph.nodes[node].writes,
     })
@@ -227,9 +297,10 @@ fn thread_resumes(
     requires count { length nodes.now ≡ length addresses.now }
     ensures { IfOk result (λ r. AreFoundAt (plan_of plan.now) (thread_in (plan_of plan.now) number part) nodes.now addresses.now r.items) }
 {
+    let knowns = known_steps(alloc, &plan.flat.threads[number])?;
     let mut resumes = Vec::new(alloc);
     for k in 0..nodes.len() {
-        resumes.push(found(alloc, plan, number, part, nodes[k], addresses[k])?)?;
+        resumes.push(found(alloc, plan, number, part, &knowns, nodes[k], addresses[k])?)?;
     }
     Ok(resumes)
 }

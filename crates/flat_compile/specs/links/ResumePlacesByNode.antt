@@ -2,16 +2,17 @@
 use Rattle.std.specs.Prelude.{◌≡◌, ◌↔◌, ℕ, suc, ◌+◌, ◌*◌, ◌<◌, ◌≤◌, List, [], ◌∷◌, length, map}
 use Rattle.std.specs.Prelude.{slice_get, slice_index, slice_index_or, Contains, Option, Some, Vec}
 use Rattle.std.specs.Global.{Global}
-use Rattle.ido_ints.specs.declared.kinds.Kind.{Kind}
 use Rattle.c_tree.specs.Flats as f
 use Rattle.memory_layout.specs.declared.roles.TheConstants.{LOCALS}
 use Rattle.flow_graph.specs.declared.graph.Part.{Part}
 use Rattle.flow_graph.specs.LocalSets.{HasAt}
 use Rattle.thread_code.specs.Plans.{Plan, Thread, IsPlan, IsThread, IsNodeOf, home_of_colour}
+use Rattle.c_ranges.specs.KnownAtSteps.{thread_knowns}
 use Rattle.flat_compile.specs.declared.resumes.LiveLocal.{LiveLocal}
 use Rattle.flat_compile.specs.declared.resumes.Resume.{Resume}
 use Rattle.recovered_threads.specs.RecordDescriptions.{Codes}
-use Rattle.flat_compile.specs.ResumePlaces.{Spot, Before, After, goes_on_at, IsSpot, IsFound, AreResumes, AreMarksOf, resumes_at}
+use Rattle.flat_compile.specs.ResumePlaces.{Spot, Before, After, goes_on_at, is_known, IsSpot, IsFound, AreResumes, AreMarksOf, resumes_at}
+use Rattle.flat_compile.specs.links.KnownLists.{known_lists}
 
 -- ---- The thread of a number
 
@@ -78,10 +79,15 @@ pub record IsLiveIn (colours : List ℕ) (sets : List (List ℕ)) (node number l
   pub coloured : slice_get colours local ≡ Some number
   pub live : HasAt sets node local
 
--- all whose colours are below that one, in the order of their registers
-pub record AreLiveBelow (colours : List ℕ) (kinds : List Kind) (sets : List (List ℕ)) (node count : ℕ) (found : List LiveLocal) : Type 0 where
+-- the locals of the thread that are known not to be null before each of its steps
+abbrev pub AreKnowns : Plan → Thread → List (Vec ℕ Global) → Type 0
+AreKnowns p t knowns = known_lists knowns ≡ slice_index_or (map thread_knowns p.flat.threads) t.number []
+
+-- all locals of the text whose colours are below that one, in the order of their registers, where these are known
+pub record AreLiveBelow (colours : List ℕ) (text : f.Thread) (known : List ℕ) (sets : List (List ℕ)) (node count : ℕ) (found : List LiveLocal) : Type 0 where
   pub each : (l : LiveLocal) → Contains found l ↔ ((number : ℕ) × (number < count) × IsLiveIn colours sets node number l.local
-      × (slice_get kinds l.local ≡ Some l.kind) × (l.register ≡ slice_index LOCALS number))
+      × (slice_get text.locals l.local ≡ Some l.kind) × (l.register ≡ slice_index LOCALS number)
+      × (slice_get text.refers l.local ≡ Some l.refers) × (l.known ≡ is_known known l))
   pub ascend : Ascends 0 (map (λ (l : LiveLocal). l.register) found)
 
 -- ---- Tables

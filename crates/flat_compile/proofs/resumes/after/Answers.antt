@@ -4,14 +4,14 @@ use Rattle.flow_graph.specs.Nodes.{action_of, node_of}
 use Rattle.rv64_codegen.specs.Plans.{plan_of}
 use Rattle.flat_compile.specs.links.ResumePlacesByNode.{thread_in}
 use Rattle.flat_compile.proofs.ResumedNodes.{exists, at_node, passing}
-use Rattle.flat_compile.proofs.ResumeAddresses.{locks, unlocks, frees, mask_none, names_none, passes, unlock_own}
+use Rattle.flat_compile.proofs.ResumeAddresses.{locks, unlocks, frees, none_held, names_none, passes, unlock_own}
 use Rattle.flat_compile.proofs.resumes.after.Goals as goal
 
 pub index-requires : goal.index-requires
 index-requires c = omega (arith, exists c.args.plan.now c.args.number c.args.part c.args.node c.requires, c.args.plan.now.graph.now.nodes.ok.0)
 
-pub mask-requires : goal.mask-requires
-mask-requires c =
+pub count-requires : goal.count-requires
+count-requires c =
     let q = c.args.plan.now in
     let p = plan_of q in
     let is = node_of c.index.result.now in
@@ -31,8 +31,8 @@ returns-in-Lock c =
     (at_node q c.args.number c.args.part c.args.node c.requires c.index.result.now c.index.ensures) (lock_name_of c.in-Lock.lock.now) c.in-Lock.next
     (ap action_of c.in-Lock.is)
 
-pub returns-then-mask-eq0 : goal.returns-then-mask-eq0
-returns-then-mask-eq0 c =
+pub returns-then-count-eq0 : goal.returns-then-count-eq0
+returns-then-count-eq0 c =
     let q = c.args.plan.now in
     let p = plan_of q in
     let t = thread_in p c.args.number c.args.part in
@@ -41,10 +41,10 @@ returns-then-mask-eq0 c =
     let lock = lock_name_of c.in-Unlock.lock.now in
     let own = unlock_own p t c.requires.is.plan c.requires.is.thread c.args.node lock c.in-Unlock.next is c.requires.own at (ap action_of c.in-Unlock.is) in
     frees p t c.args.node is c.requires.own at lock c.in-Unlock.next (ap action_of c.in-Unlock.is)
-    (names_none p t c.requires.is.plan c.requires.is.thread c.in-Unlock.next own (sym c.mask.ensures ∙ c.if-mask-eq0.true))
+    (names_none p t c.requires.is.plan c.requires.is.thread c.in-Unlock.next own (sym c.count.ensures ∙ c.if-count-eq0.true))
 
-pub returns-else-mask-eq0 : goal.returns-else-mask-eq0
-returns-else-mask-eq0 c =
+pub returns-else-count-eq0 : goal.returns-else-count-eq0
+returns-else-count-eq0 c =
     let q = c.args.plan.now in
     let p = plan_of q in
     let t = thread_in p c.args.number c.args.part in
@@ -53,7 +53,7 @@ returns-else-mask-eq0 c =
     let lock = lock_name_of c.in-Unlock.lock.now in
     let own = unlock_own p t c.requires.is.plan c.requires.is.thread c.args.node lock c.in-Unlock.next is c.requires.own at (ap action_of c.in-Unlock.is) in
     unlocks p t c.args.node is c.requires.own at lock c.in-Unlock.next (ap action_of c.in-Unlock.is)
-    (λ none. c.if-mask-eq0.false (c.mask.ensures ∙ mask_none p t c.requires.is.plan c.requires.is.thread c.in-Unlock.next own none))
+    (λ none. c.if-count-eq0.false (c.count.ensures ∙ none_held p t c.requires.is.plan c.requires.is.thread c.in-Unlock.next own none))
 
 pub returns-in_default : goal.returns-in_default
 returns-in_default c =

@@ -1,5 +1,10 @@
+use Rattle.std.proofs.Common.{[]}
+use Rattle.std.specs.Prelude.{slice_index_or}
+use Rattle.c_tree.specs.Flats.{thread_of}
+use Rattle.flat_compile.specs.links.KnownLists.{known_lists}
 use Rattle.flat_compile.specs.links.ResumePlacesByNode.{AreLiveBelow}
 use Rattle.flat_compile.proofs.resumes.live_locals.Given as goal
 
 abbrev pub invariant-loop-number : goal.invariant-loop-number
-invariant-loop-number l = AreLiveBelow l.colours l.kinds l.live l.node l.number l.found.items
+invariant-loop-number l =
+    AreLiveBelow l.colours (thread_of l.text) (slice_index_or (known_lists l.knowns) l.step []) l.live l.node l.number l.found.items
