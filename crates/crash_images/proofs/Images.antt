@@ -16,9 +16,10 @@ use Rattle.file_fields.proofs.Public.{IsBytes, bind_ok, test_ok, ok_is, Takes, t
 use Rattle.file_fields.proofs.Public.{word_takes, word_again, within_takes, within_again, magic_takes, magic_again, version_takes, version_again}
 use Rattle.file_fields.proofs.Public.{repeated_take, repeated_again}
 use Rattle.run_scripts.specs.Runs.{Run}
-use Rattle.crash_images.specs.Contents.{Contents, State, IsState, IsLife, IsRun, Tells, number_of, word_bytes, words_of}
-use Rattle.crash_images.specs.ImageEncoder.{magic, count_text, lives_text, run_text, runs_text, source_text, state_text, spelling}
-use Rattle.crash_images.specs.ImageDecoder.{count_at, known, life_at, lives_at, run_at, source_at, size_at, state_at, image_at, version_in}
+use Rattle.crash_images.specs.Contents.{Contents, State, AreVariables, IsState, IsLife, IsRun, Tells, number_of, word_bytes, words_of}
+use Rattle.crash_images.specs.ImageEncoder.{magic, count_text, lives_text, logs_text, run_text, runs_text, source_text, state_text, spelling, variables_text}
+use Rattle.crash_images.specs.ImageDecoder.{count_at, known, life_at, lives_at, logs_at, run_at, source_at}
+use Rattle.crash_images.specs.ImageDecoder.{size_at, state_at, image_at, variables_at, version_in}
 use Rattle.crash_images.specs.declared.version.TheConstants.{MOST_LIVES}
 use Rattle.crash_images.specs.declared.version.ImageVersion.{ImageVersion}
 use Rattle.crash_images.specs.declared.version.ImageVersion.TheVariants.{First, Second, Third}
@@ -252,70 +253,124 @@ lives_again version total lives told good =
     ∙ repeated_again runs_text IsLife (life_at total) (life_again total) lives [] good in
     rw (count, all) refl
 
--- ---- All that stands after the source
+-- ---- Variables
 
-state_grouped : (version : ImageVersion) (v : State) →
-    state_text version v ≡ number (word_bytes * length v.variables) ++ (flat_map word v.variables ++ (flat_map word v.logs ++ lives_text version v.lives))
-state_grouped version v = simp append_assoc
+variables_take : (total size : ℕ) (bytes : List ℕ) (x : List ℕ × List ℕ) → IsBytes bytes → size % word_bytes ≡ 0 → variables_at total size bytes ≡ Ok x →
+    Takes bytes (variables_text x.0) x.1 × AreVariables size x.0
+unfolding variables_at
+variables_take total size bytes x fits whole e =
+    let a = bind_ok (size_at total size bytes) (λ after. repeated (word_at total) (size / word_bytes) after) x e in
+    let t = size_takes total size bytes a.0 fits a.1 in
+    let u = repeated_take word IsWord (word_at total) (word_takes total) (size / word_bytes) a.0 x t.rest_fits a.2 in
+    let both = then bytes (number size) a.0 (flat_map word x.0) x.1 t u.0 in
+    let sized : word_bytes * length x.0 ≡ size = omega (arith, u.1, whole) in
+    (subst (λ n. Takes bytes (number n ++ flat_map word x.0) x.1) (sym sized) both, record { count = sized; words = u.2 })
 
--- the lives come after, and the number is what it counts
-counted : (version : ImageVersion) (bytes rest : List ℕ) (s : State) (size : ℕ) →
-    bytes ≡ (number size ++ (flat_map word s.variables ++ flat_map word s.logs)) ++ rest → rest ≡ lives_text version s.lives →
-    word_bytes * length s.variables ≡ size → bytes ≡ state_text version s
-counted version bytes rest s size parts lives sized =
-    let text : ℕ → List ℕ = λ n. number n ++ (flat_map word s.variables ++ flat_map word s.logs) in
-    parts ∙ ap (λ after. text size ++ after) lives ∙ ap (λ n. text n ++ lives_text version s.lives) (sym sized)
+pub variables_again : (total size : ℕ) (variables rest : List ℕ) → size < 2 ^ 32 → AreVariables size variables →
+    variables_at total size (variables_text variables ++ rest) ≡ Ok (variables, rest)
+unfolding variables_at
+variables_again total size variables rest lt good =
+    let after = flat_map word variables ++ rest in
+    let regrouped : variables_text variables ++ rest ≡ number size ++ after =
+    append_assoc (number (word_bytes * length variables)) (flat_map word variables) rest ∙ ap (λ n. number n ++ after) good.count in
+    let words : size / word_bytes ≡ length variables = omega (arith, good.count) in
+    let begins : size_at total size (variables_text variables ++ rest) ≡ Ok after = ap (size_at total size) regrouped ∙ size_again total size after lt in
+    let all : repeated (word_at total) (size / word_bytes) after ≡ Ok (variables, rest) =
+    rw words (repeated_again word IsWord (word_at total) (word_again total) variables rest good.words) in
+    rw (begins, all) refl
 
-state_takes : (version : ImageVersion) (total size threads : ℕ) (bytes : List ℕ) (s : State) → IsBytes bytes → size % word_bytes ≡ 0 →
-    state_at version total size threads bytes ≡ Ok s → IsState version size threads s × (bytes ≡ state_text version s)
-unfolding state_at
-state_takes version total size threads bytes s fits whole e =
-    let a = bind_ok (size_at total size bytes)
-    (λ b. repeated (word_at total) (size / word_bytes) b >>= λ v. repeated (word_at total) (words_of version * threads) v.1 >>= λ l.
-    lives_at version total l.1 >>= λ ls. Ok (record { variables = v.0; logs = l.0; lives = ls })) s e in
-    let b = bind_ok (repeated (word_at total) (size / word_bytes) a.0)
-    (λ v. repeated (word_at total) (words_of version * threads) v.1 >>= λ l. lives_at version total l.1 >>= λ ls.
-    Ok (record { variables = v.0; logs = l.0; lives = ls })) s a.2 in
-    let c = bind_ok (repeated (word_at total) (words_of version * threads) b.0.1)
-    (λ l. lives_at version total l.1 >>= λ ls. Ok (record { variables = b.0.0; logs = l.0; lives = ls })) s b.2 in
-    let d = bind_ok (lives_at version total c.0.1) (λ ls. Ok (record { variables = b.0.0; logs = c.0.0; lives = ls })) s c.2 in
-    let made : State = record { variables = b.0.0; logs = c.0.0; lives = d.0 } in
-    let t0 = size_takes total size bytes a.0 fits a.1 in
-    let t1 = repeated_take word IsWord (word_at total) (word_takes total) (size / word_bytes) a.0 b.0 t0.rest_fits b.1 in
-    let t2 = repeated_take word IsWord (word_at total) (word_takes total) (words_of version * threads) b.0.1 c.0 t1.0.rest_fits c.1 in
-    let t3 = lives_take version total c.0.1 d.0 t2.0.rest_fits d.1 in
-    let e12 = then a.0 (flat_map word b.0.0) b.0.1 (flat_map word c.0.0) c.0.1 t1.0 t2.0 in
-    let e02 = then bytes (number size) a.0 (flat_map word b.0.0 ++ flat_map word c.0.0) c.0.1 t0 e12 in
-    let sized : word_bytes * length b.0.0 ≡ size = omega (arith, t1.1, whole) in
-    subst (λ v. IsState version size threads v × (bytes ≡ state_text version v)) {x = made} (ok_is made s d.2) (
-      record { variables = sized; logs = t2.1; lives = t3.told; variable_words = t1.2; log_words = t2.2; fields = t3.fields },
-      counted version bytes c.0.1 made size e02.parts t3.parts sized,
+pub variables_are_found : {X : Type 0} (view : X → List ℕ × List ℕ) (total size : ℕ) (bytes : List ℕ) (x : Result X ReadError) → IsBytes bytes
+    → size % word_bytes ≡ 0 → Gives view x (variables_at total size bytes)
+    → IfOk x (λ y. AreVariables size (view y).0 × (bytes ≡ variables_text (view y).0 ++ (view y).1))
+variables_are_found view total size bytes (Ok y) fits whole given =
+    let found = variables_take total size bytes (view y) fits whole given in (found.1, found.0.parts)
+variables_are_found view total size bytes (Err e) fits whole given = tt
+
+-- ---- What stands after them
+
+-- with these words of variables
+record IsAfter (version : ImageVersion) (threads : ℕ) (variables bytes : List ℕ) (s : State) : Type 0 where
+  same : s.variables ≡ variables
+  fits : (size : ℕ) → AreVariables size variables → IsState version size threads s
+  text : bytes ≡ logs_text version s
+
+logs_take : (version : ImageVersion) (total threads : ℕ) (variables bytes : List ℕ) (s : State) → IsBytes bytes →
+    logs_at version total threads variables bytes ≡ Ok s → IsAfter version threads variables bytes s
+unfolding logs_at
+logs_take version total threads variables bytes s fits e =
+    let a = bind_ok (repeated (word_at total) (words_of version * threads) bytes)
+    (λ l. lives_at version total l.1 >>= λ ls. Ok (record { variables = variables; logs = l.0; lives = ls })) s e in
+    let b = bind_ok (lives_at version total a.0.1) (λ ls. Ok (record { variables = variables; logs = a.0.0; lives = ls })) s a.2 in
+    let made : State = record { variables = variables; logs = a.0.0; lives = b.0 } in
+    let t = repeated_take word IsWord (word_at total) (word_takes total) (words_of version * threads) bytes a.0 fits a.1 in
+    let u = lives_take version total a.0.1 b.0 t.0.rest_fits b.1 in
+    subst (IsAfter version threads variables bytes) {x = made} (ok_is made s b.2) (
+    record {
+      same = refl;
+      fits = λ size good. record {
+        variables = good.count;
+        logs = t.1;
+        lives = u.told;
+        variable_words = good.words;
+        log_words = t.2;
+        fields = u.fields;
+      };
+      text = t.0.parts ∙ ap (λ after. flat_map word a.0.0 ++ after) u.parts;
+    }
     )
 
-pub state_again : (version : ImageVersion) (total size threads : ℕ) (s : State) → size < 2 ^ 32 → IsState version size threads s →
+pub logs_again : (version : ImageVersion) (total size threads : ℕ) (s : State) → IsState version size threads s →
+    logs_at version total threads s.variables (logs_text version s) ≡ Ok s
+unfolding logs_at
+logs_again version total size threads s good =
+    let tail = lives_text version s.lives in
+    let logs : repeated (word_at total) (words_of version * threads) (logs_text version s) ≡ Ok (s.logs, tail) =
+    ap (λ n. repeated (word_at total) n (logs_text version s)) (sym good.logs)
+    ∙ repeated_again word IsWord (word_at total) (word_again total) s.logs tail good.log_words in
+    let lives : lives_at version total tail ≡ Ok s.lives = lives_again version total s.lives good.lives good.fields in
+    rw (logs, lives) refl
+
+pub logs_are_found : (version : ImageVersion) (total threads : ℕ) (variables bytes : List ℕ) (x : Result code.State ReadError) → IsBytes bytes →
+    Gives state_of x (logs_at version total threads variables bytes)
+    → IfOk x (λ state. (state.variables.items ≡ variables)
+    × ((size : ℕ) → AreVariables size variables → IsState version size threads (state_of state)) × (bytes ≡ logs_text version (state_of state)))
+logs_are_found version total threads variables bytes (Ok state) fits given =
+    let found = logs_take version total threads variables bytes (state_of state) fits given in (found.same, found.fits, found.text)
+logs_are_found version total threads variables bytes (Err e) fits given = tt
+
+same_variables : (version : ImageVersion) (total threads : ℕ) (variables bytes : List ℕ) (s : State) →
+    logs_at version total threads variables bytes ≡ Ok s → s.variables ≡ variables
+unfolding logs_at
+same_variables version total threads variables bytes s e =
+    let a = bind_ok (repeated (word_at total) (words_of version * threads) bytes)
+    (λ l. lives_at version total l.1 >>= λ ls. Ok (record { variables = variables; logs = l.0; lives = ls })) s e in
+    let b = bind_ok (lives_at version total a.0.1) (λ ls. Ok (record { variables = variables; logs = a.0.0; lives = ls })) s a.2 in
+    let made : State = record { variables = variables; logs = a.0.0; lives = b.0 } in
+    sym (ap (λ (x : State). x.variables) (ok_is made s b.2))
+
+-- ---- All that stands after the source
+
+-- its variables are read, and then what stands after them
+pub state_in_parts : (version : ImageVersion) (total size threads : ℕ) (bytes : List ℕ) (s : State) → state_at version total size threads bytes ≡ Ok s →
+    (rest : List ℕ) × (variables_at total size bytes ≡ Ok (s.variables, rest)) × (logs_at version total threads s.variables rest ≡ Ok s)
+unfolding state_at
+state_in_parts version total size threads bytes s e =
+    let a = bind_ok (variables_at total size bytes) (λ v. logs_at version total threads v.0 v.1) s e in
+    let same : s.variables ≡ a.0.0 = same_variables version total threads a.0.0 a.0.1 s a.2 in (
+      a.0.1,
+      a.1 ∙ ap (λ (words : List ℕ). Ok (words, a.0.1)) (sym same),
+      ap (λ (words : List ℕ). logs_at version total threads words a.0.1) same ∙ a.2,
+    )
+
+state_again : (version : ImageVersion) (total size threads : ℕ) (s : State) → size < 2 ^ 32 → IsState version size threads s →
     state_at version total size threads (state_text version s) ≡ Ok s
 unfolding state_at
 state_again version total size threads s lt good =
-    let tail = lives_text version s.lives in
-    let regrouped : state_text version s ≡ number size ++ (flat_map word s.variables ++ (flat_map word s.logs ++ tail)) =
-    state_grouped version s ∙ ap (λ n. number n ++ (flat_map word s.variables ++ (flat_map word s.logs ++ tail))) good.variables in
-    let words : size / word_bytes ≡ length s.variables = omega (arith, good.variables) in
-    let begins : size_at total size (state_text version s) ≡ Ok (flat_map word s.variables ++ (flat_map word s.logs ++ tail)) =
-    ap (size_at total size) regrouped ∙ size_again total size (flat_map word s.variables ++ (flat_map word s.logs ++ tail)) lt in
-    let variables : repeated (word_at total) (size / word_bytes) (flat_map word s.variables ++ (flat_map word s.logs ++ tail))
-    ≡ Ok (s.variables, flat_map word s.logs ++ tail) =
-    rw words (repeated_again word IsWord (word_at total) (word_again total) s.variables (flat_map word s.logs ++ tail) good.variable_words) in
-    let logs : repeated (word_at total) (words_of version * threads) (flat_map word s.logs ++ tail) ≡ Ok (s.logs, tail) =
-    ap (λ n. repeated (word_at total) n (flat_map word s.logs ++ tail)) (sym good.logs)
-    ∙ repeated_again word IsWord (word_at total) (word_again total) s.logs tail good.log_words in
-    let lives : lives_at version total tail ≡ Ok s.lives = lives_again version total s.lives good.lives good.fields in
-    rw (begins, variables, logs, lives) refl
-
-pub state_is_found : (version : ImageVersion) (total size threads : ℕ) (bytes : List ℕ) (x : Result code.State ReadError) → IsBytes bytes →
-    size % word_bytes ≡ 0 → Gives state_of x (state_at version total size threads bytes)
-    → IfOk x (λ state. IsState version size threads (state_of state) × (bytes ≡ state_text version (state_of state)))
-state_is_found version total size threads bytes (Ok state) fits whole given = state_takes version total size threads bytes (state_of state) fits whole given
-state_is_found version total size threads bytes (Err e) fits whole given = tt
+    let regrouped : state_text version s ≡ variables_text s.variables ++ logs_text version s = simp append_assoc in
+    let sized : AreVariables size s.variables = record { count = good.variables; words = good.variable_words } in
+    let variables : variables_at total size (state_text version s) ≡ Ok (s.variables, logs_text version s) =
+    ap (variables_at total size) regrouped ∙ variables_again total size s.variables (logs_text version s) lt sized in
+    rw variables (logs_again version total size threads s good)
 
 -- ---- Whole images
 

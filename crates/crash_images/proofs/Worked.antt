@@ -3,7 +3,7 @@ use Rattle.std.specs.Prelude.{◌≡◌, ℕ, List, [], ◌∷◌, ◌++◌, tak
 use Rattle.file_fields.specs.Fields.{Magic, Version, Cut, Field, Rest, number_at, word_at, number_within, repeated, magic_at, version_at}
 use Rattle.crash_images.specs.Contents.{Contents, contents}
 use Rattle.crash_images.specs.ImageEncoder.{spelling}
-use Rattle.crash_images.specs.ImageDecoder.{life_at, lives_at, run_at, source_at, size_at, state_at, image_at, version_in}
+use Rattle.crash_images.specs.ImageDecoder.{life_at, lives_at, logs_at, run_at, source_at, size_at, state_at, image_at, variables_at, version_in}
 use Rattle.crash_images.specs.declared.version.ImageVersion.TheVariants.{First, Second, Third}
 
 -- the source `x`, one word of variables, no log, and three steps
@@ -24,7 +24,8 @@ unfolding small head_bytes source_bytes state_bytes
 small_spelled = refl
 
 small_read : image_at First 8 0 (head_bytes ++ source_bytes ++ state_bytes) ≡ Ok small
-unfolding small head_bytes source_bytes state_bytes image_at source_at state_at lives_at life_at size_at number_within magic_at version_at repeated run_at
+unfolding small head_bytes source_bytes state_bytes image_at source_at state_at variables_at logs_at lives_at life_at size_at number_within magic_at
+    version_at repeated run_at
     word_at number_at
 small_read = refl
 
@@ -51,21 +52,22 @@ unfolding lived third_head source_bytes memory_bytes lives_bytes
 lived_spelled = refl
 
 lived_read : image_at Third 8 0 (third_head ++ source_bytes ++ memory_bytes ++ lives_bytes) ≡ Ok lived
-unfolding lived third_head source_bytes memory_bytes lives_bytes image_at source_at state_at lives_at life_at size_at number_within magic_at version_at
+unfolding lived third_head source_bytes memory_bytes lives_bytes image_at source_at state_at variables_at logs_at lives_at life_at size_at number_within
+    magic_at version_at
     repeated run_at word_at number_at
 lived_read = refl
 
 -- no life, and bytes after it: the field is the first fault
 no_life : state_at Third 34 8 0 (memory_bytes ++ 0 ∷ 0 ∷ 0 ∷ 0 ∷ 0 ∷ []) ≡ Err (Field 29)
-unfolding memory_bytes state_at lives_at life_at size_at number_within repeated run_at word_at number_at
+unfolding memory_bytes state_at variables_at logs_at lives_at life_at size_at number_within repeated run_at word_at number_at
 no_life = refl
 
 cut_inside_the_count : state_at Third 31 8 0 (memory_bytes ++ 0 ∷ 0 ∷ []) ≡ Err (Cut 31)
-unfolding memory_bytes state_at lives_at life_at size_at number_within repeated run_at word_at number_at
+unfolding memory_bytes state_at variables_at logs_at lives_at life_at size_at number_within repeated run_at word_at number_at
 cut_inside_the_count = refl
 
 cut_before_the_last_life : state_at Third 37 8 0 (memory_bytes ++ 2 ∷ 0 ∷ 0 ∷ 0 ∷ 0 ∷ 0 ∷ 0 ∷ 0 ∷ []) ≡ Err (Cut 37)
-unfolding memory_bytes state_at lives_at life_at size_at number_within repeated run_at word_at number_at
+unfolding memory_bytes state_at variables_at logs_at lives_at life_at size_at number_within repeated run_at word_at number_at
 cut_before_the_last_life = refl
 
 -- ---- Versions
@@ -114,22 +116,22 @@ long_source = refl
 
 -- another number of bytes comes before what is missing after it
 other_size : state_at First 21 16 0 (take 4 state_bytes) ≡ Err (Field 17)
-unfolding state_bytes state_at lives_at life_at size_at number_within repeated run_at word_at number_at
+unfolding state_bytes state_at variables_at logs_at lives_at life_at size_at number_within repeated run_at word_at number_at
 other_size = refl
 
 cut_inside_the_size : state_at First 20 8 0 (take 3 state_bytes) ≡ Err (Cut 20)
-unfolding state_bytes state_at lives_at life_at size_at number_within repeated run_at word_at number_at
+unfolding state_bytes state_at variables_at logs_at lives_at life_at size_at number_within repeated run_at word_at number_at
 cut_inside_the_size = refl
 
 cut_inside_the_last_run : state_at First 48 8 0 (take 31 state_bytes) ≡ Err (Cut 48)
-unfolding state_bytes state_at lives_at life_at size_at number_within repeated run_at word_at number_at
+unfolding state_bytes state_at variables_at logs_at lives_at life_at size_at number_within repeated run_at word_at number_at
 cut_inside_the_last_run = refl
 
 -- a log has 1,024 bytes
 cut_inside_a_log : state_at First 49 8 1 state_bytes ≡ Err (Cut 49)
-unfolding state_bytes state_at lives_at life_at size_at number_within repeated run_at word_at number_at
+unfolding state_bytes state_at variables_at logs_at lives_at life_at size_at number_within repeated run_at word_at number_at
 cut_inside_a_log = refl
 
 one_byte_more : state_at First 50 8 0 (state_bytes ++ 0 ∷ []) ≡ Err (Rest 49)
-unfolding state_bytes state_at lives_at life_at size_at number_within repeated run_at word_at number_at
+unfolding state_bytes state_at variables_at logs_at lives_at life_at size_at number_within repeated run_at word_at number_at
 one_byte_more = refl

@@ -78,6 +78,11 @@ IsRun r = IsNumber r.thread × IsNumber r.steps
 abbrev pub IsLife : List Run → Type 0
 IsLife runs = IsNumber (length runs) × AllByRecursion IsRun runs
 
+-- words of variables that take so many bytes
+pub record AreVariables (size : ℕ) (variables : List ℕ) : Type 0 where
+  pub count : word_bytes * length variables ≡ size
+  pub words : AllByRecursion IsWord variables
+
 -- of a source whose variables take so many bytes, and which has so many threads
 pub record IsState (version : ImageVersion) (size threads : ℕ) (s : State) : Type 0 where
   pub variables : word_bytes * length s.variables ≡ size

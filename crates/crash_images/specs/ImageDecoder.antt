@@ -67,14 +67,24 @@ lives_at version total bytes = do
   lives ← repeated (life_at total) count.0 count.1
   ended total lives.1 lives.0
 
+-- the words of the variables, which take so many bytes, and the bytes after them
+unfoldable pub variables_at : (total size : ℕ) → List ℕ → Reads (List ℕ)
+variables_at total size bytes = do
+  after_size ← size_at total size bytes
+  repeated (word_at total) (size / word_bytes) after_size
+
+-- the state with these words of variables, of a source with so many threads
+unfoldable pub logs_at : ImageVersion → (total threads : ℕ) → (variables : List ℕ) → List ℕ → Result State Fault
+logs_at version total threads variables bytes = do
+  logs ← repeated (word_at total) (words_of version * threads) bytes
+  lives ← lives_at version total logs.1
+  Ok (record { variables = variables; logs = logs.0; lives = lives })
+
 -- of a source whose variables take so many bytes, and which has so many threads
 unfoldable pub state_at : ImageVersion → (total size threads : ℕ) → List ℕ → Result State Fault
-state_at version total size threads rest = do
-  after_size ← size_at total size rest
-  variables ← repeated (word_at total) (size / word_bytes) after_size
-  logs ← repeated (word_at total) (words_of version * threads) variables.1
-  lives ← lives_at version total logs.1
-  Ok (record { variables = variables.0; logs = logs.0; lives = lives })
+state_at version total size threads bytes = do
+  variables ← variables_at total size bytes
+  logs_at version total threads variables.0 variables.1
 
 -- ---- Whole images
 

@@ -32,6 +32,14 @@ lives_text version lives = count_text version (length lives) ++ flat_map runs_te
 abbrev pub source_text : ImageVersion → (source : List ℕ) → List ℕ
 source_text version source = magic ++ number (number_of version) ++ number (length source) ++ source
 
+-- the number of bytes of the variables, and their words
+abbrev pub variables_text : (variables : List ℕ) → List ℕ
+variables_text variables = number (word_bytes * length variables) ++ flat_map word variables
+
+-- what follows the variables: the words of the logs, and the lives
+abbrev pub logs_text : ImageVersion → State → List ℕ
+logs_text version s = flat_map word s.logs ++ lives_text version s.lives
+
 -- the number of bytes of the variables, their words, and the words of the logs
 abbrev pub memory_text : (variables logs : List ℕ) → List ℕ
 memory_text variables logs = number (word_bytes * length variables) ++ flat_map word variables ++ flat_map word logs

@@ -8,9 +8,9 @@ ghost use Rattle.file_fields.specs.links.ReaderResults.{ViewsFault, Gives};
 ghost use Rattle.run_scripts.specs.Runs.{Run as SpelledRun};
 ghost use Rattle.run_scripts.specs.links.RunViews.{run_of};
 ghost use Rattle.file_fields.specs.Numbers.{number};
-ghost use Rattle.crash_images.specs.Contents.{State as SpelledState, IsState, number_of, word_bytes, words_of};
-ghost use Rattle.crash_images.specs.ImageEncoder.{magic, source_text, state_text};
-ghost use Rattle.crash_images.specs.ImageDecoder.{count_at, known, life_at, lives_at, run_at, size_at, source_at, state_at, version_in};
+ghost use Rattle.crash_images.specs.Contents.{State as SpelledState, AreVariables, IsState, number_of, word_bytes, words_of};
+ghost use Rattle.crash_images.specs.ImageEncoder.{logs_text, magic, source_text, variables_text};
+ghost use Rattle.crash_images.specs.ImageDecoder.{count_at, known, life_at, lives_at, logs_at, run_at, size_at, source_at, variables_at, version_in};
 ghost use Rattle.crash_images.specs.links.Views.{life_of, state_of};
 
 use crate::state::State;
@@ -234,21 +234,33 @@ fn source_at(bytes: &[u8], version: ImageVersion) -> Result<(&[u8], &[u8]), Read
     bytes_at(total, size as usize, rest)
 }
 
-/// All that stands after the source, or the first fault there.
-#[tactic(auto, unfolding(crate::specs::ImageDecoder::state_at))]
-fn state_at(
+/// The words of the variables, which take so many bytes, and the bytes after them.
+#[tactic(auto, unfolding(crate::specs::ImageDecoder::variables_at))]
+fn variables_at(
     alloc: Global,
     total: u32,
-    rest: &[u8],
-    version: ImageVersion,
     size: u32,
-    threads: u32,
-) -> Result<State, ReadError>
-    ensures { Gives state_of result (state_at version total size threads rest.now) }
+    bytes: &[u8],
+) -> Result<(Vec<u64>, &[u8]), ReadError>
+    ensures { Gives (λ x. (x.0.items, x.1.now)) result (variables_at total size bytes.now) }
 {
-    let rest = size_at(total, size, rest)?;
-    let (variables, rest) = words_at(alloc, total, u64::from(size / WORD_BYTES), rest)?;
-    let (logs, rest) = words_at(alloc, total, log_words(version, threads), rest)?;
+    let rest = size_at(total, size, bytes)?;
+    words_at(alloc, total, u64::from(size / WORD_BYTES), rest)
+}
+
+/// The state with these words of variables, or the first fault of what stands after them.
+#[tactic(auto, unfolding(crate::specs::ImageDecoder::logs_at))]
+fn logs_at(
+    alloc: Global,
+    total: u32,
+    bytes: &[u8],
+    version: ImageVersion,
+    threads: u32,
+    variables: Vec<u64>,
+) -> Result<State, ReadError>
+    ensures { Gives state_of result (logs_at version total threads variables.items bytes.now) }
+{
+    let (logs, rest) = words_at(alloc, total, log_words(version, threads), bytes)?;
     let lives = lives_at(alloc, version, total, rest)?;
     Ok(State {
         variables,
@@ -288,28 +300,49 @@ pub fn read_source(bytes: &[u8], version: ImageVersion) -> Result<(&[u8], &[u8])
     source_at(bytes, version)
 }
 
-/// What stands after the source, of an image of a version and of so many bytes in all, where the source's
-/// variables take `size` bytes and it has so many threads.
+/// The durable words of the variables, which stand after the source, of an image of so many bytes in all, where the source's variables take `size`
+/// bytes; and the bytes after them.
 ///
-/// Numbers are of four bytes, little-endian: the number of bytes of the variables, their durable words, the
-/// durable words of the logs, as many for each thread as the version's log has, in version 3 the number of lives,
-/// and of each life the number of runs, and of each run the thread and how many steps it took. Words are of eight
-/// bytes, little-endian.
-pub fn read_state(
+/// Four bytes, little-endian, are the number of bytes of the variables. Words are of eight bytes, little-endian.
+pub fn read_variables(
+    alloc: Global,
+    total: u32,
+    rest: &[u8],
+    size: u32,
+) -> Result<(Vec<u64>, &[u8]), ReadError>
+    requires whole { size % word_bytes ≡ 0 }
+    // What is read is spelled so, and fits the source.
+    ensures found { IfOk result (λ x. AreVariables size x.0.items × (rest.now ≡ variables_text x.0.items ++ x.1.now)) }
+    // What fits the source and is spelled so is read, unless memory runs out.
+    ensures only { (variables after : List ℕ) → AreVariables size variables → rest.now ≡ variables_text variables ++ after →
+        Gives {Y = List ℕ × List ℕ} (λ x. (x.0.items, x.1.now)) result (Ok (variables, after)) }
+    // Which fault it is: the first in the order of the bytes.
+    ensures exact { Gives (λ x. (x.0.items, x.1.now)) result (variables_at total size rest.now) }
+{
+    variables_at(alloc, total, size, rest)
+}
+
+/// What stands after the durable words of the variables, and these, of an image of a version and of so many bytes in all, whose source has so many threads.
+///
+/// Numbers are of four bytes, little-endian: the durable words of the logs, as many for each thread as the version's log has, in version 3 the number of
+/// lives, and of each life the number of runs, and of each run the thread and how many steps it took. Words are of eight bytes, little-endian.
+pub fn read_logs(
     alloc: Global,
     total: u32,
     rest: &[u8],
     version: ImageVersion,
-    size: u32,
     threads: u32,
+    variables: Vec<u64>,
 ) -> Result<State, ReadError>
-    requires whole { size % word_bytes ≡ 0 }
-    // What is read is spelled so, and fits the source.
-    ensures found { IfOk result (λ state. IsState version size threads (state_of state) × (rest.now ≡ state_text version (state_of state))) }
+    // What is read is spelled so, and fits the source where the variables do.
+    ensures found { IfOk result (λ state. (state.variables.items ≡ variables.items)
+        × ((size : ℕ) → AreVariables size variables.items → IsState version size threads (state_of state))
+        × (rest.now ≡ logs_text version (state_of state))) }
     // What fits the source and is spelled so is read, unless memory runs out.
-    ensures only { (s : SpelledState) → IsState version size threads s → rest.now ≡ state_text version s → Gives state_of result (Ok s) }
+    ensures only { (size : ℕ) (s : SpelledState) → s.variables ≡ variables.items → IsState version size threads s → rest.now ≡ logs_text version s →
+        Gives state_of result (Ok s) }
     // Which fault it is: the first in the order of the bytes.
-    ensures exact { Gives state_of result (state_at version total size threads rest.now) }
+    ensures exact { Gives state_of result (logs_at version total threads variables.items rest.now) }
 {
-    state_at(alloc, total, rest, version, size, threads)
+    logs_at(alloc, total, rest, version, threads, variables)
 }

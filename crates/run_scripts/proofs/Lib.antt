@@ -14,6 +14,7 @@ mod DrawnEvictions
 mod DrawnRuns
 mod FourNumbers
 mod GeneratedTexts
+mod ReportedNumbers
 mod JournalLines
 mod JournalReads
 mod EnabledSteps

@@ -18,13 +18,17 @@ use Rattle.run_scripts.specs.Schedules.{read, Lives, Refused, BadWord, BadNumber
 
 -- ---- Reports
 
-variable_by_line : variable_line (record { name = codes "x"; elements = negsuc 9 ∷ [] }) ≡ codes "x = -10\n"
+variable_by_line : variable_line (record { name = codes "x"; elements = Some (negsuc 9) ∷ [] }) ≡ codes "x = -10\n"
 unfolding variable_line element_text digits
 variable_by_line = refl
 
-array_by_line : variable_line (record { name = codes "a_1"; elements = pos 1 ∷ pos 20 ∷ pos 0 ∷ [] }) ≡ codes "a_1 = 1 20 0\n"
+array_by_line : variable_line (record { name = codes "a_1"; elements = Some (pos 1) ∷ Some (pos 20) ∷ Some (pos 0) ∷ [] }) ≡ codes "a_1 = 1 20 0\n"
 unfolding variable_line element_text digits
 array_by_line = refl
+
+references_by_line : variable_line (record { name = codes "h"; elements = None ∷ Some (pos 0) ∷ Some (pos 12) ∷ [] }) ≡ codes "h = null 0 12\n"
+unfolding variable_line element_text digits
+references_by_line = refl
 
 ended_by_thread : ended_lines 0 (1 ∷ 20 ∷ []) ≡ codes "ended 0 1\nended 1 20\n"
 unfolding ended_line digits

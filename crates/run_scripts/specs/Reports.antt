@@ -1,13 +1,18 @@
 -- The report of a state, as it is printed.
-use Rattle.std.specs.Prelude.{ℕ, ◌+◌, List, [], ◌∷◌, ◌++◌, ℤ, codes, decimal, flat_map}
+use Rattle.std.specs.Prelude.{ℕ, zero, suc, ◌+◌, List, [], ◌∷◌, ◌++◌, ℤ, pos, negsuc, Option, None, Some, codes, decimal, flat_map}
 use Rattle.std.specs.Fmt.{signed_decimal}
+use Rattle.std.specs.Option.{option_to_list}
 use Rattle.ido_base.specs.Places.{line_feed}
 use Rattle.run_scripts.specs.Runs.{Run, runs_of}
 
--- a variable: its name, and the number of each element
+-- a variable: its name, and the number of each element; of a reference it is that of the element to which it leads, and null has none
 pub record Variable : Type 0 where
   pub name : List ℕ
-  pub elements : List ℤ
+  pub elements : List (Option ℤ)
+
+-- the numbers of its elements; null has none
+abbrev pub numbers_in : Variable → List ℤ
+numbers_in x = flat_map option_to_list x.elements
 
 -- a state: the harts or threads that aren't settled, ascending; the variables in order of declaration; of each thread how many
 -- sections have ended; a schedule for each life
@@ -22,11 +27,26 @@ line bytes = bytes ++ line_feed ∷ []
 
 -- ---- Variables and ended sections
 
--- ` 6`
-unfoldable pub element_text : ℤ → List ℕ
-element_text z = codes " " ++ signed_decimal z
+-- a reference is one more than the number of the element to which it leads, and null is 0
+abbrev pub referred : ℤ → Option ℤ
+referred (pos zero) = None
+referred (pos (suc element)) = Some (pos element)
+referred (negsuc n) = None
 
--- `x = 6` or `a = 1 2 3`
+-- what is reported of an element with that number, of a variable that refers to that array, or to none
+abbrev pub reported : (refers : Option ℕ) → ℤ → Option ℤ
+reported None z = Some z
+reported (Some array) z = referred z
+
+abbrev pub element_word : Option ℤ → List ℕ
+element_word None = codes "null"
+element_word (Some z) = signed_decimal z
+
+-- ` 6`, or ` null`
+unfoldable pub element_text : Option ℤ → List ℕ
+element_text element = codes " " ++ element_word element
+
+-- `x = 6`, `a = 1 2 3` or `h = null`
 unfoldable pub variable_line : Variable → List ℕ
 variable_line x = line (x.name ++ codes " =" ++ flat_map element_text x.elements)
 

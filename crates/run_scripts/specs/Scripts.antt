@@ -1,5 +1,5 @@
 -- Scripts: each line that isn't empty says which events are made.
-use Rattle.std.specs.Prelude.{ℕ, ◌+◌, ◌<◌, ◌≤◌, List, [], ◌∷◌, Bool, true, false, Option, Some, None, nat_lt, nat_le, ◌==◌, if◌then◌else◌, take, drop}
+use Rattle.std.specs.Prelude.{ℕ, ◌+◌, ◌<◌, ◌≤◌, List, [], ◌∷◌, Option, Some, None, nat_lt, nat_le, ◌==◌, if◌then◌else◌, take, drop}
 use Rattle.std.specs.List.{prefix_len}
 use Rattle.std.specs.Str.Parse.{digits_value}
 use Rattle.ido_base.specs.declared.log.Log.{Log}
@@ -123,16 +123,6 @@ lines_of log harts (p ∷ ps) = with_line p.place (line_of log harts p.place p.b
 
 unfoldable pub read : Log → (harts : ℕ) → List ℕ → Read
 read log harts text = lines_of log harts (lines_at 0 text)
-
--- the line is a start
-abbrev pub is_start : Command → Bool
-is_start (Steps hart count) = false
-is_start (Point hart) = false
-is_start (Fence hart) = false
-is_start (Enabled count) = false
-is_start (Evict line mask) = false
-is_start Crash = false
-is_start Start = true
 
 -- what the line asks for exists, at so many harts and where these evictions (line, mask) are valid; whether a life may begin is found when a start is played
 abbrev pub IsDoable : (harts : ℕ) → (ℕ → ℕ → Type 0) → Command → Type 0

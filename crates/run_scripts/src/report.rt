@@ -1,6 +1,7 @@
 //! Reports.
-ghost use Rattle.std.specs.Prelude.{◌≡◌, ◌++◌, map, OnOk, IfOk, flat_map};
-ghost use Rattle.run_scripts.specs.Reports.{element_text, variable_line, ended_line, ended_lines, run_text};
+ghost use Rattle.std.specs.Prelude.{◌≡◌, ◌++◌, None, Some, map, OnOk, IfOk, flat_map};
+ghost use Rattle.std.specs.Option.{option_to_list};
+ghost use Rattle.run_scripts.specs.Reports.{element_text, variable_line, ended_line, ended_lines, numbers_in, referred, reported, run_text};
 ghost use Rattle.run_scripts.specs.Reports.{schedule_line, hart_text, unsettled_line, settled_report, report};
 ghost use Rattle.run_scripts.specs.Runs.{runs_of};
 ghost use Rattle.run_scripts.specs.links.ReportViews.{steps_of, variable_of, state_of};
@@ -10,11 +11,11 @@ use crate::runs::{Run, first_run};
 use ido_base::memory::OutOfMemory;
 use std::alloc::Global;
 
-/// A variable as it is reported: its name, and the number of each element.
+/// A variable as it is reported: its name, and the number of each element. Of a reference it is that of the element to which it leads, and null has none.
 #[derive(Drop)]
 pub struct Variable {
     pub name: Vec<u8>,
-    pub elements: Vec<i128>,
+    pub elements: Vec<Option<i128>>,
 }
 
 /// A state as it is reported.
@@ -30,6 +31,70 @@ pub struct Reported {
     pub schedules: Vec<Vec<u32>>,
 }
 
+/// What is reported of a reference: the number of the element to which it leads, and none of null.
+#[tactic(auto, using(crate::proofs::ReportedNumbers::leads, crate::proofs::ReportedNumbers::leads_nowhere))]
+fn referred(number: i128) -> Option<i128>
+    ensures { result ≡ referred number }
+{
+    if number > 0 { Some(number - 1) } else { None }
+}
+
+/// What is reported of an element with this number, of a variable that refers to that array, or to none.
+fn reported_element(refers: Option<u32>, number: i128) -> Option<i128>
+    ensures { result ≡ reported refers number }
+{
+    match refers {
+        Some(_) => referred(number),
+        None => Some(number),
+    }
+}
+
+/// What is reported of elements with these numbers, of a variable that refers to that array, or to none.
+pub fn reported_elements(
+    alloc: Global,
+    refers: Option<u32>,
+    numbers: &[i128],
+) -> Result<Vec<Option<i128>>, OutOfMemory>
+    ensures { IfOk result (λ elements. elements.items ≡ map (reported refers) numbers.now) }
+{
+    let mut elements = Vec::new(alloc);
+    for number in numbers {
+        elements.push(reported_element(refers, *number))?;
+    }
+    Ok(elements)
+}
+
+/// Adds the number of an element; null has none.
+fn put_some(numbers: &mut Vec<i128>, element: Option<i128>) -> Result<(), OutOfMemory>
+    ensures { OnOk result (numbers.new.items ≡ numbers.old.items ++ option_to_list element) }
+{
+    if let Some(number) = element {
+        numbers.push(number)?;
+    }
+    Ok(())
+}
+
+/// Adds the numbers of elements; null has none.
+fn put_all_some(numbers: &mut Vec<i128>, elements: &[Option<i128>]) -> Result<(), OutOfMemory>
+    ensures { OnOk result (numbers.new.items ≡ numbers.old.items ++ flat_map option_to_list elements.now) }
+{
+    for element in elements {
+        put_some(numbers, *element)?;
+    }
+    Ok(())
+}
+
+/// The numbers of the elements of all variables; null has none.
+pub fn numbers(alloc: Global, variables: &[Variable]) -> Result<Vec<i128>, OutOfMemory>
+    ensures { IfOk result (λ numbers. numbers.items ≡ flat_map numbers_in (map variable_of variables.now)) }
+{
+    let mut numbers = Vec::new(alloc);
+    for variable in variables {
+        put_all_some(&mut numbers, &variable.elements)?;
+    }
+    Ok(numbers)
+}
+
 /// Adds bytes.
 pub(crate) fn put(report: &mut Vec<u8>, bytes: &[u8]) -> Result<(), OutOfMemory>
     ensures { OnOk result (report.new.items ≡ report.old.items ++ bytes.now) }
@@ -40,19 +105,45 @@ pub(crate) fn put(report: &mut Vec<u8>, bytes: &[u8]) -> Result<(), OutOfMemory>
 
 /// Adds ` 6`.
 #[tactic(auto, unfolding(crate::specs::Reports::element_text))]
-fn put_element(alloc: Global, report: &mut Vec<u8>, number: i128) -> Result<(), OutOfMemory>
-    ensures { OnOk result (report.new.items ≡ report.old.items ++ element_text number) }
+fn put_number(alloc: Global, report: &mut Vec<u8>, number: i128) -> Result<(), OutOfMemory>
+    ensures { OnOk result (report.new.items ≡ report.old.items ++ element_text (Some number)) }
 {
     let text = format!(in alloc; " {number}")?;
     put(report, text.as_bytes())
 }
 
-/// Adds ` 1 2 3`.
-fn put_elements(alloc: Global, report: &mut Vec<u8>, numbers: &[i128]) -> Result<(), OutOfMemory>
-    ensures { OnOk result (report.new.items ≡ report.old.items ++ flat_map element_text numbers.now) }
+/// Adds ` null`.
+#[tactic(auto, unfolding(crate::specs::Reports::element_text))]
+fn put_null(report: &mut Vec<u8>) -> Result<(), OutOfMemory>
+    ensures { OnOk result (report.new.items ≡ report.old.items ++ element_text None) }
 {
-    for number in numbers {
-        put_element(alloc, report, *number)?;
+    put(report, b" null")
+}
+
+/// Adds ` 6` or ` null`.
+fn put_element(
+    alloc: Global,
+    report: &mut Vec<u8>,
+    element: Option<i128>,
+) -> Result<(), OutOfMemory>
+    ensures { OnOk result (report.new.items ≡ report.old.items ++ element_text element) }
+{
+    match element {
+        Some(number) => put_number(alloc, report, number),
+        None => put_null(report),
+    }
+}
+
+/// Adds ` 1 2 3`.
+fn put_elements(
+    alloc: Global,
+    report: &mut Vec<u8>,
+    elements: &[Option<i128>],
+) -> Result<(), OutOfMemory>
+    ensures { OnOk result (report.new.items ≡ report.old.items ++ flat_map element_text elements.now) }
+{
+    for element in elements {
+        put_element(alloc, report, *element)?;
     }
     Ok(())
 }
@@ -195,7 +286,7 @@ fn settled_report(alloc: Global, state: &Reported) -> Result<Vec<u8>, OutOfMemor
     Ok(output)
 }
 
-/// The report of a state: a line for each variable, as `x = 6` or `a = 1 2 3`, a line `ended T N` for
+/// The report of a state: a line for each variable, as `x = 6`, `a = 1 2 3` or `h = null`, a line `ended T N` for
 /// each thread, and a line of the schedule of each life with its longest runs, as `schedule 0*4 1*2`; or, where a
 /// hart isn't settled, the line `unsettled H ..` alone. Each line ends with LF.
 #[tactic(auto, unfolding(crate::specs::Reports::report))]
