@@ -7,7 +7,6 @@ use Rattle.ido_base.specs.declared.log.Log.{Log}
 use Rattle.ido_base.specs.Layout.{logs_base, point_at}
 use Rattle.ido_base.specs.Locks.{has_lock}
 use Rattle.c_tree.specs.Flats.{Flat}
-use Rattle.c_tree.specs.Programs.{Variable}
 use Rattle.c_tree.specs.Source.{start}
 use Rattle.source_machine.specs.Lives.{runs_lives}
 use Rattle.memory_layout.specs.declared.point.Point.TheVariants.{Idle}
@@ -34,8 +33,8 @@ module _ (log : Log) (count : ℕ) where
   no_locks : (thread : ℕ) → log_locks none thread ≡ []
   no_locks thread = ap (locks_at_point none thread) (idle_point thread)
 
-  idle_sound : (variables : List Variable) (table : List (Vec Resume Global)) → AreSound variables table none
-  idle_sound variables table = λ thread within. idle (idle_point thread)
+  idle_sound : (flat : Flat) (table : List (Vec Resume Global)) → AreSound flat table none
+  idle_sound flat table = λ thread within. idle (idle_point thread)
 
   idle_apart : (threads lock : ℕ) → IsUnshared none threads lock
   idle_apart threads lock = λ one other less within holds also.
@@ -46,7 +45,7 @@ module _ (log : Log) (count : ℕ) where
       sum_by length schedules ≤ MOST_STEPS → runs_lives flat (start flat) schedules ≡ true →
       IsWellFormedState log flat table (record { variables = variables; logs = replicate count 0; lives = map runs_of schedules })
   idle_state_sound flat table variables schedules few runs = record {
-    logs = idle_sound flat.variables table;
+    logs = idle_sound flat table;
     mutexes = idle_apart (length table);
     schedules = merged_lives flat (start flat) 0 schedules (omega (arith, few)) runs;
   }

@@ -12,7 +12,6 @@ use Rattle.ido_base.specs.declared.limits.TheConstants.{MOST_STEPS}
 use Rattle.ido_base.specs.Words.{Word, durable_value}
 use Rattle.c_tree.specs.Flats as f
 use Rattle.c_tree.specs.Source.{start}
-use Rattle.c_tree.specs.WellFormed.{ArePlain}
 use Rattle.rv64_isa.specs.declared.object.Object.{Object}
 use Rattle.rv64_isa.specs.declared.object.Marks.{Marks}
 use Rattle.rv64_isa.specs.Executables.{Executable}
@@ -31,11 +30,13 @@ use Rattle.flat_compile.specs.ResumePlaces.{IsResumeTable}
 use Rattle.flat_compile.specs.TranslatedForms.{IsTranslatedAs}
 use Rattle.crash_images.specs.Contents.{State}
 use Rattle.image_checks.specs.Checks.{AreSound, IsUnshared, IsWellFormedState}
-use Rattle.image_checks.specs.Laws.{RunsLeaveNoFault}
+use Rattle.image_checks.specs.Laws.{RunsLeaveNoFault, RunsLeaveReferences}
 use Rattle.image_checks.specs.Logs.{logs_of}
 use Rattle.image_checks.specs.RunImages.{file_state, left_by}
 use Rattle.image_checks.specs.Schedules.{AreSchedules}
+use Rattle.image_checks.specs.VariableReferences.{AreReferences}
 use Rattle.image_checks.proofs.LeftLogs.{are_sound, are_unshared, logs_left}
+use Rattle.image_checks.proofs.LeftVariables.{taken_refer}
 use Rattle.image_checks.proofs.LivesLaws.{merged_lives}
 
 -- ---- What is so by whatever places threads are resumed
@@ -113,11 +114,11 @@ module _ (machines : MachinesResume) (records : MachinesRecord) (y : System) (s 
     schedules = scheduled most;
   }
 
-  sound : ArePlain (flat_of y).mutexes → (table : List (Vec Resume Global)) → IsResumeTable y.plan s.codes table → sum_by length kept ≤ MOST_STEPS →
+  sound : (table : List (Vec Resume Global)) → IsResumeTable y.plan s.codes table → sum_by length kept ≤ MOST_STEPS →
       IsWellFormedState log (flat_of y) table left
-  sound plain table is most = record {
-    logs = subst (λ (ls : List ℕ). AreSound (flat_of y).variables table (logs_of log ls)) (sym logs_are)
-        (are_sound y s (world c events) stands log logs plain table is);
+  sound table is most = record {
+    logs = subst (λ (ls : List ℕ). AreSound (flat_of y) table (logs_of log ls)) (sym logs_are)
+        (are_sound y s (world c events) stands log logs table is);
     mutexes = unshared (length table) (is.count ∙ sym s.count);
     schedules = scheduled most;
   }
@@ -163,9 +164,21 @@ module _ (flat : f.Flat) (object : Object) (marks : Marks) (cuts : Cuts) (log : 
       (whole machines records t.system t.is events fits log first_of (few_of most)))))
 
 pub runs_leave_no_fault : MachinesResume → MachinesRecord → RunsLeaveNoFault
-runs_leave_no_fault machines records log flat object marks cuts table events r plain most =
+runs_leave_no_fault machines records log flat object marks cuts table events r most =
     let t = r.translated in
     subst (λ (c : Translation). IsWellFormedState log flat table (file_state c (left_by c events))) (same flat object marks cuts log t events)
     (subst (λ (x : f.Flat). IsWellFormedState log x table (file_state (translation_of t.system) (left_by (translation_of t.system) events))) t.of_flat
     (sound machines records t.system t.is events (fits flat object marks cuts log t events) log (first_of flat object marks cuts log t events)
-    (subst (λ (x : f.Flat). ArePlain x.mutexes) (sym t.of_flat) plain) table r.are (few_of flat object marks cuts log t events most)))
+    table r.are (few_of flat object marks cuts log t events most)))
+
+-- ---- References among the variables
+
+pub runs_leave_references : MachinesResume → MachinesRecord → RunsLeaveReferences
+runs_leave_references machines records log flat object marks cuts events t =
+    let y = t.system in
+    let few = fits flat object marks cuts log t events in
+    let first = first_of flat object marks cuts log t events in
+    subst (λ (c : Translation). AreReferences flat (file_state c (left_by c events)).variables) (same flat object marks cuts log t events)
+    (subst (λ (x : f.Flat). AreReferences x (file_state (translation_of y) (left_by (translation_of y) events)).variables) t.of_flat
+    (subst (AreReferences (flat_of y)) (sym (variables_are machines records y t.is events few log first))
+    (taken_refer y t.is (world (translation_of y) events) (machines y t.is events).is.stands (variable_words (translation_of y)))))

@@ -1,5 +1,5 @@
 -- What logs say by their words, where these are a machine's durable ones.
-use Rattle.std.proofs.Common.{◌≡◌, ◌≢◌, ℕ, ◌+◌, ◌-◌, ◌%◌, ◌≤◌, List, [], ◌∷◌, length, map, take, ap, sym, ◌∙◌, subst, arith, inl, inr}
+use Rattle.std.proofs.Common.{◌≡◌, ◌≢◌, refl, ℕ, ◌+◌, ◌-◌, ◌%◌, ◌≤◌, List, [], ◌∷◌, length, map, take, ap, sym, ◌∙◌, subst, arith, inl, inr}
 use Rattle.std.specs.Prelude.{◌==◌}
 use Rattle.std.specs.List.{Contains}
 use Rattle.std.proofs.lemmas.Bool.{cases_Bool, cond-false, cond-true, eqb-false, eqb-true, eq-eqb, ne_eqb}
@@ -9,6 +9,7 @@ use Rattle.ido_base.specs.declared.log.Log.TheVariants.{V1, V2}
 use Rattle.ido_base.specs.Layout.{logs_base, point_at, slot_at}
 use Rattle.ido_base.specs.Locks.{locks_in, mask_with}
 use Rattle.ido_base.specs.Words.{Word}
+use Rattle.c_tree.specs.Exprs.{LockName}
 use Rattle.boundary_code.specs.Boundaries.{kept_locks, listed_from, slots_kept}
 use Rattle.memory_layout.specs.declared.point.Point.{Point}
 use Rattle.memory_layout.specs.declared.point.Point.TheVariants.{At, Idle}
@@ -16,7 +17,9 @@ use Rattle.memory_layout.specs.Points.{point_of}
 use Rattle.rv64_isa.specs.Machine.{bank_of, durable_at, durable_point, numbers_from, record_of, recorded}
 use Rattle.log_states.specs.Logs.{AreLoggable}
 use Rattle.log_states.proofs.Public.{contains_cases, contains_first, contains_later, contains_none}
-use Rattle.image_checks.specs.Logs.{AreFrom, KeepsMask, Lists, Logs, locks_at_point, log_locks, logged, logs_of, point_in, slot_in, slot_locks}
+use Rattle.flat_compile.specs.declared.resumes.Resume.{Resume}
+use Rattle.image_checks.specs.Logs.{AreFrom, AreOnce, KeepsLocks, Lists, Logs, locks_at_point, locks_by}
+use Rattle.image_checks.specs.Logs.{log_locks, logged, logs_of, point_in, slot_in, slot_locks}
 use Rattle.image_checks.proofs.Masks.{listed}
 
 above_point : (log : Log) (n : ℕ) → logs_base ≤ point_at log n
@@ -97,21 +100,25 @@ all_from f locks has = (
   from_listed f 32 locks (λ one c. has one (contains_later (0, length locks) (listed_from 32 locks) one c)),
 )
 
-pub keeps_mask : (log : Log) (f : ℕ → ℕ) (locks : List ℕ) (mask : ℕ) → HasEach f (kept_locks log locks) → mask_with locks ≡ mask → locks_in mask ≡ locks →
-    KeepsMask log f mask
-keeps_mask V1 f locks mask has is back = has (0, mask_with locks) (contains_first (0, mask_with locks) []) ∙ is
-keeps_mask V2 f locks mask has is back = subst (Lists f) (sym back) (all_from f locks has)
+-- a bank that keeps the locks has those of the held names, which are the locks by its slots, each once; with a mask their numbers are those of mutexes
+module _ (f : ℕ → ℕ) (names : List LockName) (count : ℕ) (r : Resume) (locks : List ℕ) where
+  pub keeps_locks : (log : Log) → HasEach f (kept_locks log locks) → (log ≡ V1 → r.held.items ≡ locks) → locks_by f names count r ≡ locks → AreOnce locks →
+      KeepsLocks log f names count r
+  keeps_locks V1 has plain same once = has (0, mask_with locks) (contains_first (0, mask_with locks) []) ∙ ap mask_with (sym (plain refl))
+  keeps_locks V2 has plain same once = (subst (Lists f) (sym same) (all_from f locks has), subst AreOnce (sym same) once)
 
-pub mask_kept : (log : Log) (f : ℕ → ℕ) (locks : List ℕ) (mask : ℕ) → KeepsMask log f mask → mask_with locks ≡ mask → locks_in mask ≡ locks →
-    HasEach f (kept_locks log locks)
-mask_kept V1 f locks mask keeps is back one c = elim (contains_cases (0, mask_with locks) [] one c) [
-  | inl same ↦ ap (λ (z : ℕ × ℕ). f z.0) same ∙ (keeps ∙ sym is) ∙ sym (ap (λ (z : ℕ × ℕ). z.1) same)
-  | inr none ↦ absurd (contains_none one none)
-]
-mask_kept V2 f locks mask keeps is back one c = elim (contains_cases (0, length locks) (listed_from 32 locks) one c) [
-  | inl same ↦ ap (λ (z : ℕ × ℕ). f z.0) same ∙ (keeps.0 ∙ ap length back) ∙ sym (ap (λ (z : ℕ × ℕ). z.1) same)
-  | inr rest ↦ listed_has f 32 locks (subst (AreFrom f 32) back keeps.1) one rest
-]
+  pub locks_each : (log : Log) → KeepsLocks log f names count r → (log ≡ V1 → r.held.items ≡ locks) → locks_by f names count r ≡ locks →
+      HasEach f (kept_locks log locks)
+  locks_each V1 keeps plain same one c = elim (contains_cases (0, mask_with locks) [] one c) [
+    | inl is ↦ ap (λ (z : ℕ × ℕ). f z.0) is ∙ (keeps ∙ ap mask_with (plain refl)) ∙ sym (ap (λ (z : ℕ × ℕ). z.1) is)
+    | inr none ↦ absurd (contains_none one none)
+  ]
+  locks_each V2 keeps plain same one c =
+      let lists : Lists f locks = subst (Lists f) same keeps.0 in
+      elim (contains_cases (0, length locks) (listed_from 32 locks) one c) [
+        | inl is ↦ ap (λ (z : ℕ × ℕ). f z.0) is ∙ lists.0 ∙ sym (ap (λ (z : ℕ × ℕ). z.1) is)
+        | inr rest ↦ listed_has f 32 locks lists.1 one rest
+      ]
 
 pub kept_are_locks : (log : Log) (f : ℕ → ℕ) (locks : List ℕ) → AreLoggable log locks → HasEach f (kept_locks log locks) → slot_locks log f ≡ locks
 kept_are_locks V1 f locks are has = ap locks_in (has (0, mask_with locks) (contains_first (0, mask_with locks) [])) ∙ are.read_back

@@ -1,20 +1,26 @@
 -- Mutexes that a bank has.
-use Rattle.std.proofs.Common.{◌≡◌, ℕ, zero, suc, ◌+◌, ◌-◌, ◌/◌, ◌%◌, ◌<◌, ◌≤◌, List, [], ◌∷◌, length, map, take, refl, sym, ap, ◌∙◌, subst, arith, inl, inr}
-use Rattle.std.proofs.Common.{Bool, true, false}
-use Rattle.std.specs.Prelude.{◌==◌, ◌||◌, ◌↔◌, cond, min}
-use Rattle.std.proofs.lemmas.Bool.{cases_lt, cond-false, cond-true, true≢false}
+use Rattle.std.proofs.Common.{◌≡◌, ◌⊎◌, inl, inr, refl, ℕ, zero, suc, ◌+◌, ◌-◌, ◌^◌, ◌<◌, ◌≤◌, sym, ap, ◌∙◌, subst, arith, pow_mono, Bool, true, false, Some}
+use Rattle.std.proofs.Common.{List, [], ◌∷◌, length, map, take, drop, drop-cons}
+use Rattle.std.specs.Prelude.{◌==◌, ◌||◌, ◌↔◌, min, slice_get, slice_index}
+use Rattle.std.proofs.lemmas.Bool.{cases_lt, true≢false}
+use Rattle.std.proofs.lemmas.List.{drop_all, length-map}
+use Rattle.std.proofs.lemmas.Option.{get_or_from_slice_get, slice_get-get_or, slice_get_within}
+use Rattle.ido_base.specs.declared.limits.TheConstants.{MOST_LOCKS}
 use Rattle.ido_base.specs.declared.log.Log.{Log}
 use Rattle.ido_base.specs.declared.log.Log.TheVariants.{V1, V2}
-use Rattle.ido_base.specs.Locks.{has_lock, locks_from, locks_in}
+use Rattle.ido_base.specs.Locks.{has_lock, mask_with}
 use Rattle.ido_base.proofs.Public.{none_high}
-use Rattle.c_tree.specs.Programs.{Variable}
+use Rattle.c_tree.specs.Exprs.{LockName}
+use Rattle.c_tree.specs.Flats.{Flat}
+use Rattle.c_tree.specs.Values.{lock_number}
+use Rattle.c_tree.specs.WellFormed.{IsWellFormed}
 use Rattle.memory_layout.specs.declared.point.Point.{Point}
 use Rattle.rv64_isa.specs.Machine.{numbers_from}
 use Rattle.flat_compile.specs.declared.resumes.Resume.{Resume}
-use Rattle.image_checks.specs.declared.limits.TheConstants.{MASK_BITS}
-use Rattle.image_checks.specs.Checks.{IsResumableLog, idle, resumed}
-use Rattle.image_checks.specs.Logs.{AreFrom, HoldsLock, KeepsMask, Lists, Logs, locks_at_point, slot_in, slot_locks}
-use Rattle.image_checks.specs.ResumeSlots.{AllHaveRoom, HasRoom}
+use Rattle.image_checks.specs.Checks.{IsResumableLog, idle, kinds_of_thread, names_of_thread, resumed}
+use Rattle.image_checks.specs.Logs.{AreFrom, AreOnce, HoldsLock, KeepsLocks, Lists, Logs, locals_by, locks_at_point, locks_by, names_at, slot_in, slot_locks}
+use Rattle.image_checks.specs.ResumeSlots.{AllHaveKinds, AllHaveRoom, HasRoom, HaveKinds}
+use Rattle.image_checks.proofs.BankLocals.{few_named, locks_low}
 use Rattle.image_checks.proofs.Points.{found_has}
 
 -- ---- Lists
@@ -77,122 +83,145 @@ module _ (f : ℕ → ℕ) where
   none_left count index lock past =
       let none : count - index ≡ 0 = omega (arith, past) in ap (λ (n : ℕ). has_lock (map f (numbers_from (32 + index) n)) lock) none
 
--- what a bank keeps is what it has
-pub masked_locks : (log : Log) (slot : ℕ → ℕ) (r : Resume) → HasRoom log r → KeepsMask log slot r.mask → slot_locks log slot ≡ locks_in r.mask
-masked_locks V1 slot r room keeps = ap locks_in keeps
-masked_locks V2 slot r room keeps = listed slot (locks_in r.mask) room keeps
+-- ---- A list in its slots
 
--- ---- No number is too high for a mask
+split_at : (locks : List ℕ) (i : ℕ) → i < length locks → drop i locks ≡ slice_index locks i ∷ drop (i + 1) locks
+split_at locks i below =
+    let next : suc i ≡ i + 1 = omega arith in
+    drop-cons locks i 0 below ∙ ap (λ (n : ℕ). slice_index locks i ∷ drop n locks) next
 
-none_held : (variables : List Variable) (resumes : List Resume) (logs : Logs) (thread lock : ℕ) → AllHaveRoom logs.log resumes →
-    IsResumableLog variables resumes logs thread → MASK_BITS ≤ lock → ¬ (HoldsLock logs thread lock)
-none_held variables resumes logs thread lock room (idle point) high has =
-    true≢false (sym has ∙ ap (λ (p : Point). has_lock (locks_at_point logs thread p) lock) point)
-none_held variables resumes logs thread lock room (resumed address bank r point found right) high has =
-    let fits : HasRoom logs.log r = found_has (HasRoom logs.log) resumes address r room found in
-    true≢false (sym has ∙ (ap (λ (p : Point). has_lock (locks_at_point logs thread p) lock) point
-    ∙ (ap (λ (locks : List ℕ). has_lock locks lock) (masked_locks logs.log (λ slot. slot_in logs thread bank slot) r fits right.locks)
-    ∙ none_high r.mask lock high)))
+module _ (f : ℕ → ℕ) (locks : List ℕ) where
+  abbrev pub AreLeft : (i : ℕ) → Type 0
+  AreLeft i = AreFrom f (32 + i) (drop i locks)
 
-pub held_low : (variables : List Variable) (resumes : List Resume) (logs : Logs) (thread lock : ℕ) → AllHaveRoom logs.log resumes →
-    IsResumableLog variables resumes logs thread → HoldsLock logs thread lock → lock < MASK_BITS
-held_low variables resumes logs thread lock room log has = elim (cases_lt lock MASK_BITS) [
+  here_and_next : (i : ℕ) → i < length locks → AreLeft i → (f (32 + i) ≡ slice_index locks i) × AreLeft (i + 1)
+  here_and_next i below are =
+      let next : 32 + i + 1 ≡ 32 + (i + 1) = omega arith in
+      let both : AreFrom f (32 + i) (slice_index locks i ∷ drop (i + 1) locks) = subst (AreFrom f (32 + i)) (split_at locks i below) are in
+      (both.0, subst (λ (n : ℕ). AreFrom f n (drop (i + 1) locks)) next both.1)
+
+  from_next : (i : ℕ) → i < length locks → f (32 + i) ≡ slice_index locks i → AreLeft (i + 1) → AreLeft i
+  from_next i below here are =
+      let next : 32 + (i + 1) ≡ 32 + i + 1 = omega arith in
+      subst (AreFrom f (32 + i)) (sym (split_at locks i below)) (here, subst (λ (n : ℕ). AreFrom f n (drop (i + 1) locks)) next are)
+
+  pub one_listed : (i : ℕ) → i < length locks → f (32 + i) ≡ slice_index locks i → (AreLeft i ↔ AreFrom f 32 locks) →
+      (AreLeft (i + 1) ↔ AreFrom f 32 locks)
+  one_listed i below here so_far = (
+    λ are. so_far.0 (from_next i below here are),
+    λ all. (here_and_next i below (so_far.1 all)).1,
+  )
+
+  -- another one stands there
+  pub not_listed : (i : ℕ) → i < length locks → ¬ (f (32 + i) ≡ slice_index locks i) → (AreLeft i ↔ AreFrom f 32 locks) → ¬ (Lists f locks)
+  not_listed i below wrong so_far lists = wrong (here_and_next i below (so_far.1 lists.1)).0
+
+  pub all_listed : (i : ℕ) → length locks ≤ i → (AreLeft i ↔ AreFrom f 32 locks) → ((f 0 ≡ length locks) ↔ Lists f locks)
+  all_listed i past so_far = (
+    λ count. (count, so_far.0 (subst (AreFrom f (32 + i)) (sym (drop_all i locks past)) tt)),
+    λ lists. lists.0,
+  )
+
+-- ---- None stands in a list twice
+
+module _ (locks : List ℕ) where
+  -- none of the first ones does
+  abbrev pub AreOnceBelow : (count : ℕ) → Type 0
+  AreOnceBelow count = (i j lock : ℕ) → i < count → j < count → slice_get locks i ≡ Some lock → slice_get locks j ≡ Some lock → i ≡ j
+
+  pub none_once : AreOnceBelow 0
+  none_once i j lock less more a b = absurd (omega (arith, less))
+
+  index_is : (i lock : ℕ) → slice_get locks i ≡ Some lock → slice_index locks i ≡ lock
+  index_is i lock there = get_or_from_slice_get locks i lock 0 there
+
+  pub one_once : (count : ℕ) → AreOnceBelow count → ((i : ℕ) → i < count → ¬ (slice_index locks i ≡ slice_index locks count)) → AreOnceBelow (count + 1)
+  one_once count so_far other i j lock less more a b = by (cases_lt i count) (cases_lt j count)
+    where
+      by : (i < count) ⊎ (count ≤ i) → (j < count) ⊎ (count ≤ j) → i ≡ j
+      by (inl one) (inl two) = so_far i j lock one two a b
+      by (inl one) (inr last) =
+          let same : j ≡ count = omega (arith, more, last) in
+          absurd (other i one (index_is i lock a ∙ (sym (index_is j lock b) ∙ ap (slice_index locks) same)))
+      by (inr last) (inl two) =
+          let same : i ≡ count = omega (arith, less, last) in
+          absurd (other j two (index_is j lock b ∙ (sym (index_is i lock a) ∙ ap (slice_index locks) same)))
+      by (inr last) (inr also) = let same : i ≡ j = omega (arith, less, more, last, also) in same
+
+  pub all_once : (count : ℕ) → length locks ≤ count → AreOnceBelow count → AreOnce locks
+  all_once count past so_far i j lock a b =
+      so_far i j lock (omega (arith, past, slice_get_within locks i lock a)) (omega (arith, past, slice_get_within locks j lock b)) a b
+
+  -- one does
+  pub not_once : (i j : ℕ) → i < j → j < length locks → slice_index locks i ≡ slice_index locks j → ¬ (AreOnce locks)
+  not_once i j less within same once =
+      let one : slice_get locks i ≡ Some (slice_index locks i) = slice_get-get_or locks i 0 (omega (arith, less, within)) in
+      let two : slice_get locks j ≡ Some (slice_index locks i) = slice_get-get_or locks j 0 within ∙ ap (λ (n : ℕ). Some n) (sym same) in
+      let is : i ≡ j = once i j (slice_index locks i) one two in
+      omega (arith, less, is)
+
+-- ---- A mask
+
+-- a mutex of a mask of 64 bits has a bit
+pub low_power : (k m : ℕ) → 2 ^ k ≤ m → m < 2 ^ 64 → k < 64
+low_power k m at_least below = elim (cases_lt k 64) [
   | inl low ↦ low
-  | inr high ↦ absurd (none_held variables resumes logs thread lock room log high has)
+  | inr high ↦ absurd (omega (arith, at_least, below, pow_mono {i = 64} {j = k} high))
 ]
 
--- ---- A mask, bit by bit
+module _ (numbers : List ℕ) where
+  pub next_power : (i : ℕ) → i < length numbers → mask_with (drop i numbers) ≡ 2 ^ slice_index numbers i + mask_with (drop (i + 1) numbers)
+  next_power i below = ap mask_with (split_at numbers i below)
 
--- the mutexes of the bits from one on
-abbrev pub left_in : (lock rest : ℕ) → List ℕ
-left_in lock rest = locks_from lock (64 - lock) rest
+  pub no_power : (i : ℕ) → length numbers ≤ i → mask_with (drop i numbers) ≡ 0
+  no_power i past = ap mask_with (drop_all i numbers past)
 
-pub all_left : (mask : ℕ) → left_in 0 mask ≡ locks_in mask
-unfolding locks_in
-all_left mask = refl
+  -- what is summed so far leaves room for the next one
+  pub next_fits : (i mask : ℕ) → i < length numbers → mask + mask_with (drop i numbers) ≡ mask_with numbers → mask_with numbers < 2 ^ 64 →
+      mask + 2 ^ slice_index numbers i < 2 ^ 64
+  next_fits i mask below so_far fits = omega (arith, so_far, fits, next_power i below)
 
-pub bit_set : (lock rest : ℕ) → lock < 64 → (rest % 2 == 1) ≡ true → left_in lock rest ≡ lock ∷ left_in (lock + 1) (rest / 2)
-bit_set lock rest below odd =
-    let more : 64 - lock ≡ suc (64 - (lock + 1)) = omega (arith, below) in
-    ap (λ (n : ℕ). locks_from lock n rest) more
-    ∙ cond-true (rest % 2 == 1) (lock ∷ left_in (lock + 1) (rest / 2)) (left_in (lock + 1) (rest / 2)) odd
+  pub next_low : (i mask : ℕ) → i < length numbers → mask + mask_with (drop i numbers) ≡ mask_with numbers → mask_with numbers < 2 ^ 64 →
+      slice_index numbers i < 64
+  next_low i mask below so_far fits =
+      low_power (slice_index numbers i) (mask_with numbers) (omega (arith, so_far, next_power i below)) fits
 
-pub bit_clear : (lock rest : ℕ) → lock < 64 → (rest % 2 == 1) ≡ false → left_in lock rest ≡ left_in (lock + 1) (rest / 2)
-bit_clear lock rest below even =
-    let more : 64 - lock ≡ suc (64 - (lock + 1)) = omega (arith, below) in
-    ap (λ (n : ℕ). locks_from lock n rest) more
-    ∙ cond-false (rest % 2 == 1) (lock ∷ left_in (lock + 1) (rest / 2)) (left_in (lock + 1) (rest / 2)) even
+  pub next_mask : (i mask new bit : ℕ) → i < length numbers → mask + mask_with (drop i numbers) ≡ mask_with numbers → bit ≡ 2 ^ slice_index numbers i →
+      new ≡ mask + bit → new + mask_with (drop (i + 1) numbers) ≡ mask_with numbers
+  next_mask i mask new bit below so_far bit_is new_is = omega (arith, so_far, bit_is, new_is, next_power i below)
 
-pub none_set : (lock rest : ℕ) → 64 ≤ lock → left_in lock rest ≡ []
-none_set lock rest past = let none : 64 - lock ≡ 0 = omega (arith, past) in ap (λ (n : ℕ). locks_from lock n rest) none
+-- ---- The locks that a bank has
 
--- where a slot has to have a number, it does
-pub in_place : (is_due is : Bool) → cond is_due is true ≡ true → is_due ≡ true → is ≡ true
-in_place is_due is all due = sym (cond-true is_due is true due) ∙ all
+-- by a list they are those of its names
+pub kept_listed : (slot : ℕ → ℕ) (names : List LockName) (count : ℕ) (r : Resume) → HasRoom V2 r → KeepsLocks V2 slot names count r →
+    slot_locks V2 slot ≡ locks_by slot names count r
+kept_listed slot names count r room keeps =
+    let locks : List ℕ = locks_by slot names count r in
+    let few : length locks ≤ 16 =
+    omega (arith, room, length-map (names_at names r.held.items) (lock_number (locals_by slot r.live.items count)), few_named names r.held.items) in
+    listed slot locks few keeps.0
 
--- it has to, and doesn't
-pub out_of_place : (is_due is : Bool) → cond is_due is true ≡ false → (is_due ≡ true) × (is ≡ false)
-out_of_place true is wrong = (refl, wrong)
-out_of_place false is wrong = absurd (true≢false wrong)
+module _ (flat : Flat) (formed : IsWellFormed flat) (thread : ℕ) (slot : ℕ → ℕ) (r : Resume) (have : HaveKinds (kinds_of_thread flat thread) r.live.items) where
+  low_by : (log : Log) (lock : ℕ) → HasRoom log r → KeepsLocks log slot (names_of_thread flat thread) (length (kinds_of_thread flat thread)) r →
+      has_lock (slot_locks log slot) lock ≡ true → lock < MOST_LOCKS
+  low_by V1 lock room keeps has = elim (cases_lt lock 64) [
+    | inl low ↦ omega (arith, low)
+    | inr high ↦ absurd (true≢false (sym has ∙ none_high (slot 0) lock high))
+  ]
+  low_by V2 lock room keeps has =
+      let among = subst (λ (locks : List ℕ). has_lock locks lock ≡ true)
+      (kept_listed slot (names_of_thread flat thread) (length (kinds_of_thread flat thread)) r room keeps) has in
+      let there : lock < length flat.mutexes = locks_low flat formed thread slot r.live.items have r.held.items lock among in
+      let few : length flat.mutexes ≤ MOST_LOCKS = formed.shared.mutexes in
+      omega (arith, there, few)
 
--- so many of the mask's mutexes stand in their slots; whether all do is whether the others do
-pub record HasListed (f : ℕ → ℕ) (mask lock rest listed : ℕ) : Type 0 where
-  pub count : listed + length (left_in lock rest) ≡ length (locks_in mask)
-  pub left : AreFrom f (32 + listed) (left_in lock rest) ↔ AreFrom f 32 (locks_in mask)
-
-none_before : (n m : ℕ) → n ≡ m → 0 + n ≡ m
-none_before n m same = omega (arith, same)
-
-module _ (f : ℕ → ℕ) (mask : ℕ) where
-  pub none_listed : HasListed f mask 0 mask 0
-  none_listed = record {
-    count = none_before (length (left_in 0 mask)) (length (locks_in mask)) (ap length (all_left mask));
-    left = (subst (AreFrom f 32) (all_left mask), subst (AreFrom f 32) (sym (all_left mask)));
-  }
-
-  module _ (lock rest listed : ℕ) (h : HasListed f mask lock rest listed) where
-    one_passed : lock < 64 → (rest % 2 == 1) ≡ false → HasListed f mask (lock + 1) (rest / 2) listed
-    one_passed below even =
-        let same = bit_clear lock rest below even in
-        record {
-          count = omega (arith, h.count, ap length same);
-          left = (
-            λ are. h.left.0 (subst (AreFrom f (32 + listed)) (sym same) are),
-            λ all. subst (AreFrom f (32 + listed)) same (h.left.1 all),
-          );
-        }
-
-    one_listed : lock < 64 → (rest % 2 == 1) ≡ true → f (32 + listed) ≡ lock → HasListed f mask (lock + 1) (rest / 2) (listed + 1)
-    one_listed below odd there =
-        let split = bit_set lock rest below odd in
-        let next : 32 + listed + 1 ≡ 32 + (listed + 1) = omega arith in
-        record {
-          count = omega (arith, h.count, ap length split);
-          left = (
-            λ are. h.left.0 (subst (AreFrom f (32 + listed)) (sym split)
-                (there, subst (λ (n : ℕ). AreFrom f n (left_in (lock + 1) (rest / 2))) (sym next) are)),
-            λ all. subst (λ (n : ℕ). AreFrom f n (left_in (lock + 1) (rest / 2))) next (subst (AreFrom f (32 + listed)) split (h.left.1 all)).1,
-          );
-        }
-
-    pub one_bit_on : lock < 64 → (next : ℕ) (is_set : Bool) → (rest % 2 == 1) ≡ is_set → next ≡ listed + cond is_set 1 0 →
-        (is_set ≡ true → f (32 + listed) ≡ lock) → HasListed f mask (lock + 1) (rest / 2) next
-    one_bit_on below next true odd is there =
-        subst (λ (n : ℕ). HasListed f mask (lock + 1) (rest / 2) n) (sym is) (one_listed below odd (there refl))
-    one_bit_on below next false even is there =
-        let none : next ≡ listed + 0 = is in
-        let same : listed ≡ next = omega (arith, none) in
-        subst (λ (n : ℕ). HasListed f mask (lock + 1) (rest / 2) n) same (one_passed below even)
-
-    pub room_for_one : length (locks_in mask) ≤ 16 → lock < 64 → (rest % 2 == 1) ≡ true → listed < 16
-    room_for_one few below odd = omega (arith, few, h.count, ap length (bit_set lock rest below odd))
-
-    -- the next one stands elsewhere
-    pub not_listed : lock < 64 → (rest % 2 == 1) ≡ true → ¬ (f (32 + listed) ≡ lock) → ¬ (Lists f (locks_in mask))
-    not_listed below odd wrong all = wrong (subst (AreFrom f (32 + listed)) (bit_set lock rest below odd) (h.left.1 all.1)).0
-
-    pub all_listed : 64 ≤ lock → (Lists f (locks_in mask)) ↔ (f 0 ≡ listed)
-    all_listed past =
-        let none = none_set lock rest past in
-        let size : listed ≡ length (locks_in mask) = omega (arith, h.count, ap length none) in
-        (λ all. all.0 ∙ sym size, λ is. (is ∙ size, h.left.0 (subst (AreFrom f (32 + listed)) (sym none) tt)))
+-- no lock is held that isn't there
+pub held_low : (flat : Flat) → IsWellFormed flat → (resumes : List Resume) (logs : Logs) (thread lock : ℕ) → AllHaveRoom logs.log resumes →
+    AllHaveKinds (kinds_of_thread flat thread) resumes → IsResumableLog flat resumes logs thread → HoldsLock logs thread lock → lock < MOST_LOCKS
+held_low flat formed resumes logs thread lock room kinds (idle point) has =
+    absurd (true≢false (sym has ∙ ap (λ (p : Point). has_lock (locks_at_point logs thread p) lock) point))
+held_low flat formed resumes logs thread lock room kinds (resumed address bank r point found right) has =
+    low_by flat formed thread (λ slot. slot_in logs thread bank slot) r
+    (found_has (λ (z : Resume). HaveKinds (kinds_of_thread flat thread) z.live.items) resumes address r kinds found) logs.log lock
+    (found_has (HasRoom logs.log) resumes address r room found) right.locks
+    (sym (ap (λ (p : Point). has_lock (locks_at_point logs thread p) lock) point) ∙ has)

@@ -5,7 +5,7 @@ use Rattle.std.specs.Global.{Global}
 use Rattle.std.proofs.lemmas.Bool.{cases_order}
 use Rattle.std.proofs.lemmas.List.{get_or_append_left, length-append}
 use Rattle.std.proofs.Math.Seq.{get_or-append_seam}
-use Rattle.c_tree.specs.Programs.{Variable}
+use Rattle.c_tree.specs.Flats.{Flat}
 use Rattle.memory_layout.specs.declared.point.Point.TheVariants.{Idle, At}
 use Rattle.flat_compile.specs.declared.resumes.LiveLocal.{LiveLocal}
 use Rattle.flat_compile.specs.declared.resumes.Resume.{Resume}
@@ -14,8 +14,8 @@ use Rattle.image_checks.specs.declared.error.ImageError.TheVariants as e
 use Rattle.flat_compile.specs.ResumePlaces.{resumes_at}
 use Rattle.c_tree.specs.Source.{start}
 use Rattle.image_checks.specs.Logs.{Logs, logs_of, point_in}
-use Rattle.image_checks.specs.Checks.{AreLocksFirst, HasAddress, HasLocal, HasLocals, HasLocks, IsFirstWrong, IsRight, IsBankFault}
-use Rattle.image_checks.specs.Checks.{other_locks, other_number, other_address}
+use Rattle.image_checks.specs.Checks.{AreLocksFirst, HasLocal, HasLocals, HasLocks, IsFirstWrong, IsRight, IsRightBeside, IsBankFault}
+use Rattle.image_checks.specs.Checks.{other_locks, other_number, other_address, other_value}
 use Rattle.image_checks.specs.Checks.{resume_at, IsResumableLog, idle, resumed, IsLogFault, nowhere, of_bank, AreSound, IsThreadFault}
 use Rattle.image_checks.specs.Checks.{AreFirstTwo, IsUnshared, IsMutexFault, shared, of_thread, of_mutexes, of_schedules}
 use Rattle.image_checks.proofs.LivesLaws.{none_in_lives, one_in_lives}
@@ -23,26 +23,26 @@ use Rattle.image_checks.specs.Laws.{OneFault, NoneIfSound}
 
 -- ---- Banks
 
-module _ (logs : Logs) (thread bank : ℕ) (live : List LiveLocal) where
-  at_wrong : (register : ℕ) (f : IsFirstWrong logs thread bank live register) → get_or live (length f.before) f.local ≡ f.local
+module _ (flat : Flat) (logs : Logs) (thread bank : ℕ) (live : List LiveLocal) where
+  at_wrong : (register : ℕ) (f : IsFirstWrong flat logs thread bank live register) → get_or live (length f.before) f.local ≡ f.local
   at_wrong register f = ap (λ (ls : List LiveLocal). get_or ls (length f.before) f.local) f.parts ∙ get_or-append_seam f.before f.local f.after f.local
 
-  wrong_within : (register : ℕ) (f : IsFirstWrong logs thread bank live register) → length f.before < length live
+  wrong_within : (register : ℕ) (f : IsFirstWrong flat logs thread bank live register) → length f.before < length live
   wrong_within register f = omega (arith, ap length f.parts, length-append f.before (f.local ∷ f.after))
 
-  none_wrong : (register : ℕ) → HasLocals logs thread bank live → ¬ (IsFirstWrong logs thread bank live register)
+  none_wrong : (register : ℕ) → HasLocals flat logs thread bank live → ¬ (IsFirstWrong flat logs thread bank live register)
   none_wrong register all f =
-      f.wrong (subst (HasLocal logs thread bank) (at_wrong register f) (all (length f.before) f.local (wrong_within register f)))
+      f.wrong (subst (HasLocal flat logs thread bank) (at_wrong register f) (all (length f.before) f.local (wrong_within register f)))
 
-  not_before : (one other : ℕ) (f : IsFirstWrong logs thread bank live one) (g : IsFirstWrong logs thread bank live other) →
+  not_before : (one other : ℕ) (f : IsFirstWrong flat logs thread bank live one) (g : IsFirstWrong flat logs thread bank live other) →
       ¬ (length f.before < length g.before)
   not_before one other f g less =
       let prefix : get_or live (length f.before) f.local ≡ get_or g.before (length f.before) f.local =
       ap (λ (ls : List LiveLocal). get_or ls (length f.before) f.local) g.parts
       ∙ get_or_append_left g.before (g.local ∷ g.after) f.local (length f.before) less in
-      f.wrong (subst (HasLocal logs thread bank) (sym prefix ∙ at_wrong one f) (g.right (length f.before) f.local less))
+      f.wrong (subst (HasLocal flat logs thread bank) (sym prefix ∙ at_wrong one f) (g.right (length f.before) f.local less))
 
-  one_register : (one other : ℕ) → IsFirstWrong logs thread bank live one → IsFirstWrong logs thread bank live other → one ≡ other
+  one_register : (one other : ℕ) → IsFirstWrong flat logs thread bank live one → IsFirstWrong flat logs thread bank live other → one ≡ other
   one_register one other f g =
       ⊎_elim
       (λ same.
@@ -54,44 +54,52 @@ module _ (logs : Logs) (thread bank : ℕ) (live : List LiveLocal) where
       (⊎_elim (λ less. absurd (not_before one other f g less)) (λ more. absurd (not_before other one g f more)))
       (cases_order (length f.before) (length g.before))
 
-module _ (variables : List Variable) (logs : Logs) (thread bank : ℕ) (r : Resume) where
-  right_bank : (x : ImageError) → IsRight variables logs thread bank r → ¬ (IsBankFault variables logs thread bank r x)
+module _ (flat : Flat) (logs : Logs) (thread bank : ℕ) (r : Resume) where
+  right_bank : (x : ImageError) → IsRight flat logs thread bank r → ¬ (IsBankFault flat logs thread bank r x)
   right_bank x h (other_locks before wrong) = wrong h.locks
-  right_bank x h (other_number register locks f) = none_wrong logs thread bank r.live.items register h.locals f
+  right_bank x h (other_number register locks f) = none_wrong flat logs thread bank r.live.items register h.locals f
   right_bank x h (other_address locks locals wrong) = wrong h.address
+  right_bank x h (other_value locks locals address wrong) = wrong h.value
 
   abbrev Before : Type 0
-  Before = AreLocksFirst logs.log
-      ⊎ (HasLocals logs thread bank r.live.items × HasAddress variables logs thread bank r.pending)
+  Before = AreLocksFirst logs.log ⊎ IsRightBeside flat logs thread bank r
 
-  -- no register is wrong where locks are looked at, and no locks are where registers are
-  not_number : (register : ℕ) → Before → ¬ (HasLocks logs thread bank r) → (AreLocksFirst logs.log → HasLocks logs thread bank r) →
-      ¬ (IsFirstWrong logs thread bank r.live.items register)
-  not_number register (inl first) wrong locks f = wrong (locks first)
-  not_number register (inr rest) wrong locks f = none_wrong logs thread bank r.live.items register rest.0 f
+  abbrev LocksFirst : Type 0
+  LocksFirst = AreLocksFirst logs.log → HasLocks flat logs thread bank r
 
-  not_address : Before → ¬ (HasLocks logs thread bank r) → (AreLocksFirst logs.log → HasLocks logs thread bank r) →
-      ¬ (¬ (HasAddress variables logs thread bank r.pending))
-  not_address (inl first) wrong locks none = wrong (locks first)
-  not_address (inr rest) wrong locks none = none rest.1
+  -- nothing else is wrong where locks are looked at, and no locks are where it is
+  all_right : Before → ¬ (HasLocks flat logs thread bank r) → LocksFirst → IsRightBeside flat logs thread bank r
+  all_right (inl first) wrong locks = absurd (wrong (locks first))
+  all_right (inr rest) wrong locks = rest
 
-  one_in_bank : (x y : ImageError) → IsBankFault variables logs thread bank r x → IsBankFault variables logs thread bank r y → x ≡ y
+  one_in_bank : (x y : ImageError) → IsBankFault flat logs thread bank r x → IsBankFault flat logs thread bank r y → x ≡ y
   one_in_bank x y (other_locks before wrong) (other_locks before' wrong') = refl
-  one_in_bank x y (other_locks before wrong) (other_number register locks f) = absurd (not_number register before wrong locks f)
-  one_in_bank x y (other_locks before wrong) (other_address locks locals wrong') = absurd (not_address before wrong locks wrong')
-  one_in_bank x y (other_number register locks f) (other_locks before wrong) = absurd (not_number register before wrong locks f)
+  one_in_bank x y (other_locks before wrong) (other_number register locks f) =
+      absurd (none_wrong flat logs thread bank r.live.items register (all_right before wrong locks).locals f)
+  one_in_bank x y (other_locks before wrong) (other_address locks locals wrong') = absurd (wrong' (all_right before wrong locks).address)
+  one_in_bank x y (other_locks before wrong) (other_value locks locals address wrong') = absurd (wrong' (all_right before wrong locks).value)
+  one_in_bank x y (other_number register locks f) (other_locks before wrong) =
+      absurd (none_wrong flat logs thread bank r.live.items register (all_right before wrong locks).locals f)
   one_in_bank x y (other_number register locks f) (other_number other locks' g) =
-      ap (e.Slot thread) (one_register logs thread bank r.live.items register other f g)
+      ap (e.Slot thread) (one_register flat logs thread bank r.live.items register other f g)
   one_in_bank x y (other_number register locks f) (other_address locks' locals wrong) =
-      absurd (none_wrong logs thread bank r.live.items register locals f)
-  one_in_bank x y (other_address locks locals wrong) (other_locks before wrong') = absurd (not_address before wrong' locks wrong)
+      absurd (none_wrong flat logs thread bank r.live.items register locals f)
+  one_in_bank x y (other_number register locks f) (other_value locks' locals address wrong) =
+      absurd (none_wrong flat logs thread bank r.live.items register locals f)
+  one_in_bank x y (other_address locks locals wrong) (other_locks before wrong') = absurd (wrong (all_right before wrong' locks).address)
   one_in_bank x y (other_address locks locals wrong) (other_number register locks' f) =
-      absurd (none_wrong logs thread bank r.live.items register locals f)
+      absurd (none_wrong flat logs thread bank r.live.items register locals f)
   one_in_bank x y (other_address locks locals wrong) (other_address locks' locals' wrong') = refl
+  one_in_bank x y (other_address locks locals wrong) (other_value locks' locals' address wrong') = absurd (wrong address)
+  one_in_bank x y (other_value locks locals address wrong) (other_locks before wrong') = absurd (wrong (all_right before wrong' locks).value)
+  one_in_bank x y (other_value locks locals address wrong) (other_number register locks' f) =
+      absurd (none_wrong flat logs thread bank r.live.items register locals f)
+  one_in_bank x y (other_value locks locals address wrong) (other_address locks' locals' wrong') = absurd (wrong' address)
+  one_in_bank x y (other_value locks locals address wrong) (other_value locks' locals' address' wrong') = refl
 
 -- ---- Logs
 
-module _ (variables : List Variable) (resumes : List Resume) (logs : Logs) (thread : ℕ) where
+module _ (flat : Flat) (resumes : List Resume) (logs : Logs) (thread : ℕ) where
   -- the bank and the place that a point names
   record IsNamed (address bank : ℕ) (r : Resume) (address' bank' : ℕ) (r' : Resume) : Type 0 where
     bank_is : bank ≡ bank'
@@ -113,39 +121,39 @@ module _ (variables : List Variable) (resumes : List Resume) (logs : Logs) (thre
       let wrong : Some r ≡ None = sym f ∙ ap (resume_at resumes) same ∙ n in
       cc wrong
 
-  sound_log : (x : ImageError) → IsResumableLog variables resumes logs thread → ¬ (IsLogFault variables resumes logs thread x)
+  sound_log : (x : ImageError) → IsResumableLog flat resumes logs thread → ¬ (IsLogFault flat resumes logs thread x)
   sound_log x (idle p) (nowhere address bank p' n) = let wrong : Idle ≡ At address bank = sym p ∙ p' in cc wrong
   sound_log x (idle p) (of_bank address bank r y p' f h) = let wrong : Idle ≡ At address bank = sym p ∙ p' in cc wrong
   sound_log x (resumed address bank r p f h) (nowhere address' bank' p' n) = none_named address bank address' bank' r p f p' n
   sound_log x (resumed address bank r p f h) (of_bank address' bank' r' y p' f' h') =
       let n = one_name address bank address' bank' r r' p f p' f' in
-      right_bank variables logs thread bank' r' y
-      (subst (IsRight variables logs thread bank') n.place_is (subst (λ (b : ℕ). IsRight variables logs thread b r) n.bank_is h)) h'
+      right_bank flat logs thread bank' r' y
+      (subst (IsRight flat logs thread bank') n.place_is (subst (λ (b : ℕ). IsRight flat logs thread b r) n.bank_is h)) h'
 
-  one_in_log : (x y : ImageError) → IsLogFault variables resumes logs thread x → IsLogFault variables resumes logs thread y → x ≡ y
+  one_in_log : (x y : ImageError) → IsLogFault flat resumes logs thread x → IsLogFault flat resumes logs thread y → x ≡ y
   one_in_log x y (nowhere address bank p n) (nowhere address' bank' p' n') = refl
   one_in_log x y (nowhere address bank p n) (of_bank address' bank' r z p' f h) = absurd (none_named address' bank' address bank r p' f p n)
   one_in_log x y (of_bank address bank r z p f h) (nowhere address' bank' p' n) = absurd (none_named address bank address' bank' r p f p' n)
   one_in_log x y (of_bank address bank r z p f h) (of_bank address' bank' r' z' p' f' h') =
       let n = one_name address bank address' bank' r r' p f p' f' in
-      one_in_bank variables logs thread bank' r' z z'
-      (subst (λ (q : Resume). IsBankFault variables logs thread bank' q z) n.place_is
-      (subst (λ (b : ℕ). IsBankFault variables logs thread b r z) n.bank_is h)) h'
+      one_in_bank flat logs thread bank' r' z z'
+      (subst (λ (q : Resume). IsBankFault flat logs thread bank' q z) n.place_is
+      (subst (λ (b : ℕ). IsBankFault flat logs thread b r z) n.bank_is h)) h'
 
 -- ---- Threads
 
-module _ (variables : List Variable) (table : List (Vec Resume Global)) (logs : Logs) where
-  sound_threads : (x : ImageError) → AreSound variables table logs → ¬ (IsThreadFault variables table logs x)
-  sound_threads x all f = sound_log variables (resumes_at table f.thread) logs f.thread x (all f.thread f.within) f.fault
+module _ (flat : Flat) (table : List (Vec Resume Global)) (logs : Logs) where
+  sound_threads : (x : ImageError) → AreSound flat table logs → ¬ (IsThreadFault flat table logs x)
+  sound_threads x all f = sound_log flat (resumes_at table f.thread) logs f.thread x (all f.thread f.within) f.fault
 
-  one_in_threads : (x y : ImageError) → IsThreadFault variables table logs x → IsThreadFault variables table logs y → x ≡ y
+  one_in_threads : (x y : ImageError) → IsThreadFault flat table logs x → IsThreadFault flat table logs y → x ≡ y
   one_in_threads x y f g =
       ⊎_elim
-      (λ same. one_in_log variables (resumes_at table g.thread) logs g.thread x y
-      (subst (λ (t : ℕ). IsLogFault variables (resumes_at table t) logs t x) same f.fault) g.fault)
+      (λ same. one_in_log flat (resumes_at table g.thread) logs g.thread x y
+      (subst (λ (t : ℕ). IsLogFault flat (resumes_at table t) logs t x) same f.fault) g.fault)
       (⊎_elim
-      (λ less. absurd (sound_log variables (resumes_at table f.thread) logs f.thread x (g.before f.thread less) f.fault))
-      (λ more. absurd (sound_log variables (resumes_at table g.thread) logs g.thread y (f.before g.thread more) g.fault)))
+      (λ less. absurd (sound_log flat (resumes_at table f.thread) logs f.thread x (g.before f.thread less) f.fault))
+      (λ more. absurd (sound_log flat (resumes_at table g.thread) logs g.thread y (f.before g.thread more) g.fault)))
       (cases_order f.thread g.thread)
 
 -- ---- Mutexes
@@ -182,17 +190,17 @@ module _ (logs : Logs) (threads : ℕ) where
 -- ---- All
 
 pub none_if_sound : NoneIfSound
-none_if_sound log flat table s x h (of_thread y f) = sound_threads flat.variables table (logs_of log s.logs) y h.logs f
+none_if_sound log flat table s x h (of_thread y f) = sound_threads flat table (logs_of log s.logs) y h.logs f
 none_if_sound log flat table s x h (of_mutexes y all f) = unshared (logs_of log s.logs) (length table) y h.mutexes f
 none_if_sound log flat table s x h (of_schedules y all none f) = none_in_lives flat 1 (start flat) 0 s.lives y h.schedules f
 
 pub one_fault : OneFault
-one_fault log flat table s x y (of_thread a f) (of_thread b g) = one_in_threads flat.variables table (logs_of log s.logs) a b f g
-one_fault log flat table s x y (of_thread a f) (of_mutexes b all g) = absurd (sound_threads flat.variables table (logs_of log s.logs) a all f)
-one_fault log flat table s x y (of_thread a f) (of_schedules b all none g) = absurd (sound_threads flat.variables table (logs_of log s.logs) a all f)
-one_fault log flat table s x y (of_mutexes a all f) (of_thread b g) = absurd (sound_threads flat.variables table (logs_of log s.logs) b all g)
+one_fault log flat table s x y (of_thread a f) (of_thread b g) = one_in_threads flat table (logs_of log s.logs) a b f g
+one_fault log flat table s x y (of_thread a f) (of_mutexes b all g) = absurd (sound_threads flat table (logs_of log s.logs) a all f)
+one_fault log flat table s x y (of_thread a f) (of_schedules b all none g) = absurd (sound_threads flat table (logs_of log s.logs) a all f)
+one_fault log flat table s x y (of_mutexes a all f) (of_thread b g) = absurd (sound_threads flat table (logs_of log s.logs) b all g)
 one_fault log flat table s x y (of_mutexes a all f) (of_mutexes b all' g) = one_in_mutexes (logs_of log s.logs) (length table) a b f g
 one_fault log flat table s x y (of_mutexes a all f) (of_schedules b all' none g) = absurd (unshared (logs_of log s.logs) (length table) a none f)
-one_fault log flat table s x y (of_schedules a all none f) (of_thread b g) = absurd (sound_threads flat.variables table (logs_of log s.logs) b all g)
+one_fault log flat table s x y (of_schedules a all none f) (of_thread b g) = absurd (sound_threads flat table (logs_of log s.logs) b all g)
 one_fault log flat table s x y (of_schedules a all none f) (of_mutexes b all' g) = absurd (unshared (logs_of log s.logs) (length table) b none g)
 one_fault log flat table s x y (of_schedules a all none f) (of_schedules b all' none' g) = one_in_lives flat 1 (start flat) 0 s.lives a b f g

@@ -1,11 +1,11 @@
 -- Points of logs.
-use Rattle.std.proofs.Common.{◌≡◌, ℕ, ◌+◌, ◌*◌, ◌<◌, ◌≤◌, List, [], ◌∷◌, length, Some, Result, Ok, Err, MatchResult, sym, ap, ◌∙◌, subst, arith}
+use Rattle.std.proofs.Common.{◌≡◌, inl, inr, ℕ, ◌+◌, ◌*◌, ◌<◌, ◌≤◌, List, [], ◌∷◌, length, Some, Result, Ok, Err, MatchResult, sym, ap, ◌∙◌, subst, arith}
 use Rattle.std.proofs.Common.{zero, suc, get_or}
 use Rattle.std.specs.Prelude.{All, ◌==◌, Vec}
 use Rattle.std.specs.Global.{Global}
 use Rattle.std.proofs.lemmas.Bool.{cond_both}
 use Rattle.std.proofs.lemmas.List.{get_or-map}
-use Rattle.c_tree.specs.Programs.{Variable}
+use Rattle.c_tree.specs.Flats.{Flat}
 use Rattle.memory_layout.specs.declared.point.Point.TheVariants.{At}
 use Rattle.flat_compile.specs.declared.resumes.Resume.{Resume}
 use Rattle.image_checks.specs.declared.error.ImageError.{ImageError}
@@ -15,6 +15,7 @@ use Rattle.ido_base.specs.Layout.{log_words}
 use Rattle.ido_base.specs.declared.log.Log.{Log}
 use Rattle.ido_base.specs.declared.log.Log.TheVariants.{V1, V2}
 use Rattle.image_checks.specs.ResumeSlots.{AllHaveRoom, TablesHaveRoom}
+use Rattle.image_checks.specs.links.Errors.{Tells}
 use Rattle.image_checks.specs.Checks.{resume_at, IsRight, IsBankFault, IsResumableLog, IsLogFault, resumed, of_bank}
 
 -- what holds of all places holds of the one that is found
@@ -26,12 +27,13 @@ found_has P (x ∷ xs) address r all found =
     (λ _ is. found_has P xs address r (λ k d l. all (suc k) d (omega (arith, l))) is)
     found
 
-module _ (variables : List Variable) (resumes : List Resume) (logs : Logs) (thread address bank : ℕ) (r : Resume) where
+module _ (flat : Flat) (resumes : List Resume) (logs : Logs) (thread address bank : ℕ) (r : Resume) where
   pub bank_answer : (answer : Result (Unit {0}) ImageError) → point_in logs thread ≡ At address bank → resume_at resumes address ≡ Some r →
-      MatchResult answer (λ _. IsRight variables logs thread bank r) (IsBankFault variables logs thread bank r) →
-      MatchResult answer (λ _. IsResumableLog variables resumes logs thread) (IsLogFault variables resumes logs thread)
+      MatchResult answer (λ _. IsRight flat logs thread bank r) (Tells (IsBankFault flat logs thread bank r)) →
+      MatchResult answer (λ _. IsResumableLog flat resumes logs thread) (Tells (IsLogFault flat resumes logs thread))
   bank_answer (Ok _) point found right = resumed address bank r point found right
-  bank_answer (Err error) point found fault = of_bank address bank r error point found fault
+  bank_answer (Err error) point found (inl none) = inl none
+  bank_answer (Err error) point found (inr fault) = inr (of_bank address bank r error point found fault)
 
 -- the places of the thread of that number
 pub table_at : (table : List (Vec Resume Global)) (thread : ℕ) (rs : Vec Resume Global) → thread < length table → rs ≡ get_or table thread rs →

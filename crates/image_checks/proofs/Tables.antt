@@ -1,27 +1,32 @@
--- Each live local of a table of places has a register with a slot, and banks have room for its locks.
-use Rattle.std.proofs.Common.{◌≡◌, ℕ, zero, suc, ◌<◌, ◌≤◌, List, [], ◌∷◌, length, map, get_or, sym, ap, ◌∙◌, subst, rules, lit<}
-use Rattle.std.specs.Prelude.{slice_index, Vec}
+-- Each live local of a table of places has a register with a slot and its kind, and banks have room for its locks.
+use Rattle.std.proofs.Common.{◌≡◌, refl, inl, inr, ℕ, zero, suc, ◌<◌, ◌≤◌, List, [], ◌∷◌, length, map, get_or, sym, ap, ◌∙◌, subst, rules, arith, lit<, Some}
+use Rattle.std.specs.Prelude.{slice_get, slice_index, slice_index_or, Vec}
 use Rattle.std.specs.Global.{Global}
 use Rattle.std.specs.List.{AllByRecursion}
-use Rattle.std.proofs.lemmas.List.{get_or_default}
+use Rattle.std.proofs.lemmas.Bool.{cases_lt}
+use Rattle.std.proofs.lemmas.List.{get_or_default, get_or_past, length-map}
 use Rattle.std.proofs.lemmas.List.Elements.{Contains-get_or}
-use Rattle.std.proofs.lemmas.Option.{slice_get-get_or}
+use Rattle.std.proofs.lemmas.Option.{none-some, same_Some, slice_get-get_or}
 use Rattle.memory_layout.specs.declared.roles.TheConstants.{LOCALS}
 use Rattle.ido_base.specs.declared.log.Log.{Log}
 use Rattle.ido_base.specs.declared.log.Log.TheVariants.{V1, V2}
-use Rattle.ido_base.specs.Locks.{locks_in}
+use Rattle.ido_ints.specs.declared.kinds.Kind.{Kind}
 use Rattle.boundary_code.specs.Boundaries.{HaveRoom}
 use Rattle.memory_layout.specs.declared.log.TheConstants.{MOST_LISTED}
-use Rattle.c_tree.specs.WellFormed.{ArePlain}
-use Rattle.thread_code.specs.Plans.{Plan, Thread, IsPlan, IsThread, home_of_colour, locks_held, set_before}
+use Rattle.c_tree.specs.Flats as f
+use Rattle.c_tree.specs.Values.{lock_number}
+use Rattle.thread_code.specs.Plans.{Plan, Thread, IsPlan, IsThread, IsNodeOf, home_of_colour, held_names_before, locks_before, locks_held, names_in, set_before}
 use Rattle.thread_code.specs.Programs.{IsThreadCode}
 use Rattle.code_runs.specs.CodeTraces.{Program}
 use Rattle.recovered_threads.specs.RecordDescriptions.{Codes}
+use Rattle.rv64_codegen.proofs.Public.{set_long}
 use Rattle.flat_compile.specs.declared.resumes.LiveLocal.{LiveLocal}
 use Rattle.flat_compile.specs.declared.resumes.Resume.{Resume}
 use Rattle.flat_compile.specs.ResumePlaces.{IsFound, AreResumes, IsResumeTable, resumes_at}
+use Rattle.image_checks.specs.Checks.{kinds_of_thread}
 use Rattle.image_checks.specs.ResumeSlots.{HaveSlots, AllHaveSlots, TablesHaveSlots, HasRoom, AllHaveRoom, TablesHaveRoom}
-use Rattle.image_checks.proofs.HeldSets.{held_are_plain, locks_of_set}
+use Rattle.image_checks.specs.ResumeSlots.{HaveKinds, AllHaveKinds, TablesHaveKinds}
+use Rattle.image_checks.proofs.HeldSets.{as_many_held, of_mask}
 use Rattle.image_checks.proofs.Points.{table_at}
 use Rattle.expr_code.specs.declared.home.Home.{Home}
 use Rattle.expr_code.specs.declared.home.Home.TheVariants.{InRegister}
@@ -61,26 +66,71 @@ table_slots p codes table is k d within =
 
 -- ---- Room for locks
 
-has_room : (log : Log) (r : Resume) (locks : List ℕ) → locks_in r.mask ≡ locks → HaveRoom log locks → HasRoom log r
-has_room V1 r locks is room = tt
-has_room V2 r locks is room = subst (λ (ls : List ℕ). length ls ≤ MOST_LISTED) (sym is) room
+module _ (p : Plan) (plan : IsPlan p) (t : Thread) (is : IsThread p t) (node : ℕ) (own : IsNodeOf t node) where
+  few_held : HaveRoom V2 (locks_before p t [] node) → length (locks_held (set_before p t node)) ≤ MOST_LISTED
+  few_held few =
+      omega (
+        arith,
+        few,
+        length-map (held_names_before p t node) (lock_number []),
+        as_many_held 0 (names_in p t) (set_before p t node) (set_long p plan t is node own),
+      )
 
-place_room : (p : Plan) (plan : IsPlan p) → ArePlain p.flat.mutexes → (t : Thread) (r : Resume) → IsThread p t → IsFound p t r → HasRoom p.log r
-place_room p plan plain t r is found =
-    has_room p.log r (locks_held (set_before p t r.node)) (ap locks_in found.mask_is ∙ locks_of_set p plan t is plain r.node)
-    (subst (HaveRoom p.log) (sym (held_are_plain p plan t is plain [] r.node found.own)) (plan.room t [] r.node))
+  set_room : (log : Log) → p.log ≡ log → HaveRoom log (locks_before p t [] node) → HaveRoom log (locks_held (set_before p t node))
+  set_room V1 first room = of_mask p plan t is (plan.plain first) node
+  set_room V2 second room = few_held room
 
-places_room : (p : Plan) (plan : IsPlan p) → ArePlain p.flat.mutexes →
-    (t : Thread) (program : Program) (code : IsThreadCode p t program) (rs : List Resume) → IsThread p t →
+place_room : (p : Plan) (plan : IsPlan p) → (t : Thread) (r : Resume) → IsThread p t → IsFound p t r → HasRoom p.log r
+place_room p plan t r is found =
+    subst (HaveRoom p.log) (sym found.held_is) (set_room p plan t is r.node found.own p.log refl (plan.room t [] r.node))
+
+places_room : (p : Plan) (plan : IsPlan p) → (t : Thread) (program : Program) (code : IsThreadCode p t program) (rs : List Resume) → IsThread p t →
     AreResumes p t program code rs → AllHaveRoom p.log rs
-places_room p plan plain t program code rs is are k d within =
-    place_room p plan plain t (get_or rs k d) is (are.each k (get_or rs k d) (slice_get-get_or rs k d within)).found
+places_room p plan t program code rs is are k d within =
+    place_room p plan t (get_or rs k d) is (are.each k (get_or rs k d) (slice_get-get_or rs k d within)).found
 
-pub table_room : (p : Plan) (plan : IsPlan p) → ArePlain p.flat.mutexes → (codes : Codes p) (table : List (Vec Resume Global)) → IsResumeTable p codes table →
+pub table_room : (p : Plan) (plan : IsPlan p) → (codes : Codes p) (table : List (Vec Resume Global)) → IsResumeTable p codes table →
     TablesHaveRoom p.log table
-table_room p plan plain codes table is k d within =
+table_room p plan codes table is k d within =
     let below : k < length p.graph.threads = subst (λ (n : ℕ). k < n) is.count within in
     let code = codes.each k below in
     let rs : Vec Resume Global = get_or table k d in
     let same : resumes_at table k ≡ rs.items = sym (table_at table k rs within (get_or_default table k d rs within)) in
-    subst (AllHaveRoom p.log) same (places_room p plan plain code.thread code.program code.is (resumes_at table k) code.of (is.each k below))
+    subst (AllHaveRoom p.log) same (places_room p plan code.thread code.program code.is (resumes_at table k) code.of (is.each k below))
+
+-- ---- Kinds of live locals
+
+-- a thread's kinds are those of the form's
+kinds_at : (ts : List f.Thread) (n : ℕ) (text : f.Thread) → slice_get ts n ≡ Some text →
+    slice_index_or (map (λ (u : f.Thread). u.locals) ts) n [] ≡ text.locals
+kinds_at [] n text there = absurd (none-some text there)
+kinds_at (u ∷ ts) zero text there = ap (λ (z : f.Thread). z.locals) (same_Some u text there)
+kinds_at (u ∷ ts) (suc n) text there = kinds_at ts n text there
+
+pub kinds_are : (p : Plan) (t : Thread) (of : IsThread p t) → kinds_of_thread p.flat t.number ≡ t.kinds
+kinds_are p t of = kinds_at p.flat.threads t.number of.text of.of_text ∙ sym of.kinds
+
+place_kinds : (p : Plan) (t : Thread) (r : Resume) → IsFound p t r → HaveKinds t.kinds r.live.items
+place_kinds p t r found k d within = ((found.live (get_or r.live.items k d)).0 (Contains-get_or r.live.items k d within)).kind_is
+
+places_kinds : (p : Plan) (t : Thread) (program : Program) (code : IsThreadCode p t program) (rs : List Resume) → AreResumes p t program code rs →
+    AllHaveKinds t.kinds rs
+places_kinds p t program code rs are k d within = place_kinds p t (get_or rs k d) (are.each k (get_or rs k d) (slice_get-get_or rs k d within)).found
+
+no_places : (rs : List Resume) (kinds : List Kind) → rs ≡ [] → AllHaveKinds kinds rs
+no_places [] kinds none k d within = absurd (omega (arith, within))
+no_places (r ∷ rs) kinds none k d within = absurd (cc)
+
+pub table_kinds : (p : Plan) (codes : Codes p) (table : List (Vec Resume Global)) → IsResumeTable p codes table → TablesHaveKinds p.flat table
+table_kinds p codes table is n = elim (cases_lt n (length p.graph.threads)) [
+  | inl below ↦
+      let code = codes.each n below in
+      let kinds : kinds_of_thread p.flat n ≡ code.thread.kinds =
+      ap (kinds_of_thread p.flat) (sym (codes.number n below)) ∙ kinds_are p code.thread code.of in
+      subst (λ (ks : List Kind). AllHaveKinds ks (resumes_at table n)) (sym kinds)
+      (places_kinds p code.thread code.program code.is (resumes_at table n) (is.each n below))
+  | inr past ↦
+      no_places (resumes_at table n) (kinds_of_thread p.flat n)
+      (get_or_past (map (λ (rs : Vec Resume Global). rs.items) table) n []
+      (omega (arith, past, is.count, length-map table (λ (rs : Vec Resume Global). rs.items))))
+]

@@ -1,5 +1,6 @@
 -- Whether threads can be resumed by their logs, and the first fault where one can't.
-use Rattle.std.specs.Prelude.{◌≡◌, ◌⊎◌, ℕ, ◌<◌, ◌≤◌, ℤ, List, ◌∷◌, ◌++◌, length, map, find, All, Option, Some, None, ◌==◌, Vec}
+use Rattle.std.specs.Prelude.{◌≡◌, ◌≢◌, ◌⊎◌, ◌==◌, ℕ, ◌<◌, ◌≤◌, ℤ, Bool, true, false, Option, Some, None, IfSome}
+use Rattle.std.specs.Prelude.{List, [], ◌∷◌, ◌++◌, length, map, find, slice_index_or, All, Vec}
 use Rattle.std.specs.Global.{Global}
 use Rattle.ido_base.specs.declared.location.Location.{Location}
 use Rattle.ido_base.specs.Layout.{variable_at}
@@ -8,11 +9,17 @@ use Rattle.ido_base.specs.declared.log.Log.TheVariants.{V1, V2}
 use Rattle.ido_ints.specs.declared.kinds.Kind.{Kind}
 use Rattle.ido_ints.specs.Kinds.{Holds}
 use Rattle.ido_ints.specs.Reduction.{register_of}
+use Rattle.c_tree.specs.Exprs.{LockName}
 use Rattle.c_tree.specs.Programs.{Variable}
 use Rattle.c_tree.specs.WellFormed.{shape_of}
-use Rattle.c_tree.specs.Flats.{Flat}
+use Rattle.c_tree.specs.Flats.{Flat, Thread}
+use Rattle.c_tree.specs.LockNames.{lock_names}
+use Rattle.c_tree.specs.Ranges.{elements_of}
+use Rattle.c_tree.specs.References.{variable_refers}
 use Rattle.c_tree.specs.Source.{start}
-use Rattle.memory_layout.specs.declared.roles.TheConstants.{PENDING_ADDRESS}
+use Rattle.flow_graph.specs.HeldKeys.{names_in}
+use Rattle.flow_graph.specs.Paths.{Naming}
+use Rattle.memory_layout.specs.declared.roles.TheConstants.{PENDING_ADDRESS, PENDING_VALUE}
 use Rattle.memory_layout.specs.declared.point.Point.TheVariants.{Idle, At}
 use Rattle.flat_compile.specs.declared.resumes.LiveLocal.{LiveLocal}
 use Rattle.flat_compile.specs.declared.resumes.Resume.{Resume}
@@ -20,7 +27,7 @@ use Rattle.flat_compile.specs.ResumePlaces.{resumes_at}
 use Rattle.image_checks.specs.declared.error.ImageError.{ImageError}
 use Rattle.image_checks.specs.declared.error.ImageError.TheVariants as e
 use Rattle.crash_images.specs.Contents.{State}
-use Rattle.image_checks.specs.Logs.{Logs, logs_of, point_in, slot_in, HoldsLock, KeepsMask}
+use Rattle.image_checks.specs.Logs.{Logs, logs_of, point_in, slot_in, locals_by, HoldsLock, KeepsLocks}
 use Rattle.image_checks.specs.Schedules.{AreSchedules, IsLivesFault}
 
 -- ---- Slots
@@ -31,13 +38,40 @@ pub record IsForm (kind : Kind) (word : ℕ) : Type 0 where
   pub held : Holds kind number
   pub is : word ≡ register_of kind number
 
--- the address is that of one of the location's elements
-pub record IsElementOf (variables : List Variable) (location : Location) (address : ℕ) : Type 0 where
+-- the address is that of one of the location's elements: where it has a key, of the one that the key names
+pub record IsElementOf (variables : List Variable) (names : Naming) (location : Location) (address : ℕ) : Type 0 where
   pub there : location.variable < length variables
   pub element : ℕ
   pub from : location.lo ≤ element
   pub to : element ≤ location.hi
+  pub by_key : (key : ℕ) → location.key ≡ Some key → names location.variable key ≡ Some element
   pub is : address ≡ variable_at (map shape_of variables) location.variable element
+
+-- the word is that of null, or of a reference to an element of the array: 0, or the number of the element and 1 more
+abbrev pub IsReferenceWord : List Variable → (refers : Option ℕ) → (word : ℕ) → Type 0
+IsReferenceWord vs None word = Unit {0}
+IsReferenceWord vs (Some array) word = word ≤ elements_of vs array
+
+-- where it is known not to be that of null, it isn't
+abbrev pub IsUnnull : (known : Bool) → (word : ℕ) → Type 0
+IsUnnull false word = Unit {0}
+IsUnnull true word = word ≢ 0
+
+-- the word is a number that the local may have: of its kind, and where it is a reference one to an element, or null where that may be
+pub record IsLocalWord (variables : List Variable) (l : LiveLocal) (word : ℕ) : Type 0 where
+  pub form : IsForm l.kind word
+  pub reference : IsReferenceWord variables l.refers word
+  pub unnull : IsUnnull l.known word
+
+-- ---- A thread of a flat form
+
+-- the names by which it takes locks
+abbrev pub names_of_thread : Flat → (thread : ℕ) → List LockName
+names_of_thread flat thread = slice_index_or (map (λ (t : Thread). lock_names flat t) flat.threads) thread []
+
+-- the kinds of its locals
+abbrev pub kinds_of_thread : Flat → (thread : ℕ) → List Kind
+kinds_of_thread flat thread = slice_index_or (map (λ (t : Thread). t.locals) flat.threads) thread []
 
 -- ---- A bank of the log of a thread that is resumed with it
 
@@ -46,19 +80,26 @@ abbrev pub AreLocksFirst : Log → Type 0
 AreLocksFirst V1 = Unit {0}
 AreLocksFirst V2 = ⊥
 
-module _ (logs : Logs) (thread bank : ℕ) where
-  -- the bank has the mutexes that the thread holds where it is resumed
-  abbrev pub HasLocks : Resume → Type 0
-  HasLocks r = KeepsMask logs.log (λ slot. slot_in logs thread bank slot) r.mask
+module _ (flat : Flat) (logs : Logs) (thread bank : ℕ) where
+  abbrev pub bank_slot : (slot : ℕ) → ℕ
+  bank_slot = λ (slot : ℕ). slot_in logs thread bank slot
 
-  -- the bank has a number of the local's kind in the local's register
+  -- the numbers of the thread's locals, where these are live
+  abbrev pub bank_locals : List LiveLocal → List ℤ
+  bank_locals live = locals_by bank_slot live (length (kinds_of_thread flat thread))
+
+  -- the bank has the locks that the thread holds where it is resumed
+  abbrev pub HasLocks : Resume → Type 0
+  HasLocks r = KeepsLocks logs.log bank_slot (names_of_thread flat thread) (length (kinds_of_thread flat thread)) r
+
+  -- the bank has a number that the local may have in the local's register
   abbrev pub HasLocal : LiveLocal → Type 0
-  HasLocal l = IsForm l.kind (slot_in logs thread bank l.register)
+  HasLocal l = IsLocalWord flat.variables l (bank_slot l.register)
 
   abbrev pub HasLocals : List LiveLocal → Type 0
   HasLocals live = All HasLocal live
 
-  -- the register is that of the first of these locals in whose register the bank has no number of its kind
+  -- the register is that of the first of these locals in whose register the bank has no such number
   pub record IsFirstWrong (live : List LiveLocal) (register : ℕ) : Type 0 where
     pub before : List LiveLocal
     pub local : LiveLocal
@@ -68,25 +109,36 @@ module _ (logs : Logs) (thread bank : ℕ) where
     pub wrong : ¬ (HasLocal local)
     pub register_is : register ≡ local.register
 
-module _ (variables : List Variable) (logs : Logs) (thread bank : ℕ) where
   -- where a store is pending, it has the address of an element that may be written
-  abbrev pub HasAddress : (pending : Option Location) → Type 0
-  HasAddress None = Unit {0}
-  HasAddress (Some location) = IsElementOf variables location (slot_in logs thread bank PENDING_ADDRESS)
+  abbrev pub HasAddress : List LiveLocal → (pending : Option Location) → Type 0
+  HasAddress live pending = IfSome pending (λ (l : Location).
+      IsElementOf flat.variables (names_in flat.variables (names_of_thread flat thread) (bank_locals live)) l (bank_slot PENDING_ADDRESS))
+
+  -- where that element is a reference, null or a reference to an element of its array is stored
+  abbrev pub HasValue : (pending : Option Location) → Type 0
+  HasValue pending = IfSome pending (λ (l : Location).
+      IsReferenceWord flat.variables (variable_refers flat.variables l.variable) (bank_slot PENDING_VALUE))
 
   pub record IsRight (r : Resume) : Type 0 where
-    pub locks : HasLocks logs thread bank r
-    pub locals : HasLocals logs thread bank r.live.items
-    pub address : HasAddress r.pending
+    pub locks : HasLocks r
+    pub locals : HasLocals r.live.items
+    pub address : HasAddress r.live.items r.pending
+    pub value : HasValue r.pending
+
+  -- nothing but its locks may be wrong
+  pub record IsRightBeside (r : Resume) : Type 0 where
+    pub locals : HasLocals r.live.items
+    pub address : HasAddress r.live.items r.pending
+    pub value : HasValue r.pending
 
   -- the first fault of the bank
   pub data IsBankFault (r : Resume) : ImageError → Type 0 where
-    other_locks : (AreLocksFirst logs.log ⊎ (HasLocals logs thread bank r.live.items × HasAddress r.pending)) → ¬ (HasLocks logs thread bank r) →
-        IsBankFault r (e.Mask thread)
-    other_number : (register : ℕ) → (AreLocksFirst logs.log → HasLocks logs thread bank r) → IsFirstWrong logs thread bank r.live.items register →
-        IsBankFault r (e.Slot thread register)
-    other_address : (AreLocksFirst logs.log → HasLocks logs thread bank r) → HasLocals logs thread bank r.live.items → ¬ (HasAddress r.pending) →
+    other_locks : (AreLocksFirst logs.log ⊎ IsRightBeside r) → ¬ (HasLocks r) → IsBankFault r (e.Mask thread)
+    other_number : (register : ℕ) → (AreLocksFirst logs.log → HasLocks r) → IsFirstWrong r.live.items register → IsBankFault r (e.Slot thread register)
+    other_address : (AreLocksFirst logs.log → HasLocks r) → HasLocals r.live.items → ¬ (HasAddress r.live.items r.pending) →
         IsBankFault r (e.Slot thread PENDING_ADDRESS)
+    other_value : (AreLocksFirst logs.log → HasLocks r) → HasLocals r.live.items → HasAddress r.live.items r.pending → ¬ (HasValue r.pending) →
+        IsBankFault r (e.Slot thread PENDING_VALUE)
 
 -- ---- The log of a thread
 
@@ -95,25 +147,25 @@ abbrev pub resume_at : (resumes : List Resume) → (address : ℕ) → Option Re
 resume_at resumes address = find (λ (r : Resume). r.address == address) resumes
 
 -- the thread may be resumed at these places
-module _ (variables : List Variable) (resumes : List Resume) (logs : Logs) (thread : ℕ) where
+module _ (flat : Flat) (resumes : List Resume) (logs : Logs) (thread : ℕ) where
   -- the thread stands between two sections, or is resumed where its point says
   pub data IsResumableLog : Type 0 where
     idle : point_in logs thread ≡ Idle → IsResumableLog
     resumed : (address bank : ℕ) (r : Resume) → point_in logs thread ≡ At address bank → resume_at resumes address ≡ Some r →
-        IsRight variables logs thread bank r → IsResumableLog
+        IsRight flat logs thread bank r → IsResumableLog
 
   -- the first fault of its log
   pub data IsLogFault : ImageError → Type 0 where
     nowhere : (address bank : ℕ) → point_in logs thread ≡ At address bank → resume_at resumes address ≡ None → IsLogFault (e.Point thread)
     of_bank : (address bank : ℕ) (r : Resume) (error : ImageError) → point_in logs thread ≡ At address bank → resume_at resumes address ≡ Some r →
-        IsBankFault variables logs thread bank r error → IsLogFault error
+        IsBankFault flat logs thread bank r error → IsLogFault error
 
 -- ---- The logs of all threads, each of which may be resumed at its places in the table
 
-module _ (variables : List Variable) (table : List (Vec Resume Global)) (logs : Logs) where
+module _ (flat : Flat) (table : List (Vec Resume Global)) (logs : Logs) where
   -- the log of each thread below that number is sound
   abbrev pub AreSoundBelow : ℕ → Type 0
-  AreSoundBelow n = (thread : ℕ) → thread < n → IsResumableLog variables (resumes_at table thread) logs thread
+  AreSoundBelow n = (thread : ℕ) → thread < n → IsResumableLog flat (resumes_at table thread) logs thread
 
   abbrev pub AreSound : Type 0
   AreSound = AreSoundBelow (length table)
@@ -123,7 +175,7 @@ module _ (variables : List Variable) (table : List (Vec Resume Global)) (logs : 
     pub thread : ℕ
     pub within : thread < length table
     pub before : AreSoundBelow thread
-    pub fault : IsLogFault variables (resumes_at table thread) logs thread error
+    pub fault : IsLogFault flat (resumes_at table thread) logs thread error
 
 -- ---- Mutexes
 
@@ -153,13 +205,13 @@ module _ (log : Log) (flat : Flat) (table : List (Vec Resume Global)) (s : State
 
   -- nothing is at fault
   pub record IsWellFormedState : Type 0 where
-    pub logs : AreSound flat.variables table logs_in
+    pub logs : AreSound flat table logs_in
     pub mutexes : (lock : ℕ) → IsUnshared logs_in (length table) lock
     pub schedules : AreSchedules flat (start flat) 0 s.lives
 
   -- the first fault: of a thread's log, else of the mutexes that threads hold, else of the schedules of lives
   pub data IsStateFault : ImageError → Type 0 where
-    of_thread : (error : ImageError) → IsThreadFault flat.variables table logs_in error → IsStateFault error
-    of_mutexes : (error : ImageError) → AreSound flat.variables table logs_in → IsMutexFault logs_in (length table) error → IsStateFault error
-    of_schedules : (error : ImageError) → AreSound flat.variables table logs_in → ((lock : ℕ) → IsUnshared logs_in (length table) lock) →
+    of_thread : (error : ImageError) → IsThreadFault flat table logs_in error → IsStateFault error
+    of_mutexes : (error : ImageError) → AreSound flat table logs_in → IsMutexFault logs_in (length table) error → IsStateFault error
+    of_schedules : (error : ImageError) → AreSound flat table logs_in → ((lock : ℕ) → IsUnshared logs_in (length table) lock) →
         IsLivesFault flat 1 (start flat) 0 s.lives error → IsStateFault error

@@ -2,6 +2,7 @@ pub use Rattle.crash_images.specs.Contents
 pub mod Schedules
 pub mod Logs
 pub mod Checks
+pub mod VariableReferences
 pub mod ResumeSlots
 pub mod StateAnswers
 pub mod RunImages

@@ -1,9 +1,17 @@
 -- What the words of logs say: of each thread its point, and the slots of a bank.
-use Rattle.std.specs.Prelude.{◌≡◌, ℕ, ◌+◌, ◌-◌, ◌/◌, List, [], ◌∷◌, length, map, slice_index, take, true}
+use Rattle.std.specs.Option.{option_to_list}
+use Rattle.std.specs.Prelude.{◌≡◌, ◌==◌, ℕ, ◌+◌, ◌-◌, ◌/◌, ℤ, pos, true, Option, Some, None}
+use Rattle.std.specs.Prelude.{List, [], ◌∷◌, length, map, find, flat_map, slice_get, slice_index, take}
 use Rattle.ido_base.specs.declared.log.Log.{Log}
 use Rattle.ido_base.specs.declared.log.Log.TheVariants.{V1, V2}
 use Rattle.ido_base.specs.Layout.{logs_base, point_at, slot_at}
-use Rattle.ido_base.specs.Locks.{has_lock, locks_in}
+use Rattle.ido_base.specs.Locks.{has_lock, locks_in, mask_with}
+use Rattle.ido_ints.specs.Reduction.{reduced}
+use Rattle.c_tree.specs.Exprs.{LockName}
+use Rattle.c_tree.specs.LockDiscipline.{numbers_below}
+use Rattle.c_tree.specs.Values.{lock_number}
+use Rattle.flat_compile.specs.declared.resumes.LiveLocal.{LiveLocal}
+use Rattle.flat_compile.specs.declared.resumes.Resume.{Resume}
 use Rattle.memory_layout.specs.declared.log.TheConstants.{COUNT_SLOT, FIRST_LOCK_SLOT, MASK_SLOT, MOST_LISTED}
 use Rattle.memory_layout.specs.declared.point.Point.{Point}
 use Rattle.memory_layout.specs.declared.point.Point.TheVariants.{Idle, At}
@@ -45,10 +53,35 @@ AreFrom slot at (lock ∷ locks) = (slot at ≡ lock) × AreFrom slot (at + 1) l
 abbrev pub Lists : (slot : ℕ → ℕ) → (locks : List ℕ) → Type 0
 Lists slot locks = (slot COUNT_SLOT ≡ length locks) × AreFrom slot FIRST_LOCK_SLOT locks
 
--- a bank with these slots has the locks of the mask, and no others
-abbrev pub KeepsMask : Log → (slot : ℕ → ℕ) → (mask : ℕ) → Type 0
-KeepsMask V1 slot mask = slot MASK_SLOT ≡ mask
-KeepsMask V2 slot mask = Lists slot (locks_in mask)
+-- ---- The locks that a thread holds where it is resumed, by a bank with these slots
+
+-- the number of a local: of one that is live what the word of its register is reduced to; of another none is asked
+abbrev pub local_by : (slot : ℕ → ℕ) → Option LiveLocal → ℤ
+local_by slot None = pos 0
+local_by slot (Some l) = reduced l.kind (pos (slot l.register))
+
+-- the numbers of so many locals
+abbrev pub locals_by : (slot : ℕ → ℕ) → List LiveLocal → (count : ℕ) → List ℤ
+locals_by slot live count = map (λ (local : ℕ). local_by slot (find (λ (l : LiveLocal). l.local == local) live)) (numbers_below count)
+
+-- the names of these numbers
+abbrev pub names_at : List LockName → (held : List ℕ) → List LockName
+names_at names held = flat_map (λ (k : ℕ). option_to_list (slice_get names k)) held
+
+-- the locks of the held names of a thread with these names and so many locals, in the order of the names
+abbrev pub locks_by : (slot : ℕ → ℕ) → List LockName → (count : ℕ) → Resume → List ℕ
+locks_by slot names count r = map (lock_number (locals_by slot r.live.items count)) (names_at names r.held.items)
+
+-- none stands in the list twice
+abbrev pub AreOnce : (locks : List ℕ) → Type 0
+AreOnce locks = (i j lock : ℕ) → slice_get locks i ≡ Some lock → slice_get locks j ≡ Some lock → i ≡ j
+
+-- the bank has the locks of the held names, and no others: by a mask, where these numbers are those of mutexes, or listed in the order of the names
+abbrev pub KeepsLocks : Log → (slot : ℕ → ℕ) → List LockName → (count : ℕ) → Resume → Type 0
+KeepsLocks V1 slot names count r = slot MASK_SLOT ≡ mask_with r.held.items
+KeepsLocks V2 slot names count r = Lists slot (locks_by slot names count r) × AreOnce (locks_by slot names count r)
+
+-- ---- The locks that its log says
 
 -- the locks that the thread holds: none between two sections
 abbrev pub locks_at_point : Logs → (thread : ℕ) → Point → List ℕ

@@ -1,13 +1,15 @@
--- What a table of places is of: each live local's register has a slot, and a bank has room for the locks.
-use Rattle.std.specs.Prelude.{◌<◌, ◌≤◌, List, All, Vec, length}
+-- What a table of places is of: each live local is of its thread and its register has a slot, and a bank has room for the locks.
+use Rattle.std.specs.Prelude.{◌≡◌, ◌<◌, ℕ, List, All, Some, Vec, slice_get}
 use Rattle.std.specs.Global.{Global}
+use Rattle.boundary_code.specs.Boundaries.{HaveRoom}
 use Rattle.ido_base.specs.declared.log.Log.{Log}
-use Rattle.ido_base.specs.declared.log.Log.TheVariants.{V1, V2}
-use Rattle.ido_base.specs.Locks.{locks_in}
-use Rattle.memory_layout.specs.declared.log.TheConstants.{MOST_LISTED}
+use Rattle.ido_ints.specs.declared.kinds.Kind.{Kind}
+use Rattle.c_tree.specs.Flats.{Flat}
 use Rattle.image_checks.specs.declared.limits.TheConstants.{BANK_SLOTS}
 use Rattle.flat_compile.specs.declared.resumes.LiveLocal.{LiveLocal}
 use Rattle.flat_compile.specs.declared.resumes.Resume.{Resume}
+use Rattle.flat_compile.specs.ResumePlaces.{resumes_at}
+use Rattle.image_checks.specs.Checks.{kinds_of_thread}
 
 abbrev pub HaveSlots : List LiveLocal → Type 0
 HaveSlots live = All (λ (l : LiveLocal). l.register < BANK_SLOTS) live
@@ -18,12 +20,22 @@ AllHaveSlots resumes = All (λ (r : Resume). HaveSlots r.live.items) resumes
 abbrev pub TablesHaveSlots : List (Vec Resume Global) → Type 0
 TablesHaveSlots table = All (λ (rs : Vec Resume Global). AllHaveSlots rs.items) table
 
+-- the numbers of the held names: where a mask tells them, they are those of mutexes
 abbrev pub HasRoom : Log → Resume → Type 0
-HasRoom V1 r = Unit {0}
-HasRoom V2 r = length (locks_in r.mask) ≤ MOST_LISTED
+HasRoom log r = HaveRoom log r.held.items
 
 abbrev pub AllHaveRoom : Log → List Resume → Type 0
 AllHaveRoom log resumes = All (λ (r : Resume). HasRoom log r) resumes
 
 abbrev pub TablesHaveRoom : Log → List (Vec Resume Global) → Type 0
 TablesHaveRoom log table = All (λ (rs : Vec Resume Global). AllHaveRoom log rs.items) table
+
+-- each live local is one of these kinds
+abbrev pub HaveKinds : List Kind → List LiveLocal → Type 0
+HaveKinds kinds live = All (λ (l : LiveLocal). slice_get kinds l.local ≡ Some l.kind) live
+
+abbrev pub AllHaveKinds : List Kind → List Resume → Type 0
+AllHaveKinds kinds resumes = All (λ (r : Resume). HaveKinds kinds r.live.items) resumes
+
+abbrev pub TablesHaveKinds : Flat → List (Vec Resume Global) → Type 0
+TablesHaveKinds flat table = (thread : ℕ) → AllHaveKinds (kinds_of_thread flat thread) (resumes_at table thread)

@@ -1,3 +1,6 @@
 pub mod Errors
 pub mod PrefixBeforeFault
 pub mod Holders
+pub mod LocationElements
+pub mod BankFaults
+pub mod ElementNumbers

@@ -17,6 +17,8 @@ pub enum ImageError {
     Cut(Place),
     /// The source is too long, the compiler refuses it, or its variables take another number of bytes.
     Source,
+    /// The element of the variable is a reference, and its number is neither that of null nor of one to an element.
+    Reference { variable: u32, element: u32 },
     /// The image ends there, and more bytes follow.
     Rest(Place),
     /// The thread can't be resumed at its point.
@@ -24,7 +26,7 @@ pub enum ImageError {
     /// Where the thread is resumed, it holds other mutexes than its log says.
     Mask { thread: u32 },
     /// No local that is live in the register where the thread is resumed has such a number; or, of register 28,
-    /// no element that the thread may write next has this address.
+    /// no element that the thread may write next has this address; or, of register 29, that element is a reference, and no such number is one.
     Slot { thread: u32, register: u8 },
     /// Both threads hold the mutex of this number.
     Shared { lock: u32, first: u32, second: u32 },

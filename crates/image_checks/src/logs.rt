@@ -98,18 +98,29 @@ pub fn listed_in(logs: &[u64], thread: u32, bank: u32, index: u32) -> u64
 // ---- Locks
 
 /// Whether the word is the number of the mutex.
-pub fn is_number(word: u64, lock: u32) -> bool
+fn is_number(word: u64, lock: u32) -> bool
     ensures { result ≡ (word == lock) }
 {
     word == u64::from(lock)
 }
 
-/// Whether the mask has the mutex.
+/// Whether the mask has the mutex, for which it has a bit.
 fn has_lock(mask: u64, lock: u32) -> bool
     requires { lock < MASK_BITS }
     ensures { result ≡ has_lock (locks_in mask) lock }
 {
     (mask >> lock) % 2 == 1
+}
+
+/// Whether the mask has the mutex: it has none past its bits.
+fn mask_has(mask: u64, lock: u32) -> bool
+    ensures { result ≡ has_lock (locks_in mask) lock }
+{
+    if lock < MASK_BITS {
+        has_lock(mask, lock)
+    } else {
+        false
+    }
 }
 
 /// Whether the bank lists the mutex, among as many as it says, 16 at most.
@@ -129,20 +140,18 @@ fn is_listed(logs: &[u64], thread: u32, bank: u32, lock: u32) -> bool
 
 /// Whether the bank has the mutex.
 fn bank_has(log: Log, logs: &[u64], thread: u32, bank: u32, lock: u32) -> bool
-    requires lock { lock < MASK_BITS }
     requires log { log_words log * (thread + 1) ≤ length logs.now }
     requires bank { bank < 2 }
     ensures { result ≡ has_lock (slot_locks log (λ slot. slot_in (logs_of log logs.now) thread bank slot)) lock }
 {
     match log {
-        Log::V1 => has_lock(slot_in(log, logs, thread, bank, MASK_SLOT as u8), lock),
+        Log::V1 => mask_has(slot_in(log, logs, thread, bank, MASK_SLOT as u8), lock),
         Log::V2 => is_listed(logs, thread, bank, lock),
     }
 }
 
 /// Whether the thread holds the mutex.
 pub fn holds(log: Log, logs: &[u64], thread: u32, lock: u32) -> bool
-    requires lock { lock < MASK_BITS }
     requires log { log_words log * (thread + 1) ≤ length logs.now }
     ensures { result ≡ has_lock (log_locks (logs_of log logs.now) thread) lock }
 {

@@ -6,13 +6,12 @@ ghost use Rattle.image_checks.specs.Checks.{AreFirstTwo, IsUnshared, IsMutexFaul
 ghost use Rattle.image_checks.specs.links.Holders.{IsNextHolder, HasNoHolder};
 
 use crate::error::ImageError;
-use crate::limits::MASK_BITS;
 use crate::logs::holds;
+use ido_base::limits::MOST_LOCKS;
 use ido_base::log::Log;
 
 /// The least of so many threads, from one on, that holds the mutex.
 fn holder_from(log: Log, logs: &[u64], threads: u32, from: u32, lock: u32) -> Option<u32>
-    requires lock { lock < MASK_BITS }
     requires logs { log_words log * threads ≤ length logs.now }
     ensures { MatchOption result (HasNoHolder (logs_of log logs.now) threads from lock) (IsNextHolder (logs_of log logs.now) threads from lock) }
 {
@@ -26,7 +25,6 @@ fn holder_from(log: Log, logs: &[u64], threads: u32, from: u32, lock: u32) -> Op
 
 /// The least two of so many threads that hold the mutex.
 fn holders(log: Log, logs: &[u64], threads: u32, lock: u32) -> Option<(u32, u32)>
-    requires lock { lock < MASK_BITS }
     requires logs { log_words log * threads ≤ length logs.now }
     ensures { MatchOption result (IsUnshared (logs_of log logs.now) threads lock) (λ two. AreFirstTwo (logs_of log logs.now) threads lock two.0 two.1) }
 {
@@ -38,11 +36,11 @@ fn holders(log: Log, logs: &[u64], threads: u32, lock: u32) -> Option<(u32, u32)
 /// The least mutex that two of so many threads hold.
 pub fn check_mutexes(log: Log, logs: &[u64], threads: u32) -> Result<(), ImageError>
     requires logs { log_words log * threads ≤ length logs.now }
-    // No number is too high for a mask.
-    requires low { (thread lock : ℕ) → thread < threads → HoldsLock (logs_of log logs.now) thread lock → lock < MASK_BITS }
+    // No more mutexes are there.
+    requires low { (thread lock : ℕ) → thread < threads → HoldsLock (logs_of log logs.now) thread lock → lock < MOST_LOCKS }
     ensures { MatchResult result (λ _. (lock : ℕ) → IsUnshared (logs_of log logs.now) threads lock) (IsMutexFault (logs_of log logs.now) threads) }
 {
-    for lock in 0..MASK_BITS {
+    for lock in 0..MOST_LOCKS {
         if let Some((first, second)) = holders(log, logs, threads, lock) {
             return Err(ImageError::Shared {
                 lock,

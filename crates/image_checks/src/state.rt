@@ -2,11 +2,11 @@
 ghost use Rattle.std.specs.Prelude.{◌≡◌, ◌*◌, ◌≤◌, length, map};
 ghost use Rattle.ido_base.specs.declared.limits.TheConstants.{MOST_THREADS};
 ghost use Rattle.c_tree.specs.Flats.{flat_of};
-ghost use Rattle.c_tree.specs.WellFormed.{shape_of};
+ghost use Rattle.c_tree.specs.WellFormed.{IsWellFormed, shape_of};
 ghost use Rattle.memory_layout.specs.Variables.{HaveRoom};
 ghost use Rattle.ido_base.specs.Layout.{log_words};
 ghost use Rattle.crash_images.specs.links.Views.{state_of};
-ghost use Rattle.image_checks.specs.ResumeSlots.{TablesHaveRoom, TablesHaveSlots};
+ghost use Rattle.image_checks.specs.ResumeSlots.{TablesHaveKinds, TablesHaveRoom, TablesHaveSlots};
 ghost use Rattle.image_checks.specs.StateAnswers.{IsStateAnswer};
 
 use crate::error::ImageError;
@@ -31,14 +31,16 @@ pub fn check_state(
     state: &State,
 ) -> Result<Vec<Vec<u32>>, ImageError>
     requires room { HaveRoom (map shape_of (flat_of flat.now).variables) }
+    requires formed { IsWellFormed (flat_of flat.now) }
     requires slots { TablesHaveSlots table.now }
+    requires kinds { TablesHaveKinds (flat_of flat.now) table.now }
     requires room_for_locks { TablesHaveRoom log table.now }
     requires few { length table.now ≤ MOST_THREADS }
     requires logs { length state.now.logs.items ≡ log_words log * length table.now }
     ensures { IsStateAnswer log (flat_of flat.now) table.now (state_of state.now) result }
 {
     let addresses = addresses(alloc, &flat.variables)?;
-    check_logs(log, &flat.variables, &addresses, table, &state.logs)?;
+    check_logs(alloc, log, flat, &addresses, table, &state.logs)?;
     check_mutexes(log, &state.logs, table.len() as u32)?;
     let lives = schedules_of(alloc, flat, &state.lives)?;
     Ok(lives)

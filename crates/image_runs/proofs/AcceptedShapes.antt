@@ -1,56 +1,80 @@
 -- What an image without a fault has after its source has the shape.
-use Rattle.std.proofs.Common.{◌≡◌, ◌≢◌, refl, ℕ, suc, ◌+◌, ◌-◌, ◌*◌, ◌%◌, ◌<◌, ◌≤◌, List, [], ◌∷◌, length, map, ap, sym, ◌∙◌, subst, arith}
-use Rattle.std.proofs.Common.{Option, Some, inl, inr, true}
-use Rattle.std.specs.Prelude.{slice_get, slice_index, ◌==◌}
-use Rattle.std.proofs.lemmas.Bool.{cases_Bool, cases_lt, cond-true, cond-false, eqb-true, eqb-false}
+use Rattle.std.proofs.Common.{◌≡◌, ◌≢◌, refl, ℕ, zero, suc, ◌+◌, ◌-◌, ◌*◌, ◌%◌, ◌<◌, ◌≤◌, List, [], ◌∷◌, length, map, get_or, ap, sym, ◌∙◌, subst, arith}
+use Rattle.std.proofs.Common.{Option, Some, inl, inr, Bool, true, false, ◌&&◌}
+use Rattle.std.specs.Prelude.{slice_get, slice_index, slice_index_or, find, is_some, ◌==◌, Contains, ℤ, pos}
+use Rattle.std.specs.List.{AllZip}
+use Rattle.std.proofs.lemmas.Bool.{cases_Bool, cases_lt, cond-true, cond-false, eq-eqb, eqb-true, eqb-false, true≢false}
 use Rattle.std.proofs.lemmas.List.{length-map}
-use Rattle.std.proofs.lemmas.List.Elements.{All-contains}
-use Rattle.std.proofs.lemmas.Option.{none-some, same_Some}
-use Rattle.log_states.specs.Logs.{HasLog}
-use Rattle.ido_base.specs.Layout.{log_words, word_count}
-use Rattle.ido_base.specs.declared.log.Log.TheVariants.{V1, V2}
-use Rattle.ido_base.specs.declared.log.Log.{Log}
+use Rattle.std.proofs.lemmas.List.Elements.{Contains-get_or}
+use Rattle.std.proofs.lemmas.Option.{none-some, same_Some, slice_get_within}
+use Rattle.ido_base.specs.declared.limits.TheConstants.{MOST_ELEMENTS}
 use Rattle.ido_base.specs.declared.location.Location.{Location}
-use Rattle.ido_base.specs.Layout.{logs_base}
-use Rattle.ido_base.specs.Locks.{has_lock, locks_in}
+use Rattle.ido_base.specs.declared.log.Log.{Log}
+use Rattle.ido_base.specs.declared.log.Log.TheVariants.{V1, V2}
+use Rattle.ido_base.specs.Layout.{log_words, logs_base, word_count}
+use Rattle.ido_base.specs.Locks.{has_lock}
 use Rattle.ido_base.specs.Words.{Word, word_of}
 use Rattle.ido_ints.specs.declared.kinds.Kind.{Kind}
+use Rattle.ido_ints.specs.declared.kinds.Kind.TheVariants.{UnsignedLong}
+use Rattle.ido_ints.specs.Kinds.{Holds}
+use Rattle.ido_ints.specs.Reduction.{reduced, register_of}
+use Rattle.ido_ints.specs.TypedNumbers.{typed}
+use Rattle.ido_ints.proofs.Public.{Holds-reduced, reduced-register}
+use Rattle.c_tree.specs.Exprs.{LockName}
+use Rattle.c_tree.specs.Flats as f
 use Rattle.c_tree.specs.Flats.{Flat}
-use Rattle.c_tree.specs.WellFormed.{ArePlain}
+use Rattle.c_tree.specs.LockNames.{Held, held_names, lock_names}
+use Rattle.c_tree.specs.NullReferences.{is_among}
+use Rattle.c_tree.specs.Ranges.{elements_of}
+use Rattle.c_tree.specs.References.{IsFlatThreadReferring, IsLocalReferring, variable_refers}
+use Rattle.c_tree.specs.Values.{lock_number}
+use Rattle.c_ranges.specs.Laws.{IsNullOrReference}
+use Rattle.c_ranges.proofs.Public.{zip_found}
 use Rattle.memory_layout.specs.declared.point.Point.TheVariants.{Idle, At}
 use Rattle.memory_layout.specs.Points.{point_of}
-use Rattle.memory_layout.specs.Roles.{pending_address}
+use Rattle.memory_layout.specs.Roles.{pending_address, pending_value}
 use Rattle.rv64_isa.specs.Executables.{Executable}
 use Rattle.rv64_isa.specs.Programs.{slot_of}
 use Rattle.rv64_isa.specs.Machine.{durable_at, durable_point, bank_of, resume_of, recorded, record_of}
 use Rattle.rv64_isa.specs.Rows.{read}
+use Rattle.variable_words.proofs.Public.{well_formed_placed}
+use Rattle.flow_graph.specs.HeldKeys as keys
 use Rattle.flow_graph.specs.Nodes.{Node}
 use Rattle.flow_graph.specs.Liveness.{NodeAt, IsLive}
-use Rattle.log_states.specs.Logs.{IsKeepable, IsWord, log_word}
+use Rattle.flow_graph.specs.Paths.{naming_of}
+use Rattle.flow_graph.proofs.Public.{all_at}
+use Rattle.known_references.proofs.Public.{found_or}
+use Rattle.log_states.specs.Logs.{HasLog, IsKeepable, IsWord, log_word}
 use Rattle.log_states.specs.Schemes.{HasKept}
-use Rattle.log_states.proofs.Public.{kept_are_keepable, scheme}
-use Rattle.thread_code.specs.Plans.{Plan, Thread, locks_held, set_before}
-use Rattle.thread_code.proofs.Public.{mask_with_held}
+use Rattle.log_states.proofs.Public.{contains_cases, contains_none, kept_are_keepable, scheme}
+use Rattle.rv64_codegen.proofs.Public.{numbers_plain}
+use Rattle.thread_code.specs.Plans.{Plan, Thread, locks_before, locks_held, locks_held_from, set_before}
 use Rattle.recovered_threads.specs.RecordDescriptions.{Code, ResumesAt}
 use Rattle.recovered_threads.specs.RecordDescriptions as telling
 use Rattle.crash_simulation.specs.Systems.{System, IsSystem, flat_of}
 use Rattle.flat_compile.specs.declared.resumes.LiveLocal.{LiveLocal}
 use Rattle.flat_compile.specs.declared.resumes.Resume.{Resume}
-use Rattle.flat_compile.specs.ResumePlaces.{Spot, IsSpot, address_in, goes_on_at, IsResumeOf, AreResumes, resumes_at}
+use Rattle.flat_compile.specs.ResumePlaces.{Spot, IsSpot, address_in, goes_on_at, IsLiveLocal, IsResumeOf, AreResumes, knowns_before, refers_in, resumes_at}
 use Rattle.flat_compile.specs.ResumePlaces as places
-use Rattle.image_checks.specs.Logs.{Logs, logged, logs_of, slot_in, HoldsLock}
-use Rattle.image_checks.proofs.Public.{locks_of_set, locks_there, mask_kept, point_is, recorded_there}
-use Rattle.image_checks.specs.Checks.{IsForm, IsElementOf, HasLocal, HasAddress, resume_at, IsResumableLog, IsUnshared}
+use Rattle.image_checks.specs.Logs.{AreOnce, HoldsLock, KeepsLocks, Logs, local_by, locks_by, logged, logs_of, names_at, slot_in}
+use Rattle.image_checks.specs.Checks.{IsElementOf, IsForm, IsLocalWord, IsReferenceWord, IsResumableLog, IsUnnull, IsUnshared}
+use Rattle.image_checks.specs.Checks.{kinds_of_thread, names_of_thread, resume_at}
 use Rattle.image_checks.specs.Checks as checks
-use Rattle.image_runs.specs.Shapes.{GoesOnAt, HasThreadShape, HasShape}
+use Rattle.image_checks.specs.ResumeSlots.{HaveKinds}
+use Rattle.image_checks.specs.VariableReferences.{AreReferences}
+use Rattle.image_checks.proofs.Public.{found_local, local_at, locals_held, locks_are, locks_each, locks_there, named_held, point_is, recorded_there}
+use Rattle.crash_images.specs.Contents.{log_of}
+use Rattle.image_runs.specs.Shapes.{GoesOnAt, HasThreadShape}
 use Rattle.image_runs.specs.Shapes as shapes
 use Rattle.image_runs.specs.Laws.{AcceptedHaveShape}
-use Rattle.crash_images.specs.Contents.{log_of}
-use Rattle.image_runs.proofs.SpreadWords as spread
+use Rattle.image_checks.proofs.Public.{refers_are, zip_there}
+use Rattle.image_checks.proofs.Public.{few_elements, reference_of_word, some_of_word}
 use Rattle.image_runs.proofs.ResumedLocals.{local_keepable}
+use Rattle.image_runs.proofs.SpreadReferences.{spread_references}
+use Rattle.image_runs.proofs.SpreadWords as spread
 use Rattle.expr_code.specs.declared.home.Home.{Home}
 use Rattle.expr_code.specs.declared.home.Home.TheVariants.{InRegister}
-use Rattle.expr_code.specs.EvaluationCode.{home_of}
+use Rattle.expr_code.specs.EvaluationCode.{home_of, HomeCarries}
 
 -- ---- What a point says
 
@@ -91,6 +115,40 @@ resumes_by p code _ (places.at_chosen node own chosen) = telling.at_chosen chose
 resumes_by p code _ (places.past_lock node lock next is own there locks) = telling.past_lock node lock is own there locks
 resumes_by p code _ (places.past_unlock node lock next is own there unlocks holds) = telling.past_unlock node lock is own there unlocks holds
 
+found_in_live : (live : List LiveLocal) (local : ℕ) (l : LiveLocal) → Contains live l → l.local ≡ local →
+    (it : LiveLocal) × (find (λ (z : LiveLocal). z.local == local) live ≡ Some it)
+found_in_live [] local l c is = absurd (contains_none l c)
+found_in_live (z ∷ live) local l c is = elim (cases_Bool (z.local == local)) [
+  | inl own ↦ (z, cond-true (z.local == local) (Some z) (find (λ (u : LiveLocal). u.local == local) live) own)
+  | inr other ↦ elim (contains_cases z live l c) [
+    | inl first ↦ absurd (true≢false (sym (eq-eqb z.local local (ap (λ (u : LiveLocal). u.local) (sym first) ∙ is)) ∙ other))
+    | inr more ↦
+        let rest = found_in_live live local l more is in
+        (rest.0, cond-false (z.local == local) (Some z) (find (λ (u : LiveLocal). u.local == local) live) other ∙ rest.1)
+  ]
+]
+
+-- ---- The numbers of a set
+
+from_first : (at : ℕ) (held : Held) (i lock : ℕ) → slice_get (locks_held_from at held) i ≡ Some lock → at ≤ lock
+from_first at [] i lock there = absurd (none-some lock there)
+from_first at (true ∷ held) zero lock there = let same : at ≡ lock = same_Some at lock there in omega (arith, same)
+from_first at (true ∷ held) (suc i) lock there = let more = from_first (at + 1) held i lock there in omega (arith, more)
+from_first at (false ∷ held) i lock there = let more = from_first (at + 1) held i lock there in omega (arith, more)
+
+once_from : (at : ℕ) (held : Held) → AreOnce (locks_held_from at held)
+once_from at [] i j lock a b = absurd (none-some lock a)
+once_from at (false ∷ held) i j lock a b = once_from (at + 1) held i j lock a b
+once_from at (true ∷ held) zero zero lock a b = refl
+once_from at (true ∷ held) zero (suc j) lock a b =
+    let same : at ≡ lock = same_Some at lock a in let more = from_first (at + 1) held j lock b in absurd (let z : ⊥ = omega (arith, same, more) in z)
+once_from at (true ∷ held) (suc i) zero lock a b =
+    let same : at ≡ lock = same_Some at lock b in let more = from_first (at + 1) held i lock a in absurd (let z : ⊥ = omega (arith, same, more) in z)
+once_from at (true ∷ held) (suc i) (suc j) lock a b = ap suc (once_from (at + 1) held i j lock a b)
+
+held_once : (held : Held) → AreOnce (locks_held held)
+held_once held = once_from 0 held
+
 -- ---- The words of the logs, where the machine has them
 
 module _ (y : System) (words : List Word) (ws : List ℕ)
@@ -114,62 +172,233 @@ module _ (y : System) (words : List Word) (ws : List ℕ)
         ]
       ]
 
-  module _ (s : IsSystem y) (plain : ArePlain (flat_of y).mutexes) (code : Code y.plan) where
+  module _ (s : IsSystem y) (code : Code y.plan) where
     abbrev t : Thread
     t = code.thread
 
     abbrev n : ℕ
     n = code.thread.number
 
-    module _ (address bank : ℕ) (r : Resume) (w : Names (durable_point log words n) address bank) (of : IsResumeOf y.plan t code.is.places r)
-        (at : r.address ≡ address) (right : checks.IsRight (flat_of y).variables logs n bank r) where
-      slot_there : (slot : ℕ) → recorded log words n slot ≡ slot_in logs n bank slot
-      slot_there slot = recorded_there log words ws there n slot ∙ ap (λ (b : ℕ). slot_in logs n b slot) (sym w.bank_is)
+    abbrev x : f.Flat
+    x = flat_of y
 
-      register_there : (register : ℕ) → IsKeepable log register → read (shapes.resumed y.plan code words) register ≡ slot_in logs n bank register
+    abbrev own_names : List LockName
+    own_names = lock_names x code.of.text
+
+    kinds_are : kinds_of_thread x n ≡ t.kinds
+    kinds_are = found_or (λ (u : f.Thread). u.locals) x.threads n [] code.of.text code.of.of_text ∙ sym code.of.kinds
+
+    names_there : names_of_thread x n ≡ own_names
+    names_there = found_or (λ (u : f.Thread). lock_names x u) x.threads n [] code.of.text code.of.of_text
+
+    module _ (address bank : ℕ) (r : Resume) (w : Names (durable_point log words n) address bank) (of : IsResumeOf y.plan t code.is.places r)
+        (at : r.address ≡ address) (right : checks.IsRight x logs n bank r) where
+      abbrev slot : ℕ → ℕ
+      slot = checks.bank_slot x logs n bank
+
+      abbrev live : List LiveLocal
+      live = r.live.items
+
+      abbrev set : Held
+      set = set_before y.plan t r.node
+
+      slot_there : (at_slot : ℕ) → recorded log words n at_slot ≡ slot at_slot
+      slot_there at_slot = recorded_there log words ws there n at_slot ∙ ap (λ (b : ℕ). slot_in logs n b at_slot) (sym w.bank_is)
+
+      register_there : (register : ℕ) → IsKeepable log register → read (shapes.resumed y.plan code words) register ≡ slot register
       register_there register k = (scheme log).reads.registers words n register k ∙ slot_there register
 
-      locks : HasKept log words n (locks_held (set_before y.plan t r.node))
-      locks one c =
-          let held : List ℕ = locks_held (set_before y.plan t r.node) in
-          slot_there one.0
-          ∙ mask_kept log (λ slot. slot_in logs n bank slot) held r.mask right.locks
-          (mask_with_held (set_before y.plan t r.node) ∙ sym of.found.mask_is)
-          (ap locks_in of.found.mask_is ∙ locks_of_set y.plan s.plan t code.of plain r.node) one c
+      -- ---- Locals
 
-      form_there : (local : ℕ) (k : Kind) → slice_get t.kinds local ≡ Some k → IsLive y.plan.graph local r.node → (home : Home) →
-          home_of t.locals local ≡ home → shapes.HomeHasForm (shapes.resumed y.plan code words) home k
-      form_there local k kind live (InRegister register) stands =
-          let l : LiveLocal = record { local = local; kind = k; register = register } in
-          let has : HasLocal logs n bank l =
-          All-contains (HasLocal logs n bank) r.live.items l right.locals
-          ((of.found.live l).1 (record { kind_is = kind; live = live; home_is = stands })) in
-          subst (λ (word : ℕ). IsForm k word)
-          (sym (register_there register (local_keepable y.plan s.plan t code.of local k register kind stands))) has
+      abbrev numbers : List ℤ
+      numbers = checks.bank_locals x logs n bank live
+
+      have_kinds : HaveKinds (kinds_of_thread x n) live
+      have_kinds k d within =
+          let l : LiveLocal = get_or live k d in
+          ap (λ (ks : List Kind). slice_get ks l.local) kinds_are ∙ ((of.found.live l).0 (Contains-get_or live k d within)).kind_is
+
+      held : AllZip Holds t.kinds numbers
+      held = subst (λ (ks : List Kind). AllZip Holds ks numbers) kinds_are (locals_held slot live (kinds_of_thread x n) have_kinds)
+
+      -- what the table tells of a live local, and the bank has of it
+      record IsTold (local : ℕ) (k : Kind) (refers : Option ℕ) : Type 0 where
+        it : LiveLocal
+        is : IsLiveLocal y.plan t r.node it
+        local_is : it.local ≡ local
+        kind_is : it.kind ≡ k
+        refers_is : it.refers ≡ refers
+        has : IsLocalWord x.variables it (slot it.register)
+        number_is : slice_index_or numbers local (pos 0) ≡ reduced k (pos (slot it.register))
+
+      told_by : (local : ℕ) (k : Kind) (refers : Option ℕ) → slice_get t.kinds local ≡ Some k → slice_get (refers_in y.plan t) local ≡ Some refers →
+          IsLive y.plan.graph local r.node → (home : Home) → home_of t.locals local ≡ home → IsTold local k refers
+      told_by local k refers kind refer is_live (InRegister register) stands =
+          let knowns = knowns_before y.plan t r.node in
+          let l : LiveLocal =
+          record { register = register; local = local; kind = k; refers = refers; known = is_some refers && is_among knowns local } in
+          let there : Contains live l =
+          (of.found.live l).1 (record { kind_is = kind; refers_is = refer; known_is = refl; live = is_live; home_is = stands }) in
+          let found = found_in_live live local l there refl in
+          let both = found_local (λ (z : LiveLocal). IsLiveLocal y.plan t r.node z × IsLocalWord x.variables z (slot z.register)) live local found.0
+          (λ i d within. (
+            (of.found.live (get_or live i d)).0 (Contains-get_or live i d within),
+            right.locals i d within,
+          )) found.1 in
+          let it : LiveLocal = found.0 in
+          let is : IsLiveLocal y.plan t r.node it = both.0.0 in
+          let local_is : it.local ≡ local = both.1 in
+          let kind_is : it.kind ≡ k = same_Some it.kind k (sym is.kind_is ∙ (ap (slice_get t.kinds) local_is ∙ kind)) in
+          let inside : local < length (kinds_of_thread x n) =
+          slice_get_within (kinds_of_thread x n) local k (ap (λ (ks : List Kind). slice_get ks local) kinds_are ∙ kind) in
+          record {
+            it = it;
+            is = is;
+            local_is = local_is;
+            kind_is = kind_is;
+            refers_is = same_Some it.refers refers (sym is.refers_is ∙ (ap (slice_get (refers_in y.plan t)) local_is ∙ refer));
+            has = both.0.1;
+            number_is =
+                local_at slot live (length (kinds_of_thread x n)) local inside
+                ∙ (ap (local_by slot) found.1 ∙ ap (λ (j : Kind). reduced j (pos (slot it.register))) kind_is);
+          }
+
+      told : (local : ℕ) (k : Kind) (refers : Option ℕ) → slice_get t.kinds local ≡ Some k → slice_get (refers_in y.plan t) local ≡ Some refers →
+          IsLive y.plan.graph local r.node → IsTold local k refers
+      told local k refers kind refer is_live = told_by local k refers kind refer is_live (home_of t.locals local) refl
+
+      form_locals : AllZip IsLocalReferring code.of.text.locals code.of.text.refers
+      form_locals = (all_at (IsFlatThreadReferring x) x.threads n code.of.text s.plan.formed.referring.threads code.of.of_text).locals
+
+      refers_there : (local : ℕ) (k : Kind) → slice_get t.kinds local ≡ Some k → (refers : Option ℕ) × (slice_get (refers_in y.plan t) local ≡ Some refers)
+      refers_there local k kind =
+          let own = zip_there IsLocalReferring code.of.text.locals code.of.text.refers local k form_locals
+          (ap (λ (ks : List Kind). slice_get ks local) (sym code.of.kinds) ∙ kind) in
+          (own.0, ap (λ (rs : List (Option ℕ)). slice_get rs local) (refers_are y.plan t code.of) ∙ own.1)
+
+      kind_there : (local array : ℕ) → slice_get (refers_in y.plan t) local ≡ Some (Some array) → slice_get t.kinds local ≡ Some UnsignedLong
+      kind_there local array refer =
+          let own = zip_found IsLocalReferring code.of.text.locals code.of.text.refers local (Some array) form_locals
+          (ap (λ (rs : List (Option ℕ)). slice_get rs local) (sym (refers_are y.plan t code.of)) ∙ refer) in
+          ap (λ (ks : List Kind). slice_get ks local) code.of.kinds ∙ (own.found ∙ ap (λ (j : Kind). Some j) own.related)
+
+      carried_by : (k : Kind) (register word : ℕ) (registers : List ℕ) → read registers register ≡ word → IsForm k word →
+          HomeCarries registers (InRegister register) (typed k (reduced k (pos word)))
+      carried_by k register word registers same form =
+          let back : reduced k (pos word) ≡ form.number = ap (λ (v : ℕ). reduced k (pos v)) form.is ∙ reduced-register k form.number form.held in
+          record { held = Holds-reduced k (pos word); form = same ∙ (form.is ∙ ap (register_of k) (sym back)) }
 
       local_there : (local : ℕ) (k : Kind) → slice_get t.kinds local ≡ Some k → IsLive y.plan.graph local r.node →
-          shapes.HomeHasForm (shapes.resumed y.plan code words) (home_of t.locals local) k
-      local_there local k kind live = form_there local k kind live (home_of t.locals local) refl
+          HomeCarries (shapes.resumed y.plan code words) (home_of t.locals local) (typed k (slice_index_or numbers local (pos 0)))
+      local_there local k kind is_live =
+          let refer = refers_there local k kind in
+          let l = told local k refer.0 kind refer.1 is_live in
+          let register : ℕ = l.it.register in
+          let home : home_of t.locals local ≡ InRegister register = ap (home_of t.locals) (sym l.local_is) ∙ l.is.home_is in
+          let form : IsForm k (slot register) = subst (λ (j : Kind). IsForm j (slot register)) l.kind_is l.has.form in
+          let carried = carried_by k register (slot register) (shapes.resumed y.plan code words)
+          (register_there register (local_keepable y.plan s.plan t code.of local k register kind home)) form in
+          subst (λ (h : Home). HomeCarries (shapes.resumed y.plan code words) h (typed k (slice_index_or numbers local (pos 0)))) (sym home)
+          (subst (λ (z : ℤ). HomeCarries (shapes.resumed y.plan code words) (InRegister register) (typed k z)) (sym l.number_is) carried)
 
-      pending_there : (is : Node) (location : Location) → NodeAt y.plan.graph r.node is → is.writes ≡ Some location →
-          IsElementOf (flat_of y).variables location (read (shapes.resumed y.plan code words) pending_address)
-      pending_there is location at_node writes =
-          let has : IsElementOf (flat_of y).variables location (slot_in logs n bank 28) =
-          subst (λ (o : Option Location). HasAddress (flat_of y).variables logs n bank o) (of.found.pending_is is at_node ∙ writes) right.address in
-          subst (λ (word : ℕ). IsElementOf (flat_of y).variables location word)
-          (sym (register_there pending_address (kept_are_keepable log pending_address refl))) has
+      -- ---- References
+
+      record IsReferenceTold (local array : ℕ) : Type 0 where
+        own : IsTold local UnsignedLong (Some array)
+        low : slot own.it.register ≤ elements_of x.variables array
+        most : elements_of x.variables array ≤ MOST_ELEMENTS
+
+      reference_told : (local array : ℕ) → slice_get (refers_in y.plan t) local ≡ Some (Some array) → IsLive y.plan.graph local r.node →
+          IsReferenceTold local array
+      reference_told local array refer is_live =
+          let l = told local UnsignedLong (Some array) (kind_there local array refer) refer is_live in
+          record {
+            own = l;
+            low = subst (λ (o : Option ℕ). IsReferenceWord x.variables o (slot l.it.register)) l.refers_is l.has.reference;
+            most = few_elements x.mutexes x.variables array s.plan.formed.shared.variables;
+          }
+
+      refer_there : (local array : ℕ) → slice_get (refers_in y.plan t) local ≡ Some (Some array) → IsLive y.plan.graph local r.node →
+          IsNullOrReference (elements_of x.variables array) (slice_index_or numbers local (pos 0))
+      refer_there local array refer is_live =
+          let l = reference_told local array refer is_live in
+          subst (IsNullOrReference (elements_of x.variables array)) (sym l.own.number_is)
+          (reference_of_word (elements_of x.variables array) (slot l.own.it.register) l.most l.low)
+
+      unnull_there : (local array : ℕ) → slice_get (refers_in y.plan t) local ≡ Some (Some array) → IsLive y.plan.graph local r.node →
+          is_among (knowns_before y.plan t r.node) local ≡ true → slice_index_or numbers local (pos 0) ≢ pos 0
+      unnull_there local array refer is_live among =
+          let l = reference_told local array refer is_live in
+          let knowns = knowns_before y.plan t r.node in
+          let known : l.own.it.known ≡ true =
+          l.own.is.known_is
+          ∙ (ap (λ (o : Option ℕ). is_some o && is_among knowns l.own.it.local) l.own.refers_is ∙ (ap (is_among knowns) l.own.local_is ∙ among)) in
+          let some : slot l.own.it.register ≢ 0 = subst (λ (b : Bool). IsUnnull b (slot l.own.it.register)) known l.own.has.unnull in
+          let low = l.low in
+          let most = l.most in
+          λ zeroth. some_of_word (slot l.own.it.register) (omega (arith, low, most)) some (sym l.own.number_is ∙ zeroth)
+
+      -- ---- Locks
+
+      abbrev own_locks : List ℕ
+      own_locks = locks_before y.plan t numbers r.node
+
+      plain_there : log ≡ V1 → r.held.items ≡ own_locks
+      plain_there masks = of.found.held_is ∙ numbers_plain y.plan s.plan t code.of masks numbers r.node of.found.own
+
+      locks_told : locks_by slot (names_of_thread x n) (length (kinds_of_thread x n)) r ≡ own_locks
+      locks_told =
+          ap (λ (held : List ℕ). map (lock_number numbers) (names_at (names_of_thread x n) held)) of.found.held_is
+          ∙ (ap (λ (ns : List LockName). map (lock_number numbers) ns) (named_held (names_of_thread x n) set)
+          ∙ (ap (λ (ns : List LockName). map (lock_number numbers) (held_names ns set)) names_there ∙ sym (locks_are y.plan s.plan t code.of numbers r.node)))
+
+      locks : HasKept log words n own_locks
+      locks one c =
+          slot_there one.0
+          ∙ locks_each slot (names_of_thread x n) (length (kinds_of_thread x n)) r own_locks log right.locks plain_there locks_told one c
+
+      once_by_log : (way : Log) → log ≡ way → KeepsLocks way slot (names_of_thread x n) (length (kinds_of_thread x n)) r → AreOnce own_locks
+      once_by_log V1 is keeps = subst AreOnce (sym of.found.held_is ∙ plain_there is) (held_once set)
+      once_by_log V2 is keeps = subst AreOnce locks_told keeps.1
+
+      -- ---- Where a store is pending
+
+      module _ (is : Node) (location : Location) (at_node : NodeAt y.plan.graph r.node is) (writes : is.writes ≡ Some location) where
+        pending_is : r.pending ≡ Some location
+        pending_is = of.found.pending_is is at_node ∙ writes
+
+        address_there : IsElementOf x.variables (naming_of x code.of.text numbers) location (read (shapes.resumed y.plan code words) pending_address)
+        address_there =
+            let has : IsElementOf x.variables (keys.names_in x.variables (names_of_thread x n) numbers) location (slot 28) =
+            subst (λ (o : Option Location). checks.HasAddress x logs n bank live o) pending_is right.address in
+            subst (λ (word : ℕ). IsElementOf x.variables (naming_of x code.of.text numbers) location word)
+            (sym (register_there pending_address (kept_are_keepable log pending_address refl)))
+            (subst (λ (ns : List LockName). IsElementOf x.variables (keys.names_in x.variables ns numbers) location (slot 28)) names_there has)
+
+        value_there : IsReferenceWord x.variables (variable_refers x.variables location.variable) (read (shapes.resumed y.plan code words) pending_value)
+        value_there =
+            let has : IsReferenceWord x.variables (variable_refers x.variables location.variable) (slot 29) =
+            subst (λ (o : Option Location). checks.HasValue x logs n bank o) pending_is right.value in
+            subst (IsReferenceWord x.variables (variable_refers x.variables location.variable))
+            (sym (register_there pending_value (kept_are_keepable log pending_value refl))) has
 
       goes_on : GoesOnAt y.plan code words r.node
       goes_on = record {
         own = of.found.own;
         resumes = subst (λ (a : ℕ). ResumesAt y.plan code r.node a) (of.at ∙ (at ∙ w.address_is))
             (subst (λ (m : ℕ). ResumesAt y.plan code m (address_in code.is.places of.spot)) of.goes_on (resumes_by y.plan code of.spot of.is));
-        locks = locks;
+        numbers = numbers;
+        held = held;
         locals = local_there;
-        pending = pending_there;
+        refer = refer_there;
+        unnull = unnull_there;
+        locks = locks;
+        once = once_by_log log refl right.locks;
+        pending = λ is location at_node writes. address_there is location at_node writes;
+        value = λ is location at_node writes. value_there is location at_node writes;
       }
 
-    thread_shape : (rs : List Resume) → AreResumes y.plan t code.program code.is rs → IsResumableLog (flat_of y).variables rs logs n →
+    thread_shape : (rs : List Resume) → AreResumes y.plan t code.program code.is rs → IsResumableLog x rs logs n →
         HasThreadShape y.plan code words
     thread_shape rs are (checks.idle none) = shapes.idle (zero_of (durable_point log words n) (sym (point_is log words ws there n) ∙ none))
     thread_shape rs are (checks.resumed address bank r point found right) =
@@ -188,7 +417,7 @@ log_within V1 words threads n all below = omega (arith, all, below)
 log_within V2 words threads n all below = omega (arith, all, below)
 
 pub accepted_have_shape : AcceptedHaveShape
-accepted_have_shape version flat object marks cuts table state r plain is wf =
+accepted_have_shape version flat object marks cuts table state r is right wf =
     let y : System = r.translated.system in
     let s : IsSystem y = r.translated.is in
     let bytes = r.translated.limits.bytes in
@@ -214,17 +443,19 @@ accepted_have_shape version flat object marks cuts table state r plain is wf =
             (spread.word_fits (slice_index ws (log_word (log_of version) n i))
             (spread.bits state.variables state.logs few is.variable_words is.log_words (log_word (log_of version) n i)));
       });
+      references =
+          spread_references state.variables state.logs few (flat_of y) (well_formed_placed (flat_of y) s.plan.formed).room
+          (subst (λ (z : Flat). AreReferences z state.variables) (sym r.translated.of_flat) right);
       threads = λ n below.
           let code = s.codes.each n below in
           let number : n ≡ code.thread.number = sym (s.codes.number n below) in
           let within : n < length table = subst (λ (k : ℕ). n < k) (sym r.are.count) below in
-          let log : IsResumableLog (flat_of y).variables (resumes_at table n) (logs_of (log_of version) state.logs) code.thread.number =
-          subst (λ (k : ℕ). IsResumableLog (flat_of y).variables (resumes_at table n) (logs_of (log_of version) state.logs) k) number
-          (subst (λ (x : Flat). IsResumableLog x.variables (resumes_at table n) (logs_of (log_of version) state.logs) n) (sym r.translated.of_flat)
+          let log : IsResumableLog (flat_of y) (resumes_at table n) (logs_of (log_of version) state.logs) code.thread.number =
+          subst (λ (k : ℕ). IsResumableLog (flat_of y) (resumes_at table n) (logs_of (log_of version) state.logs) k) number
+          (subst (λ (z : Flat). IsResumableLog z (resumes_at table n) (logs_of (log_of version) state.logs) n) (sym r.translated.of_flat)
           (wf.logs n within)) in
-          thread_shape y words state.logs there s (subst (λ (x : Flat). ArePlain x.mutexes) (sym r.translated.of_flat) plain) code (resumes_at table n)
-          (r.are.each n below)
-          (subst (λ (l : Log). IsResumableLog (flat_of y).variables (resumes_at table n) (logs_of l state.logs) code.thread.number) (sym first) log);
+          thread_shape y words state.logs there s code (resumes_at table n) (r.are.each n below)
+          (subst (λ (l : Log). IsResumableLog (flat_of y) (resumes_at table n) (logs_of l state.logs) code.thread.number) (sym first) log);
       apart = λ g h lock gb hb gl hl.
           apart_by y words state.logs there (length table) g h lock
           (subst (λ (l : Log). (lock : ℕ) → IsUnshared (logs_of l state.logs) (length table) lock) (sym first) wf.mutexes)

@@ -1,51 +1,42 @@
 -- What a thread of a plan holds at its nodes, and that something is held where it may be resumed.
-use Rattle.std.proofs.Common.{◌≡◌, ◌≢◌, refl, ℕ, zero, suc, ◌-◌, ◌<◌, List, [], ◌∷◌, length, ap, sym, ◌∙◌, subst, arith, Some}
+use Rattle.std.proofs.Common.{◌≡◌, ◌≢◌, ℕ, ◌-◌, ◌<◌, List, [], ◌∷◌, length, ap, sym, ◌∙◌, subst, arith, Some}
 use Rattle.std.proofs.Common.{true, false}
-use Rattle.std.specs.Prelude.{slice_get, slice_index_or, ℤ}
-use Rattle.std.specs.List.{AllByRecursion, AllZip}
+use Rattle.std.specs.Prelude.{slice_get, slice_index_or}
+use Rattle.std.specs.List.{AllByRecursion}
 use Rattle.std.proofs.lemmas.Bool.{true≢false}
 use Rattle.std.proofs.lemmas.List.{get_or-set_same}
-use Rattle.std.proofs.lemmas.Option.{none-some, same_Some, slice_get_within, get_or_from_slice_get}
+use Rattle.std.proofs.lemmas.Option.{same_Some, slice_get_within, get_or_from_slice_get}
 use Rattle.ido_base.specs.Locks.{has_lock}
-use Rattle.ido_ints.specs.declared.kinds.Kind.{Kind}
 use Rattle.c_tree.specs.Exprs as e
 use Rattle.c_tree.specs.Flats as f
-use Rattle.c_tree.specs.LockNames.{Held, holds, none_held, lock_names, number_in, plain_names}
-use Rattle.c_tree.specs.LockDiscipline.{Use, guard_name, is_guarded}
+use Rattle.c_tree.specs.LockNames.{Held, holds, none_held, lock_names, number_in}
+use Rattle.c_tree.specs.LockDiscipline.{guard_name}
 use Rattle.c_tree.specs.References.{IsFlatStatementReferring, IsFlatThreadReferring}
-use Rattle.c_tree.specs.WellFormed.{AreFlatStatements, IsSingle}
+use Rattle.c_tree.specs.WellFormed.{AreFlatStatements}
+use Rattle.c_ranges.specs.KnownAtSteps.{thread_knowns}
 use Rattle.c_ranges.specs.RunInvariants.{IsStatementLeft}
-use Rattle.c_tree.proofs.Public.{length-plain_names, names_are_plain}
-use Rattle.source_machine.specs.ElementLocks.{element_lock}
 use Rattle.source_machine.specs.Discipline.{KeepList, KeepsLeft}
 use Rattle.source_machine.proofs.Public.{keeps_lock, set_is_one}
 use Rattle.lock_discipline.specs.HeldSetsByStep.{AreSetsOf, HeldBefore}
 use Rattle.lock_discipline.specs.links.Flow.{thread_sets}
-use Rattle.lock_discipline.proofs.Public.{element_held, held_length, set_left, thread_sets_are}
+use Rattle.lock_discipline.proofs.Public.{held_length, set_left, thread_sets_are}
 use Rattle.flow_graph.specs.IdempotentCuts.{IsChosen, AreAtWrites}
 use Rattle.flow_graph.specs.Liveness.{NodeAt}
 use Rattle.flow_graph.specs.Lockstep.{Standing, free, thread_standings, threads_standings}
 use Rattle.flow_graph.specs.Lowering.{lowered, threads_nodes}
-use Rattle.flow_graph.specs.Nodes.{Action, Store, Lock, Unlock, Graph, Node}
-use Rattle.flow_graph.proofs.Public.{ActionLeads, At, Locks, Unlocks, agrees, all_at, found_in, nodes_at}
+use Rattle.flow_graph.specs.Nodes.{Action, Lock, Graph, Node}
+use Rattle.flow_graph.proofs.Public.{ActionLeads, At, Locks, agrees, all_at, found_in, nodes_at}
+use Rattle.region_attempts.specs.KnownReferences.{known_at}
 use Rattle.region_cutter.specs.LocksAtBoundaries.{ChosenAreLocked, StoresLocked}
-use Rattle.thread_code.specs.Plans.{Plan, Thread, IsThread, IsPlan, IsNodeOf, held_names_before, locks_before, locks_held, names_in, set_before}
-use Rattle.thread_code.proofs.Public.{has_held, names_are, nothing_held, plain_before}
+use Rattle.thread_code.specs.Plans.{Plan, Thread, IsThread, IsPlan, IsNodeOf, held_names_before, locks_held, names_in, set_before}
+use Rattle.thread_code.proofs.Public.{has_held, names_are, nothing_held}
 use Rattle.recovered_threads.specs.RecordDescriptions.{Code, ResumesAt, at_chosen, past_lock, past_unlock}
 use Rattle.recovered_threads.proofs.Public.{left_at, standing_at}
 use Rattle.flat_compile.proofs.Public.{node_there}
+use Rattle.image_runs.proofs.LeftKnowns.{IsLeftBy, StandsBy, are_known}
 use Rattle.image_runs.proofs.LeftReferences.{are_right}
 use Rattle.image_runs.proofs.LeftStatements.{are_left}
-use Rattle.image_checks.proofs.Public.{part_is}
-
--- ---- Two lists, one against the other
-
-zip_there : {A B : Type 0} (R : A → B → Type 0) (xs : List A) (ys : List B) (k : ℕ) (x : A) → AllZip R xs ys → slice_get xs k ≡ Some x →
-    (y : B) × (slice_get ys k ≡ Some y) × R x y
-zip_there R [] ys k x z e = absurd (none-some x e)
-zip_there R (a ∷ xs) [] k x z e = absurd z
-zip_there {A} R (a ∷ xs) (b ∷ ys) zero x z e = (b, refl, subst (λ (w : A). R w b) (same_Some a x e) z.0)
-zip_there R (a ∷ xs) (b ∷ ys) (suc k) x z e = zip_there R xs ys k x z.1 e
+use Rattle.image_checks.proofs.Public.{part_is, zip_there}
 
 -- ---- At a node
 
@@ -62,11 +53,6 @@ module _ (p : Plan) (plan : IsPlan p) (t : Thread) (of : IsThread p t) where
   -- the names of its locks
   abbrev pub names : List e.LockName
   names = lock_names p.flat of.text
-
-  -- those of all mutexes, where none is in an array
-  pub names_long : AllByRecursion IsSingle p.flat.mutexes → length names ≡ length p.flat.mutexes
-  names_long single =
-      ap (λ (ns : List e.LockName). length ns) (names_are_plain p.flat of.text single) ∙ length-plain_names (length p.flat.mutexes)
 
   module _ (node : ℕ) (own : IsNodeOf t node) where
     abbrev step : ℕ
@@ -106,11 +92,9 @@ module _ (p : Plan) (plan : IsPlan p) (t : Thread) (of : IsThread p t) where
     pub keeps : KeepsLeft p.flat names (set_before p t node) stands.0.left
     keeps = subst (λ (h : Held). KeepsLeft p.flat names h stands.0.left) (sym set_is) kept.2
 
-    named : length (set_before p t node) ≡ length names
-    named = ap (λ (h : Held). length h) set_is ∙ held_length p.flat of.text step kept.0 before
-
-    pub long : AllByRecursion IsSingle p.flat.mutexes → length (set_before p t node) ≡ length p.flat.mutexes
-    long single = named ∙ names_long single
+    -- a set is as long as the thread's names
+    pub long : length (set_before p t node) ≡ length names
+    long = ap (λ (h : Held). length h) set_is ∙ held_length p.flat of.text step kept.0 before
 
     pub left_is : AllByRecursion (IsStatementLeft p.flat of.text.locals) stands.0.left
     left_is =
@@ -121,6 +105,18 @@ module _ (p : Plan) (plan : IsPlan p) (t : Thread) (of : IsThread p t) where
     left_refers =
         are_right p.flat of.text step stands.0
         (all_at (IsFlatThreadReferring p.flat) p.flat.threads t.number of.text plan.formed.referring.threads of.of_text).body own_standing
+
+    known_there : (known : List ℕ) × (slice_get (thread_knowns of.text) step ≡ Some known) × IsLeftBy known stands.0.left
+    known_there =
+        zip_there StandsBy (thread_standings of.text) (thread_knowns of.text) step stands.0
+        (are_known of.text (all_at (IsFlatThreadReferring p.flat) p.flat.threads t.number of.text plan.formed.referring.threads of.of_text).never_null)
+        own_standing
+
+    -- by what is known before the node
+    pub left_known : IsLeftBy (known_at of.text t.part.first node) stands.0.left
+    left_known =
+        subst (λ (known : List ℕ). IsLeftBy known stands.0.left)
+        (sym (get_or_from_slice_get (thread_knowns of.text) step known_there.0 [] known_there.1)) known_there.2
 
     -- before a store at which a boundary is chosen the lock that guards its variable is held
     pub locked_here : ChosenAreLocked → IsChosen p.graph p.boundaries node → StoresLocked p.flat t.number node (set_before p t node)
@@ -165,15 +161,6 @@ module _ (p : Plan) (plan : IsPlan p) (t : Thread) (of : IsThread p t) where
         let inside : n < length (set_before p t from) = slice_get_within (set_before p t from) n false taken.0 in
         ap (λ (h : Held). holds h n) (sym between ∙ taken.1) ∙ get_or-set_same (set_before p t from) n true false inside
 
-  -- no store is pending after an unlock either
-  pub free_after_unlock : (from : ℕ) (lock : e.LockName) (node : ℕ) (is : Node) (own_from : IsNodeOf t from) (own : IsNodeOf t node) → NodeAt p.graph from is →
-      is.action ≡ Unlock lock node → (stands node own).0.owes ≡ false
-  free_after_unlock from lock node is own_from own at unlocks =
-      let same : (node_is from own_from).0 ≡ is = same_Some _ is (sym (node_is from own_from).1 ∙ at) in
-      let leads : Unlocks all lock node (stands from own_from).0 =
-      subst (λ (a : Action). ActionLeads all a (stands from own_from).0) (ap (λ (n : Node). n.action) same ∙ unlocks) (stands from own_from).2 in
-      ap (λ (s : Standing). s.owes) (same_Some _ _ (sym (stands node own).1 ∙ leads.follows))
-
 -- ---- Where a thread may be resumed
 
 some_locks : (held : Held) (lock : ℕ) → holds held lock ≡ true → locks_held held ≢ []
@@ -183,14 +170,10 @@ module _ (locked : ChosenAreLocked) (p : Plan) (plan : IsPlan p) (code : Code p)
   abbrev t : Thread
   t = code.thread
 
-  pub numbers_plain : AllByRecursion IsSingle p.flat.mutexes → (locals : List ℤ) (node : ℕ) → IsNodeOf code.thread node →
-      locks_held (set_before p t node) ≡ locks_before p t locals node
-  numbers_plain single locals node own = plain_before p t code.of single locals node (long p plan t code.of node own single)
-
   some_names : (node : ℕ) → IsNodeOf code.thread node → locks_held (set_before p t node) ≢ [] → held_names_before p t node ≢ []
   some_names node own some none =
       some (nothing_held 0 (names_in p t) (set_before p t node)
-      (named p plan t code.of node own ∙ ap (λ (ns : List e.LockName). length ns) (sym (names_are p t code.of))) none)
+      (long p plan t code.of node own ∙ ap (λ (ns : List e.LockName). length ns) (sym (names_are p t code.of))) none)
 
   -- something is held
   pub resumed_hold : (node address : ℕ) → IsNodeOf code.thread node → ResumesAt p code node address → held_names_before p code.thread node ≢ []
@@ -201,30 +184,3 @@ module _ (locked : ChosenAreLocked) (p : Plan) (plan : IsPlan p) (code : Code p)
       some_names node own (some_locks (set_before p t node) (number_in (lock_names p.flat code.of.text) lock)
       (held_after_lock p plan t code.of from lock node is own_from own at locks))
   resumed_hold node address own (past_unlock from lock is own_from at unlocks some) = some
-
-  -- a guard that is held by its name is held by its number
-  guard_held : AllByRecursion IsSingle p.flat.mutexes → (text : f.Thread) (node : ℕ) (own : IsNodeOf code.thread node) (u : Use) (n : ℕ) →
-      is_guarded p.flat.variables (lock_names p.flat text) (set_before p t node) u ≡ true →
-      holds (set_before p t node) (element_lock p.flat.variables u.variable n) ≡ true
-  guard_held single text node own u n g =
-      let h = set_before p t node in
-      let as_plain : lock_names p.flat text ≡ plain_names (length h) =
-      names_are_plain p.flat text single ∙ ap plain_names (sym (long p plan t code.of node own single)) in
-      element_held p.flat.mutexes p.flat.variables h u n single plan.formed.shared.variables
-      (subst (λ (ns : List e.LockName). is_guarded p.flat.variables ns h u ≡ true) as_plain g)
-
-  -- where a store is pending the lock that guards its element is held: no boundary but the chosen one before it leads there
-  pub resumed_store_locked : AllByRecursion IsSingle p.flat.mutexes → (node address : ℕ) (own : IsNodeOf code.thread node) → ResumesAt p code node address →
-      (variable : ℕ) (kind : Kind) (next element : ℕ) → (node_is p plan t code.of node own).0.action ≡ Store variable kind next →
-      (stands p plan t code.of node own).0.owes ≡ true → holds (set_before p t node) (element_lock p.flat.variables variable element) ≡ true
-  resumed_store_locked single node address own (at_chosen chosen) variable kind next element stores owes =
-      let s = locked_here p plan t code.of node own locked chosen in
-      let same : s.is ≡ (node_is p plan t code.of node own).0 = same_Some _ _ (sym s.at ∙ lowered_is p plan t code.of node own) in
-      let one : Store s.used.variable s.kind s.next ≡ Store variable kind next = sym s.stores ∙ (ap (λ (n : Node). n.action) same ∙ stores) in
-      let variable_is : s.used.variable ≡ variable = cc one in
-      subst (λ (v : ℕ). holds (set_before p t node) (element_lock p.flat.variables v element) ≡ true) variable_is
-      (guard_held single s.text node own s.used element s.locked)
-  resumed_store_locked single node address own (past_lock from lock is own_from at locks) variable kind next element stores owes =
-      absurd (true≢false (sym owes ∙ ap (λ (s : Standing). s.owes) (free_after_lock p plan t code.of from lock node is own_from own at locks)))
-  resumed_store_locked single node address own (past_unlock from lock is own_from at unlocks some) variable kind next element stores owes =
-      absurd (true≢false (sym owes ∙ free_after_unlock p plan t code.of from lock node is own_from own at unlocks))

@@ -1,11 +1,16 @@
 pub mod Public
 mod SpreadWords
+mod SpreadReferences
 mod ResumedLocals
 mod AcceptedShapes
 mod LeftShapes
 mod LeftStatements
+mod FollowedLocals
+mod LeftKnowns
+mod SureReferences
 mod LeftReferences
-mod StoredElements
+mod MendedNumbers
+mod GuardedElements
 mod HeldAtNodes
 mod RecordedWords
 mod ResumedThreads

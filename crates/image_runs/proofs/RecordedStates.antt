@@ -1,17 +1,17 @@
 -- The state of the source that words with the shape describe.
 use Rattle.std.proofs.Common.{◌≡◌, ◌⊎◌, refl, inl, inr, ℕ, zero, suc, ◌+◌, ◌<◌, ◌≤◌, List, [], ◌∷◌, length, map, ap, sym, ◌∙◌, subst, arith}
 use Rattle.std.proofs.Common.{Option, Some, None, Bool, true, false, add-zero}
-use Rattle.std.specs.Prelude.{slice_get, ◌==◌, if◌then◌else◌}
+use Rattle.std.specs.Prelude.{slice_get, slice_index_or, ℤ, pos, ◌==◌, if◌then◌else◌}
 use Rattle.std.specs.List.{AllByRecursion, AllZip}
 use Rattle.std.proofs.Math.Bridge.{le_prop}
-use Rattle.std.proofs.lemmas.Bool.{cases_Bool, cases_lt, cond-true, cond-false, true≢false, ne_eqb}
+use Rattle.std.proofs.lemmas.Bool.{cases_Bool, cases_lt, cond-true, cond-false, eq-eqb, or_left, true≢false}
 use Rattle.std.proofs.lemmas.List.{length-replicate}
 use Rattle.std.proofs.lemmas.Option.{none-some, same_Some, slice_get_within}
 use Rattle.ido_base.specs.declared.log.Log.{Log}
 use Rattle.ido_base.specs.declared.event.Event.TheVariants.{Crash}
 use Rattle.ido_base.specs.declared.location.Shape.{Shape}
 use Rattle.ido_base.specs.Layout.{byte_number, variable_at, word_count}
-use Rattle.ido_base.specs.Locks.{has_lock, holds_none, is_held_by}
+use Rattle.ido_base.specs.Locks.{has_lock, holds_none}
 use Rattle.ido_base.specs.Words.{Word, word_of, durable_value}
 use Rattle.ido_ints.specs.declared.kinds.Kind.{Kind}
 use Rattle.ido_ints.specs.Kinds.{Holds}
@@ -19,26 +19,28 @@ use Rattle.ido_ints.proofs.Public.{Holds-reduced}
 use Rattle.c_tree.specs.Flats as f
 use Rattle.c_tree.specs.Source as m
 use Rattle.c_tree.specs.Programs.{Variable}
+use Rattle.c_tree.specs.References.{variable_refers}
 use Rattle.c_tree.specs.Source.{Pending}
-use Rattle.c_tree.specs.LockNames.{Held, holds, lock_names, plain_names}
-use Rattle.c_tree.specs.WellFormed.{elements_in, shape_of, ArePlain}
-use Rattle.c_ranges.specs.RunInvariants.{AreNumbersOf, IsReferringThread, IsStateOf, IsThreadOf}
+use Rattle.c_tree.specs.LockNames.{held_names, lock_names}
+use Rattle.c_tree.specs.Values.{element_number, lock_number}
+use Rattle.c_tree.specs.WellFormed.{elements_in, shape_of}
+use Rattle.c_ranges.specs.RunInvariants.{AreElementsReferring, AreNumbersOf, IsReferringThread, IsStateOf, IsThreadOf, RefersSo}
 use Rattle.source_machine.specs.Mutexes.{held_by}
 use Rattle.c_tree.specs.Exprs.{LockName}
-use Rattle.c_tree.proofs.Public.{names_are_plain}
 use Rattle.source_machine.specs.ElementLocks.{element_lock}
 use Rattle.source_machine.specs.Discipline.{HoldsNames, StateKeeps, ThreadKeeps}
-use Rattle.source_machine.proofs.Public.{held_found, plain_holds}
+use Rattle.source_machine.proofs.Public.{held_found, held_there}
 use Rattle.rv64_isa.specs.declared.object.Slot.{Slot}
 use Rattle.rv64_isa.specs.Machine.{Hart, World, after_crash_of, after_event, durable_point, fresh_hart, happens, numbers_from, phase_after_crash, record_of}
 use Rattle.boundary_code.specs.Boundaries.{is_empty}
 use Rattle.flow_graph.specs.Actions.{FlowState, GraphThread}
 use Rattle.flow_graph.specs.Lockstep.{GraphThreadMatches, Matches, IsOwnNode}
-use Rattle.flow_graph.specs.Lowering.{parts}
+use Rattle.flow_graph.specs.Lowering.{lowered, parts}
 use Rattle.flow_graph.specs.Nodes.{Graph}
 use Rattle.flow_graph.specs.declared.graph.Part.{Part}
 use Rattle.flow_graph.proofs.Public.{lowered_threads}
 use Rattle.flow_graph.specs.Paths.{naming_of}
+use Rattle.region_attempts.specs.KnownReferences.{AreUnnull, KnownAreUnnull, known_at}
 use Rattle.region_attempts.specs.Origins.{Origin, IsPendingAt}
 use Rattle.region_cutter.specs.LocksAtBoundaries.{ChosenAreLocked}
 use Rattle.variable_words.specs.Variables.{durable_variables, number_of_byte, variables_from}
@@ -57,7 +59,7 @@ use Rattle.crash_simulation.specs.Systems.{System, IsSystem, flat_of, thread_cou
 use Rattle.crash_simulation.proofs.Public.{row_of}
 use Rattle.image_runs.specs.Shapes.{HasShape}
 use Rattle.image_runs.specs.Laws.{ShapesAreStates}
-use Rattle.image_runs.proofs.LeftReferences.{durable_unreferring}
+use Rattle.image_checks.proofs.Public.{found_name, name_below, named_there}
 use Rattle.image_runs.proofs.ResumedThreads.{IsSaid, said}
 
 -- ---- Rows
@@ -112,6 +114,37 @@ durable_held : (words : List Word) (vs : List Variable) → AllZip AreNumbersOf 
 unfolding durable_variables
 durable_held words vs = variables_held words (map shape_of vs) vs 0
 
+-- ---- References among them
+
+-- what the elements of a variable refer to, where each of its numbers does
+numbers_refer : (vs : List Variable) (refers : Option ℕ) (numbers : List ℤ) → ((i : ℕ) → RefersSo vs refers (slice_index_or numbers i (pos 0))) →
+    AllByRecursion (RefersSo vs refers) numbers
+numbers_refer vs refers [] each = tt
+numbers_refer vs refers (z ∷ numbers) each = (each 0, numbers_refer vs refers numbers (λ i. each (suc i)))
+
+refer_each : (all vs : List Variable) (numbers : List (List ℤ)) → length numbers ≡ length vs →
+    ((variable i : ℕ) → RefersSo all (variable_refers vs variable) (slice_index_or (slice_index_or numbers variable []) i (pos 0))) →
+    AllZip (AreElementsReferring all) vs numbers
+refer_each all [] [] long each = tt
+refer_each all [] (ns ∷ numbers) long each = absurd (let z : ⊥ = omega (arith, long) in z)
+refer_each all (v ∷ vs) [] long each = absurd (let z : ⊥ = omega (arith, long) in z)
+refer_each all (v ∷ vs) (ns ∷ numbers) long each =
+    (numbers_refer all v.refers ns (each 0), refer_each all vs numbers (omega (arith, long)) (λ variable i. each (suc variable) i))
+
+variables_long : (words : List Word) (shapes : List Shape) (vs : List Variable) (number : ℕ) →
+    length (variables_from durable_value words shapes number vs) ≡ length vs
+variables_long words shapes [] number = refl
+variables_long words shapes (v ∷ vs) number = ap suc (variables_long words shapes vs (number + 1))
+
+durable_long : (words : List Word) (vs : List Variable) → length (durable_variables words vs) ≡ length vs
+unfolding durable_variables
+durable_long words vs = variables_long words (map shape_of vs) vs 0
+
+variables_refer : (words : List Word) (vs : List Variable) →
+    ((variable i : ℕ) → RefersSo vs (variable_refers vs variable) (element_number (durable_variables words vs) variable i)) →
+    AllZip (AreElementsReferring vs) vs (durable_variables words vs)
+variables_refer words vs each = refer_each vs vs (durable_variables words vs) (durable_long words vs) each
+
 -- ---- Who holds a lock, by records
 
 module _ (has : ℕ → (lock : ℕ) → Bool) (total : ℕ)
@@ -148,31 +181,13 @@ module _ (has : ℕ → (lock : ℕ) → Bool) (total : ℕ)
       one_less : (k n : ℕ) → n < suc k → (n ≡ k → ⊥) → n < k
       one_less k n below other = grind arith
 
-  holds_as : (lock n : ℕ) → n < total → is_held_by n (holder_among total lock) ≡ has n lock
-  holds_as lock n below = elim (cases_Bool (has n lock)) [
-    | inl own ↦
-        ap (is_held_by n) (holder_is total lock n (omega arith) below own) ∙ ((let e : (n == n) ≡ true = grind arith in e) ∙ sym own)
-    | inr other ↦ by (holder_among total lock) refl other
-  ]
-    where
-      by : (o : Option ℕ) → holder_among total lock ≡ o → has n lock ≡ false → is_held_by n o ≡ has n lock
-      by None e other = sym other
-      by (Some k) e other =
-          ne_eqb n k (λ same. true≢false (sym (ap (λ (i : ℕ). has i lock) same ∙ (holder_has total lock k e).1) ∙ other)) ∙ sym other
-
-  -- a set that has a thread's locks is what the holders say of it
-  row_held : (n at count : ℕ) (h : Held) → n < total → length h ≡ count → ((i : ℕ) → has n (at + i) ≡ holds h i) →
-      held_by n (map (holder_among total) (numbers_from at count)) ≡ h
-  row_held n at zero [] below long same = refl
-  row_held n at zero (b ∷ h) below long same = absurd (let z : ⊥ = omega (arith, long) in z)
-  row_held n at (suc count) [] below long same = absurd (let z : ⊥ = omega (arith, long) in z)
-  row_held n at (suc count) (b ∷ h) below long same =
-      let first : is_held_by n (holder_among total at) ≡ b =
-      holds_as at n below ∙ (ap (has n) (let e : at ≡ at + 0 = omega arith in e) ∙ same 0) in
-      let rest : held_by n (map (holder_among total) (numbers_from (at + 1) count)) ≡ h =
-      row_held n (at + 1) count h below (omega (arith, long))
-      (λ i. ap (has n) (let e : at + 1 + i ≡ at + suc i = omega arith in e) ∙ same (suc i)) in
-      ap (λ (c : Bool). c ∷ held_by n (map (holder_among total) (numbers_from (at + 1) count))) first ∙ ap (λ (k : Held). b ∷ k) rest
+-- two lists of the same locks are both empty, or neither
+same_emptiness : (xs ys : List ℕ) → ((lock : ℕ) → has_lock xs lock ≡ true → has_lock ys lock ≡ true) →
+    ((lock : ℕ) → has_lock ys lock ≡ true → has_lock xs lock ≡ true) → is_empty xs ≡ is_empty ys
+same_emptiness [] [] there back = refl
+same_emptiness [] (y ∷ ys) there back = absurd (true≢false (sym (back y (or_left (y == y) (has_lock ys y) (eq-eqb y y refl)))))
+same_emptiness (x ∷ xs) [] there back = absurd (true≢false (sym (there x (or_left (x == x) (has_lock xs x) (eq-eqb x x refl)))))
+same_emptiness (x ∷ xs) (y ∷ ys) there back = refl
 
 -- ---- The world that begins with the words
 
@@ -241,8 +256,7 @@ module _ (log : Log) (program : List (List Slot)) (locks : ℕ) (words : List �
 
 -- ---- The state
 
-module _ (locked : ChosenAreLocked) (y : System) (s : IsSystem y) (plain : ArePlain (flat_of y).mutexes) (words : List ℕ)
-    (shape : HasShape y.plan s.codes words) where
+module _ (locked : ChosenAreLocked) (y : System) (s : IsSystem y) (words : List ℕ) (shape : HasShape y.plan s.codes words) where
   abbrev x : f.Flat
   x = flat_of y
 
@@ -253,7 +267,7 @@ module _ (locked : ChosenAreLocked) (y : System) (s : IsSystem y) (plain : ArePl
   count = thread_count y
 
   of : (n : ℕ) (below : n < count) → IsSaid y.plan (s.codes.each n below) words
-  of n below = said locked y.plan s.plan plain (s.codes.each n below) words
+  of n below = said locked y.plan s.plan (s.codes.each n below) words
       (subst (λ (k : ℕ). HasLog y.plan.log k ws) (sym (s.codes.number n below)) (shape.logs n below)) (shape.threads n below)
 
   -- ---- Threads
@@ -291,23 +305,73 @@ module _ (locked : ChosenAreLocked) (y : System) (s : IsSystem y) (plain : ArePl
   holders : List (Option ℕ)
   holders = map (holder_among has count shape.apart count) (numbers_from 0 mutexes)
 
-  held_is : (n : ℕ) (below : n < count) → held_by n holders ≡ (of n below).set
+  holder_at : (lock : ℕ) → lock < mutexes → slice_get holders lock ≡ Some (holder_among has count shape.apart count lock)
   unfolding holders
-  held_is n below =
+  holder_at lock inside =
+      row_of (holder_among has count shape.apart count) 0 mutexes lock inside
+      ∙ (let e : 0 + lock ≡ lock = omega arith in ap (λ (k : ℕ). Some (holder_among has count shape.apart count k)) e)
+
+  inside_of : (lock n : ℕ) → slice_get holders lock ≡ Some (Some n) → lock < mutexes
+  unfolding holders
+  inside_of lock n there =
+      let l = slice_get_within holders lock (Some n) there in
+      let c = count_of (holder_among has count shape.apart count) 0 mutexes in
+      omega (arith, l, c)
+
+  -- a thread holds what it has recorded
+  holds_recorded : (lock n : ℕ) → slice_get holders lock ≡ Some (Some n) → (n < count) × (has n lock ≡ true)
+  holds_recorded lock n there =
+      holder_has has count shape.apart count lock n (same_Some _ (Some n) (sym (holder_at lock (inside_of lock n there)) ∙ there))
+
+  recorded_held : (n lock : ℕ) → n < count → lock < mutexes → has n lock ≡ true → slice_get holders lock ≡ Some (Some n)
+  recorded_held n lock below inside own =
+      holder_at lock inside ∙ ap (λ (o : Option ℕ). Some o) (holder_is has count shape.apart count lock n (omega arith) below own)
+
+  -- its locks, by its names
+  abbrev own_names : (n : ℕ) → n < count → List LockName
+  own_names n below = lock_names x (s.codes.each n below).of.text
+
+  abbrev own_locks : (n : ℕ) (below : n < count) → List ℕ
+  own_locks n below = map (lock_number (of n below).thread.locals) (held_names (own_names n below) (of n below).set)
+
+  record_is : (n : ℕ) (below : n < count) → record_of y.plan.log ws n ≡ own_locks n below
+  record_is n below = ap (record_of y.plan.log ws) (sym (s.codes.number n below)) ∙ (of n below).locks
+
+  name_inside : (n : ℕ) (below : n < count) (k : ℕ) (z : LockName) → slice_get (own_names n below) k ≡ Some z →
+      lock_number (of n below).thread.locals z < mutexes
+  name_inside n below k z there =
+      let code = s.codes.each n below in
+      name_below y.plan s.plan code.thread code.of (of n below).thread.locals (of n below).held k z there
+
+  holds_names : (n : ℕ) (below : n < count) → HoldsNames (own_names n below) (of n below).set (of n below).thread.locals holders n
+  holds_names n below =
       let o = of n below in
-      row_held has count shape.apart n 0 mutexes o.set below o.long
-      (λ i. (let e : 0 + i ≡ i = omega arith in ap (has n) e)
-      ∙ (ap (λ (k : ℕ). has_lock (record_of y.plan.log ws k) i) (sym (s.codes.number n below))
-      ∙ (ap (λ (ls : List ℕ). has_lock ls i) o.locks ∙ has_held o.set i)))
+      record {
+        all = λ k z there held.
+            recorded_held n (lock_number o.thread.locals z) below (name_inside n below k z there)
+            (ap (λ (locks : List ℕ). has_lock locks (lock_number o.thread.locals z)) (record_is n below)
+            ∙ named_there o.thread.locals (own_names n below) o.set k z there held);
+        only = λ lock there.
+            found_name o.thread.locals (own_names n below) o.set lock
+            (sym (ap (λ (locks : List ℕ). has_lock locks lock) (record_is n below)) ∙ (holds_recorded lock n there).1);
+        apart = o.apart;
+      }
+
+  -- it holds none where none is recorded
+  none_held_is : (n : ℕ) (below : n < count) → holds_none holders n ≡ is_empty (own_locks n below)
+  none_held_is n below =
+      none_where n holders
+      ∙ same_emptiness (locks_held (held_by n holders)) (own_locks n below)
+      (λ lock e.
+      ap (λ (locks : List ℕ). has_lock locks lock) (sym (record_is n below))
+      ∙ (holds_recorded lock n (held_found n holders lock (sym (has_held (held_by n holders) lock) ∙ e))).1)
+      (λ lock e.
+      let own = found_name (of n below).thread.locals (own_names n below) (of n below).set lock e in
+      has_held (held_by n holders) lock
+      ∙ held_there n holders lock (ap (slice_get holders) (sym own.is) ∙ (holds_names n below).all own.number own.name own.there own.held))
 
   holders_below : (lock n : ℕ) → slice_get holders lock ≡ Some (Some n) → n < count
-  unfolding holders
-  holders_below lock n there =
-      let inside : lock < mutexes =
-      (let l = slice_get_within holders lock (Some n) there in let c = count_of (holder_among has count shape.apart count) 0 mutexes in omega (arith, l, c)) in
-      let same : holder_among has count shape.apart count (0 + lock) ≡ Some n =
-      same_Some _ _ (sym (row_of (holder_among has count shape.apart count) 0 mutexes lock inside) ∙ there) in
-      (holder_has has count shape.apart count (0 + lock) n same).0
+  holders_below lock n there = (holds_recorded lock n there).0
 
   -- ---- Both states
 
@@ -354,22 +418,23 @@ module _ (locked : ChosenAreLocked) (y : System) (s : IsSystem y) (plain : ArePl
         let o = of n below in
         let code = s.codes.each n below in
         let same : o.thread ≡ z = same_Some _ z (sym (thread_there n below) ∙ here) in
-        let as_plain : lock_names x code.of.text ≡ plain_names mutexes = names_are_plain x code.of.text plain.single in
-        let holding : HoldsNames (lock_names x code.of.text) o.set o.thread.locals holders n =
-        subst (λ (ns : List LockName). HoldsNames ns o.set o.thread.locals holders n) (sym as_plain)
-        (subst (λ (h : Held). HoldsNames (plain_names mutexes) h o.thread.locals holders n) (held_is n below)
-        (plain_holds mutexes o.thread.locals holders n locks_count)) in
         subst (λ (u : m.Thread). ThreadKeeps x n holders u) same (record {
           text = code.of.text;
           its = ap (slice_get x.threads) (sym (s.codes.number n below)) ∙ code.of.of_text;
           set = o.set;
-          held = holding;
+          held = holds_names n below;
           left = o.left;
           pending = λ q e.
-              let lock = element_lock x.variables q.variable q.element in
-              held_found n holders lock (ap (λ (h : Held). holds h lock) (held_is n below) ∙ o.pending q e);
+              subst (λ (k : ℕ). slice_get holders (element_lock x.variables q.variable q.element) ≡ Some (Some k)) (s.codes.number n below)
+              (o.pending holders
+              (subst (λ (k : ℕ). HoldsNames (own_names n below) o.set o.thread.locals holders k) (sym (s.codes.number n below)) (holds_names n below)) q e);
         });
   }
+
+  text_is : (n : ℕ) (below : n < count) (text : f.Thread) → slice_get x.threads n ≡ Some text → (s.codes.each n below).of.text ≡ text
+  text_is n below text its =
+      let code = s.codes.each n below in
+      same_Some code.of.text text (sym code.of.of_text ∙ (ap (slice_get x.threads) (s.codes.number n below) ∙ its))
 
   -- as many threads as the text has
   threads_count : count ≡ length x.threads
@@ -385,7 +450,7 @@ module _ (locked : ChosenAreLocked) (y : System) (s : IsSystem y) (plain : ArePl
         subst (λ (k : ℕ). AllZip (λ (t : f.Thread) (z : m.Thread). IsThreadOf x t.locals z) x.threads (map thread (numbers_from 0 k))) (sym threads_count)
         (zip_row (λ (t : f.Thread) (z : m.Thread). IsThreadOf x t.locals z) x.threads thread 0 (λ i t there. (each i t there).0));
     references = record {
-      variables = durable_unreferring ws x.variables s.plan.formed.unreferring.variables;
+      variables = variables_refer ws x.variables shape.references;
       threads =
           subst (λ (k : ℕ). AllZip (IsReferringThread x) x.threads (map thread (numbers_from 0 k))) (sym threads_count)
           (zip_row (IsReferringThread x) x.threads thread 0 (λ i t there. (each i t there).1));
@@ -398,8 +463,7 @@ module _ (locked : ChosenAreLocked) (y : System) (s : IsSystem y) (plain : ArePl
           let c = threads_count in
           let below : i < count = omega (arith, l, c) in
           let code = s.codes.each i below in
-          let text : code.of.text ≡ t =
-          same_Some code.of.text t (sym code.of.of_text ∙ (ap (slice_get x.threads) (s.codes.number i below) ∙ there)) in
+          let text : code.of.text ≡ t = text_is i below t there in
           let same : (of i below).thread ≡ thread (0 + i) = sym (thread_is i below) ∙ (let e : i ≡ 0 + i = omega arith in ap thread e) in
           let o = of i below in
           subst (λ (z : m.Thread). IsThreadOf x t.locals z × IsReferringThread x t z) same
@@ -411,9 +475,28 @@ module _ (locked : ChosenAreLocked) (y : System) (s : IsSystem y) (plain : ArePl
       let l = slice_get_within kept.graph_threads n g there in
       let c = count_of graph_thread 0 count in
       let below : n < count = omega (arith, l, c) in
+      let code = s.codes.each n below in
+      let own : code.of.text ≡ text = text_is n below text its in
       let same : (of n below).graph_thread ≡ g = same_Some _ g (sym (graph_thread_there n below) ∙ there) in
-      subst (λ (z : GraphThread). z.pending ≡ Some store → IsPendingAt x (naming_of x text z.locals) z.at store) same
-      ((of n below).stored (naming_of x text (of n below).graph_thread.locals) store) is
+      subst (λ (u : f.Thread). IsPendingAt x (naming_of x u g.locals) g.at store) own
+      (subst (λ (z : GraphThread). z.pending ≡ Some store → IsPendingAt x (naming_of x code.of.text z.locals) z.at store) same
+      ((of n below).stored store) is)
+
+  known_there : KnownAreUnnull x kept
+  known_there n text part g its of_part there =
+      let l = slice_get_within kept.graph_threads n g there in
+      let c = count_of graph_thread 0 count in
+      let below : n < count = omega (arith, l, c) in
+      let code = s.codes.each n below in
+      let own : code.of.text ≡ text = text_is n below text its in
+      let same : (of n below).graph_thread ≡ g = same_Some _ g (sym (graph_thread_there n below) ∙ there) in
+      let nodes : slice_get (lowered x).threads n ≡ Some code.thread.part =
+      ap (λ (graph : Graph). slice_get graph.threads n) (sym s.plan.lowered)
+      ∙ (ap (slice_get y.plan.graph.threads) (sym (s.codes.number n below)) ∙ code.of.nodes) in
+      let part_is : code.thread.part ≡ part = same_Some code.thread.part part (sym nodes ∙ of_part) in
+      subst (λ (u : f.Thread). AreUnnull u.refers (known_at u part.first g.at) g.locals) own
+      (subst (λ (q : Part). AreUnnull code.of.text.refers (known_at code.of.text q.first g.at) g.locals) part_is
+      (subst (λ (z : GraphThread). AreUnnull code.of.text.refers (known_at code.of.text code.thread.part.first z.at) z.locals) same (of n below).unnull))
 
   own_there : (n : ℕ) (g : GraphThread) → slice_get kept.graph_threads n ≡ Some g → IsOwnNode x n g.at
   own_there n g there =
@@ -433,7 +516,7 @@ module _ (locked : ChosenAreLocked) (y : System) (s : IsSystem y) (plain : ArePl
       let number = s.codes.number n below in
       subst (λ (r : Record). Describes y.plan code kept r) (sym (entry_is n below))
       (o.describes kept (ap (slice_get kept.graph_threads) number ∙ graph_thread_there n below)
-      (ap (holds_none holders) number ∙ (none_where n holders ∙ ap (λ (h : Held). is_empty (locks_held h)) (held_is n below))))
+      (ap (holds_none holders) number ∙ none_held_is n below))
 
   recovers : RecoversTo y.plan s.codes kept (after_crash_of y.runs.log y.runs.program y.runs.mutexes words)
   recovers = record {
@@ -461,9 +544,10 @@ module _ (locked : ChosenAreLocked) (y : System) (s : IsSystem y) (plain : ArePl
       own = own_there;
       holders = λ lock n there. (let b = holders_below lock n there in let c = count_of thread 0 count in omega (arith, b, c));
       pending = pending_there;
+      known = known_there;
     },
     record { size = shape.size ∙ ap (λ (l : Log). word_count l (thread_count y)) s.log; recovers = recovers; variables = refl },
   )
 
 pub shapes_are_states : ChosenAreLocked → ShapesAreStates
-shapes_are_states locked y s plain words shape = origin locked y s plain words shape
+shapes_are_states locked y s words shape = origin locked y s words shape

@@ -1,7 +1,6 @@
--- A log can keep the registers of locals and the locks before a node.
-use Rattle.std.proofs.Common.{◌≡◌, ℕ, zero, suc, ◌+◌, ◌<◌, ◌^◌, List, [], ◌∷◌, length, get_or, refl, ap, arith, sym, ◌∙◌, subst, true, Some}
-use Rattle.std.specs.Prelude.{Contains, slice_get, slice_index, ℤ}
-use Rattle.boundary_code.specs.Boundaries.{HaveRoom}
+-- A log can keep the registers of locals.
+use Rattle.std.proofs.Common.{◌≡◌, ℕ, zero, suc, ◌+◌, ◌<◌, List, [], ◌∷◌, length, get_or, refl, ap, arith, sym, ◌∙◌, true, Some}
+use Rattle.std.specs.Prelude.{slice_get, slice_index}
 use Rattle.std.specs.List.{list_all}
 use Rattle.std.proofs.lemmas.Bool.{and_parts}
 use Rattle.std.proofs.lemmas.List.{get_or-map}
@@ -9,23 +8,18 @@ use Rattle.std.proofs.lemmas.List.Elements.{Contains-get_or}
 use Rattle.std.proofs.lemmas.Option.{none-some, same_Some, slice_get_within}
 use Rattle.ido_ints.specs.declared.kinds.Kind.{Kind}
 use Rattle.c_tree.specs.Flats as f
-use Rattle.c_tree.specs.LockNames.{Held, holds}
-use Rattle.source_machine.proofs.Public.{holds_within}
 use Rattle.memory_layout.specs.declared.roles.TheConstants.{LOCALS}
 use Rattle.memory_layout.specs.Roles.{is_kept}
 use Rattle.flow_graph.specs.declared.graph.Part.{Part}
 use Rattle.flow_graph.specs.Lowering.{thread_count, part, parts}
-use Rattle.log_states.specs.Logs.{AreLoggable, IsKeepable}
-use Rattle.log_states.proofs.Public.{kept_are_keepable, scheme}
-use Rattle.thread_code.specs.Plans.{Plan, Thread, IsThread, IsPlan, locks_before, locks_held, set_before, home_of_colour}
-use Rattle.thread_code.proofs.Public.{has_held}
-use Rattle.recovered_threads.proofs.Public.{has_there}
-use Rattle.image_checks.proofs.Public.{few_set, part_is}
+use Rattle.log_states.specs.Logs.{IsKeepable}
+use Rattle.log_states.proofs.Public.{kept_are_keepable}
+use Rattle.thread_code.specs.Plans.{Plan, Thread, IsThread, IsPlan, home_of_colour}
+use Rattle.image_checks.proofs.Public.{part_is}
 use Rattle.expr_code.specs.declared.home.Home.{Home}
 use Rattle.expr_code.specs.declared.home.Home.TheVariants.{InRegister}
 use Rattle.expr_code.specs.EvaluationCode.{home_of}
 use Rattle.expr_code.proofs.Public.{same_register}
-use Rattle.c_tree.specs.WellFormed.{ArePlain}
 
 -- ---- Registers that have a slot
 
@@ -63,16 +57,3 @@ module _ (p : Plan) (plan : IsPlan p) (t : Thread) (is : IsThread p t) where
   pub local_keepable : (local : ℕ) (k : Kind) (register : ℕ) → slice_get t.kinds local ≡ Some k → home_of t.locals local ≡ InRegister register →
       IsKeepable p.log register
   local_keepable local k register there at = kept_are_keepable p.log register (local_kept local register (slice_get_within t.kinds local k there) at)
-
-  -- ---- Locks before a node
-
-  fit : ArePlain p.flat.mutexes → (node lock : ℕ) → Contains (locks_held (set_before p t node)) lock → lock < 2 ^ 64
-  fit plain node lock c =
-      let set : Held = set_before p t node in
-      let held : holds set lock ≡ true = sym (has_held set lock) ∙ has_there (locks_held set) lock c in
-      omega (arith, holds_within set lock held, few_set p plan t is plain node)
-
-  pub loggable : ArePlain p.flat.mutexes → (locals : List ℤ) (node : ℕ) → locks_held (set_before p t node) ≡ locks_before p t locals node →
-      AreLoggable p.log (locks_held (set_before p t node))
-  loggable few locals node plain =
-      (scheme p.log).keeps.room (locks_held (set_before p t node)) (subst (HaveRoom p.log) (sym plain) (plan.room t locals node)) (fit few node)

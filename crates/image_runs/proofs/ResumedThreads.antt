@@ -1,10 +1,10 @@
 -- The thread of the source that words with the shape describe: it stands at its node, or has not begun.
-use Rattle.std.proofs.Common.{◌≡◌, ◌≢◌, refl, inl, inr, ℕ, zero, suc, ◌+◌, ◌*◌, ◌%◌, ◌<◌, List, [], ◌∷◌, length, map, replicate, ap, sym, ◌∙◌}
+use Rattle.std.proofs.Common.{◌≡◌, ◌≢◌, refl, inl, inr, ℕ, zero, suc, ◌*◌, ◌%◌, ◌<◌, List, [], ◌∷◌, length, map, replicate, ap, sym, ◌∙◌}
 use Rattle.std.proofs.Common.{subst, arith, Option, Some, None, Bool, true, false}
 use Rattle.std.specs.Prelude.{slice_get, slice_index_or, Contains, is_some, ◌^◌, ℤ, pos}
 use Rattle.std.specs.List.{AllZip}
 use Rattle.std.specs.Option.{option_map}
-use Rattle.std.proofs.lemmas.List.{length-replicate}
+use Rattle.std.proofs.lemmas.Bool.{true≢false}
 use Rattle.std.proofs.lemmas.Option.{none-some, same_Some, slice_get-map}
 use Rattle.ido_base.specs.Layout.{point_at, variable_at, word_number}
 use Rattle.ido_base.specs.Locks.{holds_none}
@@ -14,17 +14,19 @@ use Rattle.ido_ints.specs.declared.kinds.Kind.TheVariants.{Char, UnsignedChar, S
 use Rattle.ido_ints.specs.Kinds.{Holds, bytes_of, modulus_of}
 use Rattle.ido_ints.specs.Reduction.{reduced, register_of}
 use Rattle.ido_ints.specs.TypedNumbers.{typed}
-use Rattle.ido_ints.proofs.Public.{Holds-reduced, Holds-zero, Same, Same_refl, Same_trans, Same-reduced, reduced-register, register-Same, rem_euclid-mod}
+use Rattle.ido_ints.proofs.Public.{Holds-reduced, Holds-zero, Same, Same_refl, Same_trans, Same-reduced, register-Same, rem_euclid-mod}
 use Rattle.c_tree.specs.Flats as f
 use Rattle.c_tree.specs.Source as m
 use Rattle.c_tree.specs.Source.{Pending}
-use Rattle.c_tree.specs.Exprs.{Placed}
-use Rattle.c_tree.specs.LockNames.{Held, holds, none_held, lock_names}
-use Rattle.c_tree.specs.References.{IsFlatThreadReferring, NoneRefer}
-use Rattle.c_tree.specs.WellFormed.{AreFlatStatements, elements_in, shape_of, ArePlain}
-use Rattle.c_ranges.specs.RunInvariants.{IsReferringThread, IsStoreInRange, IsThreadOf}
-use Rattle.c_ranges.proofs.Public.{right_opened_all}
-use Rattle.source_machine.specs.Discipline.{KeepList, KeepsLeft}
+use Rattle.c_tree.specs.Exprs.{LockName, Placed}
+use Rattle.c_tree.specs.LockNames.{Held, held_names, holds, none_held, lock_names}
+use Rattle.c_tree.specs.NullReferences.{is_among}
+use Rattle.c_tree.specs.References.{IsFlatThreadReferring, IsLocalReferring, variable_refers}
+use Rattle.c_tree.specs.Values.{lock_number}
+use Rattle.c_tree.specs.WellFormed.{AreFlatStatements, elements_in, shape_of}
+use Rattle.c_ranges.specs.RunInvariants.{IsReferringThread, IsStoreInRange, IsThreadOf, RefersSo}
+use Rattle.c_ranges.proofs.Public.{begins_so}
+use Rattle.source_machine.specs.Discipline.{HoldsNames, KeepsLeft}
 use Rattle.source_machine.specs.ElementLocks.{element_lock}
 use Rattle.source_machine.proofs.Public.{keep_opened_all}
 use Rattle.memory_layout.specs.Roles.{pending_address, pending_value}
@@ -37,9 +39,12 @@ use Rattle.flow_graph.specs.Liveness.{NodeAt, IsLive}
 use Rattle.flow_graph.specs.Lockstep.{GraphThreadMatches, Standing, IsOwnNode}
 use Rattle.flow_graph.specs.Lowering.{lowered}
 use Rattle.flow_graph.specs.Nodes.{Action, Eval, Store, Test, Lock, Unlock, End, Graph, Node}
-use Rattle.flow_graph.proofs.Public.{ActionLeads, Tests, all_at, begins_lockstep, chooses, nodes_at, repeats, good_start}
-use Rattle.flow_graph.specs.Paths.{Naming}
+use Rattle.flow_graph.proofs.Public.{ActionLeads, Tests, all_at, begins_lockstep, chooses, held_keys_stay, held_names_it, nodes_at, repeats, good_start}
+use Rattle.flow_graph.specs.HeldKeys.{names_in}
+use Rattle.flow_graph.specs.Paths.{naming_of}
+use Rattle.region_attempts.specs.KnownReferences.{AreUnnull, known_at}
 use Rattle.region_attempts.specs.Origins.{IsPendingAt}
+use Rattle.region_attempts.proofs.Public.{none_known}
 use Rattle.region_cutter.specs.LocksAtBoundaries.{ChosenAreLocked}
 use Rattle.log_states.specs.Logs.{Record, side_of, IsKeepable, IsRecord, IsDurable, IsRecorded, HasLog, nothing_recorded, slot_in, slots_of, value_of, kept_in}
 use Rattle.log_states.specs.Logs.{AreLoggable, bank_word}
@@ -47,21 +52,27 @@ use Rattle.log_states.specs.Schemes.{HasKept}
 use Rattle.log_states.specs.Laws.{ResumesRecord}
 use Rattle.log_states.proofs.Public.{kept_are_keepable, log_facts, nothing_is_record, scheme, slot_cases}
 use Rattle.thread_code.specs.Plans.{Plan, Thread, IsPlan, IsKept, of_local, of_address, of_value}
-use Rattle.thread_code.specs.Plans.{held_names_before, locks_before, locks_held, locks_held_from, set_before}
+use Rattle.thread_code.specs.Plans.{held_names_before, locks_before, set_before}
 use Rattle.thread_code.proofs.Public.{numbers_some}
 use Rattle.thread_code.specs.RegistersAtNodes.{HasPending, IsPendingIn, Enters}
 use Rattle.recovered_threads.specs.RecordDescriptions.{Code, Describes, between, inside}
-use Rattle.image_checks.specs.Checks.{IsElementOf}
-use Rattle.image_runs.specs.Shapes.{GoesOnAt, HasThreadShape, idle, resumes, HomeHasForm}
-use Rattle.image_runs.proofs.HeldAtNodes.{all, names, names_long, node_is, lowered_is, stands}
-use Rattle.image_runs.proofs.HeldAtNodes.{keeps, long, left_is, left_refers, numbers_plain, sets, resumed_hold, resumed_store_locked}
-use Rattle.image_runs.proofs.LeftReferences.{thread_unreferring}
+use Rattle.image_checks.specs.Checks.{IsElementOf, IsReferenceWord}
+use Rattle.flat_compile.specs.ResumePlaces.{refers_in}
+use Rattle.image_checks.specs.Logs.{AreOnce}
+use Rattle.image_checks.proofs.Public.{IsGuardedStore, guarded_store, key_is_held}
+use Rattle.image_runs.specs.Shapes.{GoesOnAt, HasThreadShape, idle, resumes}
+use Rattle.image_runs.proofs.GuardedElements.{guards_element}
+use Rattle.image_checks.proofs.Public.{knowns_are, refers_are, zip_there}
+use Rattle.image_runs.proofs.HeldAtNodes.{all, node_is, lowered_is, stands}
+use Rattle.image_runs.proofs.HeldAtNodes.{keeps, long, left_is, left_known, left_refers, sets, resumed_hold}
+use Rattle.image_checks.proofs.Public.{AreApart, apart_by, live_same, locks_are, locks_same, loggable}
 use Rattle.image_runs.proofs.LeftStatements.{opened_all_left}
+use Rattle.image_runs.proofs.MendedNumbers.{mended_from, mended_hold, mended_none, mended_refer, mended_stays, mended_unnull}
 use Rattle.image_runs.proofs.RecordedWords.{durable_word, nothing_is_recorded, point_small, register_small, record_none}
-use Rattle.image_runs.proofs.ResumedLocals.{local_keepable, loggable}
-use Rattle.image_runs.proofs.StoredElements.{StoresAs, StoresElements, stores_elements}
-use Rattle.expr_code.specs.declared.home.Home.{Home}
-use Rattle.expr_code.specs.declared.home.Home.TheVariants.{InRegister}
+use Rattle.image_checks.proofs.Public.{IsLong, refers_by, variable_long}
+use Rattle.image_runs.proofs.ResumedLocals.{local_keepable}
+use Rattle.image_runs.proofs.SureReferences.{left_sure}
+use Rattle.image_checks.proofs.Public.{StoresAs, StoresElements, stores_elements}
 use Rattle.expr_code.specs.EvaluationCode.{home_of, HomeCarries}
 
 -- ---- Numbers in words
@@ -95,9 +106,21 @@ zeros_hold : (ks : List Kind) → AllZip Holds ks (replicate (length ks) (pos 0)
 zeros_hold [] = tt
 zeros_hold (k ∷ ks) = (Holds-zero k, zeros_hold ks)
 
-no_locks_from : (at count : ℕ) → locks_held_from at (none_held count) ≡ []
-no_locks_from at zero = refl
-no_locks_from at (suc count) = no_locks_from (at + 1) count
+none_named : (ns : List LockName) (count : ℕ) → held_names ns (none_held count) ≡ []
+none_named [] count = refl
+none_named (x ∷ ns) zero = refl
+none_named (x ∷ ns) (suc count) = none_named ns count
+
+unheld : (count name : ℕ) → holds (none_held count) name ≡ false
+unheld zero name = refl
+unheld (suc count) zero = refl
+unheld (suc count) (suc name) = unheld count name
+
+as_long : (ks : List Kind) (ls : List ℤ) → AllZip Holds ks ls → length ls ≡ length ks
+as_long [] [] h = refl
+as_long [] (z ∷ ls) h = absurd h
+as_long (k ∷ ks) [] h = absurd h
+as_long (k ∷ ks) (z ∷ ls) h = ap suc (as_long ks ls h.1)
 
 -- ---- What a thread's log says of it
 
@@ -109,21 +132,28 @@ pub record IsSaid (p : Plan) (code : Code p) (words : List ℕ) : Type 0 where
   pub own : IsOwnNode p.flat code.thread.number graph_thread.at
   pub formed : IsThreadOf p.flat code.of.text.locals thread
   pub referring : IsReferringThread p.flat code.of.text thread
-  -- the mutexes that it holds
+  -- no reference is null that is known not to be
+  pub unnull : AreUnnull code.of.text.refers (known_at code.of.text code.thread.part.first graph_thread.at) graph_thread.locals
+  -- the names that it holds
   pub set : Held
-  pub long : length set ≡ length p.flat.mutexes
   pub left : KeepsLeft p.flat (lock_names p.flat code.of.text) set thread.left
-  pub pending : (q : Pending) → thread.pending ≡ Some q → holds set (element_lock p.flat.variables q.variable q.element) ≡ true
-  -- its node writes where its pending store goes, whatever keys name: the location has none
-  pub stored : (names : Naming) (q : Pending) → graph_thread.pending ≡ Some q → IsPendingAt p.flat names graph_thread.at q
-  pub locks : record_of p.log (map word_of words) code.thread.number ≡ locks_held set
+  -- each has a lock of its own, and these are recorded
+  pub apart : AreApart thread.locals (lock_names p.flat code.of.text) set
+  pub locks : record_of p.log (map word_of words) code.thread.number ≡ map (lock_number thread.locals) (held_names (lock_names p.flat code.of.text) set)
+  pub held : AllZip Holds code.thread.kinds thread.locals
+  -- who holds them holds the lock of the element of its pending store
+  pub pending : (holders : List (Option ℕ)) → HoldsNames (lock_names p.flat code.of.text) set thread.locals holders code.thread.number → (q : Pending) →
+      thread.pending ≡ Some q → slice_get holders (element_lock p.flat.variables q.variable q.element) ≡ Some (Some code.thread.number)
+  -- its node writes where its pending store goes, by what its keys name
+  pub stored : (q : Pending) → graph_thread.pending ≡ Some q → IsPendingAt p.flat (naming_of p.flat code.of.text graph_thread.locals) graph_thread.at q
   pub entry : Record
   pub is_record : IsRecord p.log entry
   pub is_recorded : IsRecorded p.log code.thread.number entry (map word_of words)
   pub describes : (kept : FlowState) → slice_get kept.graph_threads code.thread.number ≡ Some graph_thread →
-      holds_none kept.holders code.thread.number ≡ is_empty (locks_held set) → Describes p code kept entry
+      holds_none kept.holders code.thread.number ≡ is_empty (map (lock_number thread.locals) (held_names (lock_names p.flat code.of.text) set)) →
+      Describes p code kept entry
 
-module _ (locked : ChosenAreLocked) (p : Plan) (plan : IsPlan p) (plain : ArePlain p.flat.mutexes) (code : Code p) (words : List ℕ)
+module _ (locked : ChosenAreLocked) (p : Plan) (plan : IsPlan p) (code : Code p) (words : List ℕ)
     (log : HasLog p.log code.thread.number (map word_of words)) where
   abbrev ws : List Word
   ws = map word_of words
@@ -140,8 +170,8 @@ module _ (locked : ChosenAreLocked) (p : Plan) (plan : IsPlan p) (plain : ArePla
   form : IsFlatThreadReferring x code.of.text
   form = all_at (IsFlatThreadReferring x) x.threads n code.of.text plan.formed.referring.threads code.of.of_text
 
-  unreferring : NoneRefer code.of.text.refers
-  unreferring = all_at (λ (u : f.Thread). NoneRefer u.refers) x.threads n code.of.text plan.formed.unreferring.threads code.of.of_text
+  abbrev own_names : List LockName
+  own_names = lock_names x code.of.text
 
   -- ---- Between two sections
 
@@ -154,12 +184,25 @@ module _ (locked : ChosenAreLocked) (p : Plan) (plan : IsPlan p) (plain : ArePla
         (slice_get-map m.thread_start x.threads n ∙ ap (option_map m.thread_start) code.of.of_text)
 
     abbrev free_set : Held
-    free_set = none_held (length x.mutexes)
+    free_set = none_held (length own_names)
+
+    abbrev start : m.Thread
+    start = m.thread_start code.of.text
+
+    referring_start : IsReferringThread x code.of.text start
+    referring_start =
+        let own = zip_there (IsReferringThread x) x.threads (m.start x).threads n code.of.text (begins_so x plan.formed).references.threads code.of.of_text in
+        let there : slice_get (m.start x).threads n ≡ Some start =
+        slice_get-map m.thread_start x.threads n ∙ ap (option_map m.thread_start) code.of.of_text in
+        subst (IsReferringThread x code.of.text) (same_Some own.0 start (sym own.1 ∙ there)) own.2
+
+    no_locks : map (lock_number start.locals) (held_names own_names free_set) ≡ []
+    no_locks = ap (λ (ns : List LockName). map (lock_number start.locals) ns) (none_named own_names (length own_names))
 
     said_between : IsSaid p code words
     said_between = record {
       graph_thread = graph_thread_start t.part;
-      thread = m.thread_start code.of.text;
+      thread = start;
       matches = begun;
       own = (good_start x plan.formed).own n (graph_thread_start t.part)
           (slice_get-map graph_thread_start (lowered x).threads n ∙ ap (option_map graph_thread_start)
@@ -170,24 +213,20 @@ module _ (locked : ChosenAreLocked) (p : Plan) (plan : IsPlan p) (plain : ArePla
         locals = zeros_hold code.of.text.locals;
         pending = λ q some. absurd (none-some q some);
       };
-      referring =
-          thread_unreferring x code.of.text (m.thread_start code.of.text) plan.formed.unreferring.variables unreferring form.locals
-          (zeros_hold code.of.text.locals) (right_opened_all x code.of.text.refers code.of.text.body form.body);
+      referring = referring_start;
+      unnull = λ local array refers among.
+          absurd (true≢false (sym among ∙ ap (λ (known : List ℕ). is_among known local) (none_known code.of.text t.part.first t.part.first refl)));
       set = free_set;
-      long = length-replicate (length x.mutexes) false;
-      left = subst (λ (k : ℕ). KeepList x.variables (names p plan t code.of) (none_held k) (m.opened_all code.of.text.body)
-          (none_held (length (names p plan t code.of)))) (names_long p plan t code.of plain.single)
-          (keep_opened_all x.variables (names p plan t code.of) (sets p plan t code.of).disciplined);
-      pending = λ q some. absurd (none-some q some);
-      stored = λ names q some. absurd (none-some q some);
-      locks =
-          record_none p.log ws n none
-          ∙ sym (no_locks_from 0 (length x.mutexes));
+      left = keep_opened_all x.variables own_names (sets p plan t code.of).disciplined;
+      apart = λ one other u v a b held also same. absurd (true≢false (sym held ∙ unheld (length own_names) one));
+      locks = record_none p.log ws n none ∙ sym no_locks;
+      held = subst (λ (ks : List Kind). AllZip Holds ks start.locals) (sym code.of.kinds) (zeros_hold code.of.text.locals);
+      pending = λ holders own q some. absurd (none-some q some);
+      stored = λ q some. absurd (none-some q some);
       entry = nothing_recorded;
       is_record = nothing_is_record p.log;
       is_recorded = nothing_is_recorded p.log n words none;
-      describes = λ kept there holds.
-          between (holds ∙ ap is_empty (no_locks_from 0 (length x.mutexes))) refl;
+      describes = λ kept there holding. between (holding ∙ ap is_empty no_locks) refl;
     }
 
   -- ---- At a node
@@ -208,55 +247,70 @@ module _ (locked : ChosenAreLocked) (p : Plan) (plan : IsPlan p) (plain : ArePla
     abbrev set : Held
     set = set_before p t node
 
-    -- ---- Locals: the number to which the word of a local's home is reduced
+    -- ---- Locals: those that the bank tells, with each reference right
 
-    abbrev number_of : Kind → Home → ℤ
-    number_of k (InRegister register) = reduced k (pos (read registers register))
+    abbrev refers : List (Option ℕ)
+    refers = code.of.text.refers
 
-    number_held : (k : Kind) (home : Home) → Holds k (number_of k home)
-    number_held k (InRegister register) = Holds-reduced k _
-
-    decoded : List Kind → (at : ℕ) → List ℤ
-    decoded [] at = []
-    decoded (k ∷ ks) at = number_of k (home_of t.locals at) ∷ decoded ks (at + 1)
-
-    decoded_long : (ks : List Kind) (at : ℕ) → length (decoded ks at) ≡ length ks
-    unfolding decoded
-    decoded_long [] at = refl
-    decoded_long (k ∷ ks) at = ap suc (decoded_long ks (at + 1))
-
-    decoded_hold : (ks : List Kind) (at : ℕ) → AllZip Holds ks (decoded ks at)
-    unfolding decoded
-    decoded_hold [] at = tt
-    decoded_hold (k ∷ ks) at = (number_held k (home_of t.locals at), decoded_hold ks (at + 1))
-
-    decoded_at : (ks : List Kind) (at i : ℕ) (k : Kind) → slice_get ks i ≡ Some k →
-        slice_index_or (decoded ks at) i (pos 0) ≡ number_of k (home_of t.locals (at + i))
-    unfolding decoded
-    decoded_at [] at i k e = absurd (none-some k e)
-    decoded_at (j ∷ ks) at zero k e =
-        let same : at ≡ at + 0 = omega arith in
-        ap (λ (z : Kind). number_of z (home_of t.locals at)) (same_Some j k e) ∙ ap (λ (l : ℕ). number_of k (home_of t.locals l)) same
-    decoded_at (j ∷ ks) at (suc i) k e =
-        let same : at + 1 + i ≡ at + suc i = omega arith in
-        decoded_at ks (at + 1) i k e ∙ ap (λ (l : ℕ). number_of k (home_of t.locals l)) same
+    abbrev known : List ℕ
+    known = known_at code.of.text t.part.first node
 
     abbrev locals : List ℤ
-    locals = decoded t.kinds 0
+    locals = mended_from x.variables known refers 0 g.numbers
 
-    carried_in : (k : Kind) (home : Home) → HomeHasForm registers home k → HomeCarries registers home (typed k (number_of k home))
-    carried_in k (InRegister r) form =
-        let back : reduced k (pos (read registers r)) ≡ form.number =
-        ap (λ (w : ℕ). reduced k (pos w)) form.is ∙ reduced-register k form.number form.held in
-        record { held = Holds-reduced k (pos (read registers r)); form = form.is ∙ ap (register_of k) (sym back) }
+    own_refers : AllZip IsLocalReferring t.kinds refers
+    own_refers = subst (λ (ks : List Kind). AllZip IsLocalReferring ks refers) (sym code.of.kinds) form.locals
+
+    locals_hold : AllZip Holds t.kinds locals
+    locals_hold = mended_hold x.variables known t.kinds refers 0 g.numbers own_refers g.held
+
+    locals_refer : AllZip (RefersSo x.variables) refers locals
+    locals_refer =
+        mended_refer x.variables known x.mutexes plan.formed.shared.variables t.kinds refers 0 g.numbers form.refer own_refers g.held
+
+    locals_unnull : AreUnnull refers known locals
+    locals_unnull = mended_unnull x.variables known t.kinds refers g.numbers own_refers g.held
+
+    -- a live one is right already
+    stays : (local : ℕ) → IsLive p.graph local node → slice_index_or g.numbers local (pos 0) ≡ slice_index_or locals local (pos 0)
+    stays local live = by (slice_get refers local) refl
+      where
+        array_there : (array : ℕ) → slice_get refers local ≡ Some (Some array) → slice_get (refers_in p t) local ≡ Some (Some array)
+        array_there array e = ap (λ (rs : List (Option ℕ)). slice_get rs local) (refers_are p t code.of) ∙ e
+
+        right : (r : Option ℕ) → slice_get refers local ≡ Some r → RefersSo x.variables r (slice_index_or g.numbers local (pos 0))
+        right None e = tt
+        right (Some array) e = g.refer local array (array_there array e) live
+
+        by : (o : Option (Option ℕ)) → slice_get refers local ≡ o → slice_index_or g.numbers local (pos 0) ≡ slice_index_or locals local (pos 0)
+        by None e = sym (mended_none x.variables known t.kinds refers g.numbers own_refers g.held local e)
+        by (Some r) e =
+            sym (mended_stays x.variables known t.kinds refers g.numbers own_refers g.held local r e (right r e)
+            (λ array refers_so among.
+            g.unnull local array (array_there array (e ∙ ap (λ (o : Option ℕ). Some o) refers_so)) live
+            (ap (λ (ks : List ℕ). is_among ks local) (knowns_are p t code.of node) ∙ among)))
 
     carried : (local : ℕ) (k : Kind) → slice_get t.kinds local ≡ Some k → IsLive p.graph local node →
         HomeCarries registers (home_of t.locals local) (typed k (slice_index_or locals local (pos 0)))
     carried local k there live =
-        let same : 0 + local ≡ local = omega arith in
-        subst (λ (z : ℤ). HomeCarries registers (home_of t.locals local) (typed k z))
-        (sym (decoded_at t.kinds 0 local k there ∙ ap (λ (i : ℕ). number_of k (home_of t.locals i)) same))
-        (carried_in k (home_of t.locals local) (g.locals local k there live))
+        subst (λ (z : ℤ). HomeCarries registers (home_of t.locals local) (typed k z)) (stays local live) (g.locals local k there live)
+
+    -- ---- Locks and keys
+
+    abbrev own_locks : List ℕ
+    own_locks = locks_before p t locals node
+
+    same_locks : locks_before p t g.numbers node ≡ own_locks
+    same_locks = locks_same p plan t code.of g.numbers locals node g.own stays
+
+    -- a held key names one element, by these numbers and by those
+    key_there : (variable key element : ℕ) → holds set key ≡ true → names_in x.variables own_names g.numbers variable key ≡ Some element →
+        names_in x.variables own_names locals variable key ≡ Some element
+    key_there variable key element held named =
+        sym (held_names_it x.variables own_names set locals variable key held)
+        ∙ (held_keys_stay x.variables own_names set locals g.numbers variable key
+        (λ k y there own. sym (live_same p plan t code.of g.numbers locals node g.own stays k y there own))
+        ∙ (held_names_it x.variables own_names set g.numbers variable key held ∙ named))
 
     -- ---- The pending store
 
@@ -264,8 +318,10 @@ module _ (locked : ChosenAreLocked) (p : Plan) (plan : IsPlan p) (plain : ArePla
       pending : Option Pending
       owes : is_some pending ≡ st.owes
       ranged : (q : Pending) → pending ≡ Some q → IsStoreInRange x.variables q
-      guarded : (q : Pending) → pending ≡ Some q → holds set (element_lock x.variables q.variable q.element) ≡ true
-      stored : (names : Naming) (q : Pending) → pending ≡ Some q → IsPendingAt x names node q
+      referring : (q : Pending) → pending ≡ Some q → RefersSo x.variables (variable_refers x.variables q.variable) q.number
+      guarded : (holders : List (Option ℕ)) → HoldsNames own_names set locals holders n → (q : Pending) → pending ≡ Some q →
+          slice_get holders (element_lock x.variables q.variable q.element) ≡ Some (Some n)
+      stored : (q : Pending) → pending ≡ Some q → IsPendingAt x (naming_of x code.of.text locals) node q
       enters : (seen : Seen) → seen.pending ≡ pending → IsPendingIn p is.action seen registers
 
     nothing_owed : st.owes ≡ false → ((seen : Seen) → IsPendingIn p is.action seen registers) → Owed
@@ -273,18 +329,36 @@ module _ (locked : ChosenAreLocked) (p : Plan) (plan : IsPlan p) (plain : ArePla
       pending = None;
       owes = sym free;
       ranged = λ q e. absurd (none-some q e);
-      guarded = λ q e. absurd (none-some q e);
-      stored = λ names q e. absurd (none-some q e);
+      referring = λ q e. absurd (none-some q e);
+      guarded = λ holders own q e. absurd (none-some q e);
+      stored = λ q e. absurd (none-some q e);
       enters = λ seen e. enters seen;
     }
 
     module _ (variable : ℕ) (kind : Kind) (next : ℕ) (does : is.action ≡ Store variable kind next) (owing : st.owes ≡ true)
-        (stores : StoresElements x plan.formed.shared.variables plain.single is variable kind) where
-      at_element : IsElementOf x.variables stores.location (read registers pending_address)
+        (stores : StoresElements x plan.formed.shared.variables is variable kind) where
+      at_element : IsElementOf x.variables (naming_of x code.of.text g.numbers) stores.location (read registers pending_address)
       at_element = g.pending is stores.location here stores.writes
 
+      guard : IsGuardedStore x.variables own_names set stores.location
+      guard = guarded_store p plan t code.of node g.own is stores.location here stores.writes
+
+      named : (key : ℕ) → stores.location.key ≡ Some key →
+          names_in x.variables own_names locals stores.location.variable key ≡ Some at_element.element
+      named key is =
+          key_there stores.location.variable key at_element.element (key_is_held x.variables own_names set stores.location guard key is)
+          (at_element.by_key key is)
+
       abbrev store : Pending
-      store = record { variable = variable; element = at_element.element; number = number_of kind (InRegister pending_value) }
+      store = record { variable = variable; element = at_element.element; number = reduced kind (pos (read registers pending_value)) }
+
+      own_refer : RefersSo x.variables (variable_refers x.variables variable) store.number
+      own_refer =
+          refers_by x.mutexes x.variables plan.formed.shared.variables (variable_refers x.variables variable) kind (read registers pending_value)
+          (subst (λ (k : Kind). IsLong (variable_refers x.variables variable) k) stores.kind_is
+          (variable_long x.variables variable stores.it plan.formed.referring.variables stores.found))
+          (subst (λ (v : ℕ). IsReferenceWord x.variables (variable_refers x.variables v) (read registers pending_value)) stores.variable_is
+          (g.value is stores.location here stores.writes))
 
       exists : store.element < elements_in stores.it.length
       exists = let to = at_element.to in let w = stores.within in omega (arith, to, w)
@@ -320,9 +394,13 @@ module _ (locked : ChosenAreLocked) (p : Plan) (plan : IsPlan p) (plain : ArePla
         pending = Some store;
         owes = sym owing;
         ranged = λ q e. subst (λ (z : Pending). IsStoreInRange x.variables z) (same_Some store q e) ranged;
-        guarded = λ q e. subst (λ (z : Pending). holds set (element_lock x.variables z.variable z.element) ≡ true) (same_Some store q e)
-            (resumed_store_locked locked p plan code plain.single node _ g.own g.resumes variable kind next store.element does owing);
-        stored = λ names q e. subst (λ (z : Pending). IsPendingAt x names node z) (same_Some store q e) (record {
+        referring = λ q e. subst (λ (z : Pending). RefersSo x.variables (variable_refers x.variables z.variable) z.number) (same_Some store q e) own_refer;
+        guarded = λ holders own q e.
+            subst (λ (z : Pending). slice_get holders (element_lock x.variables z.variable z.element) ≡ Some (Some n)) (same_Some store q e)
+            (subst (λ (v : ℕ). slice_get holders (element_lock x.variables v at_element.element) ≡ Some (Some n)) stores.variable_is
+            (guards_element own_names set locals (long p plan t code.of node g.own) holders n own x.variables stores.location guard at_element.element
+            at_element.to named));
+        stored = λ q e. subst (λ (z : Pending). IsPendingAt x (naming_of x code.of.text locals) node z) (same_Some store q e) (record {
           node = is;
           is = lowered_is p plan t code.of node g.own;
           lies = record {
@@ -330,7 +408,8 @@ module _ (locked : ChosenAreLocked) (p : Plan) (plan : IsPlan p) (plain : ArePla
             of = stores.writes;
             lies = record {
               within = record { variable = stores.variable_is; from_lo = at_element.from; to_hi = at_element.to };
-              by_key = λ key keyed. absurd (none-some key (sym stores.no_key ∙ keyed));
+              by_key = λ key keyed.
+                  subst (λ (v : ℕ). names_in x.variables own_names locals v key ≡ Some at_element.element) stores.variable_is (named key keyed);
             };
           };
         });
@@ -338,7 +417,7 @@ module _ (locked : ChosenAreLocked) (p : Plan) (plan : IsPlan p) (plain : ArePla
             (λ q there. subst (λ (z : Pending). HasPending p z variable kind registers) (same_Some store q (sym e ∙ there)) has);
       }
 
-    owed_by : (a : Action) → is.action ≡ a → ActionLeads (all p plan t code.of) a st → StoresAs x plan.formed.shared.variables plain.single is a → Owed
+    owed_by : (a : Action) → is.action ≡ a → ActionLeads (all p plan t code.of) a st → StoresAs x plan.formed.shared.variables is a → Owed
     owed_by (Eval target value next) does leads stores =
         nothing_owed (ap (λ (z : Standing). z.owes) leads.is) (λ seen. subst (λ (a : Action). IsPendingIn p a seen registers) (sym does) tt)
     owed_by (Store variable kind next) does leads stores = store_owed variable kind next does (ap (λ (z : Standing). z.owes) leads.is) stores
@@ -353,7 +432,7 @@ module _ (locked : ChosenAreLocked) (p : Plan) (plan : IsPlan p) (plain : ArePla
 
     owed : Owed
     owed = owed_by is.action refl (stands p plan t code.of node g.own).2
-        (stores_elements x plan.formed.shared.variables plain.single node is plan.formed.threads
+        (stores_elements x plan.formed.shared.variables node is plan.formed.threads
         (nodes_at x node is (lowered_is p plan t code.of node g.own)))
 
     -- ---- The threads
@@ -377,23 +456,17 @@ module _ (locked : ChosenAreLocked) (p : Plan) (plan : IsPlan p) (plain : ArePla
     formed : IsThreadOf x code.of.text.locals thread
     formed = record {
       left = left_is p plan t code.of node g.own;
-      locals = subst (λ (ks : List Kind). AllZip Holds ks locals) code.of.kinds (decoded_hold t.kinds 0);
+      locals = subst (λ (ks : List Kind). AllZip Holds ks locals) code.of.kinds locals_hold;
       pending = owed.ranged;
     }
 
     -- ---- The record
 
-    abbrev own_locks : List ℕ
-    own_locks = locks_before p t locals node
-
-    plain_here : locks_held (set_before p t node) ≡ own_locks
-    plain_here = numbers_plain locked p plan code plain.single locals node g.own
-
     are_loggable : AreLoggable p.log own_locks
-    are_loggable = subst (AreLoggable p.log) plain_here (loggable p plan t code.of plain locals node plain_here)
+    are_loggable = loggable p plan t code.of locals locals_hold node
 
     keeps_locks : HasKept p.log ws n own_locks
-    keeps_locks = subst (λ (ls : List ℕ). HasKept p.log ws n ls) plain_here g.locks
+    keeps_locks = subst (λ (ls : List ℕ). HasKept p.log ws n ls) same_locks g.locks
 
     abbrev entry : Record
     entry = record { point = durable_point p.log ws n; locks = own_locks; live = code.is.places.live node; registers = registers }
@@ -438,7 +511,7 @@ module _ (locked : ChosenAreLocked) (p : Plan) (plan : IsPlan p) (plain : ArePla
     enters : (kept : FlowState) → Enters p t node (seen_by kept graph_thread) (side_of entry) registers
     enters kept = record {
       at_side = resumed_record.side.registers;
-      count = decoded_long t.kinds 0;
+      count = as_long t.kinds locals locals_hold;
       locals = carried;
       pending = λ other there.
           let same : is ≡ other = same_Some is other (sym here ∙ there) in
@@ -461,21 +534,28 @@ module _ (locked : ChosenAreLocked) (p : Plan) (plan : IsPlan p) (plain : ArePla
         below_end = g.own.below_end;
       };
       formed = formed;
-      referring =
-          thread_unreferring x code.of.text thread plan.formed.unreferring.variables unreferring form.locals formed.locals
-          (left_refers p plan t code.of node g.own);
+      referring = record {
+        left = left_refers p plan t code.of node g.own;
+        known = left_sure x refers locals known st.left (left_refers p plan t code.of node g.own) (left_known p plan t code.of node g.own) locals_unnull;
+        locals = locals_refer;
+        pending = owed.referring;
+      };
+      unnull = locals_unnull;
       set = set;
-      long = long p plan t code.of node g.own plain.single;
       left = keeps p plan t code.of node g.own;
+      apart = apart_by locals own_names set (subst AreOnce (same_locks ∙ locks_are p plan t code.of locals node) g.once);
+      locks = (scheme p.log).reads.locks ws n own_locks are_loggable some keeps_locks ∙ locks_are p plan t code.of locals node;
+      held = locals_hold;
       pending = owed.guarded;
       stored = owed.stored;
-      locks = (scheme p.log).reads.locks ws n own_locks are_loggable some keeps_locks ∙ sym plain_here;
       entry = entry;
       is_record = is_record;
       is_recorded = is_recorded;
-      describes = λ kept there holds.
-          inside (holds ∙ not_empty (locks_held (set_before p t node))
-          (λ none. numbers_some locals (held_names_before p t node) (resumed_hold locked p plan code node _ g.own g.resumes) (sym plain_here ∙ none))) (record {
+      describes = λ kept there holding.
+          inside (holding ∙ not_empty (map (lock_number locals) (held_names own_names set))
+          (λ none.
+          numbers_some locals (held_names_before p t node) (resumed_hold locked p plan code node _ g.own g.resumes)
+          (locks_are p plan t code.of locals node ∙ none))) (record {
             graph_thread = graph_thread;
             there = there;
             goes_on = refl;

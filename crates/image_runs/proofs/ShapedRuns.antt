@@ -1,8 +1,7 @@
 -- A machine that begins with words that have the shape runs on.
-use Rattle.std.proofs.Common.{◌≡◌, ◌∙◌, ap, ap₂, subst, sym}
+use Rattle.std.proofs.Common.{◌≡◌, ◌∙◌, ap, ap₂, subst}
 use Rattle.ido_base.specs.declared.log.Log.{Log}
 use Rattle.c_tree.specs.Flats.{Flat}
-use Rattle.c_tree.specs.WellFormed.{ArePlain}
 use Rattle.rv64_isa.specs.Executables.{Executable}
 use Rattle.rv64_isa.specs.declared.object.Object.{Object}
 use Rattle.rv64_isa.specs.declared.object.Marks.{Marks}
@@ -17,7 +16,7 @@ use Rattle.image_runs.specs.Laws.{AcceptedHaveShape, AcceptedRunOn, ShapesAreSta
 use Rattle.image_runs.specs.StateImages.{image_of_state}
 
 pub shapes_run_on : ShapesAreStates → RecoveredWordsRunOn → ShapesRunOn
-shapes_run_on states run y s plain image shape = let from = states y s plain image.words shape in run y s from.0 image from.1
+shapes_run_on states run y s image shape = let from = states y s image.words shape in run y s from.0 image from.1
 
 -- what readers see of the system
 abbrev seen_as : Flat → Executable → Boundaries → Translation
@@ -29,8 +28,7 @@ same_translation flat object marks cuts log t =
     ap (λ (x : Flat). seen_as x t.system.runs t.system.plan.boundaries) t.of_flat ∙ ap₂ (seen_as flat) t.runs t.at_cuts
 
 pub accepted_run_on : AcceptedHaveShape → ShapesRunOn → AcceptedRunOn
-accepted_run_on have run version flat object marks cuts table state kept r plain is formed =
+accepted_run_on have run version flat object marks cuts table state kept r is right formed =
     let t = r.translated in
     subst (λ (c : Translation). RunsOn c (image_of_state state kept)) (same_translation flat object marks cuts (log_of version) t)
-    (run t.system t.is (subst (λ (x : Flat). ArePlain x.mutexes) (sym t.of_flat) plain) (image_of_state state kept)
-    (have version flat object marks cuts table state r plain is formed))
+    (run t.system t.is (image_of_state state kept) (have version flat object marks cuts table state r is right formed))

@@ -3,7 +3,6 @@ use Rattle.std.specs.Prelude.{ℕ, List, length, Vec}
 use Rattle.std.specs.Global.{Global}
 use Rattle.ido_base.specs.declared.event.Event.{Event}
 use Rattle.c_tree.specs.Flats.{Flat}
-use Rattle.c_tree.specs.WellFormed.{ArePlain}
 use Rattle.rv64_isa.specs.declared.object.Object.{Object}
 use Rattle.rv64_isa.specs.declared.object.Marks.{Marks}
 use Rattle.rv64_isa.specs.Schedule.{LifeSchedules}
@@ -20,41 +19,39 @@ use Rattle.compiler_correctness.specs.WordRuns.{RunsOn}
 use Rattle.crash_images.specs.Contents.{State, IsState, log_of}
 use Rattle.crash_images.specs.declared.version.ImageVersion.{ImageVersion}
 use Rattle.image_checks.specs.Checks.{IsWellFormedState}
+use Rattle.image_checks.specs.VariableReferences.{AreReferences}
 use Rattle.image_runs.specs.Shapes.{HasShape}
 use Rattle.image_runs.specs.StateImages.{image_of_state, state_words}
 
 -- ---- Which words have it
 
--- what stands after an image's source, where it has no fault and no mutex is in an array
+-- what stands after an image's source, where it has no fault
 abbrev pub AcceptedHaveShape : Type 0
 AcceptedHaveShape = (version : ImageVersion) (flat : Flat) (object : Object) (marks : Marks) (cuts : Cuts) (table : List (Vec Resume Global)) (state : State) →
-    (r : IsResumableAs (log_of version) flat object marks cuts table) → ArePlain flat.mutexes →
-    IsState version (length object.initial.items) (length object.code.items) state →
-    IsWellFormedState (log_of version) flat table state → HasShape r.translated.system.plan r.translated.is.codes (state_words state)
+    (r : IsResumableAs (log_of version) flat object marks cuts table) → IsState version (length object.initial.items) (length object.code.items) state →
+    AreReferences flat state.variables → IsWellFormedState (log_of version) flat table state →
+    HasShape r.translated.system.plan r.translated.is.codes (state_words state)
 
--- what a crash leaves of a run of a program in which no mutex is in an array
+-- what a crash leaves of a run
 abbrev pub CrashesLeaveShape : Type 0
-CrashesLeaveShape = (y : System) (s : IsSystem y) → ArePlain (flat_of y).mutexes → (events : List Event) →
-    HasShape y.plan s.codes (image_of (translation_of y) events).words
+CrashesLeaveShape = (y : System) (s : IsSystem y) (events : List Event) → HasShape y.plan s.codes (image_of (translation_of y) events).words
 
 -- ---- What they are
 
--- of a program in which no mutex is in an array the words are what the records of some state of the source leave, whether a run reaches it or not: an execution
--- may begin there, and harts recover to it
+-- the words are what the records of some state of the source leave, whether a run reaches it or not: an execution may begin there, and harts recover to it
 abbrev pub ShapesAreStates : Type 0
-ShapesAreStates = (y : System) (s : IsSystem y) → ArePlain (flat_of y).mutexes → (words : List ℕ) → HasShape y.plan s.codes words →
-    (o : Origin (flat_of y)) × IsRecoveredFrom y s o words
+ShapesAreStates =
+    (y : System) (s : IsSystem y) (words : List ℕ) → HasShape y.plan s.codes words → (o : Origin (flat_of y)) × IsRecoveredFrom y s o words
 
 -- ---- What a machine does that begins with them
 
 abbrev pub ShapesRunOn : Type 0
-ShapesRunOn =
-    (y : System) (s : IsSystem y) → ArePlain (flat_of y).mutexes → (image : Image) → HasShape y.plan s.codes image.words → RunsOn (translation_of y) image
+ShapesRunOn = (y : System) (s : IsSystem y) (image : Image) → HasShape y.plan s.codes image.words → RunsOn (translation_of y) image
 
--- an image without a fault is run on by the program that it is checked against, where no mutex of it is in an array, whatever its schedules are
+-- an image without a fault is run on by the program that it is checked against, whatever its schedules are
 abbrev pub AcceptedRunOn : Type 0
 AcceptedRunOn = (version : ImageVersion) (flat : Flat) (object : Object) (marks : Marks) (cuts : Cuts) (table : List (Vec Resume Global)) (state : State)
     (kept : LifeSchedules) →
-    IsResumableAs (log_of version) flat object marks cuts table → ArePlain flat.mutexes →
-    IsState version (length object.initial.items) (length object.code.items) state →
-    IsWellFormedState (log_of version) flat table state → RunsOn (translation_to flat object marks cuts) (image_of_state state kept)
+    IsResumableAs (log_of version) flat object marks cuts table → IsState version (length object.initial.items) (length object.code.items) state →
+    AreReferences flat state.variables → IsWellFormedState (log_of version) flat table state →
+    RunsOn (translation_to flat object marks cuts) (image_of_state state kept)

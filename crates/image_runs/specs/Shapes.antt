@@ -1,27 +1,32 @@
--- What durable words must have so that threads can be resumed by them, whoever left them: points, recorded locks and kinds of numbers, and no history.
-use Rattle.std.specs.Prelude.{◌≡◌, ◌≢◌, ℕ, ◌<◌, List, length, map, slice_get, Some, true}
+-- What durable words must have so that threads can be resumed by them, whoever left them: points, recorded locks, numbers and references, and no history.
+use Rattle.std.specs.Prelude.{◌≡◌, ◌≢◌, ℕ, ◌<◌, List, length, map, slice_get, slice_index_or, Some, true, ℤ, pos}
+use Rattle.std.specs.List.{AllZip}
 use Rattle.ido_base.specs.declared.location.Location.{Location}
 use Rattle.ido_base.specs.Words.{Word, word_of}
 use Rattle.ido_base.specs.Layout.{word_count}
 use Rattle.ido_base.specs.Locks.{has_lock}
 use Rattle.ido_ints.specs.declared.kinds.Kind.{Kind}
+use Rattle.ido_ints.specs.Kinds.{Holds}
+use Rattle.ido_ints.specs.TypedNumbers.{typed}
+use Rattle.c_tree.specs.NullReferences.{is_among}
+use Rattle.c_tree.specs.Ranges.{elements_of}
+use Rattle.c_tree.specs.References.{variable_refers}
+use Rattle.c_ranges.specs.Laws.{IsNullOrReference}
 use Rattle.rv64_isa.specs.Rows.{read}
 use Rattle.rv64_isa.specs.Machine.{durable_point, resume_of, record_of, resumed_registers}
-use Rattle.memory_layout.specs.Roles.{pending_address}
+use Rattle.memory_layout.specs.Roles.{pending_address, pending_value}
 use Rattle.flow_graph.specs.Nodes.{Node}
 use Rattle.flow_graph.specs.Liveness.{NodeAt, IsLive}
+use Rattle.flow_graph.specs.Paths.{naming_of}
 use Rattle.log_states.specs.Logs.{HasLog}
 use Rattle.log_states.specs.Schemes.{HasKept}
-use Rattle.thread_code.specs.Plans.{Plan, IsNodeOf, locks_held, set_before}
+use Rattle.thread_code.specs.Plans.{Plan, IsNodeOf, locks_before}
 use Rattle.recovered_threads.specs.RecordDescriptions.{Code, Codes, ResumesAt}
-use Rattle.image_checks.specs.Checks.{IsForm, IsElementOf}
-use Rattle.expr_code.specs.declared.home.Home.{Home}
-use Rattle.expr_code.specs.declared.home.Home.TheVariants.{InRegister}
-use Rattle.expr_code.specs.EvaluationCode.{home_of}
-
--- a number of the kind, in its register form, stands in the home
-abbrev pub HomeHasForm : (registers : List ℕ) → Home → Kind → Type 0
-HomeHasForm registers (InRegister register) k = IsForm k (read registers register)
+use Rattle.flat_compile.specs.ResumePlaces.{refers_in, knowns_before}
+use Rattle.image_checks.specs.Logs.{AreOnce}
+use Rattle.image_checks.specs.Checks.{IsElementOf, IsReferenceWord}
+use Rattle.image_checks.specs.VariableReferences.{AreReferences}
+use Rattle.expr_code.specs.EvaluationCode.{home_of, HomeCarries}
 
 module _ (p : Plan) (code : Code p) (words : List Word) where
   -- the registers with which recovery resumes the thread
@@ -32,24 +37,38 @@ module _ (p : Plan) (code : Code p) (words : List Word) where
   pub record GoesOnAt (node : ℕ) : Type 0 where
     pub own : IsNodeOf code.thread node
     pub resumes : ResumesAt p code node (resume_of (durable_point p.log words code.thread.number))
-    -- the bank that its point names keeps the locks that it holds there: no mutex is in an array
-    pub locks : HasKept p.log words code.thread.number (locks_held (set_before p code.thread node))
-    -- each live local has a number of its kind
+    -- its locals have these numbers, of their kinds: each live one has its number in its register, and of another one it may be any
+    pub numbers : List ℤ
+    pub held : AllZip Holds code.thread.kinds numbers
     pub locals : (local : ℕ) (k : Kind) → slice_get code.thread.kinds local ≡ Some k → IsLive p.graph local node →
-        HomeHasForm resumed (home_of code.thread.locals local) k
-    -- a pending store has the address of an element that the node may write; of its number nothing is asked
+        HomeCarries resumed (home_of code.thread.locals local) (typed k (slice_index_or numbers local (pos 0)))
+    -- each live reference is null, or one to its array
+    pub refer : (local array : ℕ) → slice_get (refers_in p code.thread) local ≡ Some (Some array) → IsLive p.graph local node →
+        IsNullOrReference (elements_of p.flat.variables array) (slice_index_or numbers local (pos 0))
+    -- and one that is known not to be null isn't
+    pub unnull : (local array : ℕ) → slice_get (refers_in p code.thread) local ≡ Some (Some array) → IsLive p.graph local node →
+        is_among (knowns_before p code.thread node) local ≡ true → slice_index_or numbers local (pos 0) ≢ pos 0
+    -- the bank that its point names keeps the locks that it holds there, by these numbers, and no lock twice
+    pub locks : HasKept p.log words code.thread.number (locks_before p code.thread numbers node)
+    pub once : AreOnce (locks_before p code.thread numbers node)
+    -- a pending store has the address of an element that the node may write
     pub pending : (is : Node) (location : Location) → NodeAt p.graph node is → is.writes ≡ Some location →
-        IsElementOf p.flat.variables location (read resumed pending_address)
+        IsElementOf p.flat.variables (naming_of p.flat code.of.text numbers) location (read resumed pending_address)
+    -- of its number nothing is asked, unless it is a reference
+    pub value : (is : Node) (location : Location) → NodeAt p.graph node is → is.writes ≡ Some location →
+        IsReferenceWord p.flat.variables (variable_refers p.flat.variables location.variable) (read resumed pending_value)
 
   -- the thread stands between two sections, or goes on at a node
   pub data HasThreadShape : Type 0 where
     idle : durable_point p.log words code.thread.number ≡ 0 → HasThreadShape
     resumes : (node : ℕ) → durable_point p.log words code.thread.number ≢ 0 → GoesOnAt node → HasThreadShape
 
--- as many words as the machine has, those of logs of 64 bits; each thread can be resumed; and no two threads have recorded the same lock
+-- as many words as the machine has, those of logs of 64 bits; what refers in variables is null or a reference to its array; each thread can be resumed; and no
+-- two threads have recorded the same lock
 pub record HasShape (p : Plan) (codes : Codes p) (words : List ℕ) : Type 0 where
   pub size : length words ≡ word_count p.log (length p.graph.threads)
   pub logs : (n : ℕ) → n < length p.graph.threads → HasLog p.log n (map word_of words)
+  pub references : AreReferences p.flat words
   pub threads : (n : ℕ) (below : n < length p.graph.threads) → HasThreadShape p (codes.each n below) (map word_of words)
   pub apart : (g h lock : ℕ) → g < length p.graph.threads → h < length p.graph.threads → has_lock (record_of p.log (map word_of words) g) lock ≡ true →
       has_lock (record_of p.log (map word_of words) h) lock ≡ true → g ≡ h

@@ -13,8 +13,8 @@ pub fn images_have_shape()
     machines_resume();
 }
 
-/// Words that have the shape are what the records of some state of the source leave, whether a run reaches that or not: each thread that has a point
-/// stands at its node, with the locks and the numbers that its bank has, and each other one before its first step, with nothing held.
+/// Words that have the shape are what the records of some state of the source leave, whether a run reaches that or not: each thread that has a point stands at
+/// its node, with the locks, the numbers and the references that its bank has, and each other one before its first step, with nothing held.
 pub fn shapes_are_states()
     ensures { ShapesAreStates }
 {
@@ -22,8 +22,8 @@ pub fn shapes_are_states()
 }
 
 /// A machine that begins with words that have the shape runs on, whatever happens: no hart is ever stuck, none that takes its locks in recovery waits for
-/// one, and one that waits for no lock begins its next step, or has stopped, within twice its code's words and 18 of its steps while power stays on.
-/// What is in the variables is any numbers.
+/// one, and one that waits for no lock begins its next step, or has stopped, within twice its code's words and 18 of its steps while power stays on. What is
+/// in the variables is any numbers, and any references to the arrays that they refer to.
 pub fn shapes_run_on()
     ensures shape { ShapesRunOn }
     ensures accepted { AcceptedRunOn }

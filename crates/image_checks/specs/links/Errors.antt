@@ -1,4 +1,5 @@
--- Faults of fields and of schedules, as faults of an image.
+-- Faults of fields and of schedules, as faults of an image, and what an error of a check tells.
+use Rattle.std.specs.Prelude.{◌≡◌, ◌⊎◌}
 use Rattle.file_fields.specs.declared.error.ReadError.{ReadError}
 use Rattle.file_fields.specs.declared.error.ReadError.TheVariants as read
 use Rattle.image_checks.specs.declared.schedules.ScheduleFault.{ScheduleFault}
@@ -18,3 +19,7 @@ abbrev pub of_schedule : ScheduleFault → ImageError
 of_schedule (schedule.Step step) = e.Schedule step
 of_schedule (schedule.Life life) = e.Lives life
 of_schedule schedule.Memory = e.Memory
+
+-- a fault; or want of memory, which tells nothing
+abbrev pub Tells : (IsFault : ImageError → Type 0) → ImageError → Type 0
+Tells IsFault error = (error ≡ e.Memory) ⊎ IsFault error

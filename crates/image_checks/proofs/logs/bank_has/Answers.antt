@@ -11,8 +11,8 @@ is_listed-requires-clause-log c = subst (λ (log : Log). log_words log * (c.args
 pub returns-in-V1 : goal.returns-in-V1
 returns-in-V1 c =
     let slot : ℕ → ℕ = λ slot. slot_in (logs_of c.args.log c.args.logs.now) c.args.thread c.args.bank slot in
-    subst (λ (log : Log). c.has_lock.result ≡ has_lock (slot_locks log slot) c.args.lock) (sym c.in-V1.is)
-    (c.has_lock.ensures ∙ ap (λ (mask : ℕ). has_lock (locks_in mask) c.args.lock) c.slot_in.ensures)
+    subst (λ (log : Log). c.mask_has.result ≡ has_lock (slot_locks log slot) c.args.lock) (sym c.in-V1.is)
+    (c.mask_has.ensures ∙ ap (λ (mask : ℕ). has_lock (locks_in mask) c.args.lock) c.slot_in.ensures)
 
 pub returns-in-V2 : goal.returns-in-V2
 returns-in-V2 c =

@@ -1,6 +1,6 @@
 use Rattle.std.proofs.Common.{arith, ⊎_elim}
 use Rattle.std.proofs.lemmas.Bool.{cases_lt}
-use Rattle.image_checks.specs.declared.limits.TheConstants.{MASK_BITS}
+use Rattle.ido_base.specs.declared.limits.TheConstants.{MOST_LOCKS}
 use borrow.Author.Count.{below_more}
 use Rattle.image_checks.specs.Checks.{IsUnshared, shared}
 use Rattle.image_checks.specs.Logs.{logs_of}
@@ -17,4 +17,4 @@ returns c lock = ⊎_elim
     (λ low. c.loop-lock.invariant lock (omega arith))
     (λ high one other apart within holds.
     let low = c.requires.low one lock (omega (arith, apart, within)) holds in absurd (omega (arith, low, high)))
-    (cases_lt lock MASK_BITS)
+    (cases_lt lock MOST_LOCKS)

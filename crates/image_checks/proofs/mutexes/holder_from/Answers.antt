@@ -2,6 +2,7 @@ use Rattle.std.proofs.Common.{length}
 use Rattle.image_checks.proofs.Points.{log_within}
 use Rattle.image_checks.proofs.mutexes.holder_from.Goals as goal
 
-pub holds-requires-clause-log : goal.holds-requires-clause-log
-holds-requires-clause-log c =
-    log_within c.args.log c.loop-thread.thread c.args.threads (length c.args.logs.now) c.loop-thread-test.true c.requires.logs
+pub holds-requires : goal.holds-requires
+holds-requires c = record {
+  log = log_within c.args.log c.loop-thread.thread c.args.threads (length c.args.logs.now) c.loop-thread-test.true c.requires.logs;
+}

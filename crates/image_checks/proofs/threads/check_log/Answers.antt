@@ -1,4 +1,5 @@
-use Rattle.std.proofs.Common.{sym}
+use Rattle.std.proofs.Common.{inr, sym}
+use Rattle.c_tree.specs.Flats.{flat_of}
 use Rattle.flat_compile.specs.declared.resumes.Resume.{Resume}
 use Rattle.image_checks.specs.Checks.{nowhere}
 use Rattle.image_checks.specs.Logs.{logs_of}
@@ -16,8 +17,8 @@ check_bank-requires-clause-room c =
 
 pub returns-in-Some : goal.returns-in-Some
 returns-in-Some c =
-    bank_answer _ c.args.resumes.now (logs_of c.args.log c.args.logs.now) c.args.thread c.in-At.address c.in-At.bank c.in-Some.resume.now c.check_bank.result
-    (sym c.in-At.ensures) (sym c.in-Some.ensures) c.check_bank.ensures
+    bank_answer (flat_of c.args.flat.now) c.args.resumes.now (logs_of c.args.log c.args.logs.now) c.args.thread c.in-At.address c.in-At.bank
+    c.in-Some.resume.now c.check_bank.result (sym c.in-At.ensures) (sym c.in-Some.ensures) c.check_bank.ensures
 
 pub returns-in-None : goal.returns-in-None
-returns-in-None c = nowhere c.in-At.address c.in-At.bank (sym c.in-At.ensures) (sym c.in-None.ensures)
+returns-in-None c = inr (nowhere c.in-At.address c.in-At.bank (sym c.in-At.ensures) (sym c.in-None.ensures))

@@ -1,21 +1,25 @@
-use Rattle.std.proofs.Common.{sym, ◌∙◌, subst, List, inl}
+use Rattle.std.proofs.Common.{◌<◌, ◌^◌, ◌∙◌, ℕ, List, inl, ap, subst, sym, true, false}
+use Rattle.std.proofs.lemmas.Bool.{eq-eqb, eqb-true, true≢false}
+use Rattle.ido_base.specs.Locks.{mask_with}
 use Rattle.ido_base.specs.declared.log.Log.TheVariants.{V1}
-use Rattle.flat_compile.specs.declared.resumes.LiveLocal.{LiveLocal}
-use Rattle.image_checks.specs.Checks.{other_locks, other_number, other_address, HasLocals, IsFirstWrong}
-use Rattle.image_checks.specs.Logs.{logs_of}
+use Rattle.c_tree.specs.Flats.{flat_of}
+use Rattle.image_checks.specs.Checks.{other_locks}
+use Rattle.image_checks.specs.Logs.{logs_of, slot_in}
+use Rattle.image_checks.proofs.Banks.{masked_answer}
 use Rattle.image_checks.proofs.threads.check_masked.Goals as goal
 
-pub returns-then-slot_in-resume : goal.returns-then-slot_in-resume
-returns-then-slot_in-resume c = other_locks (inl tt) (λ h. c.if-slot_in-resume.true (c.slot_in.ensures ∙ h))
+pub has_mask-requires-clause-fits : goal.has_mask-requires-clause-fits
+has_mask-requires-clause-fits c = subst (λ (numbers : List ℕ). mask_with numbers < 2 ^ 64) (sym c.deref.ensures.value) c.requires.room.fits
 
-pub returns-in-Some : goal.returns-in-Some
-returns-in-Some c =
-    other_number c.in-Some.register (λ first. sym c.slot_in.ensures ∙ c.if-slot_in-resume.false)
-    (subst (λ (live : List LiveLocal). IsFirstWrong (logs_of V1 c.args.logs.now) c.args.thread c.args.bank live c.in-Some.register) c.deref.ensures.value
-    c.in-Some.ensures)
+pub returns-then-not-has_mask : goal.returns-then-not-has_mask
+returns-then-not-has_mask c =
+    let slot : ℕ = slot_in (logs_of V1 c.args.logs.now) c.args.thread c.args.bank 0 in
+    other_locks (inl tt) (λ h. true≢false
+    (sym (eq-eqb slot (mask_with c.deref.result.now) (h ∙ ap mask_with (sym c.deref.ensures.value))) ∙ sym c.if-not-has_mask.ensures))
 
-pub returns-then-not-has_address : goal.returns-then-not-has_address
-returns-then-not-has_address c =
-    other_address (λ first. sym c.slot_in.ensures ∙ c.if-slot_in-resume.false)
-    (subst (HasLocals (logs_of V1 c.args.logs.now) c.args.thread c.args.bank) c.deref.ensures.value c.in_default.ensures)
-    (λ h. cc (c.if-not-has_address.ensures.1 h))
+pub returns : goal.returns
+returns c =
+    let slot : ℕ = slot_in (logs_of V1 c.args.logs.now) c.args.thread c.args.bank 0 in
+    masked_answer (flat_of c.args.flat.now) (logs_of V1 c.args.logs.now) c.args.thread c.args.bank c.args.resume.now c.check_beside.result
+    (eqb-true slot (mask_with c.deref.result.now) (sym c.if-not-has_mask.ensures) ∙ ap mask_with c.deref.ensures.value)
+    c.check_beside.ensures

@@ -11,11 +11,10 @@ use Rattle.c_tree.specs.Flats as f
 use Rattle.c_tree.specs.Programs.{Variable}
 use Rattle.c_tree.specs.Ranges as ranges
 use Rattle.c_tree.specs.Ranges.{Interval, range_of}
-use Rattle.c_tree.specs.WellFormed.{elements_in, IsDeclared, IsSingle, IsVariable, IndexFits, IsFlatTarget, IsFlatStatement, AreFlatStatements, AreFlatArms}
+use Rattle.c_tree.specs.WellFormed.{elements_in, IsDeclared, IsVariable, IndexFits, IsFlatTarget, IsFlatStatement, AreFlatStatements, AreFlatArms}
 use Rattle.c_ranges.proofs.Public.{elements_is}
 use Rattle.flow_graph.specs.Nodes.{Action, Eval, Store, Test, Lock, Unlock, End, Node}
 use Rattle.c_tree.specs.LockNames.{lock_names}
-use Rattle.flow_graph.proofs.Public.{plain_key}
 use Rattle.flow_graph.specs.Lowering.{Table, table_of, scalar, elements, element_number, test_node, plain_node}
 use Rattle.flow_graph.specs.Lowering.{assign_nodes, count, statements_count, arms_count, thread_count}
 use Rattle.flow_graph.specs.Lowering.{entry, statement_nodes, statements_nodes, arms_nodes, thread_nodes, threads_nodes}
@@ -36,7 +35,7 @@ one_element (Some n) h = cc
 
 -- ---- Nodes
 
-module _ (x : f.Flat) (variables : AllByRecursion (IsVariable x.mutexes) x.variables) (single : AllByRecursion IsSingle x.mutexes) where
+module _ (x : f.Flat) (variables : AllByRecursion (IsVariable x.mutexes) x.variables) where
   -- the node writes these elements of the variable, which is of the kind
   pub record StoresElements (n : Node) (variable : ℕ) (kind : Kind) : Type 0 where
     pub location : Location
@@ -46,7 +45,6 @@ module _ (x : f.Flat) (variables : AllByRecursion (IsVariable x.mutexes) x.varia
     pub found : slice_get x.variables variable ≡ Some it
     pub kind_is : it.kind ≡ kind
     pub within : location.hi < elements_in it.length
-    pub no_key : location.key ≡ None
 
   abbrev pub StoresAs : Node → Action → Type 0
   StoresAs n (Eval target value next) = Unit {0}
@@ -92,7 +90,6 @@ module _ (x : f.Flat) (variables : AllByRecursion (IsVariable x.mutexes) x.varia
           found = t.0.found;
           kind_is = t.0.kind;
           within = one_element t.0.it.length t.0.array;
-          no_key = refl;
         },
         tt,
       ),
@@ -108,7 +105,6 @@ module _ (x : f.Flat) (variables : AllByRecursion (IsVariable x.mutexes) x.varia
           found = t.0.0.found;
           kind_is = t.0.0.kind;
           within = element_within variable kind index.place index.expr t.0.0 t.1.0;
-          no_key = plain_key x.mutexes x.variables names variable index single variables;
         },
         tt,
       ),
