@@ -1,18 +1,11 @@
-//! Texts with keys and arrays of mutexes, each with the rule and the place by which a check of its flat form refuses it.
+//! Texts of the full language, each with the rule and the place by which it is refused.
 ghost use Rattle.std.specs.Prelude.{◌≡◌, ◌≤◌, Some, length};
 ghost use Rattle.ido_base.specs.declared.limits.TheConstants.{MOST_SOURCE_BYTES};
-ghost use Rattle.c_tree.specs.declared.refusal.SourceError.TheVariants as error;
 
-use crate::second_log::{keyed_form, want_few_names};
-use c_ranges::RangeError;
-use c_reader::read;
-use c_tree::language::Language;
-use c_tree::refusal::{Refusal, SourceError};
+use c_tree::refusal::Refusal;
 use c_tree::rule::Rule;
-use c_typer::type_tree;
-use flat_analysis::analyse;
 use ido_base::place::Place;
-use lock_discipline::laws::few_have_names;
+use ido_compile::{CompileError, compile};
 use std::alloc::Global;
 use std::test::Fail;
 
@@ -67,43 +60,59 @@ const DEEP: &[u8] =
     + (i + k))) + (((i + k) + (i + k)) + ((i + k) + (i + k)))) & 3]); unlock(m[((((i + k) + (i + k)) + ((i + k) + \
     (i + k))) + (((i + k) + (i + k)) + ((i + k) + (i + k)))) & 3]); }";
 
+/// More mutexes than a mask has bits.
+const MANY: &[u8] =
+    b"mutex m[65]; persistent(m[]) int a[65]; thread t { lock(m[64]); a[64] = 1; unlock(m[64]); }";
+
 /// A key that is any number.
 const OUTSIDE: &[u8] =
     b"mutex m[4]; persistent(m[]) int a[4]; thread t { int i = 0; int k = 1; lock(m[i]); unlock(m[i]); }";
 
+/// An array of mutexes, locked without a key.
+const WITHOUT_KEY: &[u8] = b"mutex m[4]; thread t { lock(m); unlock(m); }";
+
+/// A key that takes the address of an element.
+const ADDRESS: &[u8] =
+    b"mutex m; mutex k[2]; persistent(m) long a[4]; thread t { ref(a) p = &a[1]; lock(k[p == &a[1]]); unlock(k[0]); }";
+
+/// A reference to an element of another array.
+const OTHER_ARRAY: &[u8] =
+    b"mutex m; persistent(m) long a[4]; persistent(m) long b[4]; thread t { ref(a) p = null; p = &b[1]; }";
+
+/// A reference that may be null.
+const MAYBE_NULL: &[u8] =
+    b"mutex m; persistent(m) long a[4]; thread t { ref(a) p = null; lock(m); *p = 1; unlock(m); }";
+
+/// More names of locks than a mask has bits, of which the last one is held.
+const NAMES: &[u8] =
+    b"mutex a0; mutex a1; mutex a2; mutex a3; mutex a4; mutex a5; mutex a6; mutex a7; mutex a8; mutex a9; \
+    mutex a10; mutex a11; mutex a12; mutex a13; mutex a14; mutex a15; mutex a16; mutex a17; mutex a18; \
+    mutex a19; mutex a20; mutex a21; mutex a22; mutex a23; mutex a24; mutex a25; mutex a26; mutex a27; \
+    mutex a28; mutex a29; mutex a30; mutex a31; mutex a32; mutex a33; mutex a34; mutex a35; mutex a36; \
+    mutex a37; mutex a38; mutex a39; mutex a40; mutex a41; mutex a42; mutex a43; mutex a44; mutex a45; \
+    mutex a46; mutex a47; mutex a48; mutex a49; mutex a50; mutex a51; mutex a52; mutex a53; mutex a54; \
+    mutex a55; mutex a56; mutex a57; mutex a58; mutex a59; mutex a60; mutex a61; mutex a62; mutex a63; \
+    mutex a64; \
+    persistent(a64) int x; thread t { lock(a0); lock(a64); x = 1; unlock(a64); unlock(a0); }";
+
 /// A refusal by the rule at the place.
-fn by(rule: Rule, place: u32) -> Option<SourceError>
-    ensures { result ≡ Some (error.Refused (record { rule = rule; place = record { 0 = place } })) }
+fn by(rule: Rule, place: u32) -> Option<Refusal>
+    ensures { result ≡ Some (record { rule = rule; place = record { 0 = place } }) }
 {
-    Some(SourceError::Refused(Refusal {
+    Some(Refusal {
         rule,
         place: Place(place),
-    }))
+    })
 }
 
-/// What refuses the flat form of a text, if anything does.
-fn refused(alloc: Global, text: &[u8]) -> Result<Option<SourceError>, Fail>
+/// What refuses a text, if anything does.
+fn refused(alloc: Global, text: &[u8]) -> Result<Option<Refusal>, Fail>
     requires { length text.now ≤ MOST_SOURCE_BYTES }
 {
-    few_have_names();
-    let flat = keyed_form(alloc, text)?;
-    want_few_names(alloc, &flat)?;
-    match analyse(alloc, Language::Full, &flat) {
+    match compile(alloc, text) {
         Ok(_) => Ok(None),
-        Err(error) => Ok(Some(error)),
-    }
-}
-
-/// The place of the first index or key of a text that may name no element.
-fn outside(alloc: Global, text: &[u8]) -> Result<Option<Place>, Fail>
-    requires { length text.now ≤ MOST_SOURCE_BYTES }
-{
-    let tree = read(alloc, Language::Full, text)?;
-    let program = type_tree(alloc, Language::Full, tree)?;
-    match c_ranges::check(alloc, &program) {
-        Err(RangeError::Index(error)) => Ok(Some(error.place)),
+        Err(CompileError::Refused(refusal)) => Ok(Some(refusal)),
         Err(error) => Err(error.into()),
-        Ok(()) => Ok(None),
     }
 }
 
@@ -125,8 +134,24 @@ fn locks_by_names(rt: HostRuntime) -> Result<(), Fail> {
 #[test]
 fn keys(rt: HostRuntime) -> Result<(), Fail> {
     let a = rt.alloc();
+    assert_eq!(rt; refused(a, WITHOUT_KEY)?, by(Rule::WrongSort, 28));
+    assert_eq!(rt; refused(a, ADDRESS)?, by(Rule::WrongSort, 88));
+    assert_eq!(rt; refused(a, MANY)?, None);
     assert_eq!(rt; refused(a, DEEP)?, by(Rule::Temporaries, 78));
-    assert_eq!(rt; outside(a, OUTSIDE)?, Some(Place(78)));
-    assert_eq!(rt; outside(a, DEEP)?, None);
+    assert_eq!(rt; refused(a, OUTSIDE)?, by(Rule::Index, 78));
+    Ok(())
+}
+
+#[test]
+fn references(rt: HostRuntime) -> Result<(), Fail> {
+    let a = rt.alloc();
+    assert_eq!(rt; refused(a, OTHER_ARRAY)?, by(Rule::WrongSort, 87));
+    assert_eq!(rt; refused(a, MAYBE_NULL)?, by(Rule::Null, 71));
+    Ok(())
+}
+
+#[test]
+fn many_names(rt: HostRuntime) -> Result<(), Fail> {
+    assert_eq!(rt; refused(rt.alloc(), NAMES)?, None);
     Ok(())
 }

@@ -1,6 +1,6 @@
 //! Tests of the top call: reads and writes that fail in turn, an input at its limit, and runs on threads that wait for each other; and rows of
-//! either log, and of keyed locks, which no command takes yet: programs that are compiled for it, and their lives through a loss of power; and
-//! texts with keys that the checks of flat forms refuse. They stand in a crate of their own, so that `ido_cli` is not proved twice.
+//! either log: programs that are compiled for it, with keys and references or without, and their lives through a loss of power;
+//! and texts that are refused. They stand in a crate of their own, so that `ido_cli` is not proved twice.
 #![tactic(auto)]
 
 #[cfg(test)]

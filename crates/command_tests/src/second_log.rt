@@ -1,29 +1,14 @@
 //! Programs whose threads log in lists, with keys and arrays of mutexes or without, compiled, and their lives through a loss of power; and with the
 //! first log, beside that.
-ghost use Rattle.std.specs.Prelude.{◌≡◌, ◌≤◌, length, None, IfOk};
+ghost use Rattle.std.specs.Prelude.{◌≡◌, ◌≤◌, length, IfOk};
 ghost use Rattle.ido_base.specs.declared.limits.TheConstants.{MOST_SOURCE_BYTES};
-ghost use Rattle.c_tree.specs.declared.language.Language.TheVariants.{Full};
-ghost use Rattle.c_tree.specs.Flats.{flat_of};
-ghost use Rattle.c_tree.specs.HoldPrices.{price_fault};
-ghost use Rattle.c_tree.specs.WellFormed.{IsWellFormed};
-ghost use Rattle.lock_discipline.specs.NamedForms.{HasNames, HaveFewNames};
 ghost use Rattle.hart_core.specs.Objects.{IsWithinLimits};
 
-use c_inline::inline::inline;
-use c_inline::laws::flat_is_formed;
-use c_reader::read;
-use c_tree::flat::Flat;
-use c_tree::language::Language;
-use c_typer::laws::keyed_is_formed;
-use c_typer::type_tree;
-use flat_analysis::analyse;
-use flat_compile::{Translated, translate};
+use flat_compile::Translated;
 use ido_base::event::Event;
 use ido_base::limits::MOST_SOURCE_BYTES;
 use ido_base::log::Log;
 use ido_compile::{Compiled, compile, compile_as};
-use lock_discipline::have_few_names;
-use lock_discipline::laws::few_have_names;
 use run_tracker::life::Life;
 use std::alloc::Global;
 use std::test::Fail;
@@ -55,71 +40,13 @@ const EACH: &[u8] = b"mutex m[4]; persistent(m[]) long a[4]; \
 const CROSSED: &[u8] = b"mutex m[4]; persistent(m[]) int a[4]; thread t { int i = 1; int k = 0; \
     lock(m[i & 3]); lock(m[k & 3]); a[k & 3] = 1; a[i & 3] = 2; unlock(m[i & 3]); unlock(m[k & 3]); }";
 
+/// A thread that changes an element through a reference, and leaves the reference in a variable.
+const THROUGH: &[u8] =
+    b"mutex m; persistent(m) long a[4] = {10, 20, 30, 40}; persistent(m) ref(a) h; \
+    thread t { lock(m); ref(a) p = &a[2]; if (p != null) { *p = *p + 1; } h = p; unlock(m); }";
+
 /// Events that a life takes.
 const ROOM: u64 = 10_000;
-
-/// The flat form of a text without references, with keys and arrays of mutexes or without, which costs no more than it may where what is held has
-/// a price.
-pub(crate) fn keyed_form(alloc: Global, text: &[u8]) -> Result<Flat, Fail>
-    requires { length text.now ≤ MOST_SOURCE_BYTES }
-    ensures formed { IfOk result (λ flat. IsWellFormed (flat_of flat)) }
-    ensures priced { IfOk result (λ flat. price_fault Full (flat_of flat) ≡ None) }
-{
-    keyed_is_formed();
-    flat_is_formed();
-    let tree = read(alloc, Language::Full, text)?;
-    let program = type_tree(alloc, Language::Plain, tree)?;
-    c_ranges::check(alloc, &program)?;
-    let flat = inline(alloc, Language::Full, &program)?;
-    Ok(flat)
-}
-
-/// The threads of a form have few names of locks, or the test fails.
-pub(crate) fn want_few_names(alloc: Global, flat: &Flat) -> Result<(), Fail>
-    ensures { IfOk result (λ _. HaveFewNames (flat_of flat.now)) }
-{
-    let few = have_few_names(alloc, flat)?;
-    if !few {
-        return Err("many names of locks".into());
-    }
-    Ok(())
-}
-
-/// What a machine runs for a form, where its threads log with lists.
-fn listed(alloc: Global, flat: &Flat) -> Result<Translated, Fail>
-    requires formed { IsWellFormed (flat_of flat.now) }
-    requires named { HasNames (flat_of flat.now) }
-    requires priced { price_fault Full (flat_of flat.now) ≡ None }
-    ensures limits { IfOk result (λ made. IsWithinLimits made.object) }
-    ensures marks { IfOk result (λ made. length made.marks.threads.items ≡ length made.object.code.items) }
-{
-    let analysis = analyse(alloc, Language::Full, flat)?;
-    let made = translate(alloc, Log::V2, &analysis)?;
-    Ok(made)
-}
-
-/// The text, compiled, where its threads log with lists.
-fn with_lists(alloc: Global, text: &[u8]) -> Result<Translated, Fail>
-    requires { length text.now ≤ MOST_SOURCE_BYTES }
-    ensures limits { IfOk result (λ made. IsWithinLimits made.object) }
-    ensures marks { IfOk result (λ made. length made.marks.threads.items ≡ length made.object.code.items) }
-{
-    few_have_names();
-    let flat = keyed_form(alloc, text)?;
-    want_few_names(alloc, &flat)?;
-    listed(alloc, &flat)
-}
-
-/// The text, compiled, where its threads log with masks.
-fn with_masks(alloc: Global, text: &[u8]) -> Result<Translated, Fail>
-    requires { length text.now ≤ MOST_SOURCE_BYTES }
-    ensures limits { IfOk result (λ made. IsWithinLimits made.object) }
-    ensures marks { IfOk result (λ made. length made.marks.threads.items ≡ length made.object.code.items) }
-{
-    let compiled = compile_as(alloc, Log::V1, text)?;
-    let Compiled { translated, .. } = compiled;
-    Ok(translated)
-}
 
 /// The text, compiled, where its threads log so.
 fn translated(alloc: Global, log: Log, text: &[u8]) -> Result<Translated, Fail>
@@ -127,10 +54,9 @@ fn translated(alloc: Global, log: Log, text: &[u8]) -> Result<Translated, Fail>
     ensures limits { IfOk result (λ made. IsWithinLimits made.object) }
     ensures marks { IfOk result (λ made. length made.marks.threads.items ≡ length made.object.code.items) }
 {
-    match log {
-        Log::V1 => with_masks(alloc, text),
-        Log::V2 => with_lists(alloc, text),
-    }
+    let compiled = compile_as(alloc, log, text)?;
+    let Compiled { translated, .. } = compiled;
+    Ok(translated)
 }
 
 /// What a life has come to.
@@ -240,8 +166,8 @@ fn are_of_two_logs(first: &Translated, second: &Translated) -> bool {
 
 #[test]
 fn each_log_has_its_code(rt: HostRuntime) -> Result<(), Fail> {
-    let first = with_masks(rt.alloc(), NESTED)?;
-    let second = with_lists(rt.alloc(), NESTED)?;
+    let first = translated(rt.alloc(), Log::V1, NESTED)?;
+    let second = translated(rt.alloc(), Log::V2, NESTED)?;
     let compiled = compile(rt.alloc(), NESTED)?;
     assert!(rt; are_of_two_logs(&first, &second) && compiled.translated.object == second.object);
     Ok(())
@@ -363,5 +289,41 @@ fn each_under_its_own_lock(rt: HostRuntime) -> Result<(), Fail> {
         ended: 4,
     };
     assert_eq!(rt; look(&life), wanted);
+    Ok(())
+}
+
+/// What is changed through a reference is durable, and so is the reference: the number of its element and 1 more. All eight steps up to the unlock are kept.
+#[test]
+fn through_a_reference(rt: HostRuntime) -> Result<(), Fail> {
+    let mut life = life_of(rt.alloc(), Log::V2, THROUGH)?;
+    step_to_end(&mut life);
+    let numbers = [
+        life.durable_word(0, 0),
+        life.durable_word(0, 1),
+        life.durable_word(0, 2),
+        life.durable_word(0, 3),
+        life.durable_word(0, 4),
+    ];
+    assert_eq!(rt; numbers, [10, 20, 31, 40, 3]);
+    let wanted = Seen {
+        settled: true,
+        word: 10,
+        steps: 8,
+        ended: 1,
+    };
+    assert_eq!(rt; look(&life), wanted);
+    Ok(())
+}
+
+/// Wherever power is lost from the lock's point on, the element is changed once.
+#[test]
+fn once_through_a_reference(rt: HostRuntime) -> Result<(), Fail> {
+    for fences in 2..8 {
+        let mut life = life_of(rt.alloc(), Log::V2, THROUGH)?;
+        lose_power_after(&mut life, fences);
+        step_to_end(&mut life);
+        let numbers = [life.durable_word(0, 2), life.durable_word(0, 4)];
+        assert_eq!(rt; numbers, [31, 3], "{fences}");
+    }
     Ok(())
 }

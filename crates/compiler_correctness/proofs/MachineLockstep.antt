@@ -80,7 +80,7 @@ abbrev beginning : (y : System) {s : IsSystem y} {w : World} {steps : Steps} {re
     m.State
 beginning y z = (beginning_after y (first_beginning y) z.lives).from
 
--- so it is in a life without a crash
+-- how a machine and the source stand in a life without a crash
 record Going (y : System) (s : IsSystem y) (w : World) (steps : Steps) (releases : ℕ → ℕ) : Type 0 where
   carried : SimulatesLives y s (first_beginning y) w steps releases
   in_step : w.recovering ≡ false → InStep y s w carried.is.stands (beginning y carried) steps.begun

@@ -63,7 +63,7 @@ abbrev pub RecoveredWordsRunOn : Type 0
 RecoveredWordsRunOn = (y : System) (s : IsSystem y) (o : Origin (flat_of y)) (image : Image) → IsRecoveredFrom y s o image.words →
     RunsOn (translation_of y) image
 
--- and what it leaves is what the source leaves from there, with every section whole
+-- What a recovered image leaves is what the source leaves from there, with every section whole.
 abbrev pub RecoveredWordsSettle : Type 0
 RecoveredWordsSettle = (y : System) (s : IsSystem y) (o : Origin (flat_of y)) (image : Image) → IsRecoveredFrom y s o image.words → (events : List Event) →
     SettlesFrom (translation_of y) image o.source events

@@ -93,7 +93,7 @@ module _ (y : System) (s : IsSystem y) (b : AbstractRun y) (k : ℕ) where
       inner_end x K k i.keeps done longest (i.tried k).inner (i.tried k).within made
       ∙ sym (none_ends (is_between K k) (is_between (solo K k done) k) between_on)
 
-  -- and so does the one that passes a mutex
+  -- the step that passes a mutex ends as many
   past_ends : runs_from K (replicate (suc done) k) ≡ true → Ends (suc done)
   past_ends made = grind (arith, replicate, between_on, fewer_run, i, inner_end, one_more)
 

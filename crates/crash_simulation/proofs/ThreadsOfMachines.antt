@@ -43,7 +43,7 @@ each_thread count h below P own others n inside = elim (same_or_other n h) [
     prop : IsProp (h < count)
     prop = hlevel props
 
--- and with its ghost state, where the one thread has another
+-- each thread is placed with its ghost state, where the one thread has another
 pub each_placed : (count : ℕ) (ghosts : ℕ → ThreadGhost) (h : ℕ) (below : h < count) (ghost : ThreadGhost)
     (P : (n : ℕ) → n < count → ThreadGhost → Type 0) → P h below ghost → ((n : ℕ) (inside : n < count) → n ≢ h → P n inside (ghosts n)) →
     OfEach count (λ n inside. P n inside (with_ghost ghosts h ghost n))

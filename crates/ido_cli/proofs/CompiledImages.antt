@@ -1,9 +1,9 @@
 -- What is answered to bytes.
-use Rattle.std.proofs.Common.{◌≡◌, ◌-◌, ◌≤◌, ℕ, List, ◌++◌, length, map, ap, sym, ◌∙◌, subst, arith, Err, Ok}
-use Rattle.std.specs.Prelude.{Vec}
+use Rattle.std.proofs.Common.{◌≡◌, ◌≤◌, ℕ, List, ◌++◌, length, map, ap, refl, sym, ◌∙◌, subst, arith, inl, inr, Result, Err, Ok}
+use Rattle.std.specs.Prelude.{MatchResult, Vec}
 use Rattle.std.specs.Global.{Global}
 use Rattle.std.proofs.lemmas.List.{length-map}
-use Rattle.c_tree.specs.Flats.{flat_of}
+use Rattle.c_tree.specs.Flats.{Flat, flat_of}
 use Rattle.ido_compile.specs.declared.compiler.Compiled.{Compiled}
 use Rattle.ido_compile.specs.declared.error.CompileError.{CompileError}
 use Rattle.ido_compile.specs.declared.error.CompileError.TheVariants as compiling
@@ -13,22 +13,71 @@ use Rattle.file_fields.specs.declared.error.ReadError.{ReadError}
 use Rattle.file_fields.specs.declared.error.ReadError.TheVariants as read
 use Rattle.ido_cli.specs.declared.compiled_image.Image.{Image}
 use Rattle.run_scripts.specs.Runs.{schedule_of}
-use Rattle.crash_images.specs.Contents.{State, IsState, Tells, log_of}
-use Rattle.crash_images.specs.ImageDecoder.{source_at, state_at, version_in}
+use Rattle.crash_images.specs.Contents.{State, AreVariables, IsState, log_of}
+use Rattle.crash_images.specs.Contents as contents
+use Rattle.crash_images.specs.ImageDecoder.{logs_at, source_at, variables_at, version_in}
+use Rattle.crash_images.specs.declared.state.State as code
+use Rattle.crash_images.specs.links.Views.{state_of}
 use Rattle.crash_images.specs.declared.version.ImageVersion.{ImageVersion}
 use Rattle.crash_images.specs.declared.version.ImageVersion.TheVariants.{First, Second, Third}
 use Rattle.rv64_isa.specs.Schedule.{all_lives}
 use Rattle.run_scripts.specs.links.ReportViews.{steps_of}
 use Rattle.run_tracker.specs.links.EarlierLives.{lives_in}
-use Rattle.ido_cli.specs.CompiledImages.{size_of, threads_of, BeginsCompiled, HasState, IsImageAnswer, whole, no_version, no_source, refused, no_state}
-use Rattle.ido_cli.specs.CompiledImages.{unsound, no_memory}
-use Rattle.image_checks.specs.links.Errors.{of_read}
-use Rattle.ido_cli.specs.links.BegunImages.{of_state}
+use Rattle.ido_cli.specs.CompiledImages.{size_of, threads_of, BeginsCompiled, HasState, IsFaultAfter, IsImageAnswer, IsStateAfter, whole, no_version, no_source}
+use Rattle.ido_cli.specs.CompiledImages.{refused, no_element, no_logs, no_state, no_variables, unsound, no_memory}
+use Rattle.image_checks.specs.VariableReferences.{AreReferences, IsReferenceFault}
+use Rattle.image_checks.specs.links.Errors.{Tells, of_read}
+use Rattle.ido_cli.specs.links.BegunImages.{of_logs}
 use Rattle.ido_cli.specs.links.CompileRefusals.{image_fault}
 use Rattle.file_fields.specs.Fields.{Magic, Version, Cut, Field, Rest}
 use Rattle.file_fields.specs.links.ReaderResults.{IsFault, Fails}
 use Rattle.image_checks.specs.StateAnswers.{IsStateAnswer, sound, faulty}
 use Rattle.image_checks.specs.StateAnswers as states
+
+-- ---- After the source
+
+module _ (flat : Flat) (version : ImageVersion) (total size threads : ℕ) (bytes : List ℕ) where
+  abbrev Told : ImageError → Type 0
+  Told error = Tells (IsFaultAfter flat version total size threads bytes) error
+
+  pub variables_told : (x : ReadError) → Fails x (variables_at total size bytes) → Told (of_read x)
+  variables_told read.Magic h = inr (no_variables Magic h)
+  variables_told read.Version h = inr (no_variables Version h)
+  variables_told (read.Cut place) h = inr (no_variables (Cut place.0) h)
+  variables_told (read.Field place) h = inr (no_variables (Field place.0) h)
+  variables_told (read.Rest place) h = inr (no_variables (Rest place.0) h)
+  variables_told read.Memory h = inl refl
+
+  module _ (variables rest : List ℕ) (is : variables_at total size bytes ≡ Ok (variables, rest)) where
+    pub element_told : (x : ImageError) → Tells (IsReferenceFault flat variables) x → Told x
+    element_told x (inl none) = inl none
+    element_told x (inr fault) = inr (no_element variables rest x is fault)
+
+    module _ (right : AreReferences flat variables) where
+      logs_told : (x : ReadError) → Fails x (logs_at version total threads variables rest) → Told (of_logs x)
+      logs_told read.Magic h = inr (no_logs variables rest Magic is right h)
+      logs_told read.Version h = inr (no_logs variables rest Version is right h)
+      logs_told (read.Cut place) h = inr (no_logs variables rest (Cut place.0) is right h)
+      logs_told (read.Field place) h = inr (no_logs variables rest (Field place.0) is right h)
+      logs_told (read.Rest place) h = inr (no_logs variables rest (Rest place.0) is right h)
+      logs_told read.Memory h = inl refl
+
+      pub after_logs : AreVariables size variables → (result : Result code.State ImageError) →
+          MatchResult result
+          (λ state. (logs_at version total threads variables rest ≡ Ok (state_of state)) × (state.variables.items ≡ variables)
+          × ((n : ℕ) → AreVariables n variables → IsState version n threads (state_of state)))
+          (λ fault. (x : ReadError) × (fault ≡ of_logs x) × Fails x (logs_at version total threads variables rest)) →
+          MatchResult result (λ state. IsStateAfter flat version total size threads bytes (state_of state)) Told
+      after_logs sized (Ok state) given = record {
+        rest = rest;
+        variables = is ∙ ap (λ (words : List ℕ). Ok (words, rest)) (sym given.1);
+        references = subst (λ (words : List ℕ). AreReferences flat words) (sym given.1) right;
+        logs = ap (λ (words : List ℕ). logs_at version total threads words rest) given.1 ∙ given.0;
+        fits = given.2 size sized;
+      }
+      after_logs sized (Err fault) given = subst Told (sym given.1) (logs_told given.0 given.2)
+
+-- ---- All bytes
 
 module _ (newest : ImageVersion) (bytes : List ℕ) where
   pub version_answer : (x : ReadError) → IsFault x (version_in newest bytes) → IsImageAnswer newest bytes (Err (of_read x))
@@ -55,28 +104,19 @@ module _ (newest : ImageVersion) (bytes : List ℕ) where
 
   module _ (version : ImageVersion) (c : Compiled) (begun : BeginsCompiled newest bytes version c) (size threads : ℕ) (rest : List ℕ)
       (size_is : size ≡ size_of c) (threads_is : threads ≡ threads_of c) (rest_is : begun.rest ≡ rest) where
-    pub state_answer : (x : ReadError) → Fails x (state_at version (length bytes) size threads rest) →
-        IsImageAnswer newest bytes (Err (of_state (length bytes - length rest) x))
-    state_answer x h =
-        subst (λ (r : List ℕ). IsImageAnswer newest bytes (Err (of_state (length bytes - length r) x))) rest_is
-        (told x (subst (λ (r : List ℕ). Fails x (state_at version (length bytes) (size_of c) (threads_of c) r)) (sym rest_is)
-        (coe 0 1 (i. Fails x (state_at version (length bytes) (size_is i) (threads_is i) rest)) h)))
-      where
-        told : (x : ReadError) → Fails x (state_at version (length bytes) (size_of c) (threads_of c) begun.rest) →
-            IsImageAnswer newest bytes (Err (of_state (length bytes - length begun.rest) x))
-        told read.Magic h = no_state version c Magic begun h
-        told read.Version h = no_state version c Version begun h
-        told (read.Cut place) h = no_state version c (Cut place.0) begun h
-        told (read.Field place) h = no_state version c (Field place.0) begun h
-        told (read.Rest place) h = no_state version c (Rest place.0) begun h
-        told read.Memory h = no_memory
+    pub state_answer : (x : ImageError) → Tells (IsFaultAfter (flat_of c.flat) version (length bytes) size threads rest) x →
+        IsImageAnswer newest bytes (Err x)
+    state_answer x (inl none) = subst (λ (y : ImageError). IsImageAnswer newest bytes (Err y)) (sym none) no_memory
+    state_answer x (inr fault) =
+        no_state version c x begun
+        (subst (λ (r : List ℕ). IsFaultAfter (flat_of c.flat) version (length bytes) (size_of c) (threads_of c) r x) (sym rest_is)
+        (coe 0 1 (i. IsFaultAfter (flat_of c.flat) version (length bytes) (size_is i) (threads_is i) rest x) fault))
 
-    pub has_state : (s : State) → state_at version (length bytes) size threads rest ≡ Ok s → IsState version size threads s → HasState newest bytes version c s
-    has_state s at fits = record {
+    pub has_state : (s : State) → IsStateAfter (flat_of c.flat) version (length bytes) size threads rest s → HasState newest bytes version c s
+    has_state s after = record {
       source = begun;
-      state = subst (λ (r : List ℕ). state_at version (length bytes) (size_of c) (threads_of c) r ≡ Ok s) (sym rest_is)
-          (coe 0 1 (i. state_at version (length bytes) (size_is i) (threads_is i) rest ≡ Ok s) at);
-      fits = coe 0 1 (i. IsState version (size_is i) (threads_is i) s) fits;
+      after = subst (λ (r : List ℕ). IsStateAfter (flat_of c.flat) version (length bytes) (size_of c) (threads_of c) r s) (sym rest_is)
+          (coe 0 1 (i. IsStateAfter (flat_of c.flat) version (length bytes) (size_is i) (threads_is i) rest s) after);
     }
 
   pub check_answer : (version : ImageVersion) (c : Compiled) (s : State) (x : ImageError) → HasState newest bytes version c s →
@@ -99,13 +139,13 @@ module _ (newest : ImageVersion) (bytes : List ℕ) where
 
 -- ---- Its lives
 
-some_told : (version : ImageVersion) (lives : ℕ) → Tells version lives → 1 ≤ lives
+some_told : (version : ImageVersion) (lives : ℕ) → contents.Tells version lives → 1 ≤ lives
 some_told First lives told = omega (arith, told)
 some_told Second lives told = omega (arith, told)
 some_told Third lives told = told.0
 
 pub some_lives : (version : ImageVersion) (c : Compiled) (s : State) (lives : Vec (Vec ℕ Global) Global) →
-    IsStateAnswer (log_of version) (flat_of c.flat) c.translated.resumes.items s (Ok lives) → Tells version (length s.lives) → 1 ≤ length lives.items
+    IsStateAnswer (log_of version) (flat_of c.flat) c.translated.resumes.items s (Ok lives) → contents.Tells version (length s.lives) → 1 ≤ length lives.items
 some_lives version c s lives (sound told sound_is steps_is) some =
     omega (
       arith,

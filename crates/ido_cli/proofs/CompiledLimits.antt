@@ -6,16 +6,18 @@ use Rattle.c_tree.specs.Flats.{Flat, flat_of}
 use Rattle.rv64_isa.specs.Programs.{slot_of}
 use Rattle.rv64_isa.specs.Executables.{Executable}
 use Rattle.hart_core.specs.Objects.{IsWithinLimits}
-use Rattle.c_tree.specs.WellFormed.{shape_of, ArePlain}
+use Rattle.c_tree.specs.WellFormed.{IsWellFormed, shape_of}
 use Rattle.memory_layout.specs.Variables.{HaveRoom}
 use Rattle.variable_words.proofs.Public.{well_formed_placed}
 use Rattle.ido_compile.specs.declared.compiler.Compiled.{Compiled}
 use Rattle.ido_compile.specs.CompileAnswers.{IsCompiledAs}
-use Rattle.image_checks.specs.ResumeSlots.{TablesHaveRoom, TablesHaveSlots}
-use Rattle.image_checks.proofs.Public.{table_room, table_slots}
+use Rattle.image_checks.specs.ResumeSlots.{TablesHaveKinds, TablesHaveRoom, TablesHaveSlots}
+use Rattle.image_checks.proofs.Public.{table_kinds, table_room, table_slots}
 
 pub record IsReady (log : Log) (c : Compiled) : Type 0 where
+  pub formed : IsWellFormed (flat_of c.flat)
   pub room : HaveRoom (map shape_of (flat_of c.flat).variables)
+  pub kinds : TablesHaveKinds (flat_of c.flat) c.translated.resumes.items
   pub slots : TablesHaveSlots c.translated.resumes.items
   pub locks : TablesHaveRoom log c.translated.resumes.items
   pub count : length c.translated.resumes.items ≡ length c.translated.object.code.items
@@ -26,12 +28,14 @@ ready log text c is =
     let t = is.resumable.translated in
     let y = t.system in
     record {
+      formed = subst IsWellFormed t.of_flat t.is.plan.formed;
       room = subst (λ (x : Flat). HaveRoom (map shape_of x.variables)) t.of_flat (well_formed_placed y.plan.flat t.is.plan.formed).room;
+      kinds = subst (λ (x : Flat). TablesHaveKinds x c.translated.resumes.items) t.of_flat
+          (table_kinds y.plan t.is.codes c.translated.resumes.items is.resumable.are);
       slots = table_slots y.plan t.is.codes c.translated.resumes.items is.resumable.are;
       locks = subst (λ (l : Log). TablesHaveRoom l c.translated.resumes.items)
           (t.is.log ∙ (ap (λ (x : Executable). x.log) t.runs ∙ t.log))
-          (table_room y.plan t.is.plan (subst (λ (x : Flat). ArePlain x.mutexes) (sym t.of_flat) is.plain) t.is.codes c.translated.resumes.items
-          is.resumable.are);
+          (table_room y.plan t.is.plan t.is.codes c.translated.resumes.items is.resumable.are);
       count =
           is.resumable.are.count ∙ sym t.is.count ∙ ap (λ (x : Executable). length x.program) t.runs
           ∙ length-map c.translated.object.code.items (λ code. map slot_of code.items);

@@ -12,7 +12,7 @@ use Rattle.c_tree.specs.Source as m
 use Rattle.c_tree.specs.Source.{source_step}
 use Rattle.source_machine.specs.Lives.{LifeSizesStay, after_lives, ended_lives, ends_life, restart}
 use Rattle.run_scripts.specs.Reports as r
-use Rattle.ido_cli.specs.Runs.{counted, named, run_state, taken, unsettled_threads}
+use Rattle.ido_cli.specs.Runs.{counted, named, run_state, taken, unsettled_threads, variable_with}
 
 -- ---- Ended sections
 
@@ -149,7 +149,7 @@ taken_is [] numbers e = refl
 taken_is (v ∷ vs) [] e = absurd (cc e)
 taken_is (v ∷ vs) (ns ∷ numbers) e =
     let one = head_same _ _ _ _ e in
-    ap₂ (λ (x : List ℤ) (xs : List r.Variable). let y : r.Variable = record { name = v.name.text; elements = x } in y ∷ xs)
+    ap₂ (λ (x : List ℤ) (xs : List r.Variable). variable_with v x ∷ xs)
     (take_prefix ns (flat_map (λ (ms : List ℤ). ms) numbers) (length v.initial) one)
     (ap (taken vs) (drop_prefix ns (flat_map (λ (ms : List ℤ). ms) numbers) (length v.initial) one) ∙ taken_is vs numbers (tail_same _ _ _ _ e))
 

@@ -267,7 +267,7 @@ pub few_lives_in : (newest : ImageVersion) (bytes : List ℕ) (image : i.Image) 
 few_lives_in newest bytes image (whole read is) =
     omega (
       arith,
-      few_told is.version (length is.state.lives) is.is.fits.lives,
+      few_told is.version (length is.state.lives) is.is.after.fits.lives,
       length-map is.state.lives schedule_of,
       ap length is.lives,
       as_many_lives image.lives.earlier.items image.lives.schedule.items,
@@ -279,10 +279,10 @@ pub words_in : (newest : ImageVersion) (bytes : List ℕ) (image : i.Image) → 
     length image.words.items ≡ length object.initial.items / 8 + log_words object.log * length object.code.items
 words_in newest bytes image (whole read is) =
     let object = image.compiled.translated.object in
-    let variables : length is.state.variables ≡ length object.initial.items / 8 = omega (arith, is.is.fits.variables) in
+    let variables : length is.state.variables ≡ length object.initial.items / 8 = omega (arith, is.is.after.fits.variables) in
     ap length is.words ∙ length-append is.state.variables is.state.logs
     ∙ ap₂ (λ (m n : ℕ). m + n) variables
-    (is.is.fits.logs ∙ ap (λ (l : Log). log_words l * length object.code.items) (sym is.is.source.compiled.translated.log))
+    (is.is.after.fits.logs ∙ ap (λ (l : Log). log_words l * length object.code.items) (sym is.is.source.compiled.translated.log))
 
 -- what is read as an image is run on, whoever wrote it
 pub accepted_runs_on : AcceptedRunOn → (newest : ImageVersion) (bytes : List ℕ) (image : i.Image) → IsImageAnswer newest bytes (Ok image) →
@@ -292,8 +292,9 @@ accepted_runs_on run newest bytes image (whole read is) =
     let t = c.translated in
     let state = is.state in
     let kept = (file_in image).kept in
-    let on = run is.version (f.flat_of c.flat) t.object t.marks t.cuts t.resumes.items state kept is.is.source.compiled.resumable
-    is.is.source.compiled.plain is.is.fits is.sound in
-    let count : length state.variables ≡ length t.object.initial.items / 8 = omega (arith, is.is.fits.variables) in
+    let compiled = is.is.source.compiled in
+    let after = is.is.after in
+    let on = run is.version (f.flat_of c.flat) t.object t.marks t.cuts t.resumes.items state kept compiled.resumable after.fits after.references is.sound in
+    let count : length state.variables ≡ length t.object.initial.items / 8 = omega (arith, after.fits.variables) in
     let spread = ap₂ (λ (n : ℕ) (ws : List ℕ). spread_words n ws) count (sym is.words) in
     subst (λ (ws : List ℕ). RunsOn (translation_in c) (record { words = ws; kept = kept })) spread on

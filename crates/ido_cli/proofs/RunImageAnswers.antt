@@ -1,5 +1,5 @@
 -- What bytes are answered that spell the file of a run.
-use Rattle.std.proofs.Common.{◌≡◌, ℕ, ◌-◌, ◌≤◌, List, ◌++◌, length, map, ap, sym, subst, ◌∙◌, arith, Result, Ok, Err}
+use Rattle.std.proofs.Common.{◌≡◌, ℕ, ◌≤◌, List, ◌++◌, length, map, ap, ap₂, sym, subst, ◌∙◌, arith, Result, Ok, Err}
 use Rattle.std.specs.Prelude.{sum_by}
 use Rattle.std.proofs.lemmas.List.{length-map, take-append-drop}
 use Rattle.ido_base.specs.declared.event.Event.{Event}
@@ -29,31 +29,59 @@ use Rattle.ido_compile.specs.declared.compiler.Compiled.{Compiled}
 use Rattle.ido_compile.specs.CompileAnswers.{IsCompiledAs, translation_in}
 use Rattle.ido_compile.specs.Verdicts.{NotBoth, OneFlat}
 use Rattle.crash_images.specs.Contents.{Contents, State, log_of}
-use Rattle.crash_images.proofs.Public.{source_version}
-use Rattle.crash_images.specs.ImageDecoder.{IsReadAs, image_at, source_at, state_at, version_in}
+use Rattle.crash_images.proofs.Public.{source_version, state_in_parts}
+use Rattle.crash_images.specs.ImageDecoder.{IsReadAs, image_at, logs_at, source_at, state_at, variables_at, version_in}
 use Rattle.crash_images.specs.declared.version.ImageVersion.{ImageVersion}
 use Rattle.crash_images.specs.declared.version.ImageVersion.TheVariants.{Third}
 use Rattle.image_checks.specs.declared.error.ImageError.{ImageError}
 use Rattle.image_checks.specs.declared.error.ImageError.TheVariants as e
 use Rattle.ido_cli.specs.declared.compiled_image.Image.{Image}
 use Rattle.image_checks.specs.Checks.{IsStateFault, IsUnshared, of_thread, of_mutexes, of_schedules}
-use Rattle.ido_cli.specs.CompiledImages.{size_of, threads_of, BeginsCompiled, HasState, IsImage, IsImageAnswer, whole, no_source, refused}
-use Rattle.ido_cli.specs.CompiledImages.{no_state, no_version, state_error, unsound}
+use Rattle.ido_cli.specs.CompiledImages.{size_of, threads_of, BeginsCompiled, HasState, IsFaultAfter, IsImage, IsImageAnswer, IsStateAfter, whole, no_source}
+use Rattle.ido_cli.specs.CompiledImages.{no_element, no_logs, no_state, no_variables, no_version, refused, unsound}
 use Rattle.ido_cli.specs.CompiledImages as answers
 use Rattle.c_tree.specs.declared.rule.Rule.{Rule}
 use Rattle.ido_base.specs.declared.place.Place.{Place}
 use Rattle.ido_base.specs.declared.log.Log.{Log}
 use Rattle.ido_base.specs.declared.log.Log.TheVariants.{V2}
-use Rattle.image_checks.specs.Laws.{RunsLeaveNoFault}
+use Rattle.image_checks.specs.Laws.{RunsLeaveNoFault, RunsLeaveReferences}
 use Rattle.image_checks.specs.Logs.{logs_of}
 use Rattle.image_checks.specs.Schedules.{IsLivesFault, schedules_of}
 use Rattle.image_checks.specs.RunImages.{left_by, file_contents, file_state}
+use Rattle.image_checks.specs.VariableReferences.{AreReferences, IsReferenceFault, outside}
 use Rattle.ido_cli.specs.ImagesReadAgain.{IsReadAgain, again, elsewhere, RunImagesAreRead}
 use Rattle.ido_cli.specs.ImagesReadAgain as reads
 use Rattle.image_checks.proofs.Public.{IsWhole, left_is_whole, none_if_sound, none_in_lives, told_again, unshared}
 
 pub not_both_ways : {A : Type 0} (found : Result A Fault) (x : A) (fault : Fault) → found ≡ Ok x → found ≡ Err fault → ⊥
 not_both_ways {A = A} found x fault ok err = let both : ◌≡◌ {A = Result A Fault} (Ok x) (Err fault) = sym ok ∙ err in cc
+
+none_outside : (flat : Flat) (words : List ℕ) (error : ImageError) → AreReferences flat words → IsReferenceFault flat words error → ⊥
+none_outside flat words error right (outside variable element wrong before) = wrong (right variable element)
+
+-- what is read as this state has no fault
+pub none_after : (flat : Flat) (version : ImageVersion) (total size threads : ℕ) (bytes : List ℕ) (s : State) (rest : List ℕ) (error : ImageError) →
+    variables_at total size bytes ≡ Ok (s.variables, rest) → AreReferences flat s.variables → logs_at version total threads s.variables rest ≡ Ok s →
+    IsFaultAfter flat version total size threads bytes error → ⊥
+none_after flat version total size threads bytes s rest error words right logs (no_variables fault err) =
+    not_both_ways (variables_at total size bytes) (s.variables, rest) fault words err
+none_after flat version total size threads bytes s rest error words right logs (no_element others after x is fault) =
+    let same : ◌≡◌ {A = List ℕ × List ℕ} (others, after) (s.variables, rest) = ok_is (others, after) (s.variables, rest) (sym is ∙ words) in
+    none_outside flat s.variables error right
+    (subst (λ (ws : List ℕ). IsReferenceFault flat ws error) (ap (λ (x : List ℕ × List ℕ). x.0) same) fault)
+none_after flat version total size threads bytes s rest error words right logs (no_logs others after fault is others_right err) =
+    let same : ◌≡◌ {A = List ℕ × List ℕ} (others, after) (s.variables, rest) = ok_is (others, after) (s.variables, rest) (sym is ∙ words) in
+    not_both_ways (logs_at version total threads s.variables rest) s fault logs
+    (ap (λ (x : List ℕ × List ℕ). logs_at version total threads x.0 x.1) (sym same) ∙ err)
+
+-- and no other state
+pub one_after : (flat : Flat) (version : ImageVersion) (total size threads : ℕ) (bytes : List ℕ) (s other : State) (rest : List ℕ) →
+    variables_at total size bytes ≡ Ok (s.variables, rest) → logs_at version total threads s.variables rest ≡ Ok s →
+    IsStateAfter flat version total size threads bytes other → other ≡ s
+one_after flat version total size threads bytes s other rest words logs after =
+    let same : ◌≡◌ {A = List ℕ × List ℕ} (other.variables, after.rest) (s.variables, rest) =
+    ok_is (other.variables, after.rest) (s.variables, rest) (sym after.variables ∙ words) in
+    ok_is other s (sym after.logs ∙ ap (λ (x : List ℕ × List ℕ). logs_at version total threads x.0 x.1) same ∙ logs)
 
 -- ---- What all translations of a flat form have in common
 
@@ -81,7 +109,7 @@ pub record RunImage (source bytes : List ℕ) : Type 0 where
   pub spelled : IsReadAs Third (file_contents source (translation_to flat object marks cuts) (left_by (translation_to flat object marks cuts) events)) bytes
 
 module _ (one_flat : OneFlat) (not_both : NotBoth) (machines : MachinesResume) (records : MachinesRecord) (no_fault : RunsLeaveNoFault)
-    (source bytes : List ℕ) (run : RunImage source bytes) where
+    (references : RunsLeaveReferences) (source bytes : List ℕ) (run : RunImage source bytes) where
   open run use {flat, object, marks, cuts, events, accepted, translated as t, most, spelled}
 
   abbrev c : Translation
@@ -110,7 +138,9 @@ module _ (one_flat : OneFlat) (not_both : NotBoth) (machines : MachinesResume) (
   record Begins : Type 0 where
     rest : List ℕ
     begins : source_at Third bytes ≡ Ok (source, rest)
-    after : state_at Third (length bytes) size threads rest ≡ Ok state
+    after : List ℕ
+    variables : variables_at (length bytes) size rest ≡ Ok (state.variables, after)
+    logs : logs_at Third (length bytes) threads state.variables after ≡ Ok state
 
   begun : Begins
   unfolding image_at
@@ -122,11 +152,17 @@ module _ (one_flat : OneFlat) (not_both : NotBoth) (machines : MachinesResume) (
       let b = bind_ok (state_at Third (length bytes) size threads a.0.1) (λ s. Ok (record { source = a.0.0; state = s })) o a.2 in
       let made : Contents = record { source = a.0.0; state = b.0 } in
       let same : made ≡ o = ok_is made o b.2 in
+      let parts = state_in_parts Third (length bytes) size threads a.0.1 state (b.1 ∙ ap (λ (x : Contents). Ok x.state) same) in
       record {
         rest = a.0.1;
         begins = a.1 ∙ ap (λ (x : Contents). Ok (x.source, a.0.1)) same;
-        after = b.1 ∙ ap (λ (x : Contents). Ok x.state) same;
+        after = parts.0;
+        variables = parts.1;
+        logs = parts.2;
       }
+
+  right : AreReferences flat state.variables
+  right = references V2 flat object marks cuts events t
 
   -- the version is the newest
   known : version_in Third bytes ≡ Ok Third
@@ -163,16 +199,21 @@ module _ (one_flat : OneFlat) (not_both : NotBoth) (machines : MachinesResume) (
         thread_number (flat_of d.flat) x.object x.marks x.cuts compiled.translated ∙ ap (λ (y : Flat). length (lowered y).threads) same_flat
         ∙ sym (thread_number flat object marks cuts t)
 
-    found : state_at Third (length bytes) (size_of d) (threads_of d) b.rest ≡ Ok state
-    found =
-        ap (λ (k : ℕ). state_at Third (length bytes) k (threads_of d) b.rest) same_size
-        ∙ ap (λ (k : ℕ). state_at Third (length bytes) size k b.rest) same_threads
-        ∙ ap (state_at Third (length bytes) size threads) same_rest ∙ begun.after
+    found_variables : variables_at (length bytes) (size_of d) b.rest ≡ Ok (state.variables, begun.after)
+    found_variables = ap₂ (λ (k : ℕ) (after : List ℕ). variables_at (length bytes) k after) same_size same_rest ∙ begun.variables
+
+    found_logs : logs_at Third (length bytes) (threads_of d) state.variables begun.after ≡ Ok state
+    found_logs = ap (λ (k : ℕ). logs_at Third (length bytes) k state.variables begun.after) same_threads ∙ begun.logs
+
+    right_here : AreReferences (flat_of d.flat) state.variables
+    right_here = subst (λ (x : Flat). AreReferences x state.variables) (sym same_flat) right
 
   -- ---- Answers
 
   state_is : (d : Compiled) (x : State) (has : HasState Third bytes Third d x) → x ≡ state
-  state_is d x has = ok_is x state (sym has.state ∙ found d has.source)
+  state_is d x has =
+      let b = has.source in
+      one_after (flat_of d.flat) Third (length bytes) (size_of d) (threads_of d) b.rest state x begun.after (found_variables d b) (found_logs d b) has.after
 
   image_read : (image : Image) → IsImage Third bytes image → Read (Ok image)
   image_read image is =
@@ -192,13 +233,14 @@ module _ (one_flat : OneFlat) (not_both : NotBoth) (machines : MachinesResume) (
       at_third (λ (v : ImageVersion). source_at v bytes ≡ Err fault → Read answer) version is
       (λ e. absurd (not_both_ways (source_at Third bytes) (source, begun.rest) fault begun.begins e))
 
-  not_after : (version : ImageVersion) (d : Compiled) (begins : BeginsCompiled Third bytes version d) (fault : Fault) →
-      state_at version (length bytes) (size_of d) (threads_of d) begins.rest ≡ Err fault →
-      Read (Err (state_error (length bytes - length begins.rest) fault))
-  not_after version d begins fault =
-      at_third (λ (v : ImageVersion). (b : BeginsCompiled Third bytes v d) → state_at v (length bytes) (size_of d) (threads_of d) b.rest ≡ Err fault →
-      Read (Err (state_error (length bytes - length b.rest) fault))) version begins.known
-      (λ b e. absurd (not_both_ways (state_at Third (length bytes) (size_of d) (threads_of d) b.rest) state fault (found d b) e)) begins
+  not_after : (version : ImageVersion) (d : Compiled) (begins : BeginsCompiled Third bytes version d) (error : ImageError) →
+      IsFaultAfter (flat_of d.flat) version (length bytes) (size_of d) (threads_of d) begins.rest error → Read (Err error)
+  not_after version d begins error =
+      at_third (λ (v : ImageVersion). (b : BeginsCompiled Third bytes v d) →
+      IsFaultAfter (flat_of d.flat) v (length bytes) (size_of d) (threads_of d) b.rest error → Read (Err error)) version begins.known
+      (λ b fault. absurd
+      (none_after (flat_of d.flat) Third (length bytes) (size_of d) (threads_of d) b.rest state begun.after error (found_variables d b) (right_here d b)
+      (found_logs d b) fault)) begins
 
   module _ (d : Compiled) (is : IsCompiledAs V2 source d) (flat_is : flat_of d.flat ≡ flat) (threads_are : threads_of d ≡ threads) where
     -- by the same translation nothing is at fault
@@ -207,7 +249,7 @@ module _ (one_flat : OneFlat) (not_both : NotBoth) (machines : MachinesResume) (
         let x = d.translated in
         let few : sum_by length (all_lives (left_by (translation_in d) events).kept) ≤ MOST_STEPS =
         subst (λ (z : Translation). sum_by length (all_lives (left_by z events).kept) ≤ MOST_STEPS) (sym same) most in
-        let sound = no_fault V2 (flat_of d.flat) x.object x.marks x.cuts x.resumes.items events is.resumable is.plain few in
+        let sound = no_fault V2 (flat_of d.flat) x.object x.marks x.cuts x.resumes.items events is.resumable few in
         none_if_sound V2 (flat_of d.flat) x.resumes.items (file_state (translation_in d) (left_by (translation_in d) events)) error sound
         (subst (λ (z : Translation). IsStateFault V2 (flat_of d.flat) x.resumes.items (file_state z (left_by z events)) error) (sym same) fault)
 
@@ -246,12 +288,12 @@ module _ (one_flat : OneFlat) (not_both : NotBoth) (machines : MachinesResume) (
   read answer (no_version fault e) = not_begun fault _ e
   read answer (no_source version fault is e) = not_here version fault _ is e
   read answer (refused version other rest rule place is begins broken) = not_refused version other rest rule place is begins broken
-  read answer (no_state version d fault begins e) = not_after version d begins fault e
+  read answer (no_state version d error begins fault) = not_after version d begins error fault
   read answer (unsound version d x error has fault) = unsound_read version d x error has fault
   read answer answers.no_memory = reads.no_memory
 
-pub run_images_are_read : OneFlat → NotBoth → MachinesResume → MachinesRecord → RunsLeaveNoFault → RunImagesAreRead
-run_images_are_read one_flat not_both machines records no_fault source bytes flat object marks cuts events answer accepted t most spelled told =
+pub run_images_are_read : OneFlat → NotBoth → MachinesResume → MachinesRecord → RunsLeaveNoFault → RunsLeaveReferences → RunImagesAreRead
+run_images_are_read one_flat not_both machines records no_fault references source bytes flat object marks cuts events answer accepted t most spelled told =
     let run : RunImage source bytes =
     record {
       flat = flat;
@@ -264,4 +306,4 @@ run_images_are_read one_flat not_both machines records no_fault source bytes fla
       most = most;
       spelled = spelled;
     } in
-    read one_flat not_both machines records no_fault source bytes run answer told
+    read one_flat not_both machines records no_fault references source bytes run answer told

@@ -1,7 +1,8 @@
 -- Sums of what is reported of a machine.
 use Rattle.std.proofs.Common.{◌≡◌, refl, ℕ, zero, suc, ◌+◌, ◌*◌, ◌<◌, ◌≤◌, List, [], ◌∷◌, length, map, sym, ap, ◌∙◌, arith, length-append, ℤ}
 use Rattle.std.proofs.lemmas.Int.{ints}
-use Rattle.std.specs.Prelude.{All, flat_map}
+use Rattle.std.specs.Prelude.{All, Option, Some, None, flat_map, pos, negsuc}
+use Rattle.std.specs.Option.{option_to_list}
 use Rattle.std.proofs.lemmas.List.{length-map}
 use Rattle.std.proofs.lemmas.List.Elements.{All-append}
 use Rattle.ido_base.specs.Words.{Word, durable_value}
@@ -21,7 +22,7 @@ use Rattle.recovery_semantics.specs.Elements.{number_in}
 use Rattle.variable_words.specs.Variables.{durable_variables, number_of_byte, variables_from}
 use Rattle.variable_words.proofs.Public.{by_size}
 use Rattle.run_scripts.specs.Reports as r
-use Rattle.run_scripts.specs.Reports.{report}
+use Rattle.run_scripts.specs.Reports.{numbers_in, report, reported}
 use Rattle.ido_cli.specs.Loads.{IsSummary, settled_summary, summary_by}
 use Rattle.ido_cli.specs.Reports.{machine_state}
 use Rattle.ido_cli.specs.Runs.{named, status_by}
@@ -35,13 +36,42 @@ small_number kind byte value =
     let b = Holds-Bounded kind (number_in kind byte value) (Holds-reduced kind _) in
     (omega (arith, ints, b.at_least), omega (arith, ints, b.below))
 
-all_small : (g : ℕ → ℤ) → ((n : ℕ) → IsSmall (g n)) → (from count : ℕ) → All IsSmall (map g (numbers_from from count))
-all_small g each from zero k d below = absurd (omega (arith, below))
-all_small g each from (suc count) zero d below = each from
-all_small g each from (suc count) (suc k) d below = all_small g each (from + 1) count k d (omega (arith, below))
-
 none_small : All IsSmall []
 none_small k d below = absurd (omega (arith, below))
+
+one_small : (z : ℤ) → IsSmall z → All IsSmall (z ∷ [])
+one_small z small zero d below = small
+one_small z small (suc k) d below = absurd (omega (arith, below))
+
+-- ---- What counts of numbers of a variable that refers to that array, or to none
+
+small_one : (refers : Option ℕ) (z : ℤ) → IsSmall z → All IsSmall (option_to_list (reported refers z))
+small_one None z small = one_small z small
+small_one (Some array) (pos zero) small = none_small
+small_one (Some array) (pos (suc n)) small = one_small (pos n) (omega (arith, ints, small.0), omega (arith, ints, small.1))
+small_one (Some array) (negsuc n) small = none_small
+
+few_one : (refers : Option ℕ) (z : ℤ) → length (option_to_list (reported refers z)) ≤ 1
+few_one None z = omega arith
+few_one (Some array) (pos zero) = omega arith
+few_one (Some array) (pos (suc n)) = omega arith
+few_one (Some array) (negsuc n) = omega arith
+
+abbrev counting : (refers : Option ℕ) → List ℤ → List ℤ
+counting refers zs = flat_map option_to_list (map (reported refers) zs)
+
+all_small : (refers : Option ℕ) (g : ℕ → ℤ) → ((n : ℕ) → IsSmall (g n)) → (from count : ℕ) → All IsSmall (counting refers (map g (numbers_from from count)))
+all_small refers g each from zero = none_small
+all_small refers g each from (suc count) =
+    All-append IsSmall (option_to_list (reported refers (g from))) (counting refers (map g (numbers_from (from + 1) count)))
+    (small_one refers (g from) (each from)) (all_small refers g each (from + 1) count)
+
+few_counting : (refers : Option ℕ) (g : ℕ → ℤ) (from count : ℕ) → length (counting refers (map g (numbers_from from count))) ≤ count
+few_counting refers g from zero = omega arith
+few_counting refers g from (suc count) =
+    let one = option_to_list (reported refers (g from)) in
+    let rest = counting refers (map g (numbers_from (from + 1) count)) in
+    omega (arith, length-append one rest, few_one refers (g from), few_counting refers g (from + 1) count)
 
 numbers_count : (from count : ℕ) → length (numbers_from from count) ≡ count
 numbers_count from zero = refl
@@ -50,19 +80,20 @@ numbers_count from (suc count) = ap suc (numbers_count (from + 1) count)
 -- ---- The numbers of all variables
 
 abbrev elements : List r.Variable → List ℤ
-elements vs = flat_map (λ (v : r.Variable). v.elements) vs
+elements vs = flat_map numbers_in vs
 
 module _ (words : List Word) (ss : List Shape) where
+  abbrev number_at : ℕ → p.Variable → (element : ℕ) → ℤ
+  number_at number v element = number_of_byte durable_value words v.kind (byte_number (variable_at ss number element))
+
   abbrev own : ℕ → p.Variable → List ℤ
-  own number v =
-      map (λ element. number_of_byte durable_value words v.kind (byte_number (variable_at ss number element))) (numbers_from 0 (elements_in v.length))
+  own number v = counting v.refers (map (number_at number v) (numbers_from 0 (elements_in v.length)))
 
   small_from : (number : ℕ) (vs : List p.Variable) → All IsSmall (elements (named vs (variables_from durable_value words ss number vs)))
   small_from number [] = none_small
   small_from number (v ∷ vs) =
       All-append IsSmall (own number v) _
-      (all_small (λ element. number_of_byte durable_value words v.kind (byte_number (variable_at ss number element))) (λ element. small_number v.kind _ _) 0
-      (elements_in v.length))
+      (all_small v.refers (number_at number v) (λ element. small_number v.kind _ _) 0 (elements_in v.length))
       (small_from (number + 1) vs)
 
   few_from : (number n : ℕ) (vs : List p.Variable) →
@@ -71,13 +102,11 @@ module _ (words : List Word) (ss : List Shape) where
   few_from number n (v ∷ vs) =
       let rest = elements (named vs (variables_from durable_value words ss (number + 1) vs)) in
       let here = length-append (own number v) rest in
-      let count = length-map (numbers_from 0 (elements_in v.length))
-      (λ element. number_of_byte durable_value words v.kind (byte_number (variable_at ss number element))) in
-      let all = numbers_count 0 (elements_in v.length) in
+      let count = few_counting v.refers (number_at number v) 0 (elements_in v.length) in
       let fits = by_size (λ b. n + elements_in v.length ≤ aligned_up n b + b * elements_in v.length) (omega arith) (omega arith) (omega arith)
       (omega arith) v.kind in
       let after = few_from (number + 1) (aligned_up n (bytes_of v.kind) + bytes_of v.kind * elements_in v.length) vs in
-      omega (arith, here, count, all, fits, after)
+      omega (arith, here, count, fits, after)
 
 -- ---- The state of a machine
 

@@ -100,7 +100,7 @@ none_long (x ∷ xs) none = absurd (omega (arith, none))
 pub older_alone : (bytes : List ℕ) (image : Image) → IsImage Second bytes image → image.lives.earlier.items ≡ []
 older_alone bytes image is =
     let one = one_life is.version (length is.state.lives)
-    (λ third. not_third bytes (subst (λ (v : ImageVersion). version_in Second bytes ≡ Ok v) third is.is.source.known)) is.is.fits.lives in
+    (λ third. not_third bytes (subst (λ (v : ImageVersion). version_in Second bytes ≡ Ok v) third is.is.source.known)) is.is.after.fits.lives in
     none_long image.lives.earlier.items
     (omega (
       arith,
@@ -124,7 +124,7 @@ zeros_are old new len count none is_len is =
     is ∙ ap (λ (xs : List ℕ). xs ++ replicate (count - len) 0) (take_all count old (omega (arith, long)) ∙ none)
     ∙ ap (λ (n : ℕ). replicate n 0) (omega (arith, is_len, long))
 
-take_first : (n : ℕ) (xs ys : List ℕ) → n ≤ length xs → take n (take n xs ++ ys) ≡ take n xs
+pub take_first : (n : ℕ) (xs ys : List ℕ) → n ≤ length xs → take n (take n xs ++ ys) ≡ take n xs
 take_first zero xs ys fits = refl
 take_first (suc n) [] ys fits = absurd (omega (arith, fits))
 take_first (suc n) (x ∷ xs) ys fits = ap (λ (zs : List ℕ). x ∷ zs) (take_first n xs ys (omega (arith, fits)))

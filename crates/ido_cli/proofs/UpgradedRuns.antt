@@ -1,5 +1,5 @@
 -- What `recover` says of an image that `upgrade` wrote.
-use Rattle.std.proofs.Common.{◌≡◌, Bool, ℕ, ◌+◌, ◌-◌, ◌*◌, ◌≤◌, List, [], ◌∷◌, ◌++◌, length, map, take, Some, None, true, false}
+use Rattle.std.proofs.Common.{◌≡◌, Bool, ℕ, ◌+◌, ◌*◌, ◌≤◌, List, [], ◌∷◌, ◌++◌, length, map, take, drop, Some, None, true, false}
 use Rattle.std.proofs.Common.{refl, ap, ap₂, sym, subst, ◌∙◌, arith, Ok, Err, ℤ}
 use Rattle.std.specs.Prelude.{if◌then◌else◌, sum_by}
 use Rattle.std.proofs.lemmas.List.{length-map, length-replicate, length-take-le}
@@ -10,7 +10,7 @@ use Rattle.ido_base.specs.declared.limits.TheConstants.{MOST_STEPS, VARIABLE_WOR
 use Rattle.ido_base.specs.declared.log.Log.{Log}
 use Rattle.ido_base.specs.declared.log.Log.TheVariants.{V1, V2}
 use Rattle.ido_base.specs.declared.place.Place.{Place}
-use Rattle.ido_base.specs.Layout.{aligned_up, end_from, log_words, spread_words, word_count}
+use Rattle.ido_base.specs.Layout.{aligned_up, end_from, log_words, spread_words, variable_lines, word_count}
 use Rattle.ido_base.specs.Words.{durable_value}
 use Rattle.c_tree.specs.declared.rule.Rule.{Rule}
 use Rattle.c_tree.specs.Flats.{Flat, flat_of}
@@ -30,25 +30,29 @@ use Rattle.hart_driver.specs.Legs.{IsLeg, IsTurn, has_ended}
 use Rattle.hart_driver.specs.declared.stop.Stop.TheVariants.{Ended, Turns}
 use Rattle.compiler_correctness.specs.Images as files
 use Rattle.compiler_correctness.specs.Images.{IsResumedAsKept, first_from, image_in, steps_from, variable_words, world_from}
-use Rattle.compiler_correctness.specs.Translations.{Translation}
+use Rattle.compiler_correctness.specs.Laws.{ImagesAreCrashes}
+use Rattle.compiler_correctness.specs.Translations.{Translation, world}
 use Rattle.run_scripts.specs.Reports as r
 use Rattle.ido_compile.specs.declared.compiler.Compiled.{Compiled}
 use Rattle.ido_compile.specs.CompileAnswers.{IsCompiledAs, translation_in}
 use Rattle.ido_compile.specs.LoggedTexts.{IsRefusedAs}
 use Rattle.ido_compile.specs.Verdicts.{NotBoth, OneFlat}
 use Rattle.crash_images.specs.Contents.{Contents, State, log_of, word_bytes}
-use Rattle.crash_images.specs.ImageDecoder.{IsReadAs, image_at, source_at, state_at, version_in}
+use Rattle.crash_images.specs.ImageDecoder.{IsReadAs, image_at, logs_at, source_at, state_at, variables_at, version_in}
 use Rattle.crash_images.specs.declared.version.ImageVersion.{ImageVersion}
 use Rattle.crash_images.specs.declared.version.ImageVersion.TheVariants.{Second, Third}
-use Rattle.crash_images.proofs.Public.{source_version}
+use Rattle.crash_images.proofs.Public.{source_version, state_in_parts}
 use Rattle.image_checks.specs.declared.error.ImageError.{ImageError}
 use Rattle.image_checks.specs.declared.error.ImageError.TheVariants as e
 use Rattle.image_checks.specs.Checks.{IsStateFault}
+use Rattle.image_checks.specs.Laws.{RunsLeaveReferences}
+use Rattle.image_checks.specs.RunImages.{left_by}
 use Rattle.image_checks.specs.Schedules.{schedules_of}
+use Rattle.image_checks.specs.VariableReferences.{AreReferences}
 use Rattle.image_checks.proofs.Public.{idle_state_sound, none_if_sound, told_again}
 use Rattle.ido_cli.specs.declared.compiled_image.Image.{Image}
 use Rattle.ido_cli.specs.Answers.{RecoverAnswer, file_in, no_image, of_image}
-use Rattle.ido_cli.specs.CompiledImages.{BeginsCompiled, HasState, IsImage, IsImageAnswer, no_source, no_state, no_version, refused, size_of}
+use Rattle.ido_cli.specs.CompiledImages.{BeginsCompiled, HasState, IsFaultAfter, IsImage, IsImageAnswer, no_source, no_state, no_version, refused, size_of}
 use Rattle.ido_cli.specs.CompiledImages.{threads_of, unsound, whole}
 use Rattle.ido_cli.specs.CompiledImages as answers
 use Rattle.ido_cli.specs.Laws.{UpgradesAreRecovered}
@@ -62,9 +66,10 @@ use Rattle.ido_cli.proofs.CompiledLimits.{ready}
 use Rattle.ido_cli.proofs.IdleWorlds.{all_settled, own_stays}
 use Rattle.ido_cli.proofs.PlayedRuns.{has_room, sound_along}
 use Rattle.ido_cli.proofs.RecoveredRuns.{spread_size, words_in}
-use Rattle.ido_cli.proofs.RunImageAnswers.{initial_size, not_both_ways, thread_number}
+use Rattle.ido_cli.proofs.RunImageAnswers.{initial_size, none_after, not_both_ways, one_after, thread_number}
 use Rattle.ido_cli.proofs.SameVariables.{same_variables}
 use Rattle.ido_cli.proofs.SettledReports.{none_by_settled, none_by_status, settled_by_none}
+use Rattle.ido_cli.proofs.UpgradedImages.{take_first}
 
 -- ---- A leg without turns
 
@@ -99,6 +104,7 @@ settled_out source c w kept output (renewed settled fits done told read) = (sett
 
 module _ (one_flat : OneFlat) (never_both : NotBoth) (output source : List ℕ) (made : Compiled)
     (version : ImageVersion) (compiled : IsCompiledAs (log_of version) source made) (again : Compiled) (accepted : IsCompiledAs V2 source again) (w : World)
+    (right : AreReferences (flat_of made.flat) (take (variable_words (translation_in made)) (map durable_value w.words)))
     (long : variable_words (translation_in made) ≤ length w.words) (kept : List (List ℕ)) (fits : sum_by length kept ≤ MOST_STEPS)
     (runs : runs_lives (flat_of made.flat) (start (flat_of made.flat)) kept ≡ true) (settled : is_settled w ≡ true)
     (spelled : IsReadAs Third (renewed_contents source (translation_in made) w kept) output) where
@@ -137,7 +143,9 @@ module _ (one_flat : OneFlat) (never_both : NotBoth) (output source : List ℕ) 
   record Begins : Type 0 where
     rest : List ℕ
     begins : source_at Third output ≡ Ok (source, rest)
-    after : state_at Third (length output) (word_bytes * length variables) threads rest ≡ Ok state
+    after : List ℕ
+    words : variables_at (length output) (word_bytes * length variables) rest ≡ Ok (variables, after)
+    logs : logs_at Third (length output) threads variables after ≡ Ok state
 
   begun : Begins
   unfolding image_at
@@ -150,10 +158,13 @@ module _ (one_flat : OneFlat) (never_both : NotBoth) (output source : List ℕ) 
       a.2 in
       let read : Contents = record { source = a.0.0; state = b.0 } in
       let same : read ≡ contents = ok_is read contents b.2 in
+      let parts = state_in_parts Third (length output) (word_bytes * length variables) threads a.0.1 state (b.1 ∙ ap (λ (x : Contents). Ok x.state) same) in
       record {
         rest = a.0.1;
         begins = a.1 ∙ ap (λ (x : Contents). Ok (x.source, a.0.1)) same;
-        after = b.1 ∙ ap (λ (x : Contents). Ok x.state) same;
+        after = parts.0;
+        words = parts.1;
+        logs = parts.2;
       }
 
   known : version_in Third output ≡ Ok Third
@@ -194,14 +205,19 @@ module _ (one_flat : OneFlat) (never_both : NotBoth) (output source : List ℕ) 
         thread_number (flat_of d.flat) x.object x.marks x.cuts here.translated ∙ ap (λ (z : Flat). length (lowered z).threads) same_flat
         ∙ sym (thread_number flat y.object y.marks y.cuts compiled.translated) ∙ sym (length-map y.object.code.items (λ code. map slot_of code.items))
 
-    found : state_at Third (length output) (size_of d) (threads_of d) b.rest ≡ Ok state
-    found =
-        ap (λ (k : ℕ). state_at Third (length output) k (threads_of d) b.rest) same_size
-        ∙ ap (λ (k : ℕ). state_at Third (length output) (word_bytes * length variables) k b.rest) same_threads
-        ∙ ap (state_at Third (length output) (word_bytes * length variables) threads) same_rest ∙ begun.after
+    found_variables : variables_at (length output) (size_of d) b.rest ≡ Ok (variables, begun.after)
+    found_variables = ap₂ (λ (k : ℕ) (after : List ℕ). variables_at (length output) k after) same_size same_rest ∙ begun.words
+
+    found_logs : logs_at Third (length output) (threads_of d) variables begun.after ≡ Ok state
+    found_logs = ap (λ (k : ℕ). logs_at Third (length output) k variables begun.after) same_threads ∙ begun.logs
+
+    right_here : AreReferences (flat_of d.flat) variables
+    right_here = subst (λ (x : Flat). AreReferences x variables) (sym same_flat) right
 
   state_is : (d : Compiled) (x : State) (has : HasState Third output Third d x) → x ≡ state
-  state_is d x has = ok_is x state (sym has.state ∙ found d has.source)
+  state_is d x has =
+      let b = has.source in
+      one_after (flat_of d.flat) Third (length output) (size_of d) (threads_of d) b.rest state x begun.after (found_variables d b) (found_logs d b) has.after
 
   -- ---- Nothing is at fault
 
@@ -225,12 +241,13 @@ module _ (one_flat : OneFlat) (never_both : NotBoth) (output source : List ℕ) 
       never_both V2 source (flat_of again.flat) rule place accepted.accepted
       (subst (λ (text : List ℕ). IsRefusedAs V2 text rule place) (ap (λ (x : List ℕ × List ℕ). x.0) same) broken))
 
-  not_after : (v : ImageVersion) (d : Compiled) (begins : BeginsCompiled Third output v d) (fault : Fault) →
-      state_at v (length output) (size_of d) (threads_of d) begins.rest ≡ Err fault → ⊥
-  not_after v d begins fault =
-      at_third (λ (x : ImageVersion). (b : BeginsCompiled Third output x d) → state_at x (length output) (size_of d) (threads_of d) b.rest ≡ Err fault → ⊥)
-      v begins.known
-      (λ b err. not_both_ways (state_at Third (length output) (size_of d) (threads_of d) b.rest) state fault (found d b) err) begins
+  not_after : (v : ImageVersion) (d : Compiled) (begins : BeginsCompiled Third output v d) (error : ImageError) →
+      IsFaultAfter (flat_of d.flat) v (length output) (size_of d) (threads_of d) begins.rest error → ⊥
+  not_after v d begins error =
+      at_third (λ (x : ImageVersion). (b : BeginsCompiled Third output x d) →
+      IsFaultAfter (flat_of d.flat) x (length output) (size_of d) (threads_of d) b.rest error → ⊥) v begins.known
+      (λ b fault. none_after (flat_of d.flat) Third (length output) (size_of d) (threads_of d) b.rest state begun.after error (found_variables d b)
+      (right_here d b) (found_logs d b) fault) begins
 
   not_unsound : (v : ImageVersion) (d : Compiled) (x : State) (error : ImageError) → HasState Third output v d x →
       IsStateFault (log_of v) (flat_of d.flat) d.translated.resumes.items x error → ⊥
@@ -245,7 +262,7 @@ module _ (one_flat : OneFlat) (never_both : NotBoth) (output source : List ℕ) 
   none_told error (no_version fault err) = absurd (not_both_ways (version_in Third output) Third fault known err)
   none_told error (no_source v fault is err) = absurd (not_here v fault is err)
   none_told error (refused v other rest rule place is begins broken) = absurd (not_refused v other rest rule place is begins broken)
-  none_told error (no_state v d fault begins err) = absurd (not_after v d begins fault err)
+  none_told error (no_state v d fault begins wrong) = absurd (not_after v d begins fault wrong)
   none_told error (unsound v d x fault has wrong) = absurd (not_unsound v d x fault has wrong)
   none_told error answers.no_memory = refl
 
@@ -361,8 +378,27 @@ module _ (input : List ℕ) (image : Image) (is : IsImage Second input image) (j
       let many : 8192 ≤ length w.words = subst (λ (k : ℕ). 8192 ≤ k) (sym came_sound.size) (many_words w.log (length w.harts)) in
       omega (arith, came_few, many)
 
-pub upgrades_are_recovered : OneFlat → NotBoth → UpgradesAreRecovered
-upgrades_are_recovered one_flat never_both input output image source before turns status report older same u told =
+  -- where the image is what a run of the translation has left, its references are null or lead to elements
+  came_right : RunsLeaveReferences → ImagesAreCrashes → (before : List Event) → file_in image ≡ left_by came before →
+      AreReferences (flat_of image.compiled.flat) (take (variable_words came) (map durable_value (world_from came from journal).words))
+  came_right references crashes before same =
+      let x = image.compiled in
+      let t = x.translated in
+      let of_source = is.is.source.compiled in
+      let n = variable_words came in
+      let events = before ++ Crash ∷ journal in
+      let left = map durable_value (world came events).words in
+      let there : world_from came from journal ≡ world came events =
+      ap (λ (i : files.Image). world_from came i journal) (ap (image_in came) same ∙ (of_source.compilation.in_file before).is_all)
+      ∙ (crashes came before journal).world_is in
+      let long : n ≤ length left =
+      omega (arith, came_long, ap (λ (v : World). length v.words) there, length-map (world came events).words durable_value) in
+      subst (λ (v : World). AreReferences (flat_of x.flat) (take n (map durable_value v.words))) (sym there)
+      (subst (λ (words : List ℕ). AreReferences (flat_of x.flat) words) (take_first n left (drop (8 * variable_lines) left) long)
+      (references (log_of is.version) (flat_of x.flat) t.object t.marks t.cuts events of_source.translated))
+
+pub upgrades_are_recovered : OneFlat → NotBoth → RunsLeaveReferences → ImagesAreCrashes → UpgradesAreRecovered
+upgrades_are_recovered one_flat never_both references crashes input output image source before turns status report older same u told =
     let made = image.compiled in
     let c = translation_in made in
     let im = image_in c (file_in image) in
@@ -373,4 +409,5 @@ upgrades_are_recovered one_flat never_both input output image source before turn
     let compiled = subst (λ (text : List ℕ). IsCompiledAs (log_of v) text made) older.source_is older.is.is.source.compiled in
     let resumed = subst (λ (file : files.Image). IsResumedAsKept c (image_in c file) u.journal) (sym same) (compiled.compilation.files before u.journal) in
     recovered_as one_flat never_both output source made v compiled older.again older.accepted w
-    (came_long input image older.is u.journal) kept out.1 resumed.runs out.0 out.2 status report told
+    (came_right input image older.is u.journal references crashes before same) (came_long input image older.is u.journal) kept out.1 resumed.runs out.0 out.2
+    status report told

@@ -1,9 +1,9 @@
 -- Runs on threads: moments, evictions and sums at a few inputs.
-use Rattle.std.specs.Prelude.{◌≡◌, refl, [], ◌∷◌, Some, None, codes, pos, neg_ℤ}
+use Rattle.std.specs.Prelude.{◌≡◌, refl, [], ◌∷◌, map, Some, None, codes, pos, neg_ℤ}
 use Rattle.std.specs.Fmt.{digits}
 use Rattle.ido_base.specs.declared.log.Log.TheVariants.{V1}
 use Rattle.ido_base.specs.declared.event.Event.TheVariants.{Step, Evict, Crash}
-use Rattle.run_scripts.specs.Reports.{ReportedState, hart_text, unsettled_line}
+use Rattle.run_scripts.specs.Reports.{ReportedState, hart_text, reported, unsettled_line}
 use Rattle.ido_cli.specs.Loads.{settled_summary, summary_by, sums_text, total}
 use Rattle.ido_cli.specs.ThreadedRuns.{evictions_at, evictions_from, moment_after}
 
@@ -37,7 +37,11 @@ sum_with_signs = refl
 abbrev four_sections : ReportedState
 four_sections = record {
   unsettled = [];
-  variables = record { name = codes "x"; elements = pos 10 ∷ pos 20 ∷ [] } ∷ record { name = codes "y"; elements = neg_ℤ (pos 7) ∷ [] } ∷ [];
+  variables =
+      record { name = codes "x"; elements = Some (pos 10) ∷ None ∷ Some (pos 20) ∷ [] } ∷ record {
+        name = codes "y";
+        elements = Some (neg_ℤ (pos 7)) ∷ [];
+      } ∷ [];
   ended = 3 ∷ 1 ∷ [];
   schedules = (0 ∷ 1 ∷ []) ∷ [];
 }
@@ -49,3 +53,11 @@ sums_of_sections = refl
 harts_unsettled : summary_by (1 ∷ 3 ∷ []) four_sections ≡ codes "unsettled 1 3\n"
 unfolding unsettled_line hart_text digits
 harts_unsettled = refl
+
+-- ---- What is reported of numbers
+
+numbers_reported : map (reported None) (pos 0 ∷ neg_ℤ (pos 5) ∷ []) ≡ Some (pos 0) ∷ Some (neg_ℤ (pos 5)) ∷ []
+numbers_reported = refl
+
+references_reported : map (reported (Some 4)) (pos 0 ∷ pos 1 ∷ pos 5 ∷ []) ≡ None ∷ Some (pos 0) ∷ Some (pos 4) ∷ []
+references_reported = refl

@@ -105,7 +105,7 @@ pub data RegionsAnswer (least : Bool) (source : List ℕ) (status : ℕ) (output
 
 -- ---- `order`
 
--- what a source is answered: that each thread locks its mutexes in the order in which they are declared, or the first `lock` that breaks it
+-- what a source is answered: that each thread takes its locks in their order, or the first `lock` that breaks it
 pub data OrderAnswer (source : List ℕ) (status : ℕ) (output : List ℕ) : Type 0 where
   unlocked : (found : r.Rule) (place : Place) → IsRefusedAs command_log source found place → IsRefusedAt 1 (code_of found) source place.0 status output →
       OrderAnswer source status output

@@ -32,7 +32,7 @@ pub data IsReadAgain (source : List ℕ) (c : Translation) (file : left.Image) :
       all_lives (lives_in image.lives.earlier.items image.lives.schedule.items) ≡ all_lives file.kept → IsReadAgain source c file (Ok image)
   -- the source is compiled to another translation, and a thread can't be resumed by its places
   elsewhere : (d : Compiled) (error : ImageError) → IsCompiledAs V2 source d → translation_in d ≢ c →
-      IsThreadFault (flat_of d.flat).variables d.translated.resumes.items (logs_of V2 (file_state c file).logs) error → IsReadAgain source c file (Err error)
+      IsThreadFault (flat_of d.flat) d.translated.resumes.items (logs_of V2 (file_state c file).logs) error → IsReadAgain source c file (Err error)
   -- want of memory tells nothing
   no_memory : IsReadAgain source c file (Err e.Memory)
 

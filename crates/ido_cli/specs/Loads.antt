@@ -7,7 +7,7 @@ use Rattle.source_machine.specs.Lives.{after_lives, runs_lives}
 use Rattle.rv64_isa.specs.Schedule.{schedules}
 use Rattle.compiler_correctness.specs.Translations.{Translation, world, steps}
 use Rattle.compiler_correctness.specs.Compilation.{AreSectionsKept}
-use Rattle.run_scripts.specs.Reports.{ReportedState, line, unsettled_line}
+use Rattle.run_scripts.specs.Reports.{ReportedState, line, numbers_in, unsettled_line}
 use Rattle.ido_cli.specs.Reports.{machine_state}
 use Rattle.ido_cli.specs.Runs.{run_state, status_by}
 
@@ -19,9 +19,9 @@ total (z ∷ zs) = z +ℤ total zs
 unfoldable pub sums_text : (ended : ℕ) → (total : ℤ) → List ℕ
 sums_text ended total = line (codes "ended " ++ decimal ended) ++ line (codes "total " ++ signed_decimal total)
 
--- how many sections have ended in all threads, and the sum of all elements
+-- how many sections have ended in all threads, and the sum of all elements; null counts nothing
 abbrev pub settled_summary : ReportedState → List ℕ
-settled_summary s = sums_text (sum s.ended) (total (flat_map (λ v. v.elements) s.variables))
+settled_summary s = sums_text (sum s.ended) (total (flat_map numbers_in s.variables))
 
 -- where a hart isn't settled, nothing is said but which
 abbrev pub summary_by : (unsettled : List ℕ) → ReportedState → List ℕ

@@ -1,4 +1,4 @@
--- Lives of texts whose threads lock their mutexes in the order of the declarations.
+-- Lives of texts whose threads take their locks in their order.
 use Rattle.std.specs.Prelude.{◌≡◌, ◌↔◌, ℕ, List, length, None}
 use Rattle.ido_base.specs.Cores.{least_enabled, played}
 use Rattle.c_tree.specs.Flats.{flat_of}

@@ -48,5 +48,5 @@ pub data IsRecoveredRun (source : List ℕ) (c : Translation) (before : List Eve
       IsRecoveredRun source c before turns status output
   -- the source is compiled to another translation, and a thread can't be resumed by its places
   refused : (other : Compiled) (error : ImageError) → IsCompiledAs V2 source other → translation_in other ≢ c →
-      IsThreadFault (flat_of other.flat).variables other.translated.resumes.items (logs_of V2 (file_state c (left_by c before)).logs) error → status ≡ 6 →
+      IsThreadFault (flat_of other.flat) other.translated.resumes.items (logs_of V2 (file_state c (left_by c before)).logs) error → status ≡ 6 →
       image_line error ≡ Some output → IsRecoveredRun source c before turns status output

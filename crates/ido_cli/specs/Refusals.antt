@@ -134,6 +134,10 @@ line_at_thread code thread = line (codes "refused " ++ code ++ codes " thread " 
 unfoldable pub line_at_register : (code : List ℕ) → (thread register : ℕ) → List ℕ
 line_at_register code thread register = line (codes "refused " ++ code ++ codes " thread " ++ decimal thread ++ codes " register " ++ decimal register)
 
+-- `refused I12 variable 2 element 0`
+unfoldable pub line_of_element : (code : List ℕ) → (variable element : ℕ) → List ℕ
+line_of_element code variable element = line (codes "refused " ++ code ++ codes " variable " ++ decimal variable ++ codes " element " ++ decimal element)
+
 -- `refused I7 lock 0 threads 1 2`
 unfoldable pub line_of_threads : (code : List ℕ) → (lock first second : ℕ) → List ℕ
 line_of_threads code lock first second =
@@ -152,6 +156,7 @@ image_line (image.Rest place) = Some (line_at_byte (codes "I8") place.0)
 image_line (image.Schedule step) = Some (line_at_step (codes "I9") step)
 image_line (image.Lives life) = Some (line_at_life (codes "I11") life)
 image_line (image.Slot thread register) = Some (line_at_register (codes "I10") thread register)
+image_line (image.Reference variable element) = Some (line_of_element (codes "I12") variable element)
 image_line image.Memory = None
 
 -- the refusal by the code at the place, with the status

@@ -3,9 +3,8 @@ use Rattle.std.specs.Prelude.{◌≡◌, ℕ, zero, suc, ◌+◌, ◌-◌, List,
 use Rattle.std.specs.Prelude.{slice_get, Option, Some, None, Bool, true, false, not, ◌&&◌, nat_eq, nat_le, nat_lt, if◌then◌else◌}
 use Rattle.ido_base.specs.Places.{column_of, line_of}
 use Rattle.c_tree.specs.Flats.{Flat, Thread}
-use Rattle.c_tree.specs.LockNames.{Held}
+use Rattle.c_tree.specs.LockNames.{Held, count_held}
 use Rattle.lock_discipline.specs.HeldSetsByStep.{AreAllSetsOf}
-use Rattle.lock_discipline.specs.Masks.{mask_of}
 use Rattle.flow_graph.specs.declared.graph.Part.{Part}
 use Rattle.flow_graph.specs.IdempotentCuts.{Boundaries}
 use Rattle.flow_graph.specs.Lowering.{lowered}
@@ -80,14 +79,14 @@ pub record Straight : Type 0 where
   pub stretches : List Stretch
   pub held : List (List Held)
 
--- the mutexes that are held before the node of a thread, as a mask
-abbrev pub mask_before : (held : List (List Held)) → (thread : ℕ) → Part → (node : ℕ) → ℕ
-mask_before held thread part node = mask_of (slice_index_or (slice_index_or held thread []) (node - part.first) [])
+-- how many locks are held before the node of a thread
+abbrev pub count_before : (held : List (List Held)) → (thread : ℕ) → Part → (node : ℕ) → ℕ
+count_before held thread part node = count_held (slice_index_or (slice_index_or held thread []) (node - part.first) [])
 
--- the node is one of the thread's, and some mutex is held before it
+-- the node is one of the thread's, and some lock is held before it
 abbrev pub is_in_section : (held : List (List Held)) → (thread : ℕ) → Part → (node : ℕ) → Bool
 is_in_section held thread part node =
-    nat_le part.first node && nat_lt node part.end && not (nat_eq (mask_before held thread part node) 0)
+    nat_le part.first node && nat_lt node part.end && not (nat_eq (count_before held thread part node) 0)
 
 -- the line of a stretch in a section of the thread
 abbrev pub stretch_line : Boundaries → (held : List (List Held)) → (thread : ℕ) → Part → Stretch → List ℕ

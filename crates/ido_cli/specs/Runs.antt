@@ -6,14 +6,14 @@ use Rattle.c_tree.specs.Programs as p
 use Rattle.c_tree.specs.Source.{State, start, is_between}
 use Rattle.source_machine.specs.Lives.{after_lives, ended_lives, runs_lives}
 use Rattle.run_scripts.specs.Reports as r
-use Rattle.run_scripts.specs.Reports.{report}
+use Rattle.run_scripts.specs.Reports.{report, reported}
 use Rattle.source_machine.specs.declared.answers.Refused.{Refused}
 use Rattle.source_machine.specs.LifeRuns.{IsRefusedLives}
 use Rattle.ido_cli.specs.Refusals.{line_at_step, stop_code}
 
--- a variable with these numbers as its elements
+-- a variable whose elements have these numbers
 abbrev pub variable_with : p.Variable → (elements : List ℤ) → r.Variable
-variable_with v elements = record { name = v.name.text; elements = elements }
+variable_with v elements = record { name = v.name.text; elements = map (reported v.refers) elements }
 
 -- variables, in order of declaration, with the numbers of their elements
 abbrev pub named : List p.Variable → (numbers : List (List ℤ)) → List r.Variable

@@ -1,28 +1,32 @@
 //! Bytes read as an image, from which a machine can begin.
-ghost use Rattle.std.specs.Prelude.{◌≡◌, ◌-◌, ◌≤◌, ◌++◌, ◌%◌, length, map, Err, OnOk, MatchResult};
+ghost use Rattle.std.specs.Prelude.{◌≡◌, ◌≤◌, ◌++◌, ◌%◌, ℕ, length, map, Err, Ok, OnOk, MatchResult};
 ghost use Rattle.ido_base.specs.declared.limits.TheConstants.{MOST_INPUT_BYTES, MOST_SOURCE_BYTES};
+ghost use Rattle.c_tree.specs.Flats.{flat_of};
+ghost use Rattle.c_tree.specs.WellFormed.{shape_of};
+ghost use Rattle.memory_layout.specs.Variables.{HaveRoom};
 ghost use Rattle.run_scripts.specs.links.ReportViews.{steps_of};
-ghost use Rattle.crash_images.specs.Contents.{IsState, word_bytes};
-ghost use Rattle.crash_images.specs.ImageDecoder.{state_at};
+ghost use Rattle.crash_images.specs.Contents.{AreVariables, IsState, word_bytes};
+ghost use Rattle.crash_images.specs.ImageDecoder.{logs_at};
 ghost use Rattle.crash_images.specs.links.Views.{state_of};
 ghost use Rattle.file_fields.specs.links.ReaderResults.{Fails};
 ghost use Rattle.ido_compile.specs.CompileAnswers.{IsCompiledAs, IsCompileAnswerAs};
-ghost use Rattle.ido_cli.specs.CompiledImages.{IsImageAnswer};
+ghost use Rattle.image_checks.specs.links.Errors.{Tells};
+ghost use Rattle.ido_cli.specs.CompiledImages.{IsFaultAfter, IsImageAnswer, IsStateAfter};
 ghost use Rattle.rv64_isa.specs.Schedule.{all_lives};
 ghost use Rattle.run_tracker.specs.links.EarlierLives.{lives_in};
-ghost use Rattle.ido_cli.specs.links.BegunImages.{HasBegun, IsBegun, of_state};
+ghost use Rattle.ido_cli.specs.links.BegunImages.{HasBegun, IsBegun, of_logs};
 ghost use Rattle.ido_cli.specs.links.CompileRefusals.{image_fault};
 
-use crash_images::reading::{read_source, read_state, read_version};
+use c_tree::flat::Flat;
+use crash_images::reading::{read_logs, read_source, read_variables, read_version};
 use crash_images::state::State;
 use crash_images::version::ImageVersion;
 use file_fields::error::ReadError;
-use file_fields::reading::place_of;
 use ido_base::log::Log;
 use ido_base::memory::OutOfMemory;
-use ido_base::place::Place;
 use ido_compile::{CompileError, Compiled, compile_as};
 use image_checks::error::ImageError;
+use image_checks::references::check_references;
 use image_checks::state::check_state;
 use std::alloc::Global;
 
@@ -65,44 +69,58 @@ pub fn compiled_source(alloc: Global, log: Log, source: &[u8]) -> Result<Compile
     }
 }
 
-/// The fault of an image by a fault of what stands after its source, at whose beginning the number of bytes of the variables stands.
-fn state_fault(error: ReadError, size_place: Place) -> ImageError
-    ensures { result ≡ of_state size_place.0 error }
+/// The fault of an image by a fault of what stands after its variables.
+fn logs_fault(error: ReadError) -> ImageError
+    ensures { result ≡ of_logs error }
 {
     match error {
         ReadError::Magic => ImageError::Magic,
         ReadError::Version => ImageError::Version,
         ReadError::Cut(place) => ImageError::Cut(place),
-        ReadError::Field(place) => {
-            if place.0 == size_place.0 {
-                ImageError::Source
-            } else {
-                ImageError::Lives { life: 0 }
-            }
-        }
+        ReadError::Field(_) => ImageError::Lives { life: 0 },
         ReadError::Rest(place) => ImageError::Rest(place),
         ReadError::Memory => ImageError::Memory,
     }
 }
 
-/// What stands after the source of an image, or the image's fault.
+/// The state with these words of variables, or the image's fault after them.
+fn logs_after(
+    alloc: Global,
+    total: u32,
+    rest: &[u8],
+    version: ImageVersion,
+    threads: u32,
+    variables: Vec<u64>,
+) -> Result<State, ImageError>
+    ensures { MatchResult result
+        (λ state. (logs_at version total threads variables.items rest.now ≡ Ok (state_of state)) × (state.variables.items ≡ variables.items)
+        × ((size : ℕ) → AreVariables size variables.items → IsState version size threads (state_of state)))
+        (λ fault. (error : ReadError) × (fault ≡ of_logs error) × Fails error (logs_at version total threads variables.items rest.now)) }
+{
+    match read_logs(alloc, total, rest, version, threads, variables) {
+        Ok(state) => Ok(state),
+        Err(error) => Err(logs_fault(error)),
+    }
+}
+
+/// What stands after the source of an image, whose references are null or lead to elements; or the image's first fault there.
 fn state_after(
     alloc: Global,
+    flat: &Flat,
     total: u32,
     rest: &[u8],
     version: ImageVersion,
     size: u32,
     threads: u32,
 ) -> Result<State, ImageError>
-    requires { size % word_bytes ≡ 0 }
-    ensures { MatchResult result
-        (λ state. (state_at version total size threads rest.now ≡ Ok (state_of state)) × IsState version size threads (state_of state))
-        (λ fault. (error : ReadError) × (fault ≡ of_state (total - length rest.now) error) × Fails error (state_at version total size threads rest.now)) }
+    requires whole { size % word_bytes ≡ 0 }
+    requires room { HaveRoom (map shape_of (flat_of flat.now).variables) }
+    ensures { MatchResult result (λ state. IsStateAfter (flat_of flat.now) version total size threads rest.now (state_of state))
+        (Tells (IsFaultAfter (flat_of flat.now) version total size threads rest.now)) }
 {
-    match read_state(alloc, total, rest, version, size, threads) {
-        Ok(state) => Ok(state),
-        Err(error) => Err(state_fault(error, place_of(total, rest))),
-    }
+    let (variables, after) = read_variables(alloc, total, rest, size)?;
+    check_references(alloc, flat, &variables)?;
+    logs_after(alloc, total, after, version, threads, variables)
 }
 
 /// Adds words.
@@ -156,8 +174,8 @@ pub fn begin<'a>(
     })
 }
 
-/// The image whose bytes begin so, where each thread can be resumed by its log, no two threads hold one mutex, and the source makes the steps of the
-/// schedules; or the first fault.
+/// The image whose bytes begin so, where references are null or lead to elements, each thread can be resumed by its log, no two threads hold one mutex, and
+/// the source makes the steps of the schedules; or the first fault.
 pub fn finish(alloc: Global, bytes: &[u8], begun: Begun<'_>) -> Result<Image, ImageError>
     requires short { length bytes.now ≤ MOST_INPUT_BYTES }
     requires begun { (newest : ImageVersion) × HasBegun newest bytes.now begun }
@@ -166,7 +184,15 @@ pub fn finish(alloc: Global, bytes: &[u8], begun: Begun<'_>) -> Result<Image, Im
     let size = begun.compiled.translated.object.initial.len() as u32;
     let threads = begun.compiled.translated.object.code.len() as u32;
     let total = bytes.len() as u32;
-    let state = state_after(alloc, total, begun.rest, begun.version, size, threads)?;
+    let state = state_after(
+        alloc,
+        &begun.compiled.flat,
+        total,
+        begun.rest,
+        begun.version,
+        size,
+        threads,
+    )?;
     let lives = check_state(
         alloc,
         &begun.compiled.flat,
@@ -187,16 +213,17 @@ pub fn finish(alloc: Global, bytes: &[u8], begun: Begun<'_>) -> Result<Image, Im
     })
 }
 
-/// The image that all bytes spell, of a version up to the newest that is asked for, of a source that the compiler accepts, where each thread can be resumed by
-/// its log, no two threads hold one mutex, and the source makes the steps of the schedules; or the first fault.
+/// The image that all bytes spell, of a version up to the newest that is asked for, of a source that the compiler accepts, where references are null or lead to
+/// elements, each thread can be resumed by its log, no two threads hold one mutex, and the source makes the steps of the schedules; or the first fault.
 ///
 /// Numbers are of four bytes and words of eight, little-endian: 8 bytes `IDO-IMG` and LF, the version, the number of bytes of the source, at most 1,048,576,
 /// and these; the number of bytes of the variables, as the source's object has it, their durable words, and those of the logs, 128 for each thread in version
 /// 1, else 256; in version 3 the number of lives, else there is one; and of each life the number of runs, and of each run the thread and how many steps it
 /// took.
 ///
-/// The order of faults: the bytes up to the end of the source; a refused source; the bytes after it; then by thread a point, and its locks and registers, in
-/// version 1 the locks first; a mutex that two threads hold; by life a step of its schedule, or that it leaves a thread inside a section and isn't the last.
+/// The order of faults: the bytes up to the end of the source; a refused source; the bytes of the variables; a reference among them that leads to no element;
+/// the bytes after them; then by thread a point, and its locks and registers, in version 1 the locks first; a mutex that two threads hold; by life a step of
+/// its schedule, or that it leaves a thread inside a section and isn't the last.
 /// An image that a run leaves has none (`laws::run_images_are_read`).
 pub fn read_image(alloc: Global, bytes: &[u8], newest: ImageVersion) -> Result<Image, ImageError>
     requires { length bytes.now ≤ MOST_INPUT_BYTES }

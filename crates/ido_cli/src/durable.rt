@@ -16,7 +16,7 @@ ghost use Rattle.ido_cli.specs.Reports.{durable_elements};
 use ido_base::memory::OutOfMemory;
 use ido_ints::{Kind, Value};
 use memory_layout::variables::VARIABLES_BASE;
-use run_scripts::report::Variable;
+use run_scripts::report::{Variable, reported_elements};
 use run_tracker::life::Life;
 use std::alloc::Global;
 use variable_words::places::addresses;
@@ -69,9 +69,10 @@ fn durable_variable(
     ensures { IfOk result (λ x. views.variable_of x ≡
         variable_with (variable_of declared.now) (durable_elements (world_of life.now).words (variable_of declared.now) first)) }
 {
+    let numbers = durable_elements(alloc, life, declared, first)?;
     Ok(Variable {
         name: declared.name.text.clone()?,
-        elements: durable_elements(alloc, life, declared, first)?,
+        elements: reported_elements(alloc, declared.refers, &numbers)?,
     })
 }
 

@@ -4,7 +4,7 @@ ghost use Rattle.ido_cli.specs.ImagesReadAgain.{RunImagesAreRead};
 ghost use Rattle.ido_cli.specs.OrderedLives.{OrderedLivesGoOn};
 ghost use Rattle.ido_cli.specs.Laws.{JournalsArePlayed, OneAnswer, RunsAreRecovered, UpgradesAreRecovered};
 
-use compiler_correctness::laws::machines_record;
+use compiler_correctness::laws::{images_are_crashes, machines_record};
 use crash_simulation::laws::machines_resume;
 use deadlock_freedom::laws::none_deadlocks;
 use ido_compile::laws::{files_begin, one_verdict};
@@ -67,6 +67,8 @@ pub fn upgrades_are_recovered()
     ensures { UpgradesAreRecovered }
 {
     one_verdict();
+    images_are_crashes();
+    runs_leave_no_fault();
 }
 
 /// What `live --journal` writes of a source that ends with an LF and has no line `%%` is an input of `play`, which answers it with the report of the very

@@ -1,5 +1,5 @@
 //! The command `load`: a generated source, run on threads to its end.
-ghost use Rattle.std.specs.Prelude.{◌≡◌, ◌+◌, ◌-◌, ◌<◌, ◌≤◌, [], true, false, ◌^◌, ◌+ℤ◌, ◌≤ℤ◌, neg_ℤ, pos, FitsSigned, All, length, map, sum, flat_map, IfOk};
+ghost use Rattle.std.specs.Prelude.{◌≡◌, ◌+◌, ◌-◌, ◌<◌, ◌≤◌, [], true, false, ◌^◌, ◌+ℤ◌, ◌≤ℤ◌, neg_ℤ, pos, FitsSigned, All, length, sum, IfOk};
 ghost use Rattle.std.specs.Int.{w128};
 ghost use Rattle.ido_base.specs.declared.limits.TheConstants.{MOST_THREADS, MOST_VARIABLE_BYTES};
 ghost use Rattle.c_tree.specs.Flats.{flat_of};
@@ -25,7 +25,7 @@ use ido_compile::{Compiled, compile};
 use ido_outside::Gate;
 use run_scripts::evictor::Evictor;
 use run_scripts::generated::make_program;
-use run_scripts::report::{Reported, Variable, report};
+use run_scripts::report::{Reported, numbers, report};
 use run_tracker::life::Life;
 use std::alloc::Global;
 use std::sync::Wait;
@@ -71,17 +71,6 @@ fn sections(ended: &[u64]) -> u128
         sum += u128::from(*sections);
     }
     sum
-}
-
-/// The numbers of all elements.
-fn numbers(alloc: Global, variables: &[Variable]) -> Result<Vec<i128>, OutOfMemory>
-    ensures { IfOk result (λ numbers. numbers.items ≡ flat_map (λ v. v.elements) (map views.variable_of variables.now)) }
-{
-    let mut numbers = Vec::new(alloc);
-    for variable in variables {
-        numbers.extend_from_slice(&variable.elements)?;
-    }
-    Ok(numbers)
 }
 
 /// The sum and one number more.

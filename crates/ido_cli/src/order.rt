@@ -1,4 +1,4 @@
-//! The command `order`: whether each thread of a source locks its mutexes in the order in which they are declared.
+//! The command `order`: whether each thread of a source takes its locks in their order.
 ghost use Rattle.std.specs.Prelude.{◌≡◌, ◌≤◌, codes, length, IfOk};
 ghost use Rattle.ido_base.specs.declared.limits.TheConstants.{MOST_SOURCE_BYTES};
 ghost use Rattle.c_tree.specs.Flats.{flat_of};

@@ -17,7 +17,7 @@ use crate::compiled_image::{Image, read_image};
 use crate::live::MOST_LEG_EVENTS;
 use crate::refusal::{
     VERSION_PLACE, refused, refused_at_byte, refused_at_register, refused_at_step,
-    refused_at_thread, refused_of_life, refused_of_threads,
+    refused_at_thread, refused_of_element, refused_of_life, refused_of_threads,
 };
 use crate::report::say_by_source;
 use crate::said::Said;
@@ -58,6 +58,9 @@ pub fn image_refused(alloc: Global, error: ImageError) -> Result<Said, OutOfMemo
         ImageError::Lives { life } => refused_of_life(alloc, "I11", life),
         ImageError::Slot { thread, register } => {
             refused_at_register(alloc, "I10", thread, register)
+        }
+        ImageError::Reference { variable, element } => {
+            refused_of_element(alloc, "I12", variable, element)
         }
         ImageError::Memory => Err(OutOfMemory),
     }

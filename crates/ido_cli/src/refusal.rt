@@ -3,7 +3,7 @@ ghost use Rattle.std.specs.Prelude.{◌≡◌, ◌<◌, ◌≤◌, ◌^◌, leng
 ghost use Rattle.ido_base.specs.Places.{column_of, line_of};
 ghost use Rattle.ido_base.specs.declared.limits.TheConstants.{MOST_SOURCE_BYTES};
 ghost use Rattle.ido_cli.specs.Refusals.{code_of, fault_code, fault_place, line_after, line_at, line_at_byte, place_text, line_at_register};
-ghost use Rattle.ido_cli.specs.Refusals.{line_at_life, line_at_step, line_at_thread, line_of_threads, stop_code};
+ghost use Rattle.ido_cli.specs.Refusals.{line_at_life, line_at_step, line_at_thread, line_of_element, line_of_threads, stop_code};
 ghost use Rattle.ido_cli.specs.links.CompileRefusals.{TellsRefusal};
 ghost use Rattle.run_scripts.specs.Schedules as s;
 
@@ -222,6 +222,24 @@ pub fn refused_at_register(
     ensures output { IfOk result (λ said. said.output.items ≡ line_at_register code.now thread register) }
 {
     let output = format!(in alloc; "refused {code} thread {thread} register {register}\n")?;
+    Ok(Said {
+        status: 6,
+        output: output.into_bytes(),
+    })
+}
+
+/// The refusal by a code that names an element of a variable.
+#[tactic(auto, unfolding(crate::specs::Refusals::line_of_element))]
+pub fn refused_of_element(
+    alloc: Global,
+    code: &str,
+    variable: u32,
+    element: u32,
+) -> Result<Said, OutOfMemory>
+    ensures status { IfOk result (λ said. said.status ≡ 6) }
+    ensures output { IfOk result (λ said. said.output.items ≡ line_of_element code.now variable element) }
+{
+    let output = format!(in alloc; "refused {code} variable {variable} element {element}\n")?;
     Ok(Said {
         status: 6,
         output: output.into_bytes(),

@@ -130,14 +130,14 @@ fn boundaries_inside(cuts: &Cuts, stretch: Stretch) -> usize
     inside
 }
 
-/// Whether the node is one of the thread's, and some mutex is held before it.
+/// Whether the node is one of the thread's, and some lock is held before it.
 fn is_in_section(held: &Held, thread: usize, part: Part, node: usize) -> bool
     requires { HasSets held.now thread part }
     ensures { result ≡ is_in_section held.now thread part node }
 {
     part.first <= node
         && node < part.end
-        && held.held(thread as u32, (node - part.first) as u32) != 0
+        && held.count(thread as u32, (node - part.first) as u32) != 0
 }
 
 /// Adds the line of straight code.

@@ -21,7 +21,7 @@ use crate::said::Said;
 use c_tree::flat::Flat;
 use ido_base::memory::OutOfMemory;
 use ido_compile::front;
-use run_scripts::report::{Reported, Variable};
+use run_scripts::report::{Reported, Variable, reported_elements};
 use run_scripts::schedule::{ScheduleError, read_schedule};
 use source_machine::SourceState;
 use source_machine::laws::lives_stop_once;
@@ -72,7 +72,7 @@ fn with_elements(
 {
     Ok(Variable {
         name: declared.name.text.clone()?,
-        elements: elements.to_vec(alloc)?,
+        elements: reported_elements(alloc, declared.refers, elements)?,
     })
 }
 

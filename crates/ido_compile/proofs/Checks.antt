@@ -2,7 +2,7 @@
 use Rattle.std.proofs.Common.{◌≡◌, refl, ℕ, zero, suc, ◌≤◌, List, [], ◌∷◌, ◌++◌, length, flat_map, ap, arith}
 use Rattle.std.proofs.lemmas.List.{length-map}
 use Rattle.ido_base.specs.declared.limits.TheConstants.{MOST_THREADS}
-use Rattle.c_tree.specs.declared.language.Language.TheVariants.{Plain}
+use Rattle.c_tree.specs.declared.language.Language.{Language}
 use Rattle.c_tree.specs.Flats as f
 use Rattle.c_tree.specs.Flats.{flat_of}
 use Rattle.c_tree.specs.Inlining.{flat_form, flat_thread}
@@ -15,13 +15,14 @@ use Rattle.c_tree.specs.declared.rule.Rule as r
 use Rattle.c_tree.specs.declared.rule.Rule.TheVariants as rule
 use Rattle.c_tree.specs.declared.flat.Flat.{Flat}
 use Rattle.ido_base.specs.declared.log.Log.{Log}
+use Rattle.thread_code.specs.Plans.{language_of}
 use Rattle.ido_compile.specs.LoggedTexts.{IsAcceptedAs}
 
-no_prefix : {X : Type 0} (xs ys : List X) → xs ++ ys ≡ [] → xs ≡ []
+pub no_prefix : {X : Type 0} (xs ys : List X) → xs ++ ys ≡ [] → xs ≡ []
 no_prefix [] ys h = refl
 no_prefix (x ∷ xs) ys h = absurd (cc h)
 
-no_back : {X : Type 0} (xs ys : List X) → xs ++ ys ≡ [] → ys ≡ []
+pub no_back : {X : Type 0} (xs ys : List X) → xs ++ ys ≡ [] → ys ≡ []
 no_back [] ys h = h
 no_back (x ∷ xs) ys h = absurd (cc h)
 
@@ -37,13 +38,13 @@ threads_in gs (t.PersistentItem x ∷ xs) = threads_in gs xs
 threads_in gs (t.FunctionItem x ∷ xs) = threads_in gs xs
 threads_in gs (t.ThreadItem x ∷ xs) = ap suc (threads_in gs xs)
 
-few_of : (xs : List t.Item) → type_faults Plain xs ≡ [] → length (typed_program xs).threads ≤ MOST_THREADS
+few_of : (l : Language) (xs : List t.Item) → type_faults l xs ≡ [] → length (typed_program xs).threads ≤ MOST_THREADS
 unfolding type_faults typed_program
-few_of xs h =
+few_of l xs h =
     let twice = twice_from [] (n.globals_of xs) in
     let of_threads = past rule.Threads MOST_THREADS (thread_names xs) in
-    let of_mutexes = too_many_mutexes (most_mutexes Plain) 0 xs in
-    let a = no_prefix (twice ++ of_threads ++ of_mutexes ++ too_many_bytes 0 xs) (flat_map (item_faults Plain (n.globals_of xs)) xs) h in
+    let of_mutexes = too_many_mutexes (most_mutexes l) 0 xs in
+    let a = no_prefix (twice ++ of_threads ++ of_mutexes ++ too_many_bytes 0 xs) (flat_map (item_faults l (n.globals_of xs)) xs) h in
     let b = no_prefix (twice ++ of_threads ++ of_mutexes) (too_many_bytes 0 xs) a in
     let threads = no_back twice of_threads (no_prefix (twice ++ of_threads) of_mutexes b) in
     let e = threads_in (n.globals_of xs) xs in
@@ -58,7 +59,7 @@ pub few_accepted : (log : Log) (text : List ℕ) (flat : f.Flat) → IsAcceptedA
 few_accepted log text flat is =
     let flattened = is.form in
     let it = flattened.ranged.typed in
-    let a = few_of it.items it.faultless in
+    let a = few_of (language_of log) it.items it.faultless in
     let b = ap (λ (q : p.Program). length q.threads) it.typed in
     let c = flat_count flattened.program in
     let d = ap (λ (y : f.Flat). length y.threads) flattened.flattened in

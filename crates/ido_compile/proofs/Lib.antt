@@ -1,7 +1,9 @@
 pub mod Public
 mod Checks
 mod FrontEndChecks
-mod PlainPrices
 mod LoggedTexts
+mod ReservedNames
+mod LiftedTokens
+mod PlainTrees
 mod Verdicts
 mod Translations

@@ -2,7 +2,7 @@
 use Rattle.std.proofs.Common.{◌≡◌, refl, ℕ, ◌<◌, ◌≤◌, List, [], length, Option, Some, None, true, false, sym, ap, ap₂, ◌∙◌, subst, arith}
 use Rattle.ido_base.specs.declared.place.Place.{Place}
 use Rattle.c_tree.specs.declared.language.Language.{Language}
-use Rattle.c_tree.specs.declared.language.Language.TheVariants.{Plain}
+use Rattle.c_tree.specs.declared.language.Language.TheVariants.{Full, Plain}
 use Rattle.c_tree.specs.AcceptedTexts.{HasNoBack, IsTyped, IsRanged}
 use Rattle.c_tree.specs.Flats as f
 use Rattle.c_tree.specs.Inlining.{IsFirstBack, flat_form}
@@ -26,9 +26,11 @@ use Rattle.flow_graph.specs.Liveness.{NodeAt, HasRoom, IsFirstCrowded}
 use Rattle.flow_graph.specs.Lowering.{lowered}
 use Rattle.flow_graph.specs.Nodes.{Node, Graph}
 use Rattle.ido_base.specs.declared.log.Log.{Log}
+use Rattle.ido_base.specs.declared.log.Log.TheVariants.{V1, V2}
 use Rattle.thread_code.specs.Plans.{language_of}
 use Rattle.ido_compile.specs.LoggedTexts as logged
 use Rattle.ido_compile.specs.Verdicts as laws
+use Rattle.ido_compile.proofs.PlainTrees.{plain_is_full}
 
 -- ---- Verdicts
 
@@ -188,79 +190,87 @@ one_by_indexes lang x = one_check (OutsideStop x) (IsInside x) (ByCalls lang x)
 
 -- ---- Names and kinds
 
-abbrev TypeStop : List Item → Verdict → Type 0
-TypeStop xs v = (x : Fault) × IsFirst (type_faults Plain xs) x × (v ≡ Refused x.rule x.place)
+abbrev TypeStop : Language → List Item → Verdict → Type 0
+TypeStop lang xs v = (x : Fault) × IsFirst (type_faults lang xs) x × (v ≡ Refused x.rule x.place)
 
 abbrev ByTypes : Language → List Item → Verdict → Type 0
-ByTypes lang xs = Check (TypeStop xs) (type_faults Plain xs ≡ []) (ByIndexes lang (typed_program xs))
+ByTypes lang xs = Check (TypeStop lang xs) (type_faults lang xs ≡ []) (ByIndexes lang (typed_program xs))
 
 no_first : (fs : List Fault) (x : Fault) → fs ≡ [] → IsFirst fs x → ⊥
 no_first fs x e first = let within : first.found.0 < length fs = first.found.1 in absurd (omega (arith, within, ap length e))
 
 -- ---- The text
 
-abbrev ReadStop : (text : List ℕ) → Verdict → Type 0
-ReadStop text v = (found : r.Rule) × (place : Place) × IsRefused Plain text found place × (v ≡ Refused found place)
+abbrev ReadStop : (lang : Language) → (text : List ℕ) → Verdict → Type 0
+ReadStop lang text v = (found : r.Rule) × (place : Place) × IsRefused lang text found place × (v ≡ Refused found place)
 
 data ByReading (lang : Language) (text : List ℕ) (v : Verdict) : Type 0 where
-  no_tree : ReadStop text v → ByReading lang text v
-  tree : (xs : List Item) → IsRead Plain text xs → ByTypes lang xs v → ByReading lang text v
+  no_tree : ReadStop lang text v → ByReading lang text v
+  tree : (xs : List Item) → IsRead lang text xs → ByTypes lang xs v → ByReading lang text v
 
-typed_then : (lang : Language) (text : List ℕ) (x : p.Program) (v : Verdict) → IsTyped Plain text x → ByIndexes lang x v → ByReading lang text v
-typed_then lang text x v is by = tree is.items is.read (passes is.faultless (subst (λ y. ByIndexes lang y v) is.typed by))
+module _ (lang : Language) (text : List ℕ) where
+  typed_then : (x : p.Program) (v : Verdict) → IsTyped lang text x → ByIndexes lang x v → ByReading lang text v
+  typed_then x v is by = tree is.items is.read (passes is.faultless (subst (λ y. ByIndexes lang y v) is.typed by))
 
-ranged_then : (lang : Language) (text : List ℕ) (x : p.Program) (v : Verdict) → IsRanged Plain text x → ByCalls lang x v → ByReading lang text v
-ranged_then lang text x v is by = typed_then lang text x v is.typed (passes (is.fits, is.never_null) by)
+  ranged_then : (x : p.Program) (v : Verdict) → IsRanged lang text x → ByCalls lang x v → ByReading lang text v
+  ranged_then x v is by = typed_then x v is.typed (passes (is.fits, is.never_null) by)
 
 -- ---- For a log, whose language says what locks and prices are
 
-logged_then : (log : Log) (text : List ℕ) (flat : f.Flat) (v : Verdict) → logged.IsFlattenedAs log text flat → ByLocks (language_of log) flat v →
-    ByReading (language_of log) text v
-logged_then log text flat v is by =
-    ranged_then (language_of log) text is.program v is.ranged
-    (passes is.ends (passes is.short (subst (λ y. ByLocks (language_of log) y v) is.flattened by)))
+module _ (log : Log) (text : List ℕ) where
+  logged_then : (flat : f.Flat) (v : Verdict) → logged.IsFlattenedAs log text flat → ByLocks (language_of log) flat v →
+      ByReading (language_of log) text v
+  logged_then flat v is by =
+      ranged_then (language_of log) text is.program v is.ranged
+      (passes is.ends (passes is.short (subst (λ y. ByLocks (language_of log) y v) is.flattened by)))
 
-logged_accepted : (log : Log) (text : List ℕ) (flat : f.Flat) → logged.IsAcceptedAs log text flat → ByReading (language_of log) text (Accepted flat)
-logged_accepted log text flat is = logged_then log text flat (Accepted flat) is.form (passes is.disciplined (passes is.room (passes is.shallow refl)))
+  logged_accepted : (flat : f.Flat) → logged.IsAcceptedAs log text flat → ByReading (language_of log) text (Accepted flat)
+  logged_accepted flat is = logged_then flat (Accepted flat) is.form (passes is.disciplined (passes is.room (passes is.shallow refl)))
 
-logged_refused : (log : Log) (text : List ℕ) (found : r.Rule) (place : Place) → logged.IsRefusedAs log text found place →
-    ByReading (language_of log) text (Refused found place)
-logged_refused log text found place (logged.unread is) = no_tree (found, place, is, refl)
-logged_refused log text found place (logged.mistyped xs is first) = tree xs is (stops (record { rule = found; place = place }, first, refl))
-logged_refused log text found place (logged.outside x is first) =
-    typed_then (language_of log) text x (Refused found place) is (stops (found, place, first, refl))
-logged_refused log text found place (logged.leads_back x is first e) =
-    ranged_then (language_of log) text x (Refused found place) is (stops (place, first, ap (λ y. Refused y place) e))
-logged_refused log text found place (logged.too_long x is ends long e) =
-    ranged_then (language_of log) text x (Refused found place) is (passes ends (stops (place, long, ap (λ y. Refused y place) e)))
-logged_refused log text found place (logged.undisciplined flat x is broken e at) =
-    logged_then log text flat (Refused found place) is (stops (x, broken, ap₂ Refused e at))
-logged_refused log text found place (logged.crowded flat wanted is locks first e) =
-    logged_then log text flat (Refused found place) is (passes locks (stops (place, wanted, first, ap (λ y. Refused y place) e)))
-logged_refused log text found place (logged.too_deep flat is locks room deep e) =
-    logged_then log text flat (Refused found place) is (passes locks (passes room (stops (place, deep, ap (λ y. Refused y place) e))))
+  logged_refused : (found : r.Rule) (place : Place) → logged.IsRefusedAs log text found place → ByReading (language_of log) text (Refused found place)
+  logged_refused found place (logged.unread is) = no_tree (found, place, is, refl)
+  logged_refused found place (logged.mistyped xs is first) = tree xs is (stops (record { rule = found; place = place }, first, refl))
+  logged_refused found place (logged.outside x is first) =
+      typed_then (language_of log) text x (Refused found place) is (stops (found, place, first, refl))
+  logged_refused found place (logged.leads_back x is first e) =
+      ranged_then (language_of log) text x (Refused found place) is (stops (place, first, ap (λ y. Refused y place) e))
+  logged_refused found place (logged.too_long x is ends long e) =
+      ranged_then (language_of log) text x (Refused found place) is (passes ends (stops (place, long, ap (λ y. Refused y place) e)))
+  logged_refused found place (logged.undisciplined flat x is broken e at) =
+      logged_then flat (Refused found place) is (stops (x, broken, ap₂ Refused e at))
+  logged_refused found place (logged.crowded flat wanted is locks first e) =
+      logged_then flat (Refused found place) is (passes locks (stops (place, wanted, first, ap (λ y. Refused y place) e)))
+  logged_refused found place (logged.too_deep flat is locks room deep e) =
+      logged_then flat (Refused found place) is (passes locks (passes room (stops (place, deep, ap (λ y. Refused y place) e))))
 
 module _ (one_tree : reader.OneTree) (one_refusal : reader.OneRefusal) (not_both : reader.NotBoth) (one_first : OneFirst) where
   one_by_types : (lang : Language) (xs : List Item) → IsOne (ByTypes lang xs)
-  one_by_types lang xs = one_check (TypeStop xs) (type_faults Plain xs ≡ []) (ByIndexes lang (typed_program xs))
-      (λ v w s t. s.2 ∙ ap (λ (x : Fault). Refused x.rule x.place) (one_first Plain xs s.0 t.0 s.1 t.1) ∙ sym t.2)
-      (λ v s e. no_first (type_faults Plain xs) s.0 e s.1)
+  one_by_types lang xs = one_check (TypeStop lang xs) (type_faults lang xs ≡ []) (ByIndexes lang (typed_program xs))
+      (λ v w s t. s.2 ∙ ap (λ (x : Fault). Refused x.rule x.place) (one_first lang xs s.0 t.0 s.1 t.1) ∙ sym t.2)
+      (λ v s e. no_first (type_faults lang xs) s.0 e s.1)
       (one_by_indexes lang (typed_program xs))
 
   one_by_reading : (lang : Language) (text : List ℕ) → IsOne (ByReading lang text)
   one_by_reading lang text v w (no_tree (found, place, is, e)) (no_tree (other, elsewhere, also, h)) =
-      let both = one_refusal Plain text found other place elsewhere is also in e ∙ ap₂ Refused both.0 both.1 ∙ sym h
-  one_by_reading lang text v w (no_tree (found, place, is, e)) (tree xs read by) = absurd (not_both Plain text xs found place read is)
-  one_by_reading lang text v w (tree xs read by) (no_tree (found, place, is, e)) = absurd (not_both Plain text xs found place read is)
-  one_by_reading lang text v w (tree xs read by) (tree ys also as_well) =
-      one_by_types lang ys v w (subst (λ zs. ByTypes lang zs v) (one_tree Plain text xs ys read also) by) as_well
+      let both = one_refusal lang text found other place elsewhere is also in e ∙ ap₂ Refused both.0 both.1 ∙ sym h
+  one_by_reading lang text v w (no_tree (found, place, is, e)) (tree xs spelled by) = absurd (not_both lang text xs found place spelled is)
+  one_by_reading lang text v w (tree xs spelled by) (no_tree (found, place, is, e)) = absurd (not_both lang text xs found place spelled is)
+  one_by_reading lang text v w (tree xs spelled by) (tree ys also as_well) =
+      one_by_types lang ys v w (subst (λ zs. ByTypes lang zs v) (one_tree lang text xs ys spelled also) by) as_well
 
-  -- names and kinds are read in one way for all logs
+  -- where it has no faults it is read in one way for all logs
+  one_items : (log other : Log) (text : List ℕ) (xs ys : List Item) → IsRead (language_of log) text xs → IsRead (language_of other) text ys →
+      type_faults (language_of log) xs ≡ [] → type_faults (language_of other) ys ≡ [] → xs ≡ ys
+  one_items V1 V1 text xs ys read also faultless sound = one_tree Plain text xs ys read also
+  one_items V1 V2 text xs ys read also faultless sound = one_tree Full text xs ys (plain_is_full text xs ys read faultless also) also
+  one_items V2 V1 text xs ys read also faultless sound = one_tree Full text xs ys read (plain_is_full text ys xs also sound read)
+  one_items V2 V2 text xs ys read also faultless sound = one_tree Full text xs ys read also
+
   pub one_flat : laws.OneFlat
   one_flat log other text x y is also =
       let a = is.form.ranged.typed in
       let b = also.form.ranged.typed in
-      let same : a.items ≡ b.items = one_tree Plain text a.items b.items a.read b.read in
+      let same : a.items ≡ b.items = one_items log other text a.items b.items a.read b.read a.faultless b.faultless in
       is.form.flattened ∙ ap flat_form (a.typed ∙ (ap typed_program same ∙ sym b.typed)) ∙ sym also.form.flattened
 
   pub one_fault : laws.OneFault
@@ -273,5 +283,6 @@ module _ (one_tree : reader.OneTree) (one_refusal : reader.OneRefusal) (not_both
   pub never_both : laws.NotBoth
   never_both log text x found place is also =
       let both : Accepted x ≡ Refused found place =
-      one_by_reading (language_of log) text (Accepted x) (Refused found place) (logged_accepted log text x is) (logged_refused log text found place also) in
+      one_by_reading (language_of log) text (Accepted x) (Refused found place) (logged_accepted log text x is)
+      (logged_refused log text found place also) in
       cc both

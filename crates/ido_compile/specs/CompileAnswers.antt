@@ -2,7 +2,6 @@
 use Rattle.std.specs.Prelude.{◌≡◌, ℕ, List, Result, Ok, Err}
 use Rattle.ido_base.specs.declared.log.Log.{Log}
 use Rattle.c_tree.specs.Flats.{Flat, flat_of}
-use Rattle.c_tree.specs.WellFormed.{ArePlain}
 use Rattle.rv64_isa.specs.declared.object.Object.{Object}
 use Rattle.rv64_isa.specs.declared.object.Marks.{Marks}
 use Rattle.flow_graph.specs.declared.cuts.Cuts.{Cuts}
@@ -26,8 +25,6 @@ translation_in c = translation_to (flat_of c.flat) c.translated.object c.transla
 pub record IsCompiledAs (log : Log) (text : List ℕ) (c : Compiled) : Type 0 where
   pub text_is : c.text.items ≡ text
   pub accepted : IsAcceptedAs log text (flat_of c.flat)
-  -- no mutex of it is in an array
-  pub plain : ArePlain (flat_of c.flat).mutexes
   pub translated : IsTranslatedAs log (flat_of c.flat) c.translated.object c.translated.marks c.translated.cuts
   -- of each thread it tells what it has where recovery may resume it
   pub resumable : IsResumableAs log (flat_of c.flat) c.translated.object c.translated.marks c.translated.cuts c.translated.resumes.items

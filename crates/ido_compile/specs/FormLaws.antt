@@ -1,6 +1,7 @@
 -- What holds of the flat form of every text that is accepted, and of each run of it.
 use Rattle.std.specs.Prelude.{ℕ, List}
 use Rattle.std.specs.List.{AllByRecursion}
+use Rattle.c_tree.specs.declared.language.Language.{Language}
 use Rattle.c_tree.specs.declared.language.Language.TheVariants.{Plain}
 use Rattle.c_tree.specs.AcceptedTexts.{IsFlattened}
 use Rattle.c_tree.specs.Exprs.{Placed}
@@ -8,32 +9,38 @@ use Rattle.c_tree.specs.Flats.{Flat, Statement}
 use Rattle.c_tree.specs.Source.{Thread, start, after_from}
 use Rattle.c_tree.specs.WellFormed.{ArePlain, IsWellFormed}
 use Rattle.c_ranges.specs.RunInvariants.{IsStateOf, IsElement, IsNext, step_exprs, step_indexes}
-use Rattle.c_ranges.specs.Laws.{IsForeseen}
+use Rattle.c_ranges.specs.Laws.{AreFollowed, IsForeseen}
 use Rattle.ido_base.specs.declared.log.Log.{Log}
 use Rattle.ido_compile.specs.LoggedTexts.{IsAcceptedAs}
 
 -- the flat form of a text is well formed
 abbrev pub FlattenedIsFormed : Type 0
-FlattenedIsFormed = (text : List ℕ) (flat : Flat) → IsFlattened Plain text flat → IsWellFormed flat
+FlattenedIsFormed = (l : Language) (text : List ℕ) (flat : Flat) → IsFlattened l text flat → IsWellFormed flat
 
--- no mutex of the flat form of a text is in an array
+-- of the plain language: no mutex of the flat form of a text is in an array
 abbrev pub FlattenedIsPlain : Type 0
 FlattenedIsPlain = (text : List ℕ) (flat : Flat) → IsFlattened Plain text flat → ArePlain flat.mutexes
 
--- values keep to their kinds in every run
+-- ---- Runs of a text that is accepted for a log
+
+-- values keep to their kinds in every run, and references to their arrays
 abbrev pub AcceptedRuns : Type 0
 AcceptedRuns = (log : Log) (text : List ℕ) (flat : Flat) (schedule : List ℕ) → IsAcceptedAs log text flat → IsStateOf flat (after_from (start flat) schedule)
 
 -- every value that a step evaluates lies in its range
 abbrev pub AcceptedValues : Type 0
-AcceptedValues = (log : Log) (text : List ℕ) (flat : Flat) (schedule : List ℕ) (thread : ℕ) (it : Thread) (y : Statement) (rest : List Statement) →
-    IsAcceptedAs log text flat →
-    IsNext (after_from (start flat) schedule) thread it y rest →
+AcceptedValues = (log : Log) (text : List ℕ) (flat : Flat) (schedule : List ℕ) (thread : ℕ) (it : Thread) (y : Statement)
+    (rest : List Statement) → IsAcceptedAs log text flat → IsNext (after_from (start flat) schedule) thread it y rest →
     AllByRecursion (λ (z : Placed). IsForeseen it.locals (after_from (start flat) schedule).variables z.expr) (step_exprs y)
 
 -- no index that a step evaluates is out of range
 abbrev pub AcceptedIndexes : Type 0
-AcceptedIndexes = (log : Log) (text : List ℕ) (flat : Flat) (schedule : List ℕ) (thread : ℕ) (it : Thread) (y : Statement) (rest : List Statement) →
-    IsAcceptedAs log text flat →
-    IsNext (after_from (start flat) schedule) thread it y rest →
+AcceptedIndexes = (log : Log) (text : List ℕ) (flat : Flat) (schedule : List ℕ) (thread : ℕ) (it : Thread) (y : Statement)
+    (rest : List Statement) → IsAcceptedAs log text flat → IsNext (after_from (start flat) schedule) thread it y rest →
     AllByRecursion (IsElement flat.variables flat.mutexes it.locals (after_from (start flat) schedule).variables) (step_indexes y)
+
+-- no reference that a step follows is null, or leads out of its array
+abbrev pub AcceptedReferences : Type 0
+AcceptedReferences = (log : Log) (text : List ℕ) (flat : Flat) (schedule : List ℕ) (thread : ℕ) (it : Thread) (y : Statement)
+    (rest : List Statement) → IsAcceptedAs log text flat → IsNext (after_from (start flat) schedule) thread it y rest →
+    AllByRecursion (λ (z : Placed). AreFollowed it.locals z.expr) (step_exprs y)

@@ -6,7 +6,7 @@ use Rattle.c_tree.specs.Flats.{Flat}
 use Rattle.c_tree.specs.declared.rule.Rule.{Rule}
 use Rattle.ido_compile.specs.LoggedTexts.{IsAcceptedAs, IsRefusedAs}
 
--- an accepted text has one flat form, for whichever logs it is accepted
+-- an accepted text has one flat form, for whichever logs it is accepted, and in whichever language it is read for these
 abbrev pub OneFlat : Type 0
 OneFlat = (log other : Log) (text : List ℕ) (x y : Flat) → IsAcceptedAs log text x → IsAcceptedAs other text y → x ≡ y
 

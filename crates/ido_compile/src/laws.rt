@@ -7,8 +7,8 @@ use c_reader::laws::one_reading;
 use c_typer::laws::one_first;
 use compiler_correctness::laws::systems_are_compilations;
 
-/// For a log a text is accepted or refused by one rule, at one place, and never both; it has one flat form, for whichever logs it is accepted.
-/// That a text has one translation isn't said.
+/// For a log a text is accepted or refused by one rule, at one place, and never both; it has one flat form, for whichever logs it is accepted,
+/// and in whichever language it is read for these. That a text has one translation isn't said.
 pub fn one_verdict()
     ensures flat { OneFlat }
     ensures fault { OneFault }

@@ -1,4 +1,4 @@
-//! Source texts, compiled for a log.
+//! Source texts, read in the language of a log and compiled for it.
 ghost use Rattle.std.specs.Prelude.{◌≡◌, ◌≤◌, length, IfOk};
 ghost use Rattle.ido_base.specs.declared.limits.TheConstants.{MOST_SOURCE_BYTES};
 ghost use Rattle.c_tree.specs.Flats.{flat_of};
@@ -22,7 +22,7 @@ use ido_base::log::Log;
 use ido_base::memory::OutOfMemory;
 use std::alloc::Global;
 
-/// The language whose prices and lock rules the texts of a log keep.
+/// The language in which texts are read for a log, and by whose prices and lock rules they are checked.
 fn language_of(log: Log) -> Language
     ensures { result ≡ language_of log }
 {
@@ -32,16 +32,17 @@ fn language_of(log: Log) -> Language
     }
 }
 
-/// The flat form of a text that keeps all rules of names, kinds, indexes, references, calls and prices; else the rule and the place
-/// of the first of these checks that it fails.
+/// The flat form of a text that keeps all rules of names, kinds, indexes, references, calls and prices; else the rule and the place of the first
+/// of these checks that it fails.
 pub(crate) fn flatten_as(alloc: Global, log: Log, text: &[u8]) -> Result<Flat, CompileError>
     requires { length text.now ≤ MOST_SOURCE_BYTES }
     ensures { IsFlatAnswerAs log text.now result }
 {
-    let tree = read(alloc, Language::Plain, text)?;
-    let program = type_tree(alloc, Language::Plain, tree)?;
+    let language = language_of(log);
+    let tree = read(alloc, language, text)?;
+    let program = type_tree(alloc, language, tree)?;
     c_ranges::check(alloc, &program)?;
-    let flat = inline(alloc, language_of(log), &program)?;
+    let flat = inline(alloc, language, &program)?;
     Ok(flat)
 }
 
@@ -81,14 +82,13 @@ fn copied(alloc: Global, text: &[u8]) -> Result<Vec<u8>, OutOfMemory>
     Ok(copy)
 }
 
-/// The object, for a log, of a text that keeps all rules of that log, with its flat form, the addresses of its marks, and where
-/// boundaries stand; else the rule and the place of the first check that the text fails.
+/// The object, for a log, of a text that keeps all rules of that log, with its flat form, the addresses of its marks, and where boundaries
+/// stand; else the rule and the place of the first check that the text fails.
 pub fn compile_as(alloc: Global, log: Log, text: &[u8]) -> Result<Compiled, CompileError>
     requires { length text.now ≤ MOST_SOURCE_BYTES }
     ensures { IsCompileAnswerAs log text.now result }
 {
     translations_are_compilations();
-    flattened_is_plain();
     let flat = flatten_as(alloc, log, text)?;
     let translated = object_as(alloc, log, text, &flat)?;
     let text = copied(alloc, text)?;

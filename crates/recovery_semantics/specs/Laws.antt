@@ -22,7 +22,7 @@ StartMeets = (x : f.Flat) (from : State) (memory : Memory) → StateKeeps x from
 abbrev pub FreshAreStable : Type 0
 FreshAreStable = (s : State) → AreStable s (memory_of s)
 
--- and in memory that a crash has left the durable numbers are
+-- in memory that a crash has left the durable numbers are stable
 abbrev pub CrashedAreStable : Type 0
 CrashedAreStable = (s : State) (memory : Memory) → s.variables ≡ map (map durable_number) memory → AreStable s (crashed memory)
 
@@ -63,7 +63,7 @@ abbrev pub BetweenIsKept : Type 0
 BetweenIsKept = (x : f.Flat) (m : Config) → Invariant x m → ((thread : ℕ) → is_between m.kept thread ≡ true) →
     map (map durable_number) m.memory ≡ m.kept.variables
 
--- and they are stable, so that another execution may begin with them
+-- those numbers are stable, so that another execution may begin with them
 abbrev pub BetweenIsStable : Type 0
 BetweenIsStable = (x : f.Flat) (m : Config) → Invariant x m → ((thread : ℕ) → is_between m.kept thread ≡ true) → AreStable m.kept m.memory
 

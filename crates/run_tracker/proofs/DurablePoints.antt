@@ -66,7 +66,7 @@ point_stays program w Crash h sound there quiet = cc
 point_stays program w Start h sound there quiet =
     after_start program w (λ (v : World). durable_point v.log v.words h ≡ durable_point w.log w.words h) refl refl
 
--- so do their positions
+-- the positions of durable points stay
 position_stays : (program : List (List Slot)) (w : World) (event : Event) (h : ℕ) → IsWellFormedWorld w → may_persist (reply_to program w event) ≡ false →
     (word_at (after_event program w event).words (point_word (after_event program w event).log h)).durable ≡ (word_at w.words (point_word w.log h)).durable
 unfolding happens

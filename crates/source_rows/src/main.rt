@@ -10,6 +10,9 @@
 //! leaves (locks that do nothing, thread after thread; signed sums wrap, `char` is unsigned). Of the commands that run harts on threads
 //! it has only what is the same in whatever order they come.
 //!
+//! Of arrays of mutexes and of references it has, before the last rows of `list`, texts that each rule refuses and texts that just don't break it, runs with
+//! values and steps as another program finds them, losses of power inside and between their sections, and images with right and with wrong references.
+//!
 //! Of `list` it has 2,276 rows at its end: an object of one thread and two words; all its beginnings; it with one byte more, and with
 //! one field replaced; an object of two threads; an object of one word for each word that GNU as and objdump 2.40 were asked for at
 //! address 00010000, and then for near misses of every such word and for words of other extensions; and another object of two

@@ -1,5 +1,5 @@
--- What stands first in an image, and faults of what stands after it.
-use Rattle.std.specs.Prelude.{◌≡◌, ◌==◌, ◌≤◌, ℕ, List, length, if◌then◌else◌, Result, Ok, Err}
+-- What stands first in an image, and faults of what stands last.
+use Rattle.std.specs.Prelude.{◌≡◌, ◌≤◌, ℕ, List, length, Result, Ok, Err}
 use Rattle.ido_base.specs.declared.limits.TheConstants.{MOST_SOURCE_BYTES}
 use Rattle.file_fields.specs.declared.error.ReadError.{ReadError}
 use Rattle.file_fields.specs.declared.error.ReadError.TheVariants as read
@@ -13,14 +13,14 @@ use Rattle.ido_compile.specs.CompileAnswers.{IsCompileAnswerAs}
 use Rattle.ido_cli.specs.CompiledImages.{BeginsCompiled, IsImageAnswer}
 use Rattle.ido_cli.specs.links.CompileRefusals.{image_fault}
 
--- the fault of a field, where the number of bytes of the variables stands at this place
-abbrev pub of_state : (size_place : ℕ) → ReadError → ImageError
-of_state size_place read.Magic = e.Magic
-of_state size_place read.Version = e.Version
-of_state size_place (read.Cut place) = e.Cut place
-of_state size_place (read.Field place) = if place.0 == size_place then e.Source else e.Lives 0
-of_state size_place (read.Rest place) = e.Rest place
-of_state size_place read.Memory = e.Memory
+-- the fault of what stands after the variables
+abbrev pub of_logs : ReadError → ImageError
+of_logs read.Magic = e.Magic
+of_logs read.Version = e.Version
+of_logs (read.Cut place) = e.Cut place
+of_logs (read.Field place) = e.Lives 0
+of_logs (read.Rest place) = e.Rest place
+of_logs read.Memory = e.Memory
 
 pub record HasBegun (newest : ImageVersion) (bytes : List ℕ) (b : Begun) : Type 0 where
   pub is : BeginsCompiled newest bytes b.version b.compiled

@@ -10,7 +10,7 @@ use Rattle.rv64_isa.specs.Machine.{IsEviction}
 use Rattle.hart_driver.specs.Driven.{HasAdvanced, evictions_of as coming_of, leg_of}
 use Rattle.hart_driver.specs.Legs.{Leg, IsLeg}
 use Rattle.run_scripts.specs.declared.evictor.Evictor.{Evictor}
-use Rattle.run_scripts.specs.Reports.{ReportedState}
+use Rattle.run_scripts.specs.Reports.{ReportedState, numbers_in}
 use Rattle.run_scripts.specs.links.Evictors.{evictions_of}
 use Rattle.run_scripts.specs.Journals.{journal_text}
 use Rattle.rv64_isa.specs.Schedule.{schedules}
@@ -113,7 +113,7 @@ IsSmall z = (neg_ℤ (pos (2 ^ 64)) ≤ℤ z) × (z ≤ℤ pos (2 ^ 64))
 
 -- the numbers of all elements
 abbrev pub numbers_of : ReportedState → List ℤ
-numbers_of s = flat_map (λ v. v.elements) s.variables
+numbers_of s = flat_map numbers_in s.variables
 
 -- its sums fit
 pub record IsSummable (s : ReportedState) : Type 0 where

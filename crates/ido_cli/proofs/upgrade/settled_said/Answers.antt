@@ -51,6 +51,7 @@ returns-else-has_room c =
     let life = c.args.life.now in
     let past = subst (λ (b : Bool). MatchBool b (length c.kept.result.now ≤ MOST_STEPS) (MOST_STEPS < length c.kept.result.now)) c.if-has_room.false
     c.has_room.ensures in
-    let many : MOST_STEPS < sum_by length (schedules (steps_in life)) = omega (arith, past, ap length c.kept.ensures, steps_counted_once x life c.requires.life) in
+    let many : MOST_STEPS < sum_by length (schedules (steps_in life)) =
+    omega (arith, past, ap length c.kept.ensures, steps_counted_once x life c.requires.life) in
     IfOk-weaker c.refused_at_step.result _ _ (λ said both. too_long c.requires.settled many both.0 both.1)
     (both_ok c.refused_at_step.result _ _ c.refused_at_step.ensures.status c.refused_at_step.ensures.output)

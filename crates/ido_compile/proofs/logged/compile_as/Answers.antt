@@ -3,7 +3,7 @@ use Rattle.c_tree.specs.Flats.{flat_of}
 use Rattle.ido_compile.specs.CompileAnswers.{IsCompileAnswerAs}
 use Rattle.ido_compile.specs.declared.error.CompileError.TheVariants as error
 use Rattle.ido_compile.proofs.FrontEndChecks.{by_error}
-use Rattle.ido_compile.proofs.LoggedTexts.{as_flattened, not_compiled}
+use Rattle.ido_compile.proofs.LoggedTexts.{not_compiled}
 use Rattle.ido_compile.proofs.logged.compile_as.Goals as goal
 
 pub returns-in_err-flat : goal.returns-in_err-flat
@@ -15,12 +15,14 @@ returns-in_err-flat c =
 pub returns-in_err-translated : goal.returns-in_err-translated
 returns-in_err-translated c =
     let refused = c.in_err-translated.field-0.0 in
-    by_error (IsCompileAnswerAs c.args.log c.args.text.now) refused c.from_residual-in_err-translated.result c.from_residual-in_err-translated.ensures.1
+    by_error (IsCompileAnswerAs c.args.log c.args.text.now) refused
+    c.from_residual-in_err-translated.result c.from_residual-in_err-translated.ensures.1
     (not_compiled c.args.log c.args.text.now refused c.in_err-translated.ensures)
 
 pub returns-in_err-text : goal.returns-in_err-text
 returns-in_err-text c =
-    by_error (IsCompileAnswerAs c.args.log c.args.text.now) error.Memory c.from_residual-in_err-text.result c.from_residual-in_err-text.ensures.1 tt
+    by_error (IsCompileAnswerAs c.args.log c.args.text.now) error.Memory
+    c.from_residual-in_err-text.result c.from_residual-in_err-text.ensures.1 tt
 
 pub returns : goal.returns
 returns c =
@@ -30,7 +32,6 @@ returns c =
     record {
       text_is = c.in_ok-text.ensures;
       accepted = is.0;
-      plain = c.flattened_is_plain.ensures c.args.text.now flat (as_flattened c.args.log c.args.text.now flat is.0.form);
       translated = is.1.0;
       resumable = is.1.1;
       compilation = c.translations_are_compilations.ensures c.args.log flat made.object made.marks made.cuts is.1.0;
