@@ -14,8 +14,8 @@ from ido_tools.fault import BadInput
 Told = collections.namedtuple("Told", "number kind place is_cut")
 Word = collections.namedtuple("Word", "address word name operands")
 
-# A boundary: its words from `start` to `end`, the numbers of the mutexes and registers that it keeps, and where it is resumed (None where it
-# ends a section).
+# A boundary: its words from `start` to `end`, the numbers of the mutexes (None of one with a key, which its words compute) and registers that it keeps,
+# and where it is resumed (None where it ends a section).
 Boundary = collections.namedtuple("Boundary", "start end locks live resume")
 
 # The words from `start` to `end` of the nodes from `first` to `last`, numbered within their thread.
@@ -169,9 +169,9 @@ class ThreadCode:
         at = slot + 1
         locks = []
         for it in range(count):
-            past = self.past(at, "x5")
-            locks.append(constant(self.words[at:past], "x5"))
-            self.need(past, "sd", ["x5", f"{FIRST_LISTED + 8 * it}(x30)"])
+            past = self.listed_at(at, f"{FIRST_LISTED + 8 * it}(x30)")
+            is_plain = self.past(at, "x5") == past and self.words[at].operands[1] in ("x0", "0")
+            locks.append(constant(self.words[at:past], "x5") if is_plain else None)
             at = past + 1
         live = []
         while self.is_at(at, "sd") and memory_operand(self.words[at])[1] == "x30":
@@ -186,6 +186,13 @@ class ThreadCode:
         self.need(at + 5, "sd", ["x30", "0(x31)"])
         self.need(at + 7, "fence")
         return Boundary(start, at + 8, locks, live, resume)
+
+    def listed_at(self, at, slot):
+        """Where the number of a lock is stored, after the words that compute it."""
+        while at < len(self.words) and not self.is_at(at, "sd"):
+            at += 1
+        self.need(at, "sd", ["x5", slot])
+        return at
 
     def give_all(self):
         """Gives each word to a node."""
@@ -240,6 +247,8 @@ class ThreadCode:
     def call_end(self, at, kind):
         """The position past a call."""
         if kind != "end":
+            while at < len(self.words) and result_of(self.words[at]) != "x10":
+                at += 1
             self.need(at, "addi")
             at += 1
         self.need(at, "addi", ["x17", "x0", CALL_NUMBERS[kind]])
@@ -254,8 +263,16 @@ class ThreadCode:
             if self.is_at(at, "fence"):
                 return at - 1 if self.is_at(at - 1, "lui") else at - 2
             if self.is_at(at, "ecall"):
-                return at - 1 if self.is_at(at - 1, "addi", ["x17", "x0", "3"]) else at - 2
+                return at - 1 if self.is_at(at - 1, "addi", ["x17", "x0", "3"]) else self.numbered_from(at - 2)
             at += 1
+        return at
+
+    def numbered_from(self, at):
+        """Where the words begin that give a call its lock's number, of which the last stands there: those of a key give numbers to temporaries alone."""
+        if self.words[at].operands[1] == "x0":
+            return at
+        while at > 0 and result_of(self.words[at - 1]) in TEMPORARIES:
+            at -= 1
         return at
 
     def give_soft(self, number):

@@ -100,9 +100,12 @@ def parse_image(content, threads):
 
 
 def element_number(variable, element, content):
-    """The number of an element, of the bytes of all variables."""
+    """The number of an element, of the bytes of all variables; of a reference that of the element to which it refers, None where it is null."""
     start = variable.address - VARIABLES_FROM + element * variable.kind.bytes
-    return int.from_bytes(content[start : start + variable.kind.bytes], "little", signed=variable.kind.signed)
+    number = int.from_bytes(content[start : start + variable.kind.bytes], "little", signed=variable.kind.signed)
+    if variable.refers is None:
+        return number
+    return number - 1 if number else None
 
 
 def variable_numbers(variable, content):

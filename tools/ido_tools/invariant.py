@@ -32,6 +32,9 @@ COMPARISONS = {
     ast.Gt: operator.gt,
     ast.GtE: operator.ge,
 }
+# The number of a reference that is null, and how an invariant names it.
+NULL, NULL_NUMBER = "null", -1
+
 KNOWN = "there are + - * // % << >> & | ^ ~, comparisons, and or not, if else, a[i], sum min max len abs"
 CALLS = {"sum": sum, "min": min, "max": max, "len": len, "abs": abs}
 
@@ -62,7 +65,7 @@ class Invariant:
             if type(tree.value) not in (int, bool):
                 self.refuse("only whole numbers are known")
         elif isinstance(tree, ast.Name):
-            if tree.id not in self.variables:
+            if tree.id not in self.variables and tree.id != NULL:
                 self.refuse(f"the source has no variable {tree.id}")
         else:
             for it in self.children(tree):
@@ -102,7 +105,9 @@ class Invariant:
         if isinstance(tree, ast.Constant):
             return int(tree.value)
         if isinstance(tree, ast.Name):
-            found = numbers[tree.id]
+            if tree.id == NULL:
+                return NULL_NUMBER
+            found = [NULL_NUMBER if it is None else it for it in numbers[tree.id]]
             return found if self.variables[tree.id] else found[0]
         if isinstance(tree, ast.BinOp):
             return self.combined(type(tree.op), self.value(tree.left, numbers), self.value(tree.right, numbers))
@@ -122,10 +127,9 @@ class Invariant:
             return self.value(tree.body if self.value(tree.test, numbers) else tree.orelse, numbers)
         if isinstance(tree, ast.Subscript):
             index = self.value(self.index_of(tree), numbers)
-            elements = numbers[tree.value.id]
-            if not self.variables[tree.value.id] or not 0 <= index < len(elements):
+            if not self.variables.get(tree.value.id) or not 0 <= index < len(numbers[tree.value.id]):
                 raise IndexError(f"{tree.value.id} has no element {index}")
-            return elements[index]
+            return self.value(tree.value, numbers)[index]
         return CALLS[tree.func.id](*[self.value(it, numbers) for it in tree.args])
 
     def combined(self, kind, left, right):

@@ -1,7 +1,7 @@
 """Limits that the tools show or keep to, named as in crates/ido_base/src/limits.rt, with which a test compares them."""
 
 MOST_THREADS = 8
-MOST_MUTEXES = 64
+MOST_LOCKS = 1024
 MOST_VARIABLE_BYTES = 65_536
 LOCAL_REGISTERS = 18
 MOST_PRICE = 65_536

@@ -16,6 +16,7 @@ TOKEN = re.compile(
     re.DOTALL,
 )
 TYPE_WORDS = frozenset("char short int long signed unsigned".split())
+REFERENCE = "ref"
 CHANGES = frozenset("= += -= *= /= %= &= |= ^= <<= >>=".split())
 BYTES = {"char": 1, "short": 2, "int": 4, "long": 8}
 
@@ -29,9 +30,12 @@ HELD_PRICE = 8
 
 Token = collections.namedtuple("Token", "kind text start end")
 Kind = collections.namedtuple("Kind", "bytes signed")
+# A type: its kind, and of a reference the name of the array that it refers to.
+Type = collections.namedtuple("Type", "kind refers")
 
-# `after_name` is where an initialiser would stand, `initial` where one stands: from its `=` to its end.
-Variable = collections.namedtuple("Variable", "name kind length guard place address after_name initial")
+# `guard` is the name of a mutex, with `[]` of an array of them; `refers` the array that a reference refers to, or None. `after_name` is where an
+# initialiser would stand, `initial` where one stands: from its `=` to its end.
+Variable = collections.namedtuple("Variable", "name kind refers length guard place address after_name initial")
 Thread = collections.namedtuple("Thread", "name place body closing")
 Function = collections.namedtuple("Function", "name place parameters body result")
 
@@ -42,10 +46,12 @@ Call = collections.namedtuple("Call", "place end name arguments target")
 If = collections.namedtuple("If", "place arms otherwise")
 While = collections.namedtuple("While", "place end parts body")
 Do = collections.namedtuple("Do", "place end parts body")
-Locking = collections.namedtuple("Locking", "kind place end mutex")
+Locking = collections.namedtuple("Locking", "kind place end lock")
+# What is locked, as it is spelled, and how many parts its key has (None without a key).
+Lock = collections.namedtuple("Lock", "spelling key_parts")
 Arm = collections.namedtuple("Arm", "end parts body")
 
-# A node: its kind, its place, the end of its text, the parts of its expressions, and how many mutexes are held there.
+# A node: its kind, its place, the end of its text, the parts of its expressions, and the locks that are held there.
 Node = collections.namedtuple("Node", "kind place end parts held")
 
 
@@ -72,7 +78,8 @@ def literal(text):
 
 def price_of(node):
     """What a node adds to its thread's price."""
-    return NODE_PRICE + EXPRESSION_PRICE * node.parts + HELD_PRICE * node.held
+    held = sum(HELD_PRICE + EXPRESSION_PRICE * (it.key_parts or 0) for it in node.held)
+    return NODE_PRICE + EXPRESSION_PRICE * node.parts + held
 
 
 class Reader:
@@ -107,8 +114,21 @@ class Reader:
         """Where the last token that was taken ends."""
         return self.tokens[self.at - 1].end
 
-    def kind(self):
+    def comes_type(self):
+        """Whether a type comes."""
+        return self.look() in TYPE_WORDS or self.look() == REFERENCE
+
+    def type(self):
         """A type."""
+        if self.taken(REFERENCE):
+            self.take("(")
+            array = self.take().text
+            self.take(")")
+            return Type(Kind(8, False), array)
+        return Type(self.kind(), None)
+
+    def kind(self):
+        """A kind of numbers."""
         words = set()
         while self.look() in TYPE_WORDS:
             words.add(self.take().text)
@@ -117,8 +137,8 @@ class Reader:
         return Kind(BYTES[base], signed)
 
     def parts(self):
-        """How many numbers, names, operators and casts an expression has; it is taken."""
-        count, depth = 0, 0
+        """How many numbers, names, operators and casts an expression has; it is taken. The `*` of `*p` and the `&` of `&a[e]` are none."""
+        count, depth, begins = 0, 0, True
         while depth or self.look() not in (")", "]", ";", ","):
             token = self.take()
             if token.text == "(" and self.look() in TYPE_WORDS:
@@ -129,8 +149,9 @@ class Reader:
                 depth += 1
             elif token.text in (")", "]"):
                 depth -= 1
-            elif token.text != ":":
+            elif token.text != ":" and not (begins and token.text in ("*", "&")):
                 count += 1
+            begins = token.kind == "mark" and token.text not in (")", "]")
         return count
 
     def is_local(self, name):
@@ -139,6 +160,9 @@ class Reader:
 
     def target(self):
         """What is assigned."""
+        if self.taken("*"):
+            self.take()
+            return Target(False, None)
         name = self.take().text
         index = None
         if self.taken("["):
@@ -184,7 +208,7 @@ class Reader:
     def declaration(self):
         """A declaration of a local, without its `;`."""
         start = self.tokens[self.at].start
-        self.kind()
+        self.type()
         name = self.take().text
         target = Target(True, None)
         made = Assign(start, self.last_end(), target, 1)
@@ -225,7 +249,7 @@ class Reader:
             return []
         if first in ("lock", "unlock"):
             made = self.locking()
-        elif first in TYPE_WORDS:
+        elif self.comes_type():
             made = self.declaration()
         elif self.is_call():
             token = self.take()
@@ -240,9 +264,15 @@ class Reader:
         """A `lock` or an `unlock`."""
         word = self.take()
         self.take("(")
-        mutex = self.take().text
+        start = self.at
+        self.take()
+        key_parts = None
+        if self.taken("["):
+            key_parts = self.parts()
+            self.take("]")
+        spelling = " ".join(it.text for it in self.tokens[start : self.at])
         self.take(")")
-        return Locking(word.text, word.start, self.last_end(), mutex)
+        return Locking(word.text, word.start, self.last_end(), Lock(spelling, key_parts))
 
     def condition(self):
         """A condition in its parentheses."""
@@ -290,7 +320,7 @@ class Reader:
         self.scopes.append(set())
         first = []
         if self.look() != ";":
-            first = [self.declaration() if self.look() in TYPE_WORDS else self.assignment()]
+            first = [self.declaration() if self.comes_type() else self.assignment()]
         self.take(";")
         parts = 1 if self.look() == ";" else self.parts()
         self.take(";")
@@ -304,7 +334,7 @@ class Reader:
     def function(self):
         """A function."""
         if not self.taken("void"):
-            self.kind()
+            self.type()
         name = self.take()
         self.scopes = [set()]
         parameters = self.parameters()
@@ -325,7 +355,7 @@ class Reader:
         while not self.taken(")"):
             if self.taken("void"):
                 continue
-            self.kind()
+            self.type()
             self.scopes[-1].add(self.take().text)
             self.taken(",")
             count += 1
@@ -352,8 +382,11 @@ class Reader:
         self.take("persistent")
         self.take("(")
         guard = self.take().text
+        if self.taken("["):
+            self.take("]")
+            guard += "[]"
         self.take(")")
-        kind = self.kind()
+        kind, refers = self.type()
         name = self.take()
         length = None
         if self.taken("["):
@@ -368,16 +401,25 @@ class Reader:
             initial = (start, self.last_end())
         self.take(";")
         address = self.next_address(kind)
-        self.variables.append(Variable(name.text, kind, length, guard, name.start, address, after_name, initial))
+        self.variables.append(Variable(name.text, kind, refers, length, guard, name.start, address, after_name, initial))
+
+    def mutex(self):
+        """A mutex, or an array of mutexes, each with a name of its own."""
+        self.take("mutex")
+        name = self.take().text
+        if self.taken("["):
+            self.mutexes.extend(f"{name}[{it}]" for it in range(literal(self.take().text)))
+            self.take("]")
+        else:
+            self.mutexes.append(name)
+        self.take(";")
 
     def items(self):
         """All items of the source."""
         while self.at < len(self.tokens):
             first = self.look()
             if first == "mutex":
-                self.take()
-                self.mutexes.append(self.take().text)
-                self.take(";")
+                self.mutex()
             elif first == "persistent":
                 self.variable()
             elif first == "thread":
@@ -436,7 +478,7 @@ class Source:
     def nodes(self, thread):
         """The nodes of a thread, in their order."""
         found = []
-        self.held = 0
+        self.held = ()
         self.add_statements(thread.body, found)
         found.append(Node("end", thread.closing, thread.closing + 1, 0, self.held))
         return found
@@ -461,9 +503,10 @@ class Source:
             self.add_statements(statement.body, found)
             found.append(Node("test", statement.place, statement.end, statement.parts, self.held))
         else:
-            self.held += statement.kind == "lock"
-            found.append(Node(statement.kind, statement.place, statement.end, 0, self.held))
-            self.held -= statement.kind == "unlock"
+            lock = statement.lock
+            others = tuple(it for it in self.held if it != lock)
+            found.append(Node(statement.kind, statement.place, statement.end, lock.key_parts or 0, (*others, lock)))
+            self.held = found[-1].held if statement.kind == "lock" else others
 
     def add_choice(self, statement, found):
         """Adds the nodes of an `if`."""

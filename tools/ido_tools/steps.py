@@ -20,9 +20,6 @@ MORE = 20
 
 CRASH = Line("c", None, None)
 
-# Another life begins. After a start no point is looked at.
-START = Line("r", None, None)
-
 
 class Steps:
     """The events of a script, one by one."""
@@ -47,8 +44,6 @@ class Steps:
     def count_to(self, number):
         """How many events a line of `b` or `f` makes."""
         before, line = self.lines[:number], self.lines[number]
-        if START in before:
-            return self.count_by_limit(number)
         count = self.point_stored(before, line.first) if line.letter == "b" else self.fence_finished(before, line)
         return self.count_by_limit(number) if count is None else count
 

@@ -7,10 +7,12 @@ from ido_tools.fault import BadInput
 
 Input = collections.namedtuple("Input", "source rest")
 
-# A report: the numbers of each variable by name, the ended sections by thread, and of each life the runs of its schedule.
+# A report: the numbers of each variable by name (None is that of a reference that is null), the ended sections by thread, and of each life the runs of its
+# schedule.
 Report = collections.namedtuple("Report", "variables ended schedules")
 
-VARIABLE_LINE = re.compile(r"([A-Za-z_]\w*) =((?: -?\d+)+)\Z", re.ASCII)
+VARIABLE_LINE = re.compile(r"([A-Za-z_]\w*) =((?: (?:-?\d+|null))+)\Z", re.ASCII)
+NULL = "null"
 ENDED_LINE = re.compile(r"ended (\d+) (\d+)\Z", re.ASCII)
 RUN = re.compile(r"(\d+)\*(\d+)\Z", re.ASCII)
 
@@ -78,6 +80,11 @@ def schedules_text(schedules):
     return "".join(schedule_text(it) + "\n" for it in schedules)
 
 
+def number_text(number):
+    """A number of a variable, as a report has it."""
+    return NULL if number is None else str(number)
+
+
 def parse_ended(line, ended):
     """Whether the line tells how many sections of the next thread have ended; notes it."""
     match = ENDED_LINE.match(line)
@@ -100,7 +107,7 @@ def parse_report(output):
     for line in lines[:end]:
         match = VARIABLE_LINE.match(line)
         if match and not ended and match[1] not in variables:
-            variables[match[1]] = [int(it) for it in match[2].split()]
+            variables[match[1]] = [None if it == NULL else int(it) for it in match[2].split()]
         elif not parse_ended(line, ended):
             raise BadInput(f"no line of a report: {line}")
     return Report(variables, ended, [parse_schedule(it) for it in lines[end:]])

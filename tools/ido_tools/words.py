@@ -2,9 +2,10 @@
 
 DECLARATIONS = "mutex persistent thread".split()
 LOCKS = "lock unlock".split()
-TYPES = "char short int long signed unsigned void".split()
+TYPES = "char short int long signed unsigned void ref".split()
 CONTROLS = "if else while do for return".split()
-RESERVED = DECLARATIONS + LOCKS + TYPES + CONTROLS
+CONSTANTS = ["null"]
+RESERVED = DECLARATIONS + LOCKS + TYPES + CONTROLS + CONSTANTS
 
 PUNCTUATORS = (
     "<<= >>= << >> <= >= == != && || ++ -- += -= *= /= %= &= |= ^="

@@ -5,8 +5,9 @@ endif
 
 syntax keyword idoDeclaration mutex persistent thread
 syntax keyword idoLock lock unlock
-syntax keyword idoType char short int long signed unsigned void
+syntax keyword idoType char short int long signed unsigned void ref
 syntax keyword idoControl if else while do for return
+syntax keyword idoConstant null
 syntax match idoBadNumber /\<[0-9]\w*\>/
 syntax match idoNumber /\<\%(0\|[1-9][0-9]*\|0[0-7]\+\|0[xX][0-9A-Fa-f]\+\)\%([uU][lL]\=\|[lL][uU]\=\)\=\>/
 syntax region idoComment start="/\*" end="\*/" keepend
@@ -20,6 +21,7 @@ highlight default link idoDeclaration StorageClass
 highlight default link idoLock Function
 highlight default link idoType Type
 highlight default link idoControl Statement
+highlight default link idoConstant Constant
 highlight default link idoNumber Number
 highlight default link idoBadNumber Error
 highlight default link idoComment Comment
