@@ -19,7 +19,6 @@ use Rattle.c_tree.specs.References.{Follows, PlacedFollows, TargetFollows, Refer
 use Rattle.c_tree.specs.References.{IsLocalReferring, IsResultGiven, IsCallReferring}
 use Rattle.c_tree.specs.References.{IsStatementReferring, AreStatementsReferring, AreArmsReferring, IsReturnedReferring, IsFunctionReferring, IsThreadReferring}
 use Rattle.c_tree.specs.References.{AreFlatStatementsReferring, AreFlatArmsReferring, IsFlatThreadReferring, IsFlatReferring}
-use Rattle.c_tree.specs.References.{NoneRefer, HasNoReferences, HasNoFlatReferences}
 use Rattle.c_tree.specs.WellFormed.{IsTarget, IsResult, IsStatement, AreStatements, AreArms, IsFunction, IsProgram}
 use Rattle.c_inline.specs.links.KnownWeights.{Low}
 use Rattle.c_inline.proofs.CallCongruence.{alone}
@@ -496,28 +495,4 @@ module _ (x : p.Program) (prog : IsProgram x) where
           thread_referring k t found
           (all_at (λ (u : p.Thread). AreStatements x u.locals u.body) x.threads k t prog.threads found)
           (all_at (IsThreadReferring x) x.threads k t prog.referring.threads found));
-    }
-
-  -- ---- Nothing refers
-
-  module _ (none : HasNoReferences x) where
-    abbrev Refers : Option ℕ → Type 0
-    Refers r = r ≡ None
-
-    none_of : (k : ℕ) (g : p.Function) → slice_get fs k ≡ Some g → AreGood Refers (i.locals g.locals g.refers)
-    none_of k g found = record {
-      zip = (refers_of k g found).locals;
-      all = all_at (λ (h : p.Function). NoneRefer h.refers) fs k g none.functions found;
-    }
-
-    threads_unreferring : (ts : List p.Thread) → AllByRecursion (IsThreadReferring x) ts → AllByRecursion (λ (t : p.Thread). NoneRefer t.refers) ts →
-        AllByRecursion (λ (t : f.Thread). NoneRefer t.refers) (map (i.flat_thread fs) ts)
-    threads_unreferring [] h k = tt
-    threads_unreferring (t ∷ ts) h k =
-        ((thread_good Refers fs none_of t (record { zip = h.0.locals; all = k.0 })).all, threads_unreferring ts h.1 k.1)
-
-    pub flat_unreferring : HasNoFlatReferences flat
-    flat_unreferring = record {
-      variables = none.variables;
-      threads = threads_unreferring x.threads prog.referring.threads none.threads;
     }

@@ -29,8 +29,7 @@ use Rattle.c_inline.proofs.CallDepth.{low_all}
 use Rattle.c_inline.proofs.WeightsByDepth.{calls_of_some}
 use Rattle.c_inline.proofs.InliningAnswers.{flat_is}
 use Rattle.c_inline.proofs.CallCongruence.{alone}
-use Rattle.c_tree.specs.References.{HasNoFlatReferences, HasNoReferences}
-use Rattle.c_inline.proofs.FlatReferences.{flat_referring, flat_unreferring, follows_shifted}
+use Rattle.c_inline.proofs.FlatReferences.{flat_referring, follows_shifted}
 use Rattle.c_inline.proofs.LocalsFrom.{At, Into, all_at, at_append, at_into, at_self, into_append, into_both, into_self}
 
 -- ---- Lists
@@ -469,7 +468,3 @@ flat_formed x prog fit never none =
 -- its mutexes are those of the program
 pub flat_plain : (x : p.Program) → ArePlain x.mutexes → ArePlain (i.flat_form x).mutexes
 flat_plain x plain = subst ArePlain (sym (ap (λ (z : f.Flat). z.mutexes) (flat_is x))) plain
-
--- where nothing refers in the program nothing does in it
-pub flat_none : (x : p.Program) → IsProgram x → HasNoReferences x → HasNoFlatReferences (i.flat_form x)
-flat_none x prog none = subst HasNoFlatReferences (sym (flat_is x)) (flat_unreferring x prog none)

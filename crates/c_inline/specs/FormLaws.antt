@@ -5,7 +5,6 @@ use Rattle.c_tree.specs.Inlining.{flat_form}
 use Rattle.c_tree.specs.NullReferences.{program_nulls}
 use Rattle.c_tree.specs.Programs.{Program}
 use Rattle.c_tree.specs.Ranges.{AllFit}
-use Rattle.c_tree.specs.References.{HasNoFlatReferences, HasNoReferences}
 use Rattle.c_tree.specs.WellFormed.{ArePlain, IsProgram, IsWellFormed}
 
 -- the flat form is well formed where the program's indexes fit, none of its references may be null that is followed, and no call leads back
@@ -15,7 +14,3 @@ FlatIsFormed = (x : Program) → IsProgram x → AllFit x → program_nulls x �
 -- the flat form's mutexes are as plain as the program's
 abbrev pub FlatIsPlain : Type 0
 FlatIsPlain = (x : Program) → ArePlain x.mutexes → ArePlain (flat_form x).mutexes
-
--- where nothing refers in the program nothing does in the flat form
-abbrev pub FlatHasNoReferences : Type 0
-FlatHasNoReferences = (x : Program) → IsProgram x → HasNoReferences x → HasNoFlatReferences (flat_form x)

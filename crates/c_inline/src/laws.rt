@@ -1,7 +1,7 @@
 //! Laws of calls and of the flat form: nothing is computed here.
 ghost use Rattle.c_inline.specs.CallLaws.{BodiesAreBodies, CallersAreKept, DepthIsEnough, LocalsGrow};
 ghost use Rattle.c_inline.specs.CallLaws.{LocalsAreNew, NoneIsShared, ParametersHold, UnassignedAreKept};
-ghost use Rattle.c_inline.specs.FormLaws.{FlatHasNoReferences, FlatIsFormed, FlatIsPlain};
+ghost use Rattle.c_inline.specs.FormLaws.{FlatIsFormed, FlatIsPlain};
 
 /// Where no call leads back, calls are no deeper than there are functions: the flat form doesn't change
 /// where deeper ones are allowed, and each call in it is the whole body of its function.
@@ -34,11 +34,6 @@ pub fn flat_is_formed()
 /// In the flat form of a program in which no mutex is in an array none is, either.
 pub fn flat_is_plain()
     ensures { FlatIsPlain }
-{}
-
-/// In the flat form of a program in which nothing refers to an element of an array nothing does, either.
-pub fn flat_has_no_references()
-    ensures { FlatHasNoReferences }
 {}
 
 /// Once the arguments of a call are passed, its parameters hold their values, converted to the parameters' kinds.

@@ -1,18 +1,14 @@
--- Where references may be null: to know of more locals leaves no more places, a first arm knows as much as any, and where nothing refers there is no place.
-use Rattle.std.proofs.Common.{◌≡◌, ◌⊎◌, inl, inr, refl, sym, ◌∙◌, ap, ℕ, zero, suc, ◌==◌, List, [], ◌∷◌, ◌++◌}
+-- Where references may be null: to know of more locals leaves no more places, and a first arm knows as much as any.
+use Rattle.std.proofs.Common.{◌≡◌, ◌⊎◌, inl, inr, refl, sym, ◌∙◌, ap, ℕ, ◌==◌, List, [], ◌∷◌, ◌++◌}
 use Rattle.std.proofs.Common.{Bool, true, false, ◌||◌, Option, Some, None}
-use Rattle.std.specs.Prelude.{slice_get, if◌then◌else◌}
-use Rattle.std.specs.List.{list_any}
+use Rattle.std.specs.Prelude.{if◌then◌else◌}
 use Rattle.std.proofs.lemmas.Bool.{or_parts, or_cases, or_left, or_right}
 use Rattle.std.proofs.lemmas.List.Folds.{list_any-append}
-use Rattle.std.proofs.lemmas.Option.{none-some, same_Some}
 use Rattle.ido_base.specs.declared.place.Place.{Place}
 use Rattle.c_tree.specs.Exprs as e
-use Rattle.c_tree.specs.Programs as p
 use Rattle.c_tree.specs.Flats as f
 use Rattle.c_tree.specs.NullReferences.{is_among, unnull, expr_nulls, placed_nulls, target_nulls, flat_known_with, flat_known_in}
 use Rattle.c_tree.specs.NullReferences.{flat_statements_assigned, flat_statement_nulls, flat_statements_nulls, flat_arms_nulls}
-use Rattle.c_tree.specs.References.{Follows, TargetFollows, NoneRefer, IsFlatStatementReferring, AreFlatStatementsReferring, AreFlatArmsReferring}
 
 -- ---- Lists that are empty
 
@@ -169,71 +165,3 @@ none_as_first known (f.arm_and condition body rest) h =
     (fewer_in_statements known inside (known_stay known body (unnull condition.expr)) body
     (right_empty (placed_nulls known condition) (flat_statements_nulls known body) both)))
     (right_empty before (flat_arms_nulls known false rest) h)
-
--- ---- Nothing refers
-
-unreferring_at : (rs : List (Option ℕ)) (local : ℕ) (r : Option ℕ) → NoneRefer rs → slice_get rs local ≡ Some r → r ≡ None
-unreferring_at [] local r h e = absurd (none-some r e)
-unreferring_at (s ∷ rs) zero r h e = sym (same_Some s r e) ∙ h.0
-unreferring_at (s ∷ rs) (suc local) r h e = unreferring_at rs local r h.1 e
-
--- where no local refers, none is followed
-pub never_followed : (rs : List (Option ℕ)) (local : ℕ) (variable : ℕ) → NoneRefer rs → slice_get rs local ≡ Some (Some variable) → ⊥
-never_followed rs local variable h e = none-some variable (sym (unreferring_at rs local (Some variable) h e))
-
-module _ (rs : List (Option ℕ)) (none : NoneRefer rs) where
-  pub no_expr_nulls : (vs : List p.Variable) (known : List ℕ) (x : e.Expr) → Follows vs rs x → expr_nulls known x ≡ []
-  no_expr_nulls vs known (e.Constant value) h = refl
-  no_expr_nulls vs known (e.Local local kind) h = refl
-  no_expr_nulls vs known (e.Variable place variable kind) h = refl
-  no_expr_nulls vs known (e.Element place variable kind index_place index) h = no_expr_nulls vs known index h
-  no_expr_nulls vs known (e.Address variable index_place index) h = no_expr_nulls vs known index h
-  no_expr_nulls vs known (e.Referent place last local) h = absurd (never_followed rs local h.variable none h.refers)
-  no_expr_nulls vs known (e.Unary operator operand) h = no_expr_nulls vs known operand h
-  no_expr_nulls vs known (e.Cast kind operand) h = no_expr_nulls vs known operand h
-  no_expr_nulls vs known (e.Converted kind operand) h = no_expr_nulls vs known operand h
-  no_expr_nulls vs known (e.Binary operator left right) h =
-      both_empty (expr_nulls known left) (expr_nulls known right) (no_expr_nulls vs known left h.0) (no_expr_nulls vs known right h.1)
-  no_expr_nulls vs known (e.Conditional kind condition chosen otherwise) h =
-      both_empty (expr_nulls known condition ++ expr_nulls known chosen) (expr_nulls known otherwise)
-      (both_empty (expr_nulls known condition) (expr_nulls known chosen) (no_expr_nulls vs known condition h.0) (no_expr_nulls vs known chosen h.1))
-      (no_expr_nulls vs known otherwise h.2)
-
-  no_target_nulls : (vs : List p.Variable) (known : List ℕ) (x : e.Lvalue) → TargetFollows vs rs x → target_nulls known x ≡ []
-  no_target_nulls vs known (e.ToLocal place local kind) h = refl
-  no_target_nulls vs known (e.ToVariable place variable kind) h = refl
-  no_target_nulls vs known (e.ToElement place variable kind index) h = no_expr_nulls vs known index.expr h
-
-  module _ (x : f.Flat) where
-    abbrev vs : List p.Variable
-    vs = x.variables
-
-    mutual
-      pub no_statement_nulls : (known : List ℕ) (y : f.Statement) → IsFlatStatementReferring x rs y → flat_statement_nulls known y ≡ []
-      no_statement_nulls known (f.Assign place target value) h =
-          both_empty (target_nulls known target) (placed_nulls known value) (no_target_nulls vs known target h.0) (no_expr_nulls vs known value.expr h.1)
-      no_statement_nulls known (f.If place arms otherwise) h =
-          both_empty (flat_arms_nulls known true arms) (flat_statements_nulls known otherwise) (no_arms_nulls known true arms h.0)
-          (no_statements_nulls known otherwise h.1)
-      no_statement_nulls known (f.While place condition body) h =
-          both_empty (placed_nulls known condition) (flat_statements_nulls known body) (no_expr_nulls vs known condition.expr h.0)
-          (no_statements_nulls known body h.1)
-      no_statement_nulls known (f.Do place body condition) h =
-          both_empty (flat_statements_nulls known body) (placed_nulls known condition) (no_statements_nulls known body h.0)
-          (no_expr_nulls vs known condition.expr h.1)
-      no_statement_nulls known (f.Lock place lock) h = refl
-      no_statement_nulls known (f.Unlock place lock) h = refl
-
-      pub no_statements_nulls : (known : List ℕ) (ys : f.Statements) → AreFlatStatementsReferring x rs ys → flat_statements_nulls known ys ≡ []
-      no_statements_nulls known f.no_statement h = refl
-      no_statements_nulls known (f.statement_and y rest) h =
-          both_empty (flat_statement_nulls known y) (flat_statements_nulls known rest) (no_statement_nulls known y h.0) (no_statements_nulls known rest h.1)
-
-      no_arms_nulls : (known : List ℕ) (first : Bool) (ys : f.Arms) → AreFlatArmsReferring x rs ys → flat_arms_nulls known first ys ≡ []
-      no_arms_nulls known first f.no_arm h = refl
-      no_arms_nulls known first (f.arm_and condition body rest) h =
-          let inside = flat_known_in known first condition body in
-          both_empty (placed_nulls known condition ++ flat_statements_nulls inside body) (flat_arms_nulls known false rest)
-          (both_empty (placed_nulls known condition) (flat_statements_nulls inside body) (no_expr_nulls vs known condition.expr h.0)
-          (no_statements_nulls inside body h.1))
-          (no_arms_nulls known false rest h.2)

@@ -1,7 +1,7 @@
 -- What crates above may use of this crate's proofs, passed on from one place. Declares nothing.
 pub use Rattle.c_tree.proofs.FlatRows.{of_do as flat_rows_of_do, of_if as flat_rows_of_if, of_while as flat_rows_of_while}
 pub use Rattle.c_tree.proofs.NamesInTables.{names_numbered}
-pub use Rattle.c_tree.proofs.NullLaws.{among_cases, among_left, among_none, among_right, both_empty, fewer_in_statements, left_empty, no_statement_nulls}
+pub use Rattle.c_tree.proofs.NullLaws.{among_cases, among_left, among_none, among_right, both_empty, fewer_in_statements, left_empty}
 pub use Rattle.c_tree.proofs.NullLaws.{none_among, none_as_first, right_empty}
 pub use Rattle.c_tree.proofs.PlainNames.{array_within, length-plain_names, name_there, names_are_plain, one_mutex, plain_at, plain_lock, plain_name}
 pub use Rattle.c_tree.proofs.PlainNames.{plain_number, plain_past}

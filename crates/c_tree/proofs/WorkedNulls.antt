@@ -1,5 +1,5 @@
 -- Worked rows: where references may be null, and a run that follows one.
-use Rattle.std.proofs.Common.{◌≡◌, ◌∙◌, ap, ℕ, List, [], ◌∷◌, map, replicate, Option, Some, None, true, is_some, refl, sym, subst, arith}
+use Rattle.std.proofs.Common.{◌≡◌, ◌∙◌, ap, ℕ, List, [], ◌∷◌, map, replicate, Some, None, true, is_some, refl, sym, subst, arith}
 use Rattle.std.proofs.lemmas.Option.{none-some, same_Some}
 use Rattle.std.specs.Prelude.{pos, codes, flat_map}
 use Rattle.ido_base.specs.declared.place.Place.{Place}
@@ -14,7 +14,7 @@ use Rattle.c_tree.specs.Elaboration.{typed_program}
 use Rattle.c_tree.specs.Exprs as e
 use Rattle.c_tree.specs.Programs as p
 use Rattle.c_tree.specs.Flats as f
-use Rattle.c_tree.specs.References.{RefersUpTo, IsReferred, IsFlatReferring, RefersTo, HasNoFlatReferences}
+use Rattle.c_tree.specs.References.{RefersUpTo, IsReferred, IsFlatReferring, RefersTo}
 use Rattle.c_tree.specs.Inlining.{flat_form}
 use Rattle.c_tree.specs.Ranges.{elements_of}
 use Rattle.c_tree.specs.LockDiscipline.{lock_fault}
@@ -262,10 +262,6 @@ whole_formed = record {
   );
   referring = whole_refers;
 }
-
-whole_has_references : ¬ (HasNoFlatReferences (flat_form (program whole)))
-unfolding flat_form
-whole_has_references h = let some : ◌≡◌ {A = Option ℕ} (Some 0) None = h.variables.1.0 in cc
 
 -- `null != p` says it, too
 other_way : nulls_of (if_so (e.Binary b.NotEqual null reference) (change ∷ []) [] ∷ []) ≡ []

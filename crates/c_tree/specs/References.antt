@@ -168,18 +168,6 @@ pub record IsProgramReferring (x : p.Program) : Type 0 where
   pub functions : AllByRecursion (IsFunctionReferring x) x.functions
   pub threads : AllByRecursion (IsThreadReferring x) x.threads
 
--- no local and no variable refers to anything
-abbrev pub NoneRefer : (refers : List (Option ℕ)) → Type 0
-NoneRefer rs = AllByRecursion (λ (r : Option ℕ). r ≡ None) rs
-
-abbrev pub NoVariablesRefer : List p.Variable → Type 0
-NoVariablesRefer vs = AllByRecursion (λ (v : p.Variable). v.refers ≡ None) vs
-
-pub record HasNoReferences (x : p.Program) : Type 0 where
-  pub variables : NoVariablesRefer x.variables
-  pub functions : AllByRecursion (λ (g : p.Function). NoneRefer g.refers) x.functions
-  pub threads : AllByRecursion (λ (t : p.Thread). NoneRefer t.refers) x.threads
-
 -- ---- Flat forms
 
 module _ (x : f.Flat) (rs : List (Option ℕ)) where
@@ -212,7 +200,3 @@ pub record IsFlatThreadReferring (x : f.Flat) (t : f.Thread) : Type 0 where
 pub record IsFlatReferring (x : f.Flat) : Type 0 where
   pub variables : AllByRecursion (IsVariableReferring x.variables) x.variables
   pub threads : AllByRecursion (IsFlatThreadReferring x) x.threads
-
-pub record HasNoFlatReferences (x : f.Flat) : Type 0 where
-  pub variables : NoVariablesRefer x.variables
-  pub threads : AllByRecursion (λ (t : f.Thread). NoneRefer t.refers) x.threads

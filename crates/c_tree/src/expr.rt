@@ -7,7 +7,7 @@ use ido_base::place::Place;
 use ido_ints::{Binary, Kind, Unary, Value};
 
 /// An expression. It has no side effects.
-#[derive(Debug, Drop)]
+#[derive(Drop)]
 pub enum Expr {
     /// A number.
     Constant {
@@ -134,14 +134,14 @@ impl LockName {
 }
 
 /// An expression that stands elsewhere, with the place of its first token.
-#[derive(Clone, Copy, Debug, Drop)]
+#[derive(Clone, Copy, Drop)]
 pub struct PlacedRef<'a> {
     pub place: Place,
     pub expr: &'a Expr,
 }
 
 /// The name of a lock whose key stands elsewhere.
-#[derive(Clone, Copy, Debug, Drop)]
+#[derive(Clone, Copy, Drop)]
 pub struct LockRef<'a> {
     /// The number of the mutex; of an array that of its first one.
     pub mutex: u32,

@@ -12,7 +12,7 @@ mod LocalsGrow
 mod EmptyFaults
 mod MeaningsInPrograms
 mod NamesFollow
-mod PlainReferences
 mod WellFormedStatements
-mod WellFormedReferences
+mod ReferencesInExpressions
+mod ReferencesInStatements
 mod WellFormedItems

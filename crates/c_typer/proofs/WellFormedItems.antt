@@ -32,7 +32,7 @@ use Rattle.c_tree.specs.TypeRules.{broken, type_faults}
 use Rattle.c_tree.specs.Elaboration as made
 use Rattle.c_tree.specs.Elaboration.{typed_program}
 use Rattle.c_tree.specs.Ranges.{mutexes_of}
-use Rattle.c_tree.specs.References.{HasNoReferences, HasNulls, IsFunctionReferring, IsResultGiven, IsThreadReferring, IsVariableReferring}
+use Rattle.c_tree.specs.References.{HasNulls, IsFunctionReferring, IsResultGiven, IsThreadReferring, IsVariableReferring}
 use Rattle.c_tree.specs.WellFormed.{elements_in, shape_of, IsSingle, IsSingleAt, IsArrayAt, IsVariable, IsGuard, AreStatements}
 use Rattle.c_tree.specs.WellFormed.{ArePlain, IsExpr, IsReturned, IsFunction, IsProgram}
 use Rattle.c_typer.proofs.EmptyFaults.{function_parts, nil_left, nil_right, not_broken, unbroken}
@@ -40,8 +40,8 @@ use Rattle.c_typer.proofs.LocalsGrow.{Begins, Into, Known, Within, begins_into, 
 use Rattle.c_typer.proofs.LocalsGrow.{known_parameters, none_known, numbered, parameters_refer, types_refer}
 use Rattle.c_typer.proofs.MeaningsInPrograms.{GivesIn, IsBounded, IsNamedMutex, MutexIn, SortIn, TypeIn, array_at, single_at, type_in}
 use Rattle.c_typer.proofs.WellFormedStatements.{equal_counts, expr_formed, known_all, lock_formed, numeric_formed, statements_formed}
-use Rattle.c_typer.proofs.WellFormedReferences.{AreReferring, GivesSo, referring_more, returned_follows, returned_given, right_so, statements_referring}
-use Rattle.c_typer.proofs.PlainReferences.{no_references}
+use Rattle.c_typer.proofs.ReferencesInExpressions.{AreReferring, referring_more, right_so}
+use Rattle.c_typer.proofs.ReferencesInStatements.{GivesSo, returned_follows, returned_given, statements_referring}
 
 -- ---- Counts
 
@@ -704,17 +704,6 @@ single_typed : (xs : List t.Item) (ts : List Token) → all_of (g.item Plain) xs
 unfolding typed_program
 single_typed xs ts d = single_items (n.globals_of xs) xs ts d
 
--- in the plain language nothing refers
-unreferring_typed : (xs : List t.Item) → type_faults Plain xs ≡ [] → HasNoReferences (typed_program xs)
-unfolding type_faults typed_program
-unreferring_typed xs h =
-    let gs = n.globals_of xs in
-    let a = rules.twice_from [] gs in
-    let b = rules.past rule.Threads MOST_THREADS (rules.thread_names xs) in
-    let m = rules.too_many_mutexes MOST_MUTEXES 0 xs in
-    let e = rules.too_many_bytes 0 xs in
-    no_references gs xs (nil_right (((a ++ b) ++ m) ++ e) (flat_map (rules.item_faults Plain gs) xs) h)
-
 most_few : (language : Language) → rules.most_mutexes language ≤ MOST_LOCKS
 most_few Plain = omega arith
 most_few Full = omega arith
@@ -770,6 +759,3 @@ typed_plain text x h =
       single = single_typed h.items _ (spelled_items Plain h.items _ h.read.spelled);
       few = few_mutexes h.items h.faultless;
     })
-
-pub typed_unreferring : (text : List ℕ) (x : p.Program) → IsTyped Plain text x → HasNoReferences x
-typed_unreferring text x h = subst HasNoReferences (sym h.typed) (unreferring_typed h.items h.faultless)

@@ -4,7 +4,6 @@ use Rattle.c_tree.specs.declared.language.Language.{Language}
 use Rattle.c_tree.specs.declared.language.Language.TheVariants.{Plain}
 use Rattle.c_tree.specs.AcceptedTexts.{IsTyped}
 use Rattle.c_tree.specs.Programs as p
-use Rattle.c_tree.specs.References.{HasNoReferences}
 use Rattle.c_tree.specs.WellFormed.{ArePlain, IsProgram}
 
 -- names and numbers, kinds, counts and limits are right, and each reference is to its array; whether indexes and keys fit is asked after it, and whether a
@@ -15,7 +14,3 @@ TypedIsFormed = (l : Language) (text : List ℕ) (x : p.Program) → IsTyped l t
 -- of the plain language: no mutex is in an array, and there are no more than a mask has bits
 abbrev pub TypedIsPlain : Type 0
 TypedIsPlain = (text : List ℕ) (x : p.Program) → IsTyped Plain text x → ArePlain x.mutexes
-
--- of the plain language: nothing refers
-abbrev pub TypedHasNoReferences : Type 0
-TypedHasNoReferences = (text : List ℕ) (x : p.Program) → IsTyped Plain text x → HasNoReferences x

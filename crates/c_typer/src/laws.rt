@@ -1,5 +1,5 @@
 //! Laws of the rules of names and kinds: nothing is computed here.
-ghost use Rattle.c_typer.specs.FormLaws.{TypedHasNoReferences, TypedIsFormed, TypedIsPlain};
+ghost use Rattle.c_typer.specs.FormLaws.{TypedIsFormed, TypedIsPlain};
 ghost use Rattle.c_typer.specs.Laws.{OneFirst};
 
 /// At most one of the rules that a tree breaks is broken first, at one place.
@@ -16,9 +16,4 @@ pub fn typed_is_formed()
 /// Of a text of the plain language no mutex is in an array.
 pub fn typed_is_plain()
     ensures { TypedIsPlain }
-{}
-
-/// In a text of the plain language nothing refers to an element of an array.
-pub fn typed_has_no_references()
-    ensures { TypedHasNoReferences }
 {}

@@ -27,7 +27,7 @@ use Rattle.flow_graph.specs.Lowering.{table_of, lowered, threads_nodes, scalar, 
 use Rattle.flow_graph.specs.Liveness.{NodeAt}
 use Rattle.flow_graph.specs.Actions as g
 use Rattle.flow_graph.specs.Actions.{Seen, GraphThread, FlowState, Effect, Sets, Owes, Makes, Goes, Takes, Gives, Ends, effect_of}
-use Rattle.flow_graph.specs.Actions.{effect_step, node_step, graph_thread_step, seen_by, graph_start, graph_step, graph_after, graph_runs}
+use Rattle.flow_graph.specs.Actions.{effect_step, node_step, graph_thread_step, seen_by, graph_start, graph_step, graph_after}
 use Rattle.flow_graph.specs.Lockstep.{Standing, free, threads_standings, GraphThreadMatches, Matches, StepsMatch, IsOwnNode}
 use Rattle.flow_graph.specs.IdempotentCuts.{IsEdge}
 use Rattle.flow_graph.specs.Paths.{Element, expr_elements, target_elements, reads_of, stored_element, write_of}

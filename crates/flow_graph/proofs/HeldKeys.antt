@@ -1,5 +1,5 @@
 -- Keys: two that are held name two elements, each names that of its index, and no assignment that the discipline allows moves one that is held.
-use Rattle.std.proofs.Common.{◌≡◌, ◌<◌, refl, ℕ, zero, suc, ◌+◌, List, [], ◌∷◌, length, sym, ◌∙◌, ap}
+use Rattle.std.proofs.Common.{◌≡◌, ◌<◌, refl, ℕ, ◌+◌, List, length, sym, ◌∙◌, ap}
 use Rattle.std.proofs.Common.{subst, arith, Option, Some, None, Bool, true, false, cond, ◌&&◌, ◌==◌}
 use Rattle.std.proofs.Common.{slice_set}
 use Rattle.std.specs.Prelude.{slice_get, ℤ, nat_lt}

@@ -17,7 +17,7 @@ use Rattle.flow_graph.specs.declared.graph.Part.{Part}
 use Rattle.flow_graph.specs.Nodes.{Action, Eval, Store, Test, Lock, Unlock, End, Node, Graph}
 use Rattle.flow_graph.specs.Lowering.{lowered, parts, part, thread_count, threads_nodes}
 use Rattle.flow_graph.specs.Actions as g
-use Rattle.flow_graph.specs.Actions.{GraphThread, FlowState, Effect, graph_step, graph_after, graph_runs, graph_ended, graph_start}
+use Rattle.flow_graph.specs.Actions.{GraphThread, FlowState, graph_step, graph_after, graph_runs, graph_ended, graph_start}
 use Rattle.flow_graph.specs.Lockstep.{Standing, free, threads_standings, GraphThreadMatches, Matches, StepsMatch, RunsMatch}
 use Rattle.flow_graph.proofs.NodeContinuations.{At, ActionLeads, chooses, repeats, after_arms, after_eval, begins, node_at}
 

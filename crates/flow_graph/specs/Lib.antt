@@ -9,5 +9,4 @@ pub mod IdempotentCuts
 pub mod Paths
 pub mod HeldKeys
 pub mod OmittedCleans
-pub mod Refusals
 pub mod links
