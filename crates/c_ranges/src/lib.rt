@@ -9,6 +9,7 @@ mod checking;
 mod expression;
 mod indexes;
 mod interval;
+pub mod known;
 pub mod laws;
 mod nulls;
 mod operators;

@@ -1,21 +1,18 @@
 //! The places of a program where a reference may be null.
-ghost use Rattle.std.specs.Prelude.{◌≡◌, ◌++◌, map, flat_map, pos, true, IfOk, OnOk};
+ghost use Rattle.std.specs.Prelude.{◌≡◌, ◌++◌, map, flat_map, true, IfOk, OnOk};
 ghost use Rattle.std.specs.Option.{option_map};
-ghost use Rattle.ido_ints.specs.declared.kinds.Kind.TheVariants.{UnsignedLong};
-ghost use Rattle.ido_ints.specs.TypedNumbers.{typed};
 ghost use Rattle.c_tree.specs.Exprs.{expr_of, placed_of, lvalue_of, lock_name_of};
-ghost use Rattle.c_tree.specs.LockNames.{same_typed};
-ghost use Rattle.c_tree.specs.NullReferences.{is_null, local_in, unequal_null, unnull, is_among, known_with, known_in};
-ghost use Rattle.c_tree.specs.NullReferences.{target_assigned, result_assigned, statement_assigned, statements_assigned, arms_assigned};
+ghost use Rattle.c_tree.specs.NullReferences.{unnull, is_among, known_with, known_in};
+ghost use Rattle.c_tree.specs.NullReferences.{result_assigned, statement_assigned, statements_assigned, arms_assigned};
 ghost use Rattle.c_tree.specs.NullReferences.{expr_nulls, placed_nulls, target_nulls, result_nulls, lock_nulls, statement_nulls, statements_nulls};
 ghost use Rattle.c_tree.specs.NullReferences.{arms_nulls, returned_nulls, program_nulls};
 ghost use Rattle.c_tree.specs.Programs.{program_of, statement_of, statements_of, arms_list_of, returned_of};
 ghost use Rattle.c_ranges.specs.links.FirstNull.{functions_nulls, threads_nulls};
 
+use crate::known::{add_target_assigned, is_among, unnull};
 use c_tree::expr::{Expr, LockName, Lvalue, Placed};
 use c_tree::program::{Arm, Function, Program, Returned, Statement, Thread};
 use ido_base::place::Place;
-use ido_ints::{Binary, Kind, Value};
 use std::alloc::{AllocError, Global};
 
 /// All places of the program where a reference may be null.
@@ -26,83 +23,6 @@ pub(crate) fn null_places(alloc: Global, program: &Program) -> Result<Vec<Place>
     add_functions(alloc, &mut places, &program.functions)?;
     add_threads(alloc, &mut places, &program.threads)?;
     Ok(places)
-}
-
-/// Whether the value is what null is.
-fn is_zero(value: Value) -> bool
-    ensures { result ≡ same_typed value (typed UnsignedLong (pos 0)) }
-{
-    value.kind() == Kind::UnsignedLong && value.number() == 0
-}
-
-/// Whether the expression is null.
-fn is_null(expr: &Expr) -> bool
-    ensures { result ≡ is_null (expr_of expr.now) }
-{
-    match expr {
-        Expr::Constant { value } => is_zero(*value),
-        _ => false,
-    }
-}
-
-/// The local, where the expression is one.
-fn local_in(expr: &Expr) -> Option<u32>
-    ensures { result ≡ local_in (expr_of expr.now) }
-{
-    match expr {
-        Expr::Local { local, .. } => Some(*local),
-        _ => None,
-    }
-}
-
-/// The local of which a comparison of these operands by `!=` says that it isn't null, if there is one.
-fn unequal(left: &Expr, right: &Expr) -> Option<u32>
-    ensures { result ≡ unequal_null (expr_of left.now) (expr_of right.now) }
-{
-    if is_null(right) {
-        local_in(left)
-    } else if is_null(left) {
-        local_in(right)
-    } else {
-        None
-    }
-}
-
-/// The local of which the condition says that it isn't null, if there is one.
-fn unnull(expr: &Expr) -> Option<u32>
-    ensures { result ≡ unnull (expr_of expr.now) }
-{
-    match expr {
-        Expr::Binary {
-            operator,
-            left,
-            right,
-        } => match operator {
-            Binary::NotEqual => unequal(left, right),
-            _ => None,
-        },
-        _ => None,
-    }
-}
-
-/// Whether the local is one of those.
-fn is_among(locals: &[u32], local: u32) -> bool
-    ensures { result ≡ is_among locals.now local }
-{
-    locals.iter().any(|it| *it == local)
-}
-
-/// Adds the local that is assigned, if one is.
-fn add_target_assigned(locals: &mut Vec<u32>, target: &Lvalue) -> Result<(), AllocError>
-    ensures { OnOk result (locals.new.items ≡ locals.old.items ++ target_assigned (lvalue_of target.now)) }
-{
-    match target {
-        Lvalue::Local { local, .. } => {
-            locals.push(*local)?;
-            Ok(())
-        }
-        Lvalue::Variable { .. } | Lvalue::Element { .. } => Ok(()),
-    }
 }
 
 /// Adds the local that a call's result is assigned to, if there is one.

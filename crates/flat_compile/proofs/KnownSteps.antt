@@ -1,12 +1,12 @@
--- What is added to a list, part after part, and the known locals of steps.
-use Rattle.std.proofs.Common.{◌≡◌, refl, sym, ap, ap₂, ◌∙◌, ℕ, ◌+◌, ◌<◌, Bool, false, List, [], ◌∷◌, ◌++◌, length, drop, get_or, Vec}
+-- The known locals of steps, one vector after another and arm after arm.
+use Rattle.std.proofs.Common.{◌≡◌, refl, ap, ap₂, ◌∙◌, ℕ, ◌+◌, ◌<◌, Bool, false, List, [], ◌∷◌, ◌++◌, length, drop, get_or, Vec}
 use Rattle.std.specs.Global.{Global}
-use Rattle.std.proofs.lemmas.List.{append-nil, append_assoc, drop_more}
 use Rattle.c_tree.specs.Exprs.{placed_of}
 use Rattle.c_tree.specs.NullReferences.{flat_known_in}
 use Rattle.c_tree.specs.Flats.{statements_of, arms_list_of}
 use Rattle.c_tree.specs.declared.flat.Arm.{Arm}
 use Rattle.c_tree.specs.declared.flat.Statement.{Statement}
+use Rattle.c_ranges.proofs.Public.{both_added, next_left, passed}
 use Rattle.c_ranges.specs.KnownAtSteps.{knowns_in_all, knowns_in_arms}
 use Rattle.flat_compile.specs.links.KnownLists.{known_lists}
 
@@ -14,27 +14,6 @@ use Rattle.flat_compile.specs.links.KnownLists.{known_lists}
 pub lists_more : (steps : List (Vec ℕ Global)) (known : Vec ℕ Global) → known_lists (steps ++ known ∷ []) ≡ known_lists steps ++ known.items ∷ []
 lists_more [] known = refl
 lists_more (x ∷ steps) known = ap (λ (xs : List (List ℕ)). x.items ∷ xs) (lists_more steps known)
-
-pub next_left : {A : Type 0} (xs : List A) (i : ℕ) (x : A) → i < length xs → x ≡ get_or xs i x → drop i xs ≡ x ∷ drop (i + 1) xs
-next_left {A} xs i x low is = drop_more xs i x low ∙ ap (λ (y : A). y ∷ drop (i + 1) xs) (sym is)
-
--- one part and then another
-pub both_added : {B : Type 0} (old between after first second : List B) → between ≡ old ++ first → after ≡ between ++ second → after ≡ old ++ (first ++ second)
-both_added {B} old between after first second p q = q ∙ ap (λ (ys : List B). ys ++ second) p ∙ append_assoc old first second
-
--- the same, where the second part isn't added yet
-pub both_parts : {B : Type 0} (old between first second whole : List B) → between ≡ old ++ first → first ++ second ≡ whole → between ++ second ≡ old ++ whole
-both_parts {B} old between first second whole p q =
-    ap (λ (ys : List B). ys ++ second) p ∙ append_assoc old first second ∙ ap (λ (ys : List B). old ++ ys) q
-
--- what is here is added, and the rest is left
-pub passed : {B : Type 0} (before after here rest left all : List B) → after ≡ before ++ here → left ≡ here ++ rest → before ++ left ≡ all → after ++ rest ≡ all
-passed {B} before after here rest left all p more is =
-    ap (λ (ys : List B). ys ++ rest) p ∙ append_assoc before here rest ∙ ap (λ (ys : List B). before ++ ys) (sym more) ∙ is
-
--- nothing is left
-pub none_left : {B : Type 0} (before left all : List B) → left ≡ [] → before ++ left ≡ all → before ≡ all
-none_left {B} before left all none is = sym (append-nil before) ∙ ap (λ (ys : List B). before ++ ys) (sym none) ∙ is
 
 -- ---- Arms
 

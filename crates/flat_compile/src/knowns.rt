@@ -1,100 +1,18 @@
 //! The locals that are known not to be null before each step of a thread.
-ghost use Rattle.std.specs.Prelude.{◌≡◌, ◌++◌, [], ◌∷◌, pos, true, slice_index_or, IfOk, OnOk};
-ghost use Rattle.ido_ints.specs.declared.kinds.Kind.TheVariants.{UnsignedLong};
-ghost use Rattle.ido_ints.specs.TypedNumbers.{typed};
-ghost use Rattle.c_tree.specs.Exprs.{expr_of, placed_of, lvalue_of};
+ghost use Rattle.std.specs.Prelude.{◌≡◌, ◌++◌, [], ◌∷◌, true, slice_index_or, IfOk, OnOk};
+ghost use Rattle.c_tree.specs.Exprs.{placed_of, lvalue_of};
 ghost use Rattle.c_tree.specs.Flats.{statement_of, statements_of, arms_list_of, thread_of};
-ghost use Rattle.c_tree.specs.LockNames.{same_typed};
-ghost use Rattle.c_tree.specs.NullReferences.{is_null, local_in, unequal_null, unnull, is_among, target_assigned};
+ghost use Rattle.c_tree.specs.NullReferences.{unnull, is_among};
 ghost use Rattle.c_tree.specs.NullReferences.{flat_statement_assigned, flat_statements_assigned, flat_arms_assigned, flat_known_with, flat_known_in};
 ghost use Rattle.c_ranges.specs.KnownAtSteps.{assign_knowns, knowns, knowns_in_all, knowns_in_arms, thread_knowns};
 ghost use Rattle.flat_compile.specs.links.KnownLists.{known_lists};
 
-use c_tree::expr::{Expr, Lvalue, Placed};
+use c_ranges::known::{add_target_assigned, is_among, unnull};
+use c_tree::expr::{Lvalue, Placed};
 use c_tree::flat::{Arm, Statement, Thread};
-use ido_ints::{Binary, Kind, Value};
 use std::alloc::{AllocError, Global};
 
-// ---- What a condition says
-
-/// Whether the value is what null is.
-fn is_zero(value: Value) -> bool
-    ensures { result ≡ same_typed value (typed UnsignedLong (pos 0)) }
-{
-    value.kind() == Kind::UnsignedLong && value.number() == 0
-}
-
-/// Whether the expression is null.
-fn is_null(expr: &Expr) -> bool
-    ensures { result ≡ is_null (expr_of expr.now) }
-{
-    match expr {
-        Expr::Constant { value } => is_zero(*value),
-        _ => false,
-    }
-}
-
-/// The local, where the expression is one.
-fn local_in(expr: &Expr) -> Option<u32>
-    ensures { result ≡ local_in (expr_of expr.now) }
-{
-    match expr {
-        Expr::Local { local, .. } => Some(*local),
-        _ => None,
-    }
-}
-
-/// The local of which a comparison of these operands by `!=` says that it isn't null, if there is one.
-fn unequal(left: &Expr, right: &Expr) -> Option<u32>
-    ensures { result ≡ unequal_null (expr_of left.now) (expr_of right.now) }
-{
-    if is_null(right) {
-        local_in(left)
-    } else if is_null(left) {
-        local_in(right)
-    } else {
-        None
-    }
-}
-
-/// The local of which the condition says that it isn't null, if there is one.
-fn unnull(expr: &Expr) -> Option<u32>
-    ensures { result ≡ unnull (expr_of expr.now) }
-{
-    match expr {
-        Expr::Binary {
-            operator,
-            left,
-            right,
-        } => match operator {
-            Binary::NotEqual => unequal(left, right),
-            _ => None,
-        },
-        _ => None,
-    }
-}
-
 // ---- What a block assigns
-
-/// Whether the local is one of those.
-fn is_among(locals: &[u32], local: usize) -> bool
-    ensures { result ≡ is_among locals.now local }
-{
-    locals.iter().any(|it| *it as usize == local)
-}
-
-/// Adds the local that is assigned, if one is.
-fn add_target_assigned(locals: &mut Vec<u32>, target: &Lvalue) -> Result<(), AllocError>
-    ensures { OnOk result (locals.new.items ≡ locals.old.items ++ target_assigned (lvalue_of target.now)) }
-{
-    match target {
-        Lvalue::Local { local, .. } => {
-            locals.push(*local)?;
-            Ok(())
-        }
-        Lvalue::Variable { .. } | Lvalue::Element { .. } => Ok(()),
-    }
-}
 
 /// Adds the locals that a statement assigns.
 #[cycle(assigned)]
@@ -145,7 +63,7 @@ fn is_assigned(alloc: Global, body: &[Statement], local: u32) -> Result<bool, Al
 {
     let mut assigned = Vec::new(alloc);
     add_all_assigned(&mut assigned, body)?;
-    Ok(is_among(&assigned, local as usize))
+    Ok(is_among(&assigned, local))
 }
 
 // ---- What is known
@@ -294,12 +212,19 @@ pub(crate) fn known_steps(alloc: Global, thread: &Thread) -> Result<Vec<Vec<u32>
     Ok(steps)
 }
 
+/// Whether the local is one of those that are known.
+fn knows(known: &[u32], local: usize) -> bool
+    ensures { result ≡ is_among known.now local }
+{
+    known.iter().any(|it| *it as usize == local)
+}
+
 /// Whether the local is known not to be null before the step.
 pub(crate) fn is_known_before(steps: &[Vec<u32>], step: usize, local: usize) -> bool
     ensures { result ≡ is_among (slice_index_or (known_lists steps.now) step []) local }
 {
     match steps.get(step) {
-        Some(known) => is_among(known, local),
+        Some(known) => knows(known, local),
         None => false,
     }
 }

@@ -26,7 +26,7 @@ use Rattle.run_tracker.specs.links.EarlierLives.{lives_in}
 use Rattle.ido_cli.specs.CompiledImages.{size_of, threads_of, BeginsCompiled, HasState, IsFaultAfter, IsImageAnswer, IsStateAfter, whole, no_version, no_source}
 use Rattle.ido_cli.specs.CompiledImages.{refused, no_element, no_logs, no_state, no_variables, unsound, no_memory}
 use Rattle.image_checks.specs.VariableReferences.{AreReferences, IsReferenceFault}
-use Rattle.image_checks.specs.links.Errors.{Tells, of_read}
+use Rattle.image_checks.specs.links.Errors.{IsFaultOrMemory, of_read}
 use Rattle.ido_cli.specs.links.BegunImages.{of_logs}
 use Rattle.ido_cli.specs.links.CompileRefusals.{image_fault}
 use Rattle.file_fields.specs.Fields.{Magic, Version, Cut, Field, Rest}
@@ -38,7 +38,7 @@ use Rattle.image_checks.specs.StateAnswers as states
 
 module _ (flat : Flat) (version : ImageVersion) (total size threads : ℕ) (bytes : List ℕ) where
   abbrev Told : ImageError → Type 0
-  Told error = Tells (IsFaultAfter flat version total size threads bytes) error
+  Told error = IsFaultOrMemory (IsFaultAfter flat version total size threads bytes) error
 
   pub variables_told : (x : ReadError) → Fails x (variables_at total size bytes) → Told (of_read x)
   variables_told read.Magic h = inr (no_variables Magic h)
@@ -49,7 +49,7 @@ module _ (flat : Flat) (version : ImageVersion) (total size threads : ℕ) (byte
   variables_told read.Memory h = inl refl
 
   module _ (variables rest : List ℕ) (is : variables_at total size bytes ≡ Ok (variables, rest)) where
-    pub element_told : (x : ImageError) → Tells (IsReferenceFault flat variables) x → Told x
+    pub element_told : (x : ImageError) → IsFaultOrMemory (IsReferenceFault flat variables) x → Told x
     element_told x (inl none) = inl none
     element_told x (inr fault) = inr (no_element variables rest x is fault)
 
@@ -104,7 +104,7 @@ module _ (newest : ImageVersion) (bytes : List ℕ) where
 
   module _ (version : ImageVersion) (c : Compiled) (begun : BeginsCompiled newest bytes version c) (size threads : ℕ) (rest : List ℕ)
       (size_is : size ≡ size_of c) (threads_is : threads ≡ threads_of c) (rest_is : begun.rest ≡ rest) where
-    pub state_answer : (x : ImageError) → Tells (IsFaultAfter (flat_of c.flat) version (length bytes) size threads rest) x →
+    pub state_answer : (x : ImageError) → IsFaultOrMemory (IsFaultAfter (flat_of c.flat) version (length bytes) size threads rest) x →
         IsImageAnswer newest bytes (Err x)
     state_answer x (inl none) = subst (λ (y : ImageError). IsImageAnswer newest bytes (Err y)) (sym none) no_memory
     state_answer x (inr fault) =

@@ -1,5 +1,5 @@
 -- Numbers out of durable words, element by element and variable by variable.
-use Rattle.std.proofs.Common.{◌≡◌, refl, ℕ, zero, suc, ◌+◌, ◌-◌, ◌*◌, ◌/◌, ◌%◌, ◌^◌, ◌<◌, ◌≤◌, sym, ◌∙◌, ap, ap₂, arith, Some, ℤ}
+use Rattle.std.proofs.Common.{◌≡◌, refl, ℕ, zero, suc, ◌+◌, ◌-◌, ◌*◌, ◌/◌, ◌%◌, ◌<◌, ◌≤◌, sym, ◌∙◌, ap, ap₂, arith, Some, ℤ}
 use Rattle.std.proofs.Common.{List, [], ◌∷◌, ◌++◌, length, map, drop, get_or, append_assoc}
 use Rattle.std.specs.Prelude.{pos, slice_get, slice_index}
 use Rattle.std.proofs.lemmas.List.{append-nil, at_drop_more, drop_all, map-append}
@@ -9,9 +9,7 @@ use Rattle.ido_base.specs.declared.location.Shape.{Shape}
 use Rattle.ido_base.specs.Words.{Word, durable_value, word_at}
 use Rattle.ido_base.specs.Layout.{byte_number, start_from, variable_at, variables_base}
 use Rattle.ido_ints.specs.declared.kinds.Kind.{Kind}
-use Rattle.ido_ints.specs.Kinds.{bytes_of, modulus_of}
-use Rattle.ido_ints.specs.Reduction.{reduced}
-use Rattle.ido_ints.proofs.Public.{Same-mod, reduced-same}
+use Rattle.ido_ints.specs.Kinds.{bytes_of}
 use Rattle.c_tree.specs.declared.program.Variable as declared
 use Rattle.c_tree.specs.Programs as p
 use Rattle.c_tree.specs.Programs.{variable_of}
@@ -19,7 +17,6 @@ use Rattle.c_tree.specs.WellFormed.{elements_in}
 use Rattle.rv64_isa.specs.Machine.{numbers_from}
 use Rattle.memory_layout.specs.Variables.{AreAddresses, HaveRoom}
 use Rattle.variable_words.proofs.Public.{shapes, address_is, length-variables, length-shapes, variable_at_index, number_is, within_end}
-use Rattle.recovery_semantics.specs.Elements.{number_in}
 use Rattle.variable_words.specs.Variables.{durable_variables, number_of_byte, variables_from}
 use Rattle.run_scripts.specs.Reports as r
 use Rattle.run_scripts.specs.declared.report.Variable as found
@@ -28,10 +25,6 @@ use Rattle.ido_cli.specs.Runs.{named, variable_with}
 use Rattle.ido_cli.specs.Reports.{durable_elements}
 
 -- ---- A number
-
--- the bytes of a value from one on, however many there are, are the same number of the kind as its own bytes are
-pub shifted_number : (kind : Kind) (byte value : ℕ) → reduced kind (pos (value / 2 ^ (8 * byte))) ≡ number_in kind byte value
-shifted_number kind byte value = sym (reduced-same kind _ _ (Same-mod (value / 2 ^ (8 * byte)) (modulus_of kind)))
 
 -- the word that has a byte, by its line
 pub word_of_byte : (words : List Word) (byte : ℕ) → word_at words (byte / 8) ≡ word_at words (8 * (byte / 64) + byte % 64 / 8)

@@ -37,7 +37,8 @@ pub enum Command {
     Source,
     /// Writes what a crash after a script would leave.
     Image,
-    /// Whether each thread of a source locks its mutexes in the order in which they are declared.
+    /// Whether each thread of a source locks its mutexes in one order: that of their declarations, and within an array that of its elements, by keys that
+    /// are plain numbers.
     Order,
     /// Resumes what a crash has left, by so many turns of each hart, 0 to 1,000,000.
     Recover {

@@ -10,7 +10,7 @@ ghost use Rattle.crash_images.specs.ImageDecoder.{logs_at};
 ghost use Rattle.crash_images.specs.links.Views.{state_of};
 ghost use Rattle.file_fields.specs.links.ReaderResults.{Fails};
 ghost use Rattle.ido_compile.specs.CompileAnswers.{IsCompiledAs, IsCompileAnswerAs};
-ghost use Rattle.image_checks.specs.links.Errors.{Tells};
+ghost use Rattle.image_checks.specs.links.Errors.{IsFaultOrMemory};
 ghost use Rattle.ido_cli.specs.CompiledImages.{IsFaultAfter, IsImageAnswer, IsStateAfter};
 ghost use Rattle.rv64_isa.specs.Schedule.{all_lives};
 ghost use Rattle.run_tracker.specs.links.EarlierLives.{lives_in};
@@ -116,7 +116,7 @@ fn state_after(
     requires whole { size % word_bytes ≡ 0 }
     requires room { HaveRoom (map shape_of (flat_of flat.now).variables) }
     ensures { MatchResult result (λ state. IsStateAfter (flat_of flat.now) version total size threads rest.now (state_of state))
-        (Tells (IsFaultAfter (flat_of flat.now) version total size threads rest.now)) }
+        (IsFaultOrMemory (IsFaultAfter (flat_of flat.now) version total size threads rest.now)) }
 {
     let (variables, after) = read_variables(alloc, total, rest, size)?;
     check_references(alloc, flat, &variables)?;

@@ -5,7 +5,6 @@ ghost use Rattle.ido_base.specs.declared.limits.TheConstants.{MOST_VARIABLE_BYTE
 ghost use Rattle.ido_ints.specs.Kinds.{bytes_of};
 ghost use Rattle.c_tree.specs.Programs.{variable_of};
 ghost use Rattle.c_tree.specs.WellFormed.{elements_in, shape_of};
-ghost use Rattle.recovery_semantics.specs.Elements.{number_in};
 ghost use Rattle.run_tracker.specs.ObjectLives.{world_of};
 ghost use Rattle.memory_layout.specs.Variables.{HaveRoom};
 ghost use Rattle.variable_words.specs.Variables.{durable_variables, number_of_byte};
@@ -14,21 +13,12 @@ ghost use Rattle.ido_cli.specs.Runs.{named, variable_with};
 ghost use Rattle.ido_cli.specs.Reports.{durable_elements};
 
 use ido_base::memory::OutOfMemory;
-use ido_ints::{Kind, Value};
+use ido_ints::Kind;
 use memory_layout::variables::VARIABLES_BASE;
 use run_scripts::report::{Variable, reported_elements};
 use run_tracker::life::Life;
 use std::alloc::Global;
-use variable_words::places::addresses;
-
-/// The number of this kind in the bytes of a word from one of them on.
-#[tactic(auto, using(crate::proofs::DurableNumbers::shifted_number))]
-fn number_in(word: u64, kind: Kind, byte: u32) -> i128
-    requires { byte < 8 }
-    ensures { result ≡ number_in kind byte word }
-{
-    Value::reduce(kind, i128::from(word >> (8 * byte))).number()
-}
+use variable_words::places::{addresses, number_in};
 
 /// The number of an element of this kind that stands at this byte of the variables, as a crash would leave it.
 #[tactic(auto, using(crate::proofs::DurableNumbers::word_of_byte))]

@@ -1,5 +1,5 @@
 -- Numbers of elements by the words of all variables: whether each is that of null, or of a reference to an element.
-use Rattle.std.proofs.Common.{◌≡◌, ◌⊎◌, inl, inr, refl, ℕ, zero, suc, ◌+◌, ◌-◌, ◌*◌, ◌/◌, ◌^◌, ◌<◌, ◌≤◌, sym, ◌∙◌, ap, subst, arith}
+use Rattle.std.proofs.Common.{◌≡◌, ◌⊎◌, inl, inr, refl, ℕ, zero, suc, ◌+◌, ◌-◌, ◌*◌, ◌^◌, ◌<◌, ◌≤◌, sym, ◌∙◌, ap, subst, arith}
 use Rattle.std.proofs.Common.{Option, Some, None, List, [], ◌∷◌, length, map, get_or, ℤ}
 use Rattle.std.specs.Prelude.{pos, slice_get, slice_index, slice_index_or, ◌≤ℤ◌, ◌<ℤ◌}
 use Rattle.std.proofs.lemmas.Bool.{cases_lt, cases_order}
@@ -12,9 +12,8 @@ use Rattle.ido_base.specs.Layout.{byte_number, start_from, variable_at, variable
 use Rattle.ido_base.specs.Words.{Word, durable_value, word_at, word_of}
 use Rattle.ido_ints.specs.declared.kinds.Kind.{Kind}
 use Rattle.ido_ints.specs.declared.kinds.Kind.TheVariants.{UnsignedLong}
-use Rattle.ido_ints.specs.Kinds.{bytes_of, modulus_of}
-use Rattle.ido_ints.specs.Reduction.{reduced}
-use Rattle.ido_ints.proofs.Public.{Holds-zero, Same-mod, reduced-same}
+use Rattle.ido_ints.specs.Kinds.{bytes_of}
+use Rattle.ido_ints.proofs.Public.{Holds-zero}
 use Rattle.c_tree.specs.declared.program.Variable as declared
 use Rattle.c_tree.specs.Flats.{Flat}
 use Rattle.c_tree.specs.Programs.{Variable, variable_of}
@@ -24,7 +23,6 @@ use Rattle.c_tree.specs.WellFormed.{elements_in}
 use Rattle.c_ranges.specs.Laws.{IsNullOrReference}
 use Rattle.c_ranges.specs.RunInvariants.{RefersSo}
 use Rattle.memory_layout.specs.Variables.{AreAddresses, HaveRoom}
-use Rattle.recovery_semantics.specs.Elements.{number_in}
 use Rattle.rv64_isa.specs.Machine.{numbers_from}
 use Rattle.variable_words.specs.Variables.{durable_variables, number_of_byte, variables_from}
 use Rattle.variable_words.proofs.Public.{shapes, address_is, length-shapes, length-variables, number_is, variable_at_index, within_end}
@@ -34,10 +32,6 @@ use Rattle.image_checks.specs.links.ElementNumbers.{AreRight, AreRightBy, IsFirs
 use Rattle.image_checks.specs.VariableReferences.{IsBefore, IsNumberRight, IsReferenceFault, numbers_in, outside}
 
 -- ---- A number
-
--- the bytes of a value from one on, however many there are, are the same number of the kind as its own bytes are
-pub shifted_number : (kind : Kind) (byte value : ℕ) → reduced kind (pos (value / 2 ^ (8 * byte))) ≡ number_in kind byte value
-shifted_number kind byte value = sym (reduced-same kind _ _ (Same-mod (value / 2 ^ (8 * byte)) (modulus_of kind)))
 
 -- a word that has its value alone
 pub durable_word : (words : List ℕ) (n : ℕ) → slice_index words n ≡ durable_value (word_at (map word_of words) n)

@@ -1,5 +1,5 @@
 -- A thread holds each lock once: no two of the names that it holds in a kept state have one lock.
-use Rattle.std.proofs.Common.{◌≡◌, ℕ, ◌-◌, ◌<◌, List, [], length, ap, arith, sym, subst, ◌∙◌, Some}
+use Rattle.std.proofs.Common.{◌≡◌, ◌-◌, List, [], ap, arith, sym, subst, ◌∙◌, Some}
 use Rattle.std.specs.Prelude.{slice_get, slice_index_or, ℤ}
 use Rattle.std.proofs.lemmas.Option.{slice_get_within, get_or_from_slice_get}
 use Rattle.c_tree.specs.Exprs.{LockName}

@@ -1,11 +1,8 @@
 -- What a bank has of live locals whose registers it keeps, and what keys name by them.
-use Rattle.std.proofs.Common.{◌≡◌, ◌≢◌, inl, inr, refl, ℕ, zero, suc, ◌+◌, ◌<◌, ◌≤◌, sym, ap, ◌∙◌, subst, arith, cond, Option, Some, None, Bool, true, false}
-use Rattle.std.proofs.Common.{List, [], ◌∷◌, length, map, ℤ}
-use Rattle.std.specs.List.{AllZip}
-use Rattle.std.specs.Option.{option_map}
-use Rattle.std.specs.Prelude.{◌==◌, ◌&&◌, Contains, find, is_some, pos, slice_get, slice_index, unsigned_abs}
-use Rattle.std.proofs.lemmas.Bool.{cond_both, eq-eqb, true≢false}
-use Rattle.std.proofs.lemmas.Option.{none-some}
+use Rattle.std.proofs.Common.{◌≡◌, ◌≢◌, inl, inr, refl, ℕ, zero, suc, ◌≤◌, sym, ap, ◌∙◌, subst, arith, cond, Option, Some, None, Bool, true, false}
+use Rattle.std.proofs.Common.{List, [], ◌∷◌, map, ℤ}
+use Rattle.std.specs.Prelude.{◌==◌, ◌&&◌, Contains, find, is_some, pos, slice_get, slice_index}
+use Rattle.std.proofs.lemmas.Bool.{eq-eqb, true≢false}
 use Rattle.ido_ints.specs.declared.kinds.Kind.{Kind}
 use Rattle.ido_ints.specs.declared.kinds.Kind.TheVariants.{UnsignedLong}
 use Rattle.ido_ints.specs.Kinds.{Holds}
@@ -24,7 +21,6 @@ use Rattle.thread_code.specs.Plans.{home_of_colour}
 use Rattle.flat_compile.specs.declared.resumes.LiveLocal.{LiveLocal}
 use Rattle.image_checks.specs.Checks.{IsReferenceWord, IsUnnull}
 use Rattle.image_checks.proofs.ReferenceWords.{word_is, word_of_reference}
-use Rattle.expr_code.specs.declared.home.Home.{Home}
 use Rattle.expr_code.specs.declared.home.Home.TheVariants.{InRegister}
 use Rattle.expr_code.specs.EvaluationCode.{home_of}
 

@@ -15,7 +15,7 @@ use Rattle.ido_base.specs.Layout.{log_words}
 use Rattle.ido_base.specs.declared.log.Log.{Log}
 use Rattle.ido_base.specs.declared.log.Log.TheVariants.{V1, V2}
 use Rattle.image_checks.specs.ResumeSlots.{AllHaveRoom, TablesHaveRoom}
-use Rattle.image_checks.specs.links.Errors.{Tells}
+use Rattle.image_checks.specs.links.Errors.{IsFaultOrMemory}
 use Rattle.image_checks.specs.Checks.{resume_at, IsRight, IsBankFault, IsResumableLog, IsLogFault, resumed, of_bank}
 
 -- what holds of all places holds of the one that is found
@@ -29,8 +29,8 @@ found_has P (x ∷ xs) address r all found =
 
 module _ (flat : Flat) (resumes : List Resume) (logs : Logs) (thread address bank : ℕ) (r : Resume) where
   pub bank_answer : (answer : Result (Unit {0}) ImageError) → point_in logs thread ≡ At address bank → resume_at resumes address ≡ Some r →
-      MatchResult answer (λ _. IsRight flat logs thread bank r) (Tells (IsBankFault flat logs thread bank r)) →
-      MatchResult answer (λ _. IsResumableLog flat resumes logs thread) (Tells (IsLogFault flat resumes logs thread))
+      MatchResult answer (λ _. IsRight flat logs thread bank r) (IsFaultOrMemory (IsBankFault flat logs thread bank r)) →
+      MatchResult answer (λ _. IsResumableLog flat resumes logs thread) (IsFaultOrMemory (IsLogFault flat resumes logs thread))
   bank_answer (Ok _) point found right = resumed address bank r point found right
   bank_answer (Err error) point found (inl none) = inl none
   bank_answer (Err error) point found (inr fault) = inr (of_bank address bank r error point found fault)

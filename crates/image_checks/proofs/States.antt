@@ -15,7 +15,7 @@ use Rattle.image_checks.specs.Schedules.{AreSchedules, schedules_of}
 use Rattle.image_checks.specs.Checks.{AreSound, IsThreadFault, IsUnshared, IsMutexFault, of_schedules, of_thread}
 use Rattle.image_checks.specs.Logs.{logs_of}
 use Rattle.image_checks.specs.links.Errors as errors
-use Rattle.image_checks.specs.links.Errors.{Tells}
+use Rattle.image_checks.specs.links.Errors.{IsFaultOrMemory}
 use Rattle.image_checks.specs.links.PrefixBeforeFault.{TellsFault}
 use Rattle.image_checks.specs.StateAnswers.{IsStateAnswer, sound, faulty, no_memory}
 
@@ -26,8 +26,8 @@ pub same_sound : (log : Log) (flat : Flat) (t u : List (Vec Resume Global)) (l m
 same_sound log flat t u l m a b h = coe 0 1 (i. AreSound flat (a i) (logs_of log (b i))) h
 
 pub same_fault : (log : Log) (x : ImageError) (flat : Flat) (t u : List (Vec Resume Global)) (l m : List ℕ) → t ≡ u → l ≡ m →
-    Tells (IsThreadFault flat t (logs_of log l)) x → Tells (IsThreadFault flat u (logs_of log m)) x
-same_fault log x flat t u l m a b h = coe 0 1 (i. Tells (IsThreadFault flat (a i) (logs_of log (b i))) x) h
+    IsFaultOrMemory (IsThreadFault flat t (logs_of log l)) x → IsFaultOrMemory (IsThreadFault flat u (logs_of log m)) x
+same_fault log x flat t u l m a b h = coe 0 1 (i. IsFaultOrMemory (IsThreadFault flat (a i) (logs_of log (b i))) x) h
 
 pub same_unshared : (log : Log) (l m : List ℕ) (n k : ℕ) → l ≡ m → n ≡ k → ((lock : ℕ) → IsUnshared (logs_of log l) n lock) → (lock : ℕ) →
     IsUnshared (logs_of log m) k lock
@@ -40,7 +40,7 @@ same_shared log x l m n k a b h = coe 0 1 (i. IsMutexFault (logs_of log (a i)) (
 
 -- want of memory, or a fault of a thread's log
 pub in_threads : (log : Log) (flat : Flat) (table : List (Vec Resume Global)) (s : State) (x : ImageError) →
-    Tells (IsThreadFault flat table (logs_of log s.logs)) x → IsStateAnswer log flat table s (Err x)
+    IsFaultOrMemory (IsThreadFault flat table (logs_of log s.logs)) x → IsStateAnswer log flat table s (Err x)
 in_threads log flat table s x (inl none) = subst (λ (y : ImageError). IsStateAnswer log flat table s (Err y)) (sym none) no_memory
 in_threads log flat table s x (inr fault) = faulty x (of_thread x fault)
 

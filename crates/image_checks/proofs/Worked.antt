@@ -1,5 +1,5 @@
 -- Worked rows of checks: locks by keys, words of references, and references among variables.
-use Rattle.std.proofs.Common.{◌≡◌, ◌==◌, refl, ℕ, ◌<◌, ◌≤◌, List, [], ◌∷◌, arith, cond, Some, None, true, false, ℤ}
+use Rattle.std.proofs.Common.{◌≡◌, ◌==◌, refl, ℕ, ◌≤◌, List, [], ◌∷◌, arith, cond, Some, None, true, false}
 use Rattle.std.specs.Prelude.{map, pos, ◌≤ℤ◌}
 use Rattle.std.proofs.lemmas.Int.{ints}
 use Rattle.ido_base.specs.declared.place.Place.{Place}

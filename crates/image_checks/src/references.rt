@@ -8,10 +8,9 @@ ghost use Rattle.c_tree.specs.Programs.{variable_of};
 ghost use Rattle.c_tree.specs.WellFormed.{elements_in, shape_of};
 ghost use Rattle.c_ranges.specs.Laws.{IsNullOrReference};
 ghost use Rattle.memory_layout.specs.Variables.{HaveRoom};
-ghost use Rattle.recovery_semantics.specs.Elements.{number_in};
 ghost use Rattle.variable_words.specs.Variables.{number_of_byte};
 ghost use Rattle.image_checks.specs.VariableReferences.{AreReferences, IsReferenceFault};
-ghost use Rattle.image_checks.specs.links.Errors.{Tells};
+ghost use Rattle.image_checks.specs.links.Errors.{IsFaultOrMemory};
 ghost use Rattle.image_checks.specs.links.ElementNumbers.{AreRight, IsFirstOutside, IsFirstWrongIn, IsVariableRight};
 
 use crate::error::ImageError;
@@ -19,19 +18,10 @@ use crate::slots::elements_of;
 use c_tree::flat::Flat;
 use c_tree::program::Variable;
 use ido_base::memory::OutOfMemory;
-use ido_ints::{Kind, Value};
+use ido_ints::Kind;
 use memory_layout::variables::VARIABLES_BASE;
 use std::alloc::Global;
-use variable_words::places::addresses;
-
-/// The number of this kind in the bytes of a word from one of them on.
-#[tactic(auto, using(crate::proofs::ElementNumbers::shifted_number))]
-fn number_in(word: u64, kind: Kind, byte: u32) -> i128
-    requires { byte < 8 }
-    ensures { result ≡ number_in kind byte word }
-{
-    Value::reduce(kind, i128::from(word >> (8 * byte))).number()
-}
+use variable_words::places::{addresses, number_in};
 
 /// The word of that number; past the words it is 0.
 fn word_in(words: &[u64], number: u32) -> u64
@@ -106,7 +96,7 @@ fn variable_number(index: usize) -> Result<u32, OutOfMemory>
 /// all variables.
 pub fn check_references(alloc: Global, flat: &Flat, words: &[u64]) -> Result<(), ImageError>
     requires { HaveRoom (map shape_of (flat_of flat.now).variables) }
-    ensures { MatchResult result (λ _. AreReferences (flat_of flat.now) words.now) (Tells (IsReferenceFault (flat_of flat.now) words.now)) }
+    ensures { MatchResult result (λ _. AreReferences (flat_of flat.now) words.now) (IsFaultOrMemory (IsReferenceFault (flat_of flat.now) words.now)) }
 {
     let addresses = addresses(alloc, &flat.variables)?;
     for index in 0..flat.variables.len() {

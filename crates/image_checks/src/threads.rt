@@ -19,7 +19,7 @@ ghost use Rattle.image_checks.specs.Checks.{resume_at, IsResumableLog, IsLogFaul
 ghost use Rattle.image_checks.specs.Logs.{locks_by, logs_of, slot_in};
 ghost use Rattle.image_checks.specs.ResumeSlots.{HaveSlots, AllHaveSlots, TablesHaveSlots, HasRoom, AllHaveRoom, TablesHaveRoom};
 ghost use Rattle.image_checks.specs.links.BankFaults.{IsFaultBeside};
-ghost use Rattle.image_checks.specs.links.Errors.{Tells};
+ghost use Rattle.image_checks.specs.links.Errors.{IsFaultOrMemory};
 
 use crate::bank::{are_once, has_mask, lists, locals_by, locals_of_thread, names_of_thread};
 use crate::error::ImageError;
@@ -284,7 +284,7 @@ fn check_list(
     requires log { log_words V2 * (thread + 1) ≤ length logs.now }
     requires bank { bank < 2 }
     ensures { MatchResult result (λ _. IsRight (flat_of flat.now) (logs_of V2 logs.now) thread bank resume.now)
-        (Tells (IsBankFault (flat_of flat.now) (logs_of V2 logs.now) thread bank resume.now)) }
+        (IsFaultOrMemory (IsBankFault (flat_of flat.now) (logs_of V2 logs.now) thread bank resume.now)) }
 {
     let locks = locks_of(alloc, names, locals, &resume.held)?;
     check_listed(
@@ -310,7 +310,7 @@ fn check_bank(
     requires log { log_words log * (thread + 1) ≤ length logs.now }
     requires bank { bank < 2 }
     ensures { MatchResult result (λ _. IsRight (flat_of flat.now) (logs_of log logs.now) thread bank resume.now)
-        (Tells (IsBankFault (flat_of flat.now) (logs_of log logs.now) thread bank resume.now)) }
+        (IsFaultOrMemory (IsBankFault (flat_of flat.now) (logs_of log logs.now) thread bank resume.now)) }
 {
     let names = names_of_thread(alloc, flat, thread)?;
     let count = locals_of_thread(flat, thread);
@@ -350,7 +350,7 @@ fn check_log(
     requires room { AllHaveRoom log resumes.now }
     requires log { log_words log * (thread + 1) ≤ length logs.now }
     ensures { MatchResult result (λ _. IsResumableLog (flat_of flat.now) resumes.now (logs_of log logs.now) thread)
-        (Tells (IsLogFault (flat_of flat.now) resumes.now (logs_of log logs.now) thread)) }
+        (IsFaultOrMemory (IsLogFault (flat_of flat.now) resumes.now (logs_of log logs.now) thread)) }
 {
     let Point::At { address, bank } = point_in(log, logs, thread) else {
         return Ok(());
@@ -376,7 +376,7 @@ pub fn check_logs(
     requires few { length table.now ≤ MOST_THREADS }
     requires logs { length logs.now ≡ log_words log * length table.now }
     ensures { MatchResult result (λ _. AreSound (flat_of flat.now) table.now (logs_of log logs.now))
-        (Tells (IsThreadFault (flat_of flat.now) table.now (logs_of log logs.now))) }
+        (IsFaultOrMemory (IsThreadFault (flat_of flat.now) table.now (logs_of log logs.now))) }
 {
     for (thread, resumes) in table.iter().enumerate() {
         check_log(alloc, log, flat, addresses, resumes, logs, thread as u32)?;

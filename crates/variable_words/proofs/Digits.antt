@@ -1,11 +1,21 @@
 -- Parts of a word that is made of bytes.
 use Rattle.std.proofs.Common.{◌≡◌, refl, ℕ, zero, suc, ◌+◌, ◌*◌, ◌/◌, ◌%◌, ◌^◌, ◌<◌, List, take, drop, get_or, sym, ◌∙◌, ap, arith}
 use Rattle.std.specs.Int.{w64, from_le_bytes}
+use Rattle.std.specs.Prelude.{pos}
 use Rattle.std.proofs.Math.Nat.{add-mul-div_right, add-mul-mod_self_right, div-eq_of_lt, mod-eq_of_lt}
 use Rattle.std.proofs.Math.Arith.{mod-mul}
 use Rattle.std.proofs.lemmas.Nat.{shr-shr, pow-add, pow_pos}
 use Rattle.std.proofs.lemmas.List.{get_or-take, get_or-drop}
 use Rattle.ido_base.specs.Words.{part}
+use Rattle.ido_ints.specs.declared.kinds.Kind.{Kind}
+use Rattle.ido_ints.specs.Kinds.{modulus_of}
+use Rattle.ido_ints.specs.Reduction.{reduced}
+use Rattle.ido_ints.proofs.Public.{Same-mod, reduced-same}
+use Rattle.recovery_semantics.specs.Elements.{number_in}
+
+-- the bytes of a value from one on, however many there are, are the same number of the kind as its own bytes are
+pub shifted_number : (kind : Kind) (byte value : ℕ) → reduced kind (pos (value / 2 ^ (8 * byte))) ≡ number_in kind byte value
+shifted_number kind byte value = sym (reduced-same kind _ _ (Same-mod (value / 2 ^ (8 * byte)) (modulus_of kind)))
 
 -- the number whose bytes, the lowest first, are those of f from i on, so many
 pub number_of : (f : ℕ → ℕ) (i count : ℕ) → ℕ

@@ -21,5 +21,5 @@ of_schedule (schedule.Life life) = e.Lives life
 of_schedule schedule.Memory = e.Memory
 
 -- a fault; or want of memory, which tells nothing
-abbrev pub Tells : (IsFault : ImageError → Type 0) → ImageError → Type 0
-Tells IsFault error = (error ≡ e.Memory) ⊎ IsFault error
+abbrev pub IsFaultOrMemory : (IsFault : ImageError → Type 0) → ImageError → Type 0
+IsFaultOrMemory IsFault error = (error ≡ e.Memory) ⊎ IsFault error

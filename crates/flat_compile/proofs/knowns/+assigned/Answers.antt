@@ -7,7 +7,7 @@ use Rattle.c_tree.specs.Flats.{statement_of, statements_of, arms_list_of}
 use Rattle.c_tree.specs.declared.flat.Statement.{Statement}
 use Rattle.c_tree.specs.declared.flat.Arm.{Arm}
 use Rattle.c_tree.proofs.Public.{flat_rows_of_while as of_while, flat_rows_of_do as of_do, flat_rows_of_if as of_if}
-use Rattle.flat_compile.proofs.KnownSteps.{both_parts}
+use Rattle.c_ranges.proofs.Public.{both_parts}
 use Rattle.flat_compile.proofs.knowns.+assigned.Goals as goal
 
 abbrev assigned_in : List Statement → List ℕ

@@ -7,7 +7,8 @@ use Rattle.c_tree.specs.declared.flat.Arm.{Arm}
 use Rattle.c_tree.proofs.Public.{flat_rows_of_while as of_while, flat_rows_of_do as of_do, flat_rows_of_if as of_if}
 use Rattle.c_ranges.specs.KnownAtSteps.{knowns, knowns_in_all, knowns_in_arms}
 use Rattle.flat_compile.specs.links.KnownLists.{known_lists}
-use Rattle.flat_compile.proofs.KnownSteps.{arm_added, both_parts, next_left, none_left, passed}
+use Rattle.c_ranges.proofs.Public.{both_parts, next_left, none_left, passed}
+use Rattle.flat_compile.proofs.KnownSteps.{arm_added}
 use Rattle.flat_compile.proofs.knowns.+walk.Goals as goal
 
 pub add_statement-returns-in_ok-add_arms-in-If : goal.add_statement-returns-in_ok-add_arms-in-If

@@ -2,7 +2,7 @@ use Rattle.std.proofs.Common.{◌<◌, length, ap, arith}
 use Rattle.std.proofs.lemmas.List.{drop_all}
 use Rattle.thread_code.specs.Plans.{locks_held_from}
 use Rattle.flat_compile.proofs.HeldNumbers.{next_number}
-use Rattle.flat_compile.proofs.KnownSteps.{none_left, passed}
+use Rattle.c_ranges.proofs.Public.{none_left, passed}
 use Rattle.flat_compile.proofs.resumes.numbers_of.Goals as goal
 
 pub loop-number-preserved : goal.loop-number-preserved

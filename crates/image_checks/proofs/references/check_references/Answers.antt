@@ -1,4 +1,4 @@
-use Rattle.std.proofs.Common.{◌-◌, ◌<◌, ◌≤◌, ℕ, List, arith, inr, length, map, subst, sym}
+use Rattle.std.proofs.Common.{◌-◌, ◌<◌, ℕ, List, arith, inr, length, map, subst, sym}
 use Rattle.c_tree.specs.Flats.{flat_of}
 use Rattle.c_tree.specs.Programs.{variable_of}
 use Rattle.c_tree.specs.WellFormed.{shape_of}

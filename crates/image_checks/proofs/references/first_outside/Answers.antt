@@ -1,4 +1,4 @@
-use Rattle.std.proofs.Common.{ℤ, refl, rules, subst, sym}
+use Rattle.std.proofs.Common.{refl, rules, subst}
 use Rattle.std.specs.Prelude.{FitsSigned}
 use Rattle.std.specs.Int.{w128}
 use Rattle.std.proofs.lemmas.Int.{to_z-of_z}

@@ -1,4 +1,4 @@
-use Rattle.std.proofs.Common.{◌∙◌, map, sym}
+use Rattle.std.proofs.Common.{map, sym}
 use Rattle.c_tree.specs.Programs.{variable_of}
 use Rattle.c_tree.specs.links.KnownNames.{names_of}
 use Rattle.flow_graph.specs.HeldKeys.{names_in}

@@ -1,9 +1,5 @@
-use Rattle.std.proofs.Common.{◌≡◌, ◌+◌, ◌*◌, ◌≤◌, ◌∙◌, ℕ, List, length, map, refl, sym, ap, arith}
-use Rattle.ido_base.specs.declared.location.Location.{Location}
-use Rattle.ido_base.specs.Layout.{variable_at}
-use Rattle.c_tree.specs.Programs.{Variable, variable_of}
-use Rattle.c_tree.specs.WellFormed.{shape_of}
-use Rattle.image_checks.specs.links.LocationElements.{IsElementIn, IsNumberedIn}
+use Rattle.std.proofs.Common.{◌≤◌, map, refl, arith}
+use Rattle.c_tree.specs.Programs.{variable_of}
 use Rattle.image_checks.proofs.Elements.{only_one}
 use Rattle.image_checks.proofs.slots.is_numbered_in.Goals as goal
 

@@ -1,14 +1,5 @@
-use Rattle.std.proofs.Common.{◌≡◌, ◌≤◌, ◌+◌, ◌*◌, ◌∙◌, List, ℕ, ℤ, inl, inr, refl, ap, length, subst, sym}
-use Rattle.std.specs.Prelude.{MatchResult}
+use Rattle.std.proofs.Common.{inl, refl}
 use Rattle.std.proofs.lemmas.Result.{err_from_is_err_and}
-use Rattle.ido_base.specs.declared.log.Log.{Log}
-use Rattle.ido_base.specs.Layout.{log_words}
-use Rattle.c_tree.specs.Flats.{flat_of}
-use Rattle.flat_compile.specs.declared.resumes.LiveLocal.{LiveLocal}
-use Rattle.image_checks.specs.Checks.{IsBankFault, IsRight, bank_locals, kinds_of_thread}
-use Rattle.image_checks.specs.Logs.{locals_by, logs_of, slot_in}
-use Rattle.image_checks.specs.ResumeSlots.{HasRoom}
-use Rattle.image_checks.specs.links.Errors.{Tells}
 use Rattle.image_checks.proofs.threads.check_bank.Goals as goal
 
 pub returns-in_err-names : goal.returns-in_err-names

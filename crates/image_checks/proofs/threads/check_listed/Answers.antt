@@ -1,4 +1,4 @@
-use Rattle.std.proofs.Common.{ℕ, List, inr, refl, subst, sym}
+use Rattle.std.proofs.Common.{ℕ, inr, refl, subst, sym}
 use Rattle.std.proofs.lemmas.Result.{err_from_is_err_and}
 use Rattle.ido_base.specs.declared.log.Log.TheVariants.{V2}
 use Rattle.c_tree.specs.Flats.{flat_of}

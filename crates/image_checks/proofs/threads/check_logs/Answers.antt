@@ -8,7 +8,7 @@ use Rattle.flat_compile.specs.declared.resumes.Resume.{Resume}
 use Rattle.flat_compile.specs.ResumePlaces.{resumes_at}
 use Rattle.image_checks.specs.Checks.{AreSoundBelow, IsLogFault, IsResumableLog, IsThreadFault}
 use Rattle.image_checks.specs.declared.error.ImageError.{ImageError}
-use Rattle.image_checks.specs.links.Errors.{Tells}
+use Rattle.image_checks.specs.links.Errors.{IsFaultOrMemory}
 use Rattle.image_checks.specs.Logs.{Logs, logs_of}
 use Rattle.image_checks.specs.ResumeSlots.{AllHaveRoom}
 use Rattle.image_checks.proofs.Points.{log_within, room_at, table_at}
@@ -39,8 +39,8 @@ loop-thread-preserved c =
 
 -- want of memory, or a fault of that thread, the first that has one
 told : (flat : Flat) (table : List (Vec Resume Global)) (logs : Logs) (thread : ℕ) (x : ImageError) (resumes : List Resume) → thread < length table →
-    resumes ≡ resumes_at table thread → AreSoundBelow flat table logs thread → Tells (IsLogFault flat resumes logs thread) x →
-    Tells (IsThreadFault flat table logs) x
+    resumes ≡ resumes_at table thread → AreSoundBelow flat table logs thread → IsFaultOrMemory (IsLogFault flat resumes logs thread) x →
+    IsFaultOrMemory (IsThreadFault flat table logs) x
 told flat table logs thread x resumes within is before (inl none) = inl none
 told flat table logs thread x resumes within is before (inr fault) = inr (record {
   thread = thread;

@@ -1,4 +1,4 @@
-use Rattle.std.proofs.Common.{◌<◌, ◌^◌, ◌∙◌, ℕ, List, inl, ap, subst, sym, true, false}
+use Rattle.std.proofs.Common.{◌<◌, ◌^◌, ◌∙◌, ℕ, List, inl, ap, subst, sym}
 use Rattle.std.proofs.lemmas.Bool.{eq-eqb, eqb-true, true≢false}
 use Rattle.ido_base.specs.Locks.{mask_with}
 use Rattle.ido_base.specs.declared.log.Log.TheVariants.{V1}
