@@ -1,10 +1,10 @@
 -- The walk and the flow at each form of a statement, from what its parts give.
 use Rattle.std.proofs.Common.{◌≡◌, ◌<◌, ℕ, ◌+◌, Bool, not, ◌&&◌, ◌||◌, Option, Some, None, List, [], ◌∷◌, ◌++◌, length, drop}
-use Rattle.std.proofs.Common.{get_or, true, false, Vec, Global, All, refl, sym, ap, ap₂, ◌∙◌, subst, append_assoc}
+use Rattle.std.proofs.Common.{get_or, true, false, Vec, Global, All, refl, sym, ap, ap₂, ◌∙◌, append_assoc}
 use Rattle.std.proofs.lemmas.List.{drop_more}
 use Rattle.std.specs.List.{list_any, list_all}
 use Rattle.std.proofs.lemmas.List.Folds.{list_any-append, list_all-append}
-use Rattle.std.proofs.lemmas.List.Elements.{All-nil, All-cons, All-head, All-tail}
+use Rattle.std.proofs.lemmas.List.Elements.{All-head, All-tail}
 use Rattle.ido_base.specs.declared.place.Place.{Place}
 use Rattle.c_tree.specs.Exprs.{expr_of, lvalue_of}
 use Rattle.c_tree.specs.declared.expr.Placed.{Placed}
@@ -267,10 +267,6 @@ module _ (language : Language) (vs : List Variable) (names : List LockName) (h :
       ++ (sets_in_all names h (f.statements_of y) ++ held_after_all names h (f.statements_of y) ∷ [])) same
       ∙ ap (λ (y : f.Statement). old ++ sets_in names h y) (sym (ap f.statement_of is ∙ of_do place body condition))
 
-  -- a set to compare with another
-  pub one_long : (k : Held) → length k ≡ length names → All (λ x. length x ≡ length h) (k ∷ [])
-  one_long k l = All-cons (λ x. length x ≡ length h) k [] (l ∙ sym long) (All-nil (λ x. length x ≡ length h))
-
   -- ---- An `if`
 
   pub if_is : (x : s.Statement) (place : Place) (arms : Vec arm.Arm Global) (otherwise : Vec s.Statement Global) (choices : List arm.Arm) →
@@ -312,13 +308,6 @@ module _ (language : Language) (vs : List Variable) (names : List LockName) (h :
       ∙ after_then _ (λ after. join_all vs names place (ends ++ after ∷ [])) end reached
       ∙ join_last vs names place end ends (walked_all_length (f.statements_of xs) end reached) all
       ∙ ap (λ (hs : List Held). join vs names place end hs) (sym e)
-
-  pub ends_long : (xs : List s.Statement) (end : Held) (ends others : List Held) →
-      walk_all language vs names h (f.statements_of xs) ≡ After end → others ≡ ends →
-      All (λ y. length y ≡ length names) ends → All (λ y. length y ≡ length end) others
-  ends_long xs end ends others reached e all =
-      subst (λ (ys : List Held). All (λ y. length y ≡ length end) ys) (sym e)
-      (subst (λ (n : ℕ). All (λ (y : Held). length y ≡ n) ends) (sym (walked_all_length (f.statements_of xs) end reached)) all)
 
   pub if_sets : (x : s.Statement) (place : Place) (arms : Vec arm.Arm Global) (otherwise : Vec s.Statement Global) (choices : List arm.Arm)
       (xs : List s.Statement) (old one all : List Held) → x ≡ s.If place arms otherwise → choices ≡ arms.items → xs ≡ otherwise.items →

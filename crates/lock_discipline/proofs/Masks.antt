@@ -1,6 +1,6 @@
 -- The mask of a set, and how many names it holds.
 use Rattle.std.proofs.Common.{◌≡◌, ℕ, suc, ◌+◌, ◌-◌, ◌*◌, ◌^◌, ◌<◌, ◌≤◌, Bool, true, false}
-use Rattle.std.proofs.Common.{cond, List, [], ◌∷◌, length, drop, get_or, length-drop, lt_of_lt_of_le, pow_mono, refl, ap, ◌∙◌, subst, arith, pow-suc}
+use Rattle.std.proofs.Common.{cond, List, [], ◌∷◌, length, drop, get_or, length-drop, lt_of_lt_of_le, pow_mono, ap, ◌∙◌, subst, arith, pow-suc}
 use Rattle.std.proofs.lemmas.List.{drop_more}
 use Rattle.c_tree.specs.LockNames.{Held, count_held}
 use Rattle.lock_discipline.specs.Masks.{mask_of}

@@ -1,9 +1,9 @@
 -- When sets of held names are the same.
-use Rattle.std.proofs.Common.{◌≡◌, ℕ, zero, suc, ◌+◌, ◌<◌, ◌≤◌, ◌⊎◌, inl, inr, Bool, true, false, not, cond, ◌&&◌, ◌||◌, List, [], ◌∷◌}
-use Rattle.std.proofs.Common.{◌++◌, length, Option, Some, None, find, drop, get_or, refl, sym, ap, ap₂, ◌∙◌, subst, arith, ext_get_or}
+use Rattle.std.proofs.Common.{◌≡◌, ℕ, zero, suc, ◌<◌, ◌⊎◌, inl, inr, Bool, true, false, not, cond, ◌&&◌, ◌||◌, List, [], ◌∷◌}
+use Rattle.std.proofs.Common.{◌++◌, length, Option, Some, None, find, refl, sym, ap, ap₂, ◌∙◌, subst, arith, ext_get_or}
 use Rattle.std.specs.List.{list_any, list_all}
 use Rattle.std.specs.Option.{option_or}
-use Rattle.std.proofs.lemmas.List.{length-replicate, drop_more, drop_all}
+use Rattle.std.proofs.lemmas.List.{length-replicate}
 use Rattle.std.proofs.lemmas.List.Folds.{find-append}
 use Rattle.lock_discipline.specs.links.Sets.{differ}
 use Rattle.c_tree.specs.LockNames.{Held, holds, none_held}
@@ -196,13 +196,3 @@ pub first_differs : (h : Held) (xs : List Held) (k : ℕ) → k < length h → s
 first_differs h xs k low here before =
     sym (first_at (λ m. is_in_some (h ∷ xs) m && not (is_in_all (h ∷ xs) m)) (length h) k low (sym (any_differ (holds h k) k xs) ∙ here)
     (λ m less. sym (any_differ (holds h m) m xs) ∙ before m less))
-
--- one of those that are left, and the others
-pub any_next : {X : Type 0} (p : X → Bool) (xs : List X) (i : ℕ) (x : X) (b : Bool) → i < length xs → x ≡ get_or xs i x → p x ≡ b →
-    list_any p (drop i xs) ≡ (b || list_any p (drop (i + 1) xs))
-any_next p xs i x b low is e =
-    ap (λ ys. list_any p ys) (drop_more xs i x low)
-    ∙ (ap (λ y. p y || list_any p (drop (i + 1) xs)) (sym is) ∙ ap (λ (c : Bool). c || list_any p (drop (i + 1) xs)) e)
-
-pub any_end : {X : Type 0} (p : X → Bool) (xs : List X) (i : ℕ) → length xs ≤ i → list_any p (drop i xs) ≡ false
-any_end p xs i past = ap (λ ys. list_any p ys) (drop_all i xs past)

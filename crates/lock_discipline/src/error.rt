@@ -6,10 +6,11 @@ use c_tree::expr::LockRef;
 use ido_base::memory::OutOfMemory;
 use ido_base::place::Place;
 use std::alloc::{AllocError, AllocFailed};
+use std::fmt;
 use thiserror::Error;
 
 /// The first fault of a walk, with its place and one lock, or want of memory.
-#[derive(Clone, Copy, Debug, Drop, Error)]
+#[derive(Clone, Copy, Drop, Error)]
 pub enum LockError<'a> {
     /// A variable is used, and the lock that guards it isn't held.
     #[error("the lock that guards the variable is not held")]
@@ -34,6 +35,13 @@ pub enum LockError<'a> {
     Held { place: Place, lock: LockRef<'a> },
     #[error("out of memory")]
     Memory,
+}
+
+/// Its message alone: the key of its lock is an expression of any size.
+impl fmt::Debug for LockError<'_> {
+    fn fmt<W: fmt::Write>(&self, f: &mut fmt::Formatter<W>) -> fmt::Result {
+        fmt::Display::fmt(self, f)
+    }
 }
 
 impl<'a, T: Drop> From<AllocFailed<T>> for LockError<'a> {

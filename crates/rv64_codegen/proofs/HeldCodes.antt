@@ -1,5 +1,5 @@
 -- The codes of the numbers of what a thread holds at a node: how they are made, and what they are good for.
-use Rattle.std.proofs.Common.{◌≡◌, ℕ, zero, suc, ◌+◌, ◌*◌, ◌^◌, ◌<◌, ◌≤◌, List, [], ◌∷◌, ◌++◌, append_assoc, length, refl, ap, ap₂}
+use Rattle.std.proofs.Common.{◌≡◌, ℕ, zero, suc, ◌+◌, ◌*◌, ◌^◌, ◌<◌, ◌≤◌, List, [], ◌∷◌, ◌++◌, append_assoc, length, refl, ap}
 use Rattle.std.proofs.Common.{sym, ◌∙◌, arith, subst, Bool, true, false, Option, Some, None, if◌then◌else◌}
 use Rattle.std.specs.Prelude.{Vec, slice_get, ℤ}
 use Rattle.std.specs.Global.{Global}
@@ -12,7 +12,6 @@ use Rattle.ido_base.specs.declared.log.Log.{Log}
 use Rattle.ido_base.specs.declared.log.Log.TheVariants.{V1, V2}
 use Rattle.c_tree.specs.Exprs as e
 use Rattle.c_tree.specs.HoldPrices.{hold_price, hold_prices}
-use Rattle.c_tree.specs.LockNames.{Held, held_names}
 use Rattle.c_tree.specs.Prices.{key_nodes, nodes_of}
 use Rattle.c_tree.specs.Values.{lock_number}
 use Rattle.c_tree.specs.WellFormed.{IsFlatLockName}

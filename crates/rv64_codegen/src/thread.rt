@@ -72,10 +72,11 @@ impl ThreadPlan<'_, '_> {
         }
     }
 
-    /// The mutexes that are held at a node, bit i for mutex i, where the log keeps a mask.
+    /// The mutexes that are held at a node, bit i for mutex i, where the log keeps a mask; 0 where it lists locks.
     fn mask(&self, node: usize) -> u64
         requires { IsOwn self.now node }
-        ensures { (plan_in self.now).log ≡ V1 → result ≡ mask_of (set_before (plan_in self.now) (thread_of self.now) node) }
+        ensures masks { (plan_in self.now).log ≡ V1 → result ≡ mask_of (set_before (plan_in self.now) (thread_of self.now) node) }
+        ensures lists { (plan_in self.now).log ≡ V2 → result ≡ 0 }
     {
         match self.plan.log {
             Log::V1 => {

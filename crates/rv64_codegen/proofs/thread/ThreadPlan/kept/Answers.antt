@@ -28,7 +28,7 @@ returns c =
     let are : AreNumberCodes p.log (homes p t) x.number (held_names_before p t node) codes =
     subst (λ (h : Homes). AreNumberCodes p.log h x.number (held_names_before p t node) codes) o.homes c.requires.numbers in
     let in_it : p.log ≡ V1 → (locals : List ℤ) → locks_in c.mask.result ≡ locks_before p t locals node = λ masks locals.
-    ap locks_in (c.mask.ensures masks) ∙ mask_has_held (set_before p t node) (few_held p o.plan t o.thread masks node own.own)
+    ap locks_in (c.mask.ensures.masks masks) ∙ mask_has_held (set_before p t node) (few_held p o.plan t o.thread masks node own.own)
     ∙ numbers_plain p o.plan t o.thread masks locals node own.own in
     record {
       log_is = refl;

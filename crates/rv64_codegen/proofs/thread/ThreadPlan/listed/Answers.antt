@@ -10,7 +10,7 @@ use Rattle.c_tree.specs.LockNames.{Held, held_names}
 use Rattle.operator_code.specs.StraightLineCode.{IsConstant}
 use Rattle.expr_code.specs.EvaluationCode.{homes_of}
 use Rattle.boundary_code.specs.Boundaries.{lists_of}
-use Rattle.thread_code.specs.Plans.{held_names_before, names_in}
+use Rattle.thread_code.specs.Plans.{held_names_before}
 use Rattle.rv64_codegen.specs.links.Numbers.{AreNumberCodes, IsNumberCode, IsReady}
 use Rattle.rv64_codegen.specs.links.Threads.{plan_in, thread_of}
 use Rattle.rv64_codegen.proofs.PlannedNodes.{held_there, held_sets, thread_below}

@@ -1,5 +1,4 @@
-use Rattle.std.proofs.Common.{◌∙◌, ap, arith, length, subst, sym}
-use Rattle.c_tree.specs.LockNames.{Held}
+use Rattle.std.proofs.Common.{◌∙◌, ap, arith, length}
 use Rattle.lock_discipline.specs.Masks.{mask_of}
 use Rattle.rv64_codegen.specs.links.Threads.{plan_in, thread_of}
 use Rattle.rv64_codegen.proofs.PlannedNodes.{held_there, held_sets, few_held}
@@ -27,5 +26,5 @@ mask_of-requires c =
     let o = c.requires.open_is in
     omega (arith, ap length c.before-in-V1.ensures.is, few_held (plan_in x) o.plan (thread_of x) o.thread c.in-V1.is c.args.node c.requires.own)
 
-pub returns-in-V1 : goal.returns-in-V1
-returns-in-V1 c = λ _. c.mask_of.ensures ∙ ap mask_of c.before-in-V1.ensures.is
+pub returns-in-V1-clause-masks : goal.returns-in-V1-clause-masks
+returns-in-V1-clause-masks c = λ _. c.mask_of.ensures ∙ ap mask_of c.before-in-V1.ensures.is
