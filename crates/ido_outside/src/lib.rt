@@ -22,6 +22,3 @@ pub use memory_sink::{MemSink, SureSink};
 pub use memory_source::{MemSource, SureSource};
 pub use sink::{Sink, write_all};
 pub use source::{Source, read_all};
-
-#[cfg(test)]
-mod tests;

@@ -14,26 +14,19 @@ const LEAST: i128 = -2147483648;
 
 const GREATEST: i128 = 2147483647;
 
-/// What the variables a, b, c, d, z and e begin with.
-const INITIAL: [i128; 6] = [GREATEST, 7, 0, 0, 0, 1];
+/// What the variables a and b begin with.
+const INITIAL: [i128; 2] = [GREATEST, 1];
 
-/// What each step answers, and the variables after it, of
-/// `lock(m); a = a + 1; c = b / z; d = b % z; b = a / (z - 1); e = -1 < 1u; unlock(m);`, of the end, and of one step more.
-const STEPS: [(Stepped, [i128; 6]); 14] = [
-    (Stepped::Did, [GREATEST, 7, 0, 0, 0, 1]),
-    (Stepped::Did, [GREATEST, 7, 0, 0, 0, 1]),
-    (Stepped::Did, [LEAST, 7, 0, 0, 0, 1]),
-    (Stepped::Did, [LEAST, 7, 0, 0, 0, 1]),
-    (Stepped::Did, [LEAST, 7, -1, 0, 0, 1]),
-    (Stepped::Did, [LEAST, 7, -1, 0, 0, 1]),
-    (Stepped::Did, [LEAST, 7, -1, 7, 0, 1]),
-    (Stepped::Did, [LEAST, 7, -1, 7, 0, 1]),
-    (Stepped::Did, [LEAST, LEAST, -1, 7, 0, 1]),
-    (Stepped::Did, [LEAST, LEAST, -1, 7, 0, 1]),
-    (Stepped::Did, [LEAST, LEAST, -1, 7, 0, 0]),
-    (Stepped::Did, [LEAST, LEAST, -1, 7, 0, 0]),
-    (Stepped::Did, [LEAST, LEAST, -1, 7, 0, 0]),
-    (Stepped::Ended, [LEAST, LEAST, -1, 7, 0, 0]),
+/// What each step answers, and the variables after it, of `lock(m); a = a + 1; b = -1 < 1u; unlock(m);`, of the end, and of one step more.
+const STEPS: [(Stepped, [i128; 2]); 8] = [
+    (Stepped::Did, [GREATEST, 1]),
+    (Stepped::Did, [GREATEST, 1]),
+    (Stepped::Did, [LEAST, 1]),
+    (Stepped::Did, [LEAST, 1]),
+    (Stepped::Did, [LEAST, 0]),
+    (Stepped::Did, [LEAST, 0]),
+    (Stepped::Did, [LEAST, 0]),
+    (Stepped::Ended, [LEAST, 0]),
 ];
 
 fn read(variable: u32) -> Expr {
@@ -72,19 +65,6 @@ const LOCK: LockName = LockName {
     key: None,
 };
 
-/// `lock(m); a = a + 1; c = b / z; d = b % z;`.
-fn first_half(a: Global) -> Result<Vec<Statement>, AllocError> {
-    let mut body = Vec::new(a);
-    body.push(Statement::Lock {
-        place: HERE,
-        lock: LOCK,
-    })?;
-    body.push(keep(a, 0, Binary::Add, read(0), one(KIND))?)?;
-    body.push(keep(a, 2, Binary::Div, read(1), read(4))?)?;
-    body.push(keep(a, 3, Binary::Rem, read(1), read(4))?)?;
-    Ok(body)
-}
-
 /// `-1`.
 fn minus_one(a: Global) -> Result<Expr, AllocError> {
     Ok(Expr::Unary {
@@ -93,23 +73,20 @@ fn minus_one(a: Global) -> Result<Expr, AllocError> {
     })
 }
 
-/// Adds `b = a / (z - 1); e = -1 < 1u; unlock(m);`.
-fn push_second_half(a: Global, body: &mut Vec<Statement>) -> Result<(), AllocError> {
-    let below = binary(a, Binary::Sub, read(4), one(KIND))?;
-    body.push(keep(a, 1, Binary::Div, read(0), below)?)?;
+/// The flat form of the section.
+fn section(a: Global) -> Result<Flat, AllocError> {
+    let mut body = Vec::new(a);
+    body.push(Statement::Lock {
+        place: HERE,
+        lock: LOCK,
+    })?;
+    body.push(keep(a, 0, Binary::Add, read(0), one(KIND))?)?;
     let minus_one = minus_one(a)?;
-    body.push(keep(a, 5, Binary::Less, minus_one, one(Kind::UnsignedInt))?)?;
+    body.push(keep(a, 1, Binary::Less, minus_one, one(Kind::UnsignedInt))?)?;
     body.push(Statement::Unlock {
         place: HERE,
         lock: LOCK,
     })?;
-    Ok(())
-}
-
-/// The flat form of the section.
-fn section(a: Global) -> Result<Flat, AllocError> {
-    let mut body = first_half(a)?;
-    push_second_half(a, &mut body)?;
     flat(a, 0, body, &INITIAL)
 }
 

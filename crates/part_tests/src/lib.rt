@@ -1,5 +1,5 @@
-//! Tests of parts of the program: results that an emulator gave; short graphs, steps and a script that were followed by hand; and boards and legs
-//! at small cores, with seats and workers beside each other. They stand in a crate of their own, so that no crate below is proved twice, and in one,
+//! Tests of parts of the program: results that an emulator gave; short graphs and steps that were followed by hand; and boards and legs at small
+//! cores, with seats beside each other. They stand in a crate of their own, so that no crate below is proved twice, and in one,
 //! since each crate of tests costs the proof that all below it is linked.
 #![tactic(auto)]
 
@@ -20,30 +20,14 @@ mod flows;
 #[cfg(test)]
 mod harts;
 #[cfg(test)]
-mod inlinings;
-#[cfg(test)]
-mod keys;
-#[cfg(test)]
-mod lives;
-#[cfg(test)]
-mod locations;
-#[cfg(test)]
-mod orders;
-#[cfg(test)]
 mod points;
-#[cfg(test)]
-mod readings;
 #[cfg(test)]
 mod regions;
 #[cfg(test)]
 mod registers;
 #[cfg(test)]
-mod scripts;
-#[cfg(test)]
 mod steps;
 #[cfg(test)]
 mod straight;
-#[cfg(test)]
-mod typings;
 #[cfg(test)]
 mod watched;
