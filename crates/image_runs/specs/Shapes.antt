@@ -45,7 +45,7 @@ module _ (p : Plan) (code : Code p) (words : List Word) where
     -- each live reference is null, or one to its array
     pub refer : (local array : ℕ) → slice_get (refers_in p code.thread) local ≡ Some (Some array) → IsLive p.graph local node →
         IsNullOrReference (elements_of p.flat.variables array) (slice_index_or numbers local (pos 0))
-    -- and one that is known not to be null isn't
+    -- each live reference that is known not to be null before the node is not null
     pub unnull : (local array : ℕ) → slice_get (refers_in p code.thread) local ≡ Some (Some array) → IsLive p.graph local node →
         is_among (knowns_before p code.thread node) local ≡ true → slice_index_or numbers local (pos 0) ≢ pos 0
     -- the bank that its point names keeps the locks that it holds there, by these numbers, and no lock twice

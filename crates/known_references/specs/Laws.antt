@@ -18,10 +18,10 @@ abbrev pub StepsKeepUnnull : Type 0
 StepsKeepUnnull = (x : f.Flat) (flow next : FlowState) (thread : ℕ) → AreAtOwnNodes x flow → KnownAreUnnull x flow →
     graph_step (lowered x) flow thread ≡ Some next → KnownAreUnnull x next
 
--- so it is in every run
+-- in every run each reference that a block knows not to be null is not null
 abbrev pub RunsAreUnnull : Type 0
 RunsAreUnnull = (x : f.Flat) (schedule : List ℕ) → IsWellFormed x → KnownAreUnnull x (graph_after (lowered x) (graph_start (lowered x) x) schedule)
 
--- and in what an execution has kept, wherever it began
+-- in what an execution has kept, wherever it began, each such reference is not null
 abbrev pub KeptAreUnnull : Type 0
 KeptAreUnnull = (x : f.Flat) (o : Origin x) (schedule : List ℕ) → IsWellFormed x → KnownAreUnnull x (flow_kept x o schedule)

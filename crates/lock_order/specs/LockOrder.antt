@@ -19,7 +19,7 @@ use Rattle.lock_order.specs.declared.walk.Met.{Met}
 -- and else it may have that of any element of its array. A name is below another where its lock has the lesser number, whichever these two have: it is of an
 -- earlier declaration, or both are of one array, by plain numbers, and its number is the lesser.
 
--- the number that an expression is, where it is a plain one
+-- the number of an expression that is a constant: the element that it names as a key
 abbrev pub plain_number : e.Expr → Option ℕ
 plain_number (e.Constant value) = Some (element_at value)
 plain_number _ = None

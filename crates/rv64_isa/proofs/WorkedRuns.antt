@@ -165,7 +165,7 @@ words_of_code : map length p1 ≡ 64 ∷ []
 unfolding p1 programs one_section node node_acquire node_store code_of acquire add store last_release end boundary log point move
 words_of_code = refl
 
-run_whole : told (many p1 p1_marks 100 (Step 0) p1_start) ≡ record { x = 6; y = 0; kept = 0 ∷ 0 ∷ 0 ∷ 0 ∷ []; settled = true }
+run_whole : told (many p1 p1_marks 80 (Step 0) p1_start) ≡ record { x = 6; y = 0; kept = 0 ∷ 0 ∷ 0 ∷ 0 ∷ []; settled = true }
 unfolding told many make p1_start p1_marks p1 programs marks_from marks_of one_section node node_acquire node_store code_of acquire add store last_release end
     boundary log point move start_of initial_words happens row result_of steps_after
 run_whole = refl
@@ -186,7 +186,7 @@ told_lives r = record {
 }
 
 -- a life, and another one
-two_lives : told_lives (many p1 p1_marks 100 (Step 0) (make p1 p1_marks Start (many p1 p1_marks 100 (Step 0) p1_start)))
+two_lives : told_lives (many p1 p1_marks 80 (Step 0) (make p1 p1_marks Start (many p1 p1_marks 80 (Step 0) p1_start)))
     ≡ record { x = 7; now = 7; lives = (0 ∷ 0 ∷ 0 ∷ 0 ∷ []) ∷ (0 ∷ 0 ∷ 0 ∷ 0 ∷ []) ∷ []; may = true }
 unfolding told_lives many make p1_start p1_marks p1 programs marks_from marks_of one_section node node_acquire node_store code_of acquire add store
     last_release end boundary log point move start_of initial_words happens row result_of steps_after
@@ -194,8 +194,8 @@ two_lives = refl
 
 -- a life that a crash has ended, one in which a crash comes before any point, and another one
 lives_after_crashes :
-    told_lives (many p1 p1_marks 100 (Step 0) (make p1 p1_marks Start (make p1 p1_marks Crash (to_point p1 p1_marks 100 0 (make p1 p1_marks Start
-    (many p1 p1_marks 120 (Step 0) (make p1 p1_marks Crash (make p1 p1_marks (Evict 1024 1) (to_point p1 p1_marks 100 0 p1_start)))))))))
+    told_lives (many p1 p1_marks 80 (Step 0) (make p1 p1_marks Start (make p1 p1_marks Crash (to_point p1 p1_marks 100 0 (make p1 p1_marks Start
+    (many p1 p1_marks 80 (Step 0) (make p1 p1_marks Crash (make p1 p1_marks (Evict 1024 1) (to_point p1 p1_marks 100 0 p1_start)))))))))
     ≡ record { x = 7; now = 7; lives = (0 ∷ 0 ∷ 0 ∷ 0 ∷ []) ∷ [] ∷ (0 ∷ 0 ∷ 0 ∷ 0 ∷ []) ∷ []; may = true }
 unfolding told_lives to_point many make p1_start p1_marks p1 programs marks_from marks_of one_section node node_acquire node_store code_of acquire add store
     release last_release end boundary log point move start_of after_crash_of locks_in initial_words spread_words happens row result_of steps_after
@@ -214,7 +214,7 @@ unfolding told to_point make p1_start p1_marks p1 programs marks_from marks_of o
 point_lost = refl
 
 -- up to the first point's store, an eviction of the point's word, and a crash: the point was kept
-point_evicted : told (many p1 p1_marks 120 (Step 0) (make p1 p1_marks Crash (make p1 p1_marks (Evict 1024 1) (to_point p1 p1_marks 100 0 p1_start))))
+point_evicted : told (many p1 p1_marks 80 (Step 0) (make p1 p1_marks Crash (make p1 p1_marks (Evict 1024 1) (to_point p1 p1_marks 100 0 p1_start))))
     ≡ record { x = 6; y = 0; kept = 0 ∷ 0 ∷ 0 ∷ 0 ∷ []; settled = true }
 unfolding told to_point many make p1_start p1_marks p1 programs marks_from marks_of one_section node node_acquire node_store code_of acquire add store release
     last_release end boundary log point move start_of after_crash_of locks_in initial_words spread_words happens row result_of steps_after
@@ -224,7 +224,7 @@ point_evicted = refl
 three_points : Run
 three_points = to_point p1 p1_marks 100 0 (to_point p1 p1_marks 100 0 (to_point p1 p1_marks 100 0 p1_start))
 
-store_again : told (many p1 p1_marks 120 (Step 0) (make p1 p1_marks Crash three_points)) ≡ record { x = 6; y = 0; kept = 0 ∷ 0 ∷ 0 ∷ 0 ∷ []; settled = true }
+store_again : told (many p1 p1_marks 80 (Step 0) (make p1 p1_marks Crash three_points)) ≡ record { x = 6; y = 0; kept = 0 ∷ 0 ∷ 0 ∷ 0 ∷ []; settled = true }
 unfolding three_points told to_point many make p1_start p1_marks p1 programs marks_from marks_of one_section node node_acquire node_store code_of acquire add
     store release last_release end boundary log point move start_of after_crash_of locks_in initial_words spread_words happens row result_of steps_after
 store_again = refl
@@ -235,7 +235,7 @@ unfolding make many
 crash_after zero steps r = r
 crash_after (suc count) steps r = crash_after count (steps + 1) (many p1 p1_marks steps (Step 0) (make p1 p1_marks Crash r))
 
-crashes_in_recovery : told (many p1 p1_marks 120 (Step 0) (crash_after 12 1 three_points)) ≡ record { x = 6; y = 0; kept = 0 ∷ 0 ∷ 0 ∷ 0 ∷ []; settled = true }
+crashes_in_recovery : told (many p1 p1_marks 80 (Step 0) (crash_after 12 1 three_points)) ≡ record { x = 6; y = 0; kept = 0 ∷ 0 ∷ 0 ∷ 0 ∷ []; settled = true }
 unfolding crash_after three_points told to_point many make p1_start p1_marks p1 programs marks_from marks_of one_section node node_acquire node_store code_of
     acquire add store release last_release end boundary log point move start_of after_crash_of locks_in
     initial_words spread_words happens row result_of steps_after
@@ -258,7 +258,7 @@ pair_marks : List (List ℕ)
 pair_marks = marks_from 0x1_0000 (one_section 0 1 ∷ one_section 1 10 ∷ [])
 
 -- the second hart waits for the lock, and is done at once after the crash
-second_waits : told (many pair pair_marks 120 (Step 0) (many pair pair_marks 8 (Step 1) (make pair pair_marks Crash (many pair pair_marks 5 (Step 1)
+second_waits : told (many pair pair_marks 80 (Step 0) (many pair pair_marks 8 (Step 1) (make pair pair_marks Crash (many pair pair_marks 5 (Step 1)
     (to_fences pair pair_marks 100 2 0 (record { world = start_of V1 pair 1 (5 ∷ []); steps = first_steps 2 (only_life []) }))))))
     ≡ record { x = 6; y = 0; kept = 0 ∷ 0 ∷ 0 ∷ 0 ∷ []; settled = true }
 unfolding told to_fences many make pair_marks pair programs marks_from marks_of one_section node node_acquire node_store code_of acquire add store release
@@ -289,7 +289,7 @@ overlap_start : Run
 overlap_start = record { world = start_of V1 overlap 2 (1 ∷ 0 ∷ 0 ∷ 0 ∷ 0 ∷ 0 ∷ 0 ∷ 0 ∷ 2 ∷ []); steps = first_steps 2 (only_life []) }
 
 -- the first lock is given up durably, and not by its ECALL: the second hart waits for it until the crash
-given_up : told (many overlap overlap_marks 200 (Step 0)
+given_up : told (many overlap overlap_marks 80 (Step 0)
     (make overlap overlap_marks Crash (many overlap overlap_marks 5 (Step 1) (to_fences overlap overlap_marks 300 8 0 overlap_start))))
     ≡ record { x = 2; y = 3; kept = 0 ∷ 0 ∷ 0 ∷ 0 ∷ 0 ∷ 0 ∷ 0 ∷ 0 ∷ []; settled = true }
 unfolding overlap_start told to_fences many make overlap_marks overlap programs marks_from marks_of one_section two_locks node node_acquire node_store code_of
@@ -309,7 +309,7 @@ unfolding both_taken overlap_start to_fences many make overlap_marks overlap pro
     result_of steps_after
 waits_for_the_other = refl
 
-both_resume : told (many overlap overlap_marks 100 (Step 1) (many overlap overlap_marks 200 (Step 0) both_taken))
+both_resume : told (many overlap overlap_marks 100 (Step 1) (many overlap overlap_marks 80 (Step 0) both_taken))
     ≡ record { x = 11; y = 3; kept = 0 ∷ 0 ∷ 0 ∷ 0 ∷ 0 ∷ 1 ∷ 0 ∷ 0 ∷ 0 ∷ 1 ∷ 1 ∷ 1 ∷ []; settled = true }
 unfolding told both_taken overlap_start to_fences many make overlap_marks overlap programs marks_from marks_of one_section two_locks node node_acquire
     node_store code_of acquire add store release last_release end boundary log point move start_of after_crash_of locks_in
@@ -326,14 +326,14 @@ left_words =
     take 8 (map durable_value w.words) ++ take 128 (drop 8192 (map durable_value w.words))
 
 from_words : World
-from_words = after_events p1 (after_crash_of V1 p1 1 (spread_words 8 left_words)) (replicate 120 (Step 0))
+from_words = after_events p1 (after_crash_of V1 p1 1 (spread_words 8 left_words)) (replicate 80 (Step 0))
 
 resumed_from_words : live_value (word_at from_words.words 0) ≡ 6
 unfolding from_words left_words to_point make p1_start p1_marks p1 programs marks_from marks_of one_section node node_acquire node_store code_of acquire add
     store release last_release end boundary log point move start_of after_crash_of locks_in initial_words spread_words happens row result_of steps_after
 resumed_from_words = refl
 
-released_once : released_count p1 p1_start.world (replicate 100 (Step 0)) 0 ≡ 1
+released_once : released_count p1 p1_start.world (replicate 80 (Step 0)) 0 ≡ 1
 unfolding p1_start p1 programs one_section node node_acquire node_store code_of acquire add store release last_release end boundary log point move start_of
     initial_words happens row result_of
 released_once = refl
