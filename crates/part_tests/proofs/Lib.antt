@@ -1,4 +1,2 @@
 mod EnabledHarts
-mod NoPoints
-mod RunSeats
 mod TwoSeats

@@ -1,3 +1,1 @@
 pub mod CountingCore
-pub mod HartSeats
-pub mod MovingCore

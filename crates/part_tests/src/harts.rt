@@ -305,25 +305,33 @@ const ROWS: [(u32, u64, u64, Reply, u64, u64); 38] = [
 /// The bytes at the start of the variables.
 const BYTES: [u8; 8] = [0x80, 0x81, 0x82, 0x83, 0x84, 0x85, 0x86, 0x87];
 
+/// What a step of hart 0 at this pc comes to, by code of one word and these numbers in x5 and x6: the reply, x0, x7 and the pc.
+fn stepped(
+    alloc: Global,
+    word: u32,
+    pc: u64,
+    x5: u64,
+    x6: u64,
+) -> Result<(Reply, u64, u64, u64), Fail> {
+    let program = program_of(alloc, &[word])?;
+    let mut memory = LineMemory::new(alloc, &BYTES, Log::V1, 1)?;
+    let mut locks = LockTable::new(alloc, 2, 2)?;
+    let _ = (locks.try_take(0, 0), locks.try_take(1, 1));
+    let mut phase = Phase::Run;
+    let mut hart = Hart::new(pc);
+    hart.registers[5] = x5;
+    hart.registers[6] = x6;
+    hart.registers[10] = x5;
+    hart.registers[17] = x6;
+    let found = step(0, &program, &mut phase, &mut hart, &mut memory, &mut locks);
+    Ok((found, hart.registers[0], hart.registers[7], hart.pc))
+}
+
 #[test]
 fn single_steps(rt: HostRuntime) -> Result<(), Fail> {
     for (word, x5, x6, reply, x7, pc) in ROWS {
-        let program = program_of(rt.alloc(), &[word])?;
-        let mut memory = LineMemory::new(rt.alloc(), &BYTES, Log::V1, 1)?;
-        let mut locks = LockTable::new(rt.alloc(), 2, 2)?;
-        let _ = (locks.try_take(0, 0), locks.try_take(1, 1));
-        let mut phase = Phase::Run;
-        let mut hart = Hart::new(0x10000);
-        hart.registers[5] = x5;
-        hart.registers[6] = x6;
-        hart.registers[10] = x5;
-        hart.registers[17] = x6;
-        let found = step(0, &program, &mut phase, &mut hart, &mut memory, &mut locks);
-        assert_eq!(rt;
-            (found, hart.registers[0], hart.registers[7], hart.pc),
-            (reply, 0, x7, pc),
-            "{word:#x}"
-        );
+        let found = stepped(rt.alloc(), word, 0x0001_0000, x5, x6)?;
+        assert_eq!(rt; found, (reply, 0, x7, pc), "{word:#x}");
     }
     Ok(())
 }
@@ -342,17 +350,8 @@ const PLACES: [(u64, Cause); 6] = [
 fn no_code(rt: HostRuntime) -> Result<(), Fail> {
     for (pc, cause) in PLACES {
         // addi x7, x5, -1
-        let program = program_of(rt.alloc(), &[0xfff2_8393])?;
-        let mut memory = LineMemory::new(rt.alloc(), &BYTES, Log::V1, 1)?;
-        let mut locks = LockTable::new(rt.alloc(), 0, 1)?;
-        let mut phase = Phase::Run;
-        let mut hart = Hart::new(pc);
-        let found = step(0, &program, &mut phase, &mut hart, &mut memory, &mut locks);
-        assert_eq!(rt;
-            (found, hart.registers[7], hart.pc),
-            (Reply::Stuck(cause), 0, pc),
-            "{pc:#x}"
-        );
+        let found = stepped(rt.alloc(), 0xfff2_8393, pc, 0, 0)?;
+        assert_eq!(rt; found, (Reply::Stuck(cause), 0, 0, pc), "{pc:#x}");
     }
     Ok(())
 }

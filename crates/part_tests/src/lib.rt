@@ -1,6 +1,6 @@
-//! Tests of parts of the program: results that an emulator gave; short graphs and steps that were followed by hand; and boards and legs at small
-//! cores, with seats beside each other. They stand in a crate of their own, so that no crate below is proved twice, and in one,
-//! since each crate of tests costs the proof that all below it is linked.
+//! Tests of parts of the program: results that an emulator gave; short graphs and steps that were followed by hand; and boards and legs at a small
+//! core. They stand in a crate of their own, so that no crate below is proved twice, and in one, since each crate of tests costs the proof that all
+//! below it is linked.
 #![tactic(auto)]
 
 #[cfg(test)]
@@ -29,5 +29,3 @@ mod registers;
 mod steps;
 #[cfg(test)]
 mod straight;
-#[cfg(test)]
-mod watched;

@@ -1,4 +1,4 @@
-//! Boundaries of straight code, and labels that show that there can't be fewer.
+//! Labels that show that straight code can't have fewer boundaries.
 ghost use Rattle.std.specs.Prelude.{◌≡◌, IfOk, Some};
 ghost use Rattle.flow_graph.specs.Nodes.{graph_of};
 ghost use Rattle.region_cutter.specs.FewestCuts.{IsStretch};
@@ -10,7 +10,7 @@ use flow_graph::graph::{Action, Graph, Node};
 use ido_base::location::Location;
 use ido_base::memory::OutOfMemory;
 use region_checker::{LabelError, Least, check_labels};
-use region_cutter::{Stretch, cut, fewest, stretches};
+use region_cutter::{Stretch, stretches};
 use std::alloc::{AllocError, Global};
 use std::test::Fail;
 
@@ -78,38 +78,6 @@ fn section<'a>(
     })
 }
 
-/// What is assigned to which variable, and before which nodes the fewest boundaries stand.
-const SECTIONS: [(&[(Option<u32>, &[u32])], &[usize]); 6] = [
-    // x = y; y = x; x = y;
-    (&[(Some(0), &[1]), (Some(1), &[0]), (Some(0), &[1])], &[4]),
-    // x = x + 1;
-    (&[(Some(0), &[0])], &[2]),
-    // x = 1; x = x + 1;
-    (&[(Some(0), &[]), (Some(0), &[0])], &[]),
-    // x = x + 1; y = y + 1;
-    (&[(Some(0), &[0]), (Some(1), &[1])], &[2, 4]),
-    // i = z; x = 1; z = 1; x = x + 1; where boundaries as late as can be, one after another, would be two
-    (
-        &[
-            (None, &[2]),
-            (Some(0), &[]),
-            (Some(2), &[]),
-            (Some(0), &[0]),
-        ],
-        &[3],
-    ),
-    // x = 1; i = x + y; y = 1; x = 1;
-    (
-        &[
-            (Some(0), &[]),
-            (None, &[0, 1]),
-            (Some(1), &[]),
-            (Some(0), &[]),
-        ],
-        &[5],
-    ),
-];
-
 /// The first stretch of the graph.
 fn first_stretch(a: Global, graph: &Graph) -> Result<Option<Stretch>, OutOfMemory>
     ensures { IfOk result (λ found. (s : spec.Stretch) → found ≡ Some s → IsStretch (graph_of graph.now) s.first s.past) }
@@ -119,50 +87,6 @@ fn first_stretch(a: Global, graph: &Graph) -> Result<Option<Stretch>, OutOfMemor
         return Ok(None);
     }
     Ok(Some(found[0]))
-}
-
-/// Before which nodes the fewest boundaries of the first stretch stand, and what is said of labels that show it.
-type Fewest = (Vec<usize>, Result<Least, LabelError>);
-
-/// What is found of the graph's first stretch, if there is one.
-fn fewest_of(a: Global, graph: &Graph) -> Result<Option<Fewest>, OutOfMemory> {
-    let Some(stretch) = first_stretch(a, graph)? else {
-        return Ok(None);
-    };
-    let (cuts, labels) = fewest(a, graph, stretch.first, stretch.past)?;
-    let said = check_labels(a, graph, stretch.first, stretch.past, &cuts, &labels);
-    Ok(Some((cuts, said)))
-}
-
-/// Whether boundaries stand before these nodes, and before no others up to the last two.
-fn stand_before(before: &[bool], wanted: &[usize]) -> bool {
-    let mut same = true;
-    for (node, stands) in before.iter().enumerate() {
-        if *stands != wanted.contains(&node) && node + 2 < before.len() {
-            same = false;
-        }
-    }
-    same
-}
-
-#[test]
-fn fewest_boundaries(rt: HostRuntime) -> Result<(), Fail> {
-    let a = rt.alloc();
-    let target = target();
-    let value = value();
-    let lock = LockName {
-        mutex: 0,
-        key: None,
-    };
-    for (assignments, wanted) in SECTIONS {
-        let graph = section(a, &lock, &target, &value, assignments)?;
-        let Some((cuts, said)) = fewest_of(a, &graph)? else {
-            return Err("no stretch".into());
-        };
-        let stand = stand_before(&cut(a, &graph)?.before, wanted);
-        assert_eq!(rt; (&cuts[..], said, stand), (wanted, Ok(Least), true));
-    }
-    Ok(())
 }
 
 /// Labels of the nodes of x = y; y = x; x = y; and of what comes after it, how many boundaries there are said to be, and what is said of that.
