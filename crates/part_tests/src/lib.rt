@@ -1,6 +1,6 @@
-//! Tests of parts of the program: results that an emulator gave; short graphs and steps that were followed by hand; and boards and legs at a small
-//! core. They stand in a crate of their own, so that no crate below is proved twice, and in one, since each crate of tests costs the proof that all
-//! below it is linked.
+//! Tests of parts of the program: results that an emulator gave; short graphs and steps that were followed by hand; adapters over readers and writers
+//! that fail in the middle; and boards and legs at a small core. They stand in a crate of their own, so that no crate below is proved twice, and in
+//! one, since each crate of tests costs the proof that all below it is linked.
 #![tactic(auto)]
 
 #[cfg(test)]
@@ -19,6 +19,8 @@ mod flats;
 mod flows;
 #[cfg(test)]
 mod harts;
+#[cfg(test)]
+mod outside;
 #[cfg(test)]
 mod points;
 #[cfg(test)]
